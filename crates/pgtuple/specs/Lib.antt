@@ -1,0 +1,4 @@
+pub mod Limits
+pub mod Cells
+pub mod Lent
+pub mod Reading

@@ -1,0 +1,19 @@
+/// Why a tuple can't be read. Each but `Memory` carries the offset, from the tuple's first byte, of the first field
+/// that can't be read.
+///
+/// PostgreSQL documentation, Logical Replication Message Formats, TupleData.
+#[derive(Clone, Copy, Debug, PartialEq, Eq)]
+pub enum TupleFault {
+    /// The bytes end inside the field.
+    Short(usize),
+    /// The byte isn't `n`, `u`, `t` or `b`.
+    BadKind(usize),
+    /// The length of a cell is negative.
+    BadLength(usize),
+    /// The bytes of a text cell aren't UTF-8.
+    NotUtf8(usize),
+    /// The number of columns is negative or above 1600.
+    TooManyColumns(usize),
+    /// Memory has run out.
+    Memory,
+}
