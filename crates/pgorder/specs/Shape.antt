@@ -1,10 +1,11 @@
 -- Logical Streaming Replication Protocol: which lists of logical messages stand in order.
 use Rattle.std.specs.Prelude.{◌≡◌, ℕ, ℤ, List, [], ◌∷◌, ◌++◌, Bool, true, false, Option, Some, None, ◌==◌, not, if◌then◌else◌}
-use Rattle.std.specs.List.{flat_map, filter, list_any, AllByRecursion}
+use Rattle.std.specs.List.{flat_map, AllByRecursion}
 use Rattle.pglogical.specs.declared.message.Message.{Message}
 use Rattle.pglogical.specs.declared.message.Message.TheVariants.{Begin, Commit, Origin, TypeName, Logical, Item, StreamStart, StreamStop, StreamCommit, StreamAbort}
 use Rattle.pgorder.specs.declared.Version.{Version}
 use Rattle.pgorder.specs.declared.Version.TheVariants.{One, Two}
+use Rattle.pgorder.specs.OpenXids.{OpenXids, none_open, is_open, with_open, without}
 
 -- A message carries an xid exactly inside a block.
 abbrev pub HasXidExactlyInBlock : Bool → Option ℕ → Type 0
@@ -42,23 +43,17 @@ messages_of (StreamEnd xid lsn end time) = StreamCommit xid lsn end time ∷ []
 messages_of (Abort xid label) = StreamAbort xid label ∷ []
 messages_of (LogicalMessage transactional lsn prefix content) = Logical None transactional lsn prefix content ∷ []
 
-abbrev pub is_open : ℕ → List ℕ → Bool
-is_open xid open_xids = list_any (λ x. x == xid) open_xids
-
-abbrev pub without : ℕ → List ℕ → List ℕ
-without xid open_xids = filter (λ x. not (x == xid)) open_xids
-
 -- An xid is open from its block with flag 1 to its Stream Commit or to its Abort with both xids equal.
-abbrev pub open_after : StreamPart → List ℕ → List ℕ
+abbrev pub open_after : StreamPart → OpenXids → OpenXids
 open_after (Pair lsn time xid inner end commit_time) open_xids = open_xids
-open_after (Block xid true inner) open_xids = xid ∷ open_xids
+open_after (Block xid true inner) open_xids = with_open xid open_xids
 open_after (Block xid false inner) open_xids = open_xids
 open_after (StreamEnd xid lsn end time) open_xids = without xid open_xids
 open_after (Abort xid label) open_xids = if xid == label then without xid open_xids else open_xids
 open_after (LogicalMessage transactional lsn prefix content) open_xids = open_xids
 
 -- Which piece may come while these xids are open. Version 1 has pairs and Message alone.
-abbrev pub MayComeNext : Version → List ℕ → StreamPart → Type 0
+abbrev pub MayComeNext : Version → OpenXids → StreamPart → Type 0
 MayComeNext v open_xids (Pair lsn time xid inner end commit_time) = AllByRecursion (IsInner false) inner × (is_open xid open_xids ≡ false)
 MayComeNext v open_xids (LogicalMessage transactional lsn prefix content) = Unit {0}
 MayComeNext Two open_xids (Block xid first inner) = AllByRecursion (IsInner true) inner × (is_open xid open_xids ≡ not first)
@@ -68,7 +63,7 @@ MayComeNext One open_xids (Block xid first inner) = ⊥
 MayComeNext One open_xids (StreamEnd xid lsn end time) = ⊥
 MayComeNext One open_xids (Abort xid label) = ⊥
 
-abbrev pub MayFollow : Version → List ℕ → List StreamPart → Type 0
+abbrev pub MayFollow : Version → OpenXids → List StreamPart → Type 0
 MayFollow v open_xids [] = Unit {0}
 MayFollow v open_xids (piece ∷ pieces) = MayComeNext v open_xids piece × MayFollow v (open_after piece open_xids) pieces
 
@@ -76,5 +71,5 @@ MayFollow v open_xids (piece ∷ pieces) = MayComeNext v open_xids piece × MayF
 pub record IsShaped (v : Version) (messages : List Message) : Type 0 where
   pub pieces : List StreamPart
   pub rest : List Message
-  pub follow : MayFollow v [] pieces
+  pub follow : MayFollow v none_open pieces
   pub front : messages ++ rest ≡ flat_map messages_of pieces

@@ -8,7 +8,7 @@ use Rattle.pgorder.specs.declared.Event.{Event}
 use Rattle.pgorder.specs.declared.Event.TheVariants as event
 use Rattle.pgorder.specs.declared.OrderFault.{OrderFault}
 use Rattle.pgorder.specs.declared.OrderFault.TheVariants as fault
-use Rattle.pgorder.specs.Shape.{is_open, without}
+use Rattle.pgorder.specs.OpenXids.{OpenXids, none_open, is_open, with_open, without}
 
 pub data Context : Type 0 where
   Outside : Context
@@ -18,10 +18,10 @@ pub data Context : Type 0 where
 -- where the messages so far end, and which xids are open
 pub record OrderState : Type 0 where
   pub context : Context
-  pub open_xids : List ℕ
+  pub open_xids : OpenXids
 
 abbrev pub initial_order : OrderState
-initial_order = record { context = Outside; open_xids = [] }
+initial_order = record { context = Outside; open_xids = none_open }
 
 abbrev pub StepResult : Type 0
 StepResult = Result (OrderState × Event) OrderFault
@@ -55,7 +55,7 @@ step_commit old (InBlock xid) lsn end = Err fault.CommitMisplaced
 abbrev pub step_stream_start : OrderState → Context → ℕ → Bool → StepResult
 step_stream_start old (InPair lsn xid') xid first = Err fault.NestedStart
 step_stream_start old (InBlock xid') xid first = Err fault.NestedStart
-step_stream_start old Outside xid true = if is_open xid old.open_xids then Err fault.FirstFlagOnOpen else Ok (record { context = InBlock xid; open_xids = xid ∷ old.open_xids }, event.Open xid)
+step_stream_start old Outside xid true = if is_open xid old.open_xids then Err fault.FirstFlagOnOpen else Ok (record { context = InBlock xid; open_xids = with_open xid old.open_xids }, event.Open xid)
 step_stream_start old Outside xid false = if is_open xid old.open_xids then Ok (record old { context = InBlock xid }, event.Reopen xid) else Err fault.LaterFlagOnUnknown
 
 abbrev pub step_stream_stop : OrderState → Context → StepResult

@@ -16,7 +16,7 @@ use Rattle.pgorder.specs.declared.OrderFault.{OrderFault}
 use Rattle.pgorder.specs.declared.OrderFault.TheVariants as fault
 use Rattle.pgorder.specs.declared.Event.TheVariants as event
 use Rattle.pgorder.specs.declared.Event.{Event}
-use Rattle.pgorder.specs.Shape.{is_open, without}
+use Rattle.pgorder.specs.OpenXids.{OpenXids, is_open, with_open, without, is_open-with_open, is_open-opened, open_without, two_xids}
 use Rattle.pgorder.specs.Steps.{Context, Outside, InPair, InBlock, OrderState, order_step, order_run, then_order}
 use Rattle.pgspool.specs.Labels.{LabelledItem, cut, items_of, held_of}
 use Rattle.pgsub_core.specs.Runs.{Held, Aborted}
@@ -40,50 +40,21 @@ held_other held x y v h = ap (λ o. unwrap_or o []) (get-insert nat_cmp_total he
 held_left : (held : HeldMap) (x y : ℕ) → eqb y x ≡ false → held_of (map.remove held y) x ≡ held_of held x
 held_left held x y h = ap (λ o. unwrap_or o []) (get-remove nat_cmp_total held y x ∙ ap (λ b. cond b None (map.get held x)) (other_key x y h))
 
-abbrev pub IsHere : List Message → Context → List ℕ → HeldMap → Type 0
+abbrev pub IsHere : List Message → Context → OpenXids → HeldMap → Type 0
 IsHere before Outside open_xids held = (pair_of before ≡ None) × (block_of before ≡ None)
 IsHere before (InPair lsn xid) open_xids held =
     (pair_of before ≡ Some xid) × (block_of before ≡ None) × (is_open xid open_xids ≡ false) × (held_of held xid ≡ mapped (λ i. (xid, i)) (pair_items before))
 IsHere before (InBlock xid) open_xids held = (pair_of before ≡ None) × (block_of before ≡ Some xid) × (is_open xid open_xids ≡ true)
 
-abbrev pub AreSpooled : List Message → List ℕ → HeldMap → Type 0
+abbrev pub AreSpooled : List Message → OpenXids → HeldMap → Type 0
 AreSpooled before open_xids held = (x : ℕ) → is_open x open_xids ≡ true → held_of held x ≡ survivors [] (come_of x before)
-
--- an open xid and one that isn't open are two
-two : (x y : ℕ) (open_xids : List ℕ) → is_open x open_xids ≡ true → is_open y open_xids ≡ false → eqb y x ≡ false
-two x y open_xids is isnt =
-    elim (eqb y x) as (λ b. eqb y x ≡ b → b ≡ false) [
-      | true ↦ λ e. let same : x ≡ y = grind (arith, nat_tests) in absurd (let is' : is_open y open_xids ≡ true = subst (λ z. is_open z open_xids ≡ true) same is in cc)
-      | false ↦ λ e. refl
-    ] refl
-
-open_first : (x y z : ℕ) (open_xids : List ℕ) (b : Bool) → eqb z x ≡ b → eqb z y ≡ false → (b || is_open x (without y open_xids)) ≡ true
-    → (is_open x (without y open_xids) ≡ true → (is_open x open_xids ≡ true) × (eqb y x ≡ false)) → ((b || is_open x open_xids) ≡ true) × (eqb y x ≡ false)
-open_first x y z open_xids true e ne h rest = (refl, grind (arith, nat_tests))
-open_first x y z open_xids false e ne h rest = rest h
-
-or_right : (a b : Bool) → b ≡ true → (a || b) ≡ true
-or_right true b e = refl
-or_right false b e = e
-
--- what is open without an xid is open, and another xid
-open_without : (x y : ℕ) (open_xids : List ℕ) → is_open x (without y open_xids) ≡ true → (is_open x open_xids ≡ true) × (eqb y x ≡ false)
-open_without x y [] h = absurd (cc)
-open_without x y (z ∷ open_xids) h =
-    elim (eqb z y) as (λ b. eqb z y ≡ b → is_open x (cond (not b) (z ∷ without y open_xids) (without y open_xids)) ≡ true → ((eqb z x || is_open x open_xids) ≡ true) × (eqb y x ≡ false)) [
-      | true ↦ λ e h'. let rest = open_without x y open_xids h' in (or_right (eqb z x) _ rest.0, rest.1)
-      | false ↦ λ e h'. open_first x y z open_xids (eqb z x) refl e h' (open_without x y open_xids)
-    ] refl h
 
 items-mapped : (xid : ℕ) (items : List Item) → items_of (mapped (λ i. (xid, i)) items) ≡ items
 items-mapped xid [] = refl
 items-mapped xid (i ∷ items) = ap (λ rest. i ∷ rest) (items-mapped xid items)
 
-same_first : (x : ℕ) (open_xids : List ℕ) → is_open x (x ∷ open_xids) ≡ true
-same_first x open_xids = let same : eqb x x ≡ true = grind (arith, nat_tests) in rw same
-
 module _ (v : Version) (sent : List Sent)
-    (tail : (before : List Message) (context : Context) (open_xids : List ℕ) (held : HeldMap) (copy : Copy) → IsHere before context open_xids held → AreSpooled before open_xids held
+    (tail : (before : List Message) (context : Context) (open_xids : OpenXids) (held : HeldMap) (copy : Copy) → IsHere before context open_xids held → AreSpooled before open_xids held
     → (final : OrderState) → order_run v (record { context = context; open_xids = open_xids }) (messages_in sent) ≡ Ok final
     → ended (run v (record { stands = record { context = context; open_xids = open_xids }; held = held; copy = copy }) sent) ≡ heed_all copy (marks before sent)) where
   abbrev next : Engine → Ran
@@ -100,23 +71,23 @@ module _ (v : Version) (sent : List Sent)
   disordered : (before : List Message) (held : HeldMap) (copy : Copy) (m : Message) (fault : OrderFault) → StepAgrees before held copy m (Err fault)
   disordered before held copy m fault final eq = absurd (cc)
 
-  at_begin : (before : List Message) (open_xids : List ℕ) (held : HeldMap) (copy : Copy) (lsn : ℕ) (time : ℤ) (xid : ℕ)
+  at_begin : (before : List Message) (open_xids : OpenXids) (held : HeldMap) (copy : Copy) (lsn : ℕ) (time : ℤ) (xid : ℕ)
       → IsHere before Outside open_xids held → AreSpooled before open_xids held → (b : Bool) → is_open xid open_xids ≡ b
       → StepAgrees before held copy (message.Begin lsn time xid) (cond b (Err fault.NestedBegin) (Ok (record { context = InPair lsn xid; open_xids = open_xids }, event.Begin xid)))
   at_begin before open_xids held copy lsn time xid here spools true is final eq = absurd (cc)
   at_begin before open_xids held copy lsn time xid here spools false is final eq =
       tail (message.Begin lsn time xid ∷ before) (InPair lsn xid) open_xids (map.insert held xid []) copy (refl, here.1, is, held_same held xid [])
-      (λ x o. held_other held x xid [] (two x xid open_xids o is) ∙ spools x o) final eq
+      (λ x o. held_other held x xid [] (two_xids x xid open_xids o is) ∙ spools x o) final eq
 
-  at_pair_item : (before : List Message) (open_xids : List ℕ) (held : HeldMap) (copy : Copy) (lsn xid : ℕ) (label : Option ℕ) (item : Item)
+  at_pair_item : (before : List Message) (open_xids : OpenXids) (held : HeldMap) (copy : Copy) (lsn xid : ℕ) (label : Option ℕ) (item : Item)
       → IsHere before (InPair lsn xid) open_xids held → AreSpooled before open_xids held
       → StepAgrees before held copy (message.Item label item) (Ok (record { context = InPair lsn xid; open_xids = open_xids }, event.Hold xid xid))
   at_pair_item before open_xids held copy lsn xid label item here spools final eq =
       tail (message.Item label item ∷ before) (InPair lsn xid) open_xids (map.insert held xid (held_of held xid ++ (xid, item) ∷ [])) copy
       (here.0, here.1, here.2, held_same held xid _ ∙ ap (λ h. h ++ (xid, item) ∷ []) here.3 ∙ sym (map-append (λ i. (xid, i)) (pair_items before) (item ∷ [])))
-      (λ x o. held_other held x xid _ (two x xid open_xids o here.2) ∙ spools x o ∙ sym (ap (λ b. survivors [] (with_item (is_block x b) (unwrap_or label x) item (come_of x before))) here.1)) final eq
+      (λ x o. held_other held x xid _ (two_xids x xid open_xids o here.2) ∙ spools x o ∙ sym (ap (λ b. survivors [] (with_item (is_block x b) (unwrap_or label x) item (come_of x before))) here.1)) final eq
 
-  at_block_item : (before : List Message) (open_xids : List ℕ) (held : HeldMap) (copy : Copy) (xid : ℕ) (label : Option ℕ) (item : Item)
+  at_block_item : (before : List Message) (open_xids : OpenXids) (held : HeldMap) (copy : Copy) (xid : ℕ) (label : Option ℕ) (item : Item)
       → IsHere before (InBlock xid) open_xids held → AreSpooled before open_xids held
       → StepAgrees before held copy (message.Item label item) (Ok (record { context = InBlock xid; open_xids = open_xids }, event.Hold xid (unwrap_or label xid)))
   at_block_item before open_xids held copy xid label item here spools final eq =
@@ -133,19 +104,19 @@ module _ (v : Version) (sent : List Sent)
           (held_same held xid more ∙ ap (λ h. h ++ (unwrap_or label xid, item) ∷ []) (spools xid here.2) ∙ sym (survivors-append [] (come_of xid before) (Held (unwrap_or label xid) item ∷ []))))
       by_xid x false e o = rw e (held_other held x xid more e ∙ spools x o)
 
-  at_start_first : (before : List Message) (open_xids : List ℕ) (held : HeldMap) (copy : Copy) (xid : ℕ)
+  at_start_first : (before : List Message) (open_xids : OpenXids) (held : HeldMap) (copy : Copy) (xid : ℕ)
       → IsHere before Outside open_xids held → AreSpooled before open_xids held → (b : Bool) → is_open xid open_xids ≡ b
-      → StepAgrees before held copy (message.StreamStart xid true) (cond b (Err fault.FirstFlagOnOpen) (Ok (record { context = InBlock xid; open_xids = xid ∷ open_xids }, event.Open xid)))
+      → StepAgrees before held copy (message.StreamStart xid true) (cond b (Err fault.FirstFlagOnOpen) (Ok (record { context = InBlock xid; open_xids = with_open xid open_xids }, event.Open xid)))
   at_start_first before open_xids held copy xid here spools true is final eq = absurd (cc)
   at_start_first before open_xids held copy xid here spools false is final eq =
-      tail (message.StreamStart xid true ∷ before) (InBlock xid) (xid ∷ open_xids) (map.insert held xid []) copy (here.0, refl, same_first xid open_xids)
-      (λ x o. by_xid x (eqb xid x) refl o) final eq
+      tail (message.StreamStart xid true ∷ before) (InBlock xid) (with_open xid open_xids) (map.insert held xid []) copy (here.0, refl, is_open-opened xid open_xids)
+      (λ x o. by_xid x (eqb xid x) refl (sym (is_open-with_open x xid open_xids) ∙ o)) final eq
     where
       by_xid : (x : ℕ) (b : Bool) → eqb xid x ≡ b → (b || is_open x open_xids) ≡ true → held_of (map.insert held xid []) x ≡ survivors [] (cond b [] (come_of x before))
       by_xid x true e o = let same : xid ≡ x = grind (arith, nat_tests) in subst (λ z. held_of (map.insert held xid []) z ≡ []) same (held_same held xid [])
       by_xid x false e o = held_other held x xid [] e ∙ spools x o
 
-  at_start_later : (before : List Message) (open_xids : List ℕ) (held : HeldMap) (copy : Copy) (xid : ℕ)
+  at_start_later : (before : List Message) (open_xids : OpenXids) (held : HeldMap) (copy : Copy) (xid : ℕ)
       → IsHere before Outside open_xids held → AreSpooled before open_xids held → (b : Bool) → is_open xid open_xids ≡ b
       → StepAgrees before held copy (message.StreamStart xid false) (cond b (Ok (record { context = InBlock xid; open_xids = open_xids }, event.Reopen xid)) (Err fault.LaterFlagOnUnknown))
   at_start_later before open_xids held copy xid here spools true is final eq =
@@ -159,7 +130,7 @@ module _ (v : Version) (sent : List Sent)
   goes_on (Goes new) stands held ms rest = rest new
   goes_on (Halts copy why) stands held ms rest = refl
 
-  at_finish : (before : List Message) (open_xids : List ℕ) (held : HeldMap) (copy : Copy) (xid lsn end : ℕ) (time : ℤ)
+  at_finish : (before : List Message) (open_xids : OpenXids) (held : HeldMap) (copy : Copy) (xid lsn end : ℕ) (time : ℤ)
       → IsHere before Outside open_xids held → AreSpooled before open_xids held → (b : Bool) → is_open xid open_xids ≡ b
       → StepAgrees before held copy (message.StreamCommit xid lsn end time) (cond b (Ok (record { context = Outside; open_xids = without xid open_xids }, event.CommitStream xid lsn end)) (Err fault.CommitOfUnknown))
   at_finish before open_xids held copy xid lsn end time here spools true is final eq =
@@ -168,16 +139,16 @@ module _ (v : Version) (sent : List Sent)
       (λ x o. let was = open_without x xid open_xids o in held_left held x xid was.1 ∙ spools x was.0) final eq))
   at_finish before open_xids held copy xid lsn end time here spools false is final eq = absurd (cc)
 
-  at_commit : (before : List Message) (open_xids : List ℕ) (held : HeldMap) (copy : Copy) (final_lsn xid lsn end : ℕ) (time : ℤ)
+  at_commit : (before : List Message) (open_xids : OpenXids) (held : HeldMap) (copy : Copy) (final_lsn xid lsn end : ℕ) (time : ℤ)
       → IsHere before (InPair final_lsn xid) open_xids held → AreSpooled before open_xids held → (b : Bool) → (lsn == final_lsn) ≡ b
       → StepAgrees before held copy (message.Commit lsn end time) (cond b (Ok (record { context = Outside; open_xids = open_xids }, event.CommitPair xid lsn end)) (Err fault.CommitLsnDiffers))
   at_commit before open_xids held copy final_lsn xid lsn end time here spools true is final eq =
       rw (here.3, items-mapped xid (pair_items before), here.0) (goes_on (completed_with copy end (pair_items before)) (record { context = Outside; open_xids = open_xids }) (map.remove held xid) (marks (message.Commit lsn end time ∷ before) sent)
       (λ new. tail (message.Commit lsn end time ∷ before) Outside open_xids (map.remove held xid) new (refl, here.1)
-      (λ x o. held_left held x xid (two x xid open_xids o here.2) ∙ spools x o) final eq))
+      (λ x o. held_left held x xid (two_xids x xid open_xids o here.2) ∙ spools x o) final eq))
   at_commit before open_xids held copy final_lsn xid lsn end time here spools false is final eq = absurd (cc)
 
-  at_drop : (before : List Message) (open_xids : List ℕ) (held : HeldMap) (copy : Copy) (xid label : ℕ)
+  at_drop : (before : List Message) (open_xids : OpenXids) (held : HeldMap) (copy : Copy) (xid label : ℕ)
       → IsHere before Outside open_xids held → AreSpooled before open_xids held → (b same : Bool) → is_open xid open_xids ≡ b → (xid == label) ≡ same
       → StepAgrees before held copy (message.StreamAbort xid label)
       (cond b (cond same (Ok (record { context = Outside; open_xids = without xid open_xids }, event.Drop xid)) (Ok (record { context = Outside; open_xids = open_xids }, event.Cut xid label))) (Ok (record { context = Outside; open_xids = open_xids }, event.Ignore)))
@@ -195,14 +166,14 @@ module _ (v : Version) (sent : List Sent)
       by_xid x false e' o = held_other held x xid _ e' ∙ spools x o
   at_drop before open_xids held copy xid label here spools false same is e final eq =
       tail (message.StreamAbort xid label ∷ before) Outside open_xids held copy here
-      (λ x o. rw (two x xid open_xids o is) (spools x o)) final eq
+      (λ x o. rw (two_xids x xid open_xids o is) (spools x o)) final eq
 
 abbrev Tail : Version → List Sent → Type 0
-Tail v sent = (before : List Message) (context : Context) (open_xids : List ℕ) (held : HeldMap) (copy : Copy) → IsHere before context open_xids held → AreSpooled before open_xids held
+Tail v sent = (before : List Message) (context : Context) (open_xids : OpenXids) (held : HeldMap) (copy : Copy) → IsHere before context open_xids held → AreSpooled before open_xids held
     → (final : OrderState) → order_run v (record { context = context; open_xids = open_xids }) (messages_in sent) ≡ Ok final
     → ended (run v (record { stands = record { context = context; open_xids = open_xids }; held = held; copy = copy }) sent) ≡ heed_all copy (marks before sent)
 
-at_data : (v : Version) (sent : List Sent) (tail : Tail v sent) (m : Message) (context : Context) (before : List Message) (open_xids : List ℕ) (held : HeldMap) (copy : Copy)
+at_data : (v : Version) (sent : List Sent) (tail : Tail v sent) (m : Message) (context : Context) (before : List Message) (open_xids : OpenXids) (held : HeldMap) (copy : Copy)
     → IsHere before context open_xids held → AreSpooled before open_xids held
     → StepAgrees v sent tail before held copy m (order_step v (record { context = context; open_xids = open_xids }) m)
 at_data v sent tail (message.Begin lsn time xid) Outside before open_xids held copy here spools = at_begin v sent tail before open_xids held copy lsn time xid here spools (is_open xid open_xids) refl
@@ -249,12 +220,12 @@ at_data Two sent tail (message.StreamAbort xid label) Outside before open_xids h
 at_data Two sent tail (message.StreamAbort xid label) (InPair final_lsn pair) before open_xids held copy here spools = disordered Two sent tail before held copy (message.StreamAbort xid label) fault.AbortMisplaced
 at_data Two sent tail (message.StreamAbort xid label) (InBlock block) before open_xids held copy here spools = disordered Two sent tail before held copy (message.StreamAbort xid label) fault.AbortMisplaced
 
-quiet_here : (context : Context) (before : List Message) (open_xids : List ℕ) (held : HeldMap) → IsHere before context open_xids held → is_outside context ≡ is_quiet before
+quiet_here : (context : Context) (before : List Message) (open_xids : OpenXids) (held : HeldMap) → IsHere before context open_xids held → is_outside context ≡ is_quiet before
 quiet_here Outside before open_xids held here = rw (here.0, here.1)
 quiet_here (InPair lsn xid) before open_xids held here = rw here.0
 quiet_here (InBlock xid) before open_xids held here = rw (here.0, here.1)
 
-at_keepalive : (v : Version) (sent : List Sent) → Tail v sent → (context : Context) (before : List Message) (open_xids : List ℕ) (held : HeldMap) (copy : Copy) (end : ℕ)
+at_keepalive : (v : Version) (sent : List Sent) → Tail v sent → (context : Context) (before : List Message) (open_xids : OpenXids) (held : HeldMap) (copy : Copy) (end : ℕ)
     → IsHere before context open_xids held → AreSpooled before open_xids held → (final : OrderState) → order_run v (record { context = context; open_xids = open_xids }) (messages_in sent) ≡ Ok final
     → (b : Bool) → ended (then_run (on_with (record { context = context; open_xids = open_xids }) held (told copy end b)) (λ next. run v next sent)) ≡ go_on (told copy end b) (λ new. heed_all new (marks before sent))
 at_keepalive v sent tail context before open_xids held copy end here spools final eq true = tail before context open_xids held _ here spools final eq

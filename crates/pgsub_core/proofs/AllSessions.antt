@@ -14,7 +14,8 @@ use Rattle.pgsub_core.specs.Safe.{IsSafe}
 use Rattle.pgsub_core.specs.Fine.{IsFine, at_session, follow_all}
 use Rattle.pgsub_core.proofs.Delivered.{delivered_fine}
 use Rattle.pgsub_core.proofs.Agreeing.{agree_run}
-use Rattle.pgsub_core.proofs.Ordered.{shaped_runs}
+use Rattle.pgorder.specs.OpenXids.{none_open, is_open-none_open}
+use Rattle.pgorder.proofs.ShapeIsTaken.{shaped_runs}
 use Rattle.pgsub_core.proofs.Reaching.{HasReached, reached_by}
 use Rattle.pgsub_core.proofs.Fronts.{delivers_front}
 
@@ -23,7 +24,7 @@ session_reached : (v : Version) (history : List Transaction) (copy new : Copy) (
     → Delivers v history s sent → ended (run v (at_session copy) sent) ≡ Goes new → HasReached copy.position copy.confirmed (marks [] sent) new
 session_reached v history copy new s sent below delivers e =
     let ordered = shaped_runs v (messages_in sent) delivers.shaped in
-    reached_by (marks [] sent) copy new below (sym (agree_run v sent [] Outside [] map.empty copy (refl, refl) (λ x o. absurd (cc)) ordered.0 ordered.1) ∙ e)
+    reached_by (marks [] sent) copy new below (sym (agree_run v sent [] Outside none_open map.empty copy (refl, refl) (λ x o. absurd (let none = is_open-none_open x in cc)) ordered.0 ordered.1) ∙ e)
 
 goes_on : (v : Version) (history : List Transaction) (wholes : List (List Sent)) (o : Outcome) → IsFine history o
     → ((new : Copy) → o ≡ Goes new → IsSafe history new.tables new.position new.confirmed → IsFine history (follow_all v new wholes))

@@ -8,6 +8,7 @@ use Rattle.pglogical.specs.declared.item.OldKind.TheVariants.{Key}
 use Rattle.pglogical.specs.declared.message.Message.{Message}
 use Rattle.pglogical.specs.declared.message.Message.TheVariants as message
 use Rattle.pgorder.specs.declared.Version.TheVariants.{Two}
+use Rattle.pgorder.specs.OpenXids.{open_rows}
 use Rattle.pgorder.specs.Shape.{StreamPart, Pair, Block, StreamEnd, Abort}
 use Rattle.pgorder.specs.Steps.{order_run, initial_order}
 use Rattle.pgstore.specs.Apply.{apply, fold_changes, rows_after}
@@ -56,7 +57,7 @@ marks_10 = refl
 
 delivers_10 : Delivers Two history_10 0 stream_10
 delivers_10 = record {
-  shaped = record { pieces = pieces_10; rest = []; follow = ((((tt, (tt, tt)), refl), (((tt, (tt, tt)), refl), (((tt, tt), refl), (refl, (refl, tt)))))); front = refl };
+  shaped = record { pieces = pieces_10; rest = []; follow = ((((tt, (tt, tt)), simp open_rows), (((tt, (tt, tt)), simp open_rows), (((tt, tt), simp open_rows), (simp open_rows, (simp open_rows, tt)))))); front = refl };
   follow = (
     [],
     _,
@@ -71,7 +72,7 @@ delivers_10 = record {
 }
 
 order_10 : order_run Two initial_order (messages_in stream_10) ≡ Ok initial_order
-order_10 = refl
+order_10 = simp open_rows
 
 rows_10 : tables_as_of history_10 1072 ≡ Ok (map.insert (map.insert (map.insert map.empty 16384 (record { definition = t; rows = map.insert map.empty (place 49) (row_of 49 101) })) 16384
     (record { definition = t; rows = map.insert (map.remove (map.insert map.empty (place 49) (row_of 49 101)) (place 49)) (place 49) (row_of 49 108) })) 16384
@@ -118,7 +119,7 @@ history_13 = record { xid = 40; work = Changed (insert_t 49 97) (t ∷ []) (Chan
 
 delivers_13a : Delivers Two history_13 0 (sent (message.StreamStart 40 true) ∷ sent (under 40 (item.Relation t)) ∷ sent (under 40 (insert_t 49 97)) ∷ sent message.StreamStop ∷ [])
 delivers_13a = record {
-  shaped = record { pieces = Block 40 true (under 40 (item.Relation t) ∷ under 40 (insert_t 49 97) ∷ []) ∷ []; rest = []; follow = (((tt, (tt, tt)), refl), tt); front = refl };
+  shaped = record { pieces = Block 40 true (under 40 (item.Relation t) ∷ under 40 (insert_t 49 97) ∷ []) ∷ []; rest = []; follow = (((tt, (tt, tt)), simp open_rows), tt); front = refl };
   follow = tt;
 }
 
@@ -127,7 +128,7 @@ alone i = message.Item None i
 
 delivers_13b : Delivers Two history_13 0 (sent (message.Begin 1792 (pos 0) 40) ∷ sent (alone (item.Relation t)) ∷ sent (alone (insert_t 49 97)) ∷ sent (alone (insert_t 50 98)) ∷ sent (message.Commit 1792 1840 (pos 0)) ∷ [])
 delivers_13b = record {
-  shaped = record { pieces = Pair 1792 (pos 0) 40 (alone (item.Relation t) ∷ alone (insert_t 49 97) ∷ alone (insert_t 50 98) ∷ []) 1840 (pos 0) ∷ []; rest = []; follow = (((tt, (tt, (tt, tt))), refl), tt); front = refl };
+  shaped = record { pieces = Pair 1792 (pos 0) 40 (alone (item.Relation t) ∷ alone (insert_t 49 97) ∷ alone (insert_t 50 98) ∷ []) 1840 (pos 0) ∷ []; rest = []; follow = (((tt, (tt, (tt, tt))), simp open_rows), tt); front = refl };
   follow = ([], _, _, item.Relation t ∷ insert_t 49 97 ∷ insert_t 50 98 ∷ [], refl, tt, (refl, refl, refl, refl), refl, tt);
 }
 
@@ -147,7 +148,7 @@ left_17 = record {
   shaped = record {
     pieces = Pair 768 (pos 0) 11 (alone (item.Relation t) ∷ alone (insert_t 49 101) ∷ []) 816 (pos 0) ∷ Pair 1024 (pos 0) 10 (alone (update_t 49 108) ∷ alone (insert_t 50 109) ∷ []) 1072 (pos 0) ∷ [];
     rest = [];
-    follow = (((tt, (tt, tt)), refl), (((tt, (tt, tt)), refl), tt));
+    follow = (((tt, (tt, tt)), simp open_rows), (((tt, (tt, tt)), simp open_rows), tt));
     front = refl;
   };
   follow = (
@@ -180,7 +181,7 @@ right_17 = record {
         ∷ Abort 10 12 ∷ Abort 11 13 ∷ Block 11 false (under 11 (insert_t 49 101) ∷ []) ∷ Block 10 false (under 10 (insert_t 50 109) ∷ under 14 (delete_t 49) ∷ [])
         ∷ Abort 10 14 ∷ StreamEnd 11 768 816 (pos 0) ∷ StreamEnd 10 1024 1072 (pos 0) ∷ [];
     rest = [];
-    follow = (((tt, (tt, (tt, tt))), refl), (((tt, (tt, tt)), refl), (tt, (tt, (((tt, tt), refl), (((tt, (tt, tt)), refl), (tt, (refl, (refl, tt)))))))));
+    follow = (((tt, (tt, (tt, tt))), simp open_rows), (((tt, (tt, tt)), simp open_rows), (tt, (tt, (((tt, tt), simp open_rows), (((tt, (tt, tt)), simp open_rows), (tt, (simp open_rows, (simp open_rows, tt)))))))));
     front = refl;
   };
   follow = (
