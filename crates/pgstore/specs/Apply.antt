@@ -1,15 +1,17 @@
 -- The effect of one change, and of a list of changes in order.
-use Rattle.std.specs.Prelude.{◌+◌, ◌-◌, ℕ, List, [], ◌∷◌, Bool, true, false, not, ◌&&◌, ◌||◌, ◌==◌, nat_lt, length, Option, Some, None, Result, Ok, Err, if◌then◌else◌}
+-- PostgreSQL documentation, Logical Replication Message Formats, Insert, Update, Delete, Truncate.
+use Rattle.std.specs.Prelude.{◌+◌, ◌-◌, ℕ, List, [], ◌∷◌, ◌||◌, ◌==◌, nat_lt, Option, Some, None, Result, Ok, Err, if◌then◌else◌}
 use Rattle.std.specs.FinMap as map
 use Rattle.pgtuple.specs.declared.cell.Cell.{Cell}
 use Rattle.pglogical.specs.declared.item.RelationDef.{RelationDef}
-use Rattle.pglogical.specs.declared.item.OldKind.{OldKind}
-use Rattle.pglogical.specs.declared.item.OldKind.TheVariants.{Key, Full}
-use Rattle.pgrel.specs.Identity.{keyed, identity, same_shape, has_unchanged, resolved, searched}
+use Rattle.pgtuple.specs.Cells.{tuple_spelling}
+use Rattle.pgrel.specs.declared.fault.RelFault.{RelFault}
+use Rattle.pgrel.specs.declared.fault.RelFault.TheVariants as rel
+use Rattle.pgrel.specs.Identity.{keyed, same_shape, resolved, checked_insert, searched_identity}
 use Rattle.pgstore.specs.declared.op.Op.{Op}
 use Rattle.pgstore.specs.declared.op.Op.TheVariants.{Insert, Update, Delete, Truncate}
 use Rattle.pgstore.specs.declared.rows.StoreFault.{StoreFault}
-use Rattle.pgstore.specs.declared.rows.StoreFault.TheVariants.{Clash, NoIdentity, UnknownIdentity, UnchangedInInsert, Width, SchemaChanged, TooManyCopies}
+use Rattle.pgstore.specs.declared.rows.StoreFault.TheVariants.{Clash, NoIdentity, UnknownIdentity, UnchangedInInsert, Width, SchemaChanged, TooManyCopies, Refused, Memory}
 use Rattle.pgstore.specs.Value.{Row, Rows, Table, Tables, identity_key, most_copies}
 
 -- a change of one table: its definition, and what is done
@@ -22,32 +24,23 @@ abbrev pub ◌>>=◌ : {A B : Type 0} → Result A StoreFault → (A → Result 
 (Ok x) >>= f = f x
 (Err e) >>= f = Err e
 
--- a check: the fault where the test holds
-abbrev pub refuse : Bool → StoreFault → Result Bool StoreFault
-refuse true fault = Err fault
-refuse false fault = Ok true
+-- the store's fault for one of the checks on tuples and identities
+abbrev pub store_fault : RelFault → StoreFault
+store_fault rel.Width = Width
+store_fault rel.UnknownIdentity = UnknownIdentity
+store_fault rel.UnchangedInInsert = UnchangedInInsert
+store_fault rel.NoIdentity = NoIdentity
+store_fault (rel.UnknownRelation oid) = Refused
+store_fault rel.Memory = Memory
 
--- The rows that a change finds. Rows that stand under a definition of another shape can't be changed.
-abbrev pub found_rows : Option Table → RelationDef → Result Rows StoreFault
-found_rows None def = Ok map.empty
-found_rows (Some table) def = if same_shape table.definition def || map.len table.rows == 0 then Ok table.rows else Err SchemaChanged
+abbrev pub in_store : {A : Type 0} → Result A RelFault → Result A StoreFault
+in_store (Ok x) = Ok x
+in_store (Err fault) = Err (store_fault fault)
 
-abbrev pub wrong_width : RelationDef → List Cell → Bool
-wrong_width def cells = not (length cells == length def.columns)
-
-abbrev pub wrong_prior : RelationDef → Option (OldKind × List Cell) → Bool
-wrong_prior def None = false
-wrong_prior def (Some old) = wrong_width def old.1
-
--- whether a whole old tuple was sent
-abbrev pub is_full : Option (OldKind × List Cell) → Bool
-is_full None = false
-is_full (Some (Full, cells)) = true
-is_full (Some (Key, cells)) = false
-
--- no row can be found: a table that isn't keyed needs the letter f and the whole old row
-abbrev pub lacks_identity : RelationDef → Option (OldKind × List Cell) → Bool
-lacks_identity def prior = not (keyed def) && not ((def.letter == 102) && is_full prior)
+-- The rows that a change finds. Rows that stand under a definition of another shape can't be changed, whatever is done.
+abbrev pub found_rows : Option Table → RelationDef → Op → Result Rows StoreFault
+found_rows None def op = Ok map.empty
+found_rows (Some table) def op = if same_shape table.definition def || map.len table.rows == 0 then Ok table.rows else Err SchemaChanged
 
 -- a row is added, or one copy of it
 abbrev pub added : RelationDef → List Cell → Rows → Option Row → Result Rows StoreFault
@@ -73,29 +66,27 @@ abbrev pub deleted : List ℕ → Rows → Option Row → Rows
 deleted place rows None = rows
 deleted place rows (Some row) = without_row place row rows
 
+-- the row with this identity
+abbrev pub row_at : List Cell → Rows → Option Row
+row_at cells rows = map.get rows (tuple_spelling cells)
+
 -- what is done to the rows, or the first check that fails
 unfoldable pub rows_after : RelationDef → Op → Rows → Result Rows StoreFault
 rows_after def (Insert row) rows = do
-  _width ← refuse (wrong_width def row) Width
-  _sent ← refuse (has_unchanged row) UnchangedInInsert
+  _whole ← in_store (checked_insert def row)
   with_row def row rows
 rows_after def (Update prior row) rows = do
-  _old_width ← refuse (wrong_prior def prior) Width
-  _width ← refuse (wrong_width def row) Width
-  _found ← refuse (lacks_identity def prior) NoIdentity
-  _known ← refuse (has_unchanged (identity def (searched prior row))) UnknownIdentity
-  updated def row (identity_key def (searched prior row)) rows (map.get rows (identity_key def (searched prior row)))
+  searched ← in_store (searched_identity def prior (Some row))
+  updated def row (tuple_spelling searched) rows (row_at searched rows)
 rows_after def (Delete kind row) rows = do
-  _width ← refuse (wrong_width def row) Width
-  _found ← refuse (lacks_identity def (Some (kind, row))) NoIdentity
-  _known ← refuse (has_unchanged (identity def row)) UnknownIdentity
-  Ok (deleted (identity_key def row) rows (map.get rows (identity_key def row)))
+  searched ← in_store (searched_identity def (Some (kind, row)) None)
+  Ok (deleted (tuple_spelling searched) rows (row_at searched rows))
 rows_after def Truncate rows = Ok map.empty
 
 -- one change: the table gets the definition first
 unfoldable pub apply : Tables → Change → Result Tables StoreFault
 apply tables change = do
-  found ← found_rows (map.get tables change.definition.oid) change.definition
+  found ← found_rows (map.get tables change.definition.oid) change.definition change.op
   rows ← rows_after change.definition change.op found
   Ok (map.insert tables change.definition.oid (record { definition = change.definition; rows = rows }))
 

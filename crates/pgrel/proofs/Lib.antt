@@ -1,0 +1,4 @@
+pub mod Shapes
+pub mod Keys
+pub mod Rows
+pub mod Samples
