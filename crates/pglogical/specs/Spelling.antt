@@ -1,6 +1,7 @@
--- Logical Replication Message Formats: the one spelling of each message.
-use Rattle.std.specs.Prelude.{◌≡◌, ◌≢◌, ◌<◌, ◌≤◌, ◌⊎◌, ◌^◌, ℕ, ℤ, List, [], ◌∷◌, ◌++◌, Bool, true, false, length, Option, Some, None, ⊤, IfSome, FitsSigned}
-use Rattle.std.specs.List.{flat_map, AllByRecursion}
+-- The one spelling of each message, and what has one.
+-- PostgreSQL documentation, Logical Replication Message Formats.
+use Rattle.std.specs.Prelude.{◌≡◌, ◌≢◌, ◌<◌, ◌≤◌, ◌⊎◌, ◌^◌, ℕ, ℤ, List, [], ◌∷◌, ◌++◌, Bool, true, false, length, Option, Some, None, ⊤, IfSome, FitsSigned, ◌==◌}
+use Rattle.std.specs.List.{flat_map, list_any, AllByRecursion}
 use Rattle.std.specs.Int.{w16, w32, w64, to_be_bytes, cast_unsigned}
 use Rattle.std.specs.Str.{is_utf8}
 use Rattle.pgtuple.specs.Limits.{IsTuple}
@@ -15,6 +16,9 @@ use Rattle.pglogical.specs.declared.item.OldKind.{OldKind}
 use Rattle.pglogical.specs.declared.item.OldKind.TheVariants.{Key, Full}
 use Rattle.pglogical.specs.declared.message.Message.{Message}
 use Rattle.pglogical.specs.declared.message.Message.TheVariants as message
+
+abbrev pub is_one_of : List ℕ → ℕ → Bool
+is_one_of allowed b = list_any (λ a. a == b) allowed
 
 -- a text and the zero byte that ends it
 abbrev pub c_string : List ℕ → List ℕ
@@ -93,6 +97,19 @@ IsSpellable (Update oid prior row) = ⊤
 IsSpellable (Delete oid kind row) = ⊤
 IsSpellable (Truncate options oids) = (options ≤ 3) × (length oids < 2 ^ 31)
 
+-- what a whole message asks to be spelled
+abbrev pub IsSpellableMessage : Message → Type 0
+IsSpellableMessage (message.Origin lsn name) = IsText name
+IsSpellableMessage (message.TypeName xid oid namespace name) = IsText namespace × IsText name
+IsSpellableMessage (message.Logical xid transactional lsn prefix content) = IsText prefix × (length content < 2 ^ 31)
+IsSpellableMessage (message.Item xid item) = IsSpellable item
+IsSpellableMessage (message.Begin lsn time xid) = ⊤
+IsSpellableMessage (message.Commit lsn end time) = ⊤
+IsSpellableMessage (message.StreamStart xid first) = ⊤
+IsSpellableMessage message.StreamStop = ⊤
+IsSpellableMessage (message.StreamCommit xid lsn end time) = ⊤
+IsSpellableMessage (message.StreamAbort xid label) = ⊤
+
 -- Numbers are within their types, and texts are UTF-8 with no zero byte: what a message of the wire may hold.
 pub record IsName (text : List ℕ) : Type 0 where
   pub plain : IsText text
@@ -131,3 +148,28 @@ IsWireMessage (message.StreamStart xid first) = xid < 2 ^ 32
 IsWireMessage message.StreamStop = ⊤
 IsWireMessage (message.StreamCommit xid lsn end time) = (xid < 2 ^ 32) × (lsn < 2 ^ 64) × (end < 2 ^ 64) × FitsSigned w64 time
 IsWireMessage (message.StreamAbort xid label) = (xid < 2 ^ 32) × (label < 2 ^ 32)
+
+-- A message carries an xid exactly inside a block.
+abbrev pub HasXidExactlyInBlock : Bool → Option ℕ → Type 0
+HasXidExactlyInBlock true (Some xid) = ⊤
+HasXidExactlyInBlock false None = ⊤
+HasXidExactlyInBlock true None = ⊥
+HasXidExactlyInBlock false (Some xid) = ⊥
+
+abbrev pub IsMessageFor : Bool → Message → Type 0
+IsMessageFor in_block (message.TypeName xid oid namespace name) = HasXidExactlyInBlock in_block xid
+IsMessageFor in_block (message.Logical xid transactional lsn prefix content) = HasXidExactlyInBlock in_block xid
+IsMessageFor in_block (message.Item xid item) = HasXidExactlyInBlock in_block xid
+IsMessageFor in_block (message.Begin lsn time xid) = ⊤
+IsMessageFor in_block (message.Commit lsn end time) = ⊤
+IsMessageFor in_block (message.Origin lsn name) = ⊤
+IsMessageFor in_block (message.StreamStart xid first) = ⊤
+IsMessageFor in_block message.StreamStop = ⊤
+IsMessageFor in_block (message.StreamCommit xid lsn end time) = ⊤
+IsMessageFor in_block (message.StreamAbort xid label) = ⊤
+
+-- These bytes spell this message, all of them.
+pub record Says (in_block : Bool) (m : Message) (bytes : List ℕ) : Type 0 where
+  pub wire : IsWireMessage m
+  pub xid : IsMessageFor in_block m
+  pub spelled : bytes ≡ message_spelling m
