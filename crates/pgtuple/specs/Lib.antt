@@ -2,3 +2,4 @@ pub mod Limits
 pub mod Cells
 pub mod Lent
 pub mod Reading
+pub mod Laws

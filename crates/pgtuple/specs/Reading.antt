@@ -1,6 +1,6 @@
 -- TupleData read from left to right: the cells and the number of bytes they take, or the first field that can't be read.
 -- PostgreSQL documentation, Logical Replication Message Formats, TupleData.
-use Rattle.std.specs.Prelude.{◌+◌, ℕ, zero, suc, List, [], ◌∷◌, Bool, length, take, drop, Result, Ok, Err, nat_lt, nat_le, ◌==◌, if◌then◌else◌}
+use Rattle.std.specs.Prelude.{◌+◌, ℕ, zero, suc, List, [], ◌∷◌, length, take, drop, Result, Ok, Err, nat_lt, nat_le, ◌==◌, if◌then◌else◌}
 use Rattle.std.specs.Int.{Width, w16, w32, byte_len, from_be_bytes}
 use Rattle.std.specs.Str.{is_utf8}
 use Rattle.pgtuple.specs.declared.cell.Cell.{Cell}
@@ -17,7 +17,7 @@ abbrev pub Read : Type 0 → Type 0
 Read A = Result (A × At) TupleFault
 
 infixl 10 ◌>>=◌
-abbrev pub ◌>>=◌ : {A B : Type 0} → Result A TupleFault → (A → Result B TupleFault) → Result B TupleFault
+abbrev pub ◌>>=◌ : {A B E : Type 0} → Result A E → (A → Result B E) → Result B E
 (Ok x) >>= f = f x
 (Err e) >>= f = Err e
 
