@@ -1,4 +1,5 @@
 -- What a store contains: for each OID a definition and the rows, each row by its identity.
+-- PostgreSQL documentation, Logical Replication; ALTER TABLE, REPLICA IDENTITY.
 use Rattle.std.specs.Prelude.{◌≡◌, ◌≤◌, ℕ, List, false, length, Some, if◌then◌else◌}
 use Rattle.std.specs.Ordering.{nat_cmp}
 use Rattle.std.specs.Cmp.Lexicographic.{slice_cmp}
@@ -32,6 +33,8 @@ most_copies = 2147483647
 abbrev pub identity_key : RelationDef → List Cell → List ℕ
 identity_key def cells = tuple_spelling (identity def cells)
 
+-- A row has a cell for each column, all of them sent, and stands by its identity: once in a keyed table, and up to
+-- 2147483647 times in a bag.
 pub record IsRow (def : RelationDef) (place : List ℕ) (row : Row) : Type 0 where
   pub width : length row.cells ≡ length def.columns
   pub known : place ≡ identity_key def row.cells

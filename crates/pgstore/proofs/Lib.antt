@@ -1,0 +1,5 @@
+pub mod KeepsForm
+mod Relations
+mod EffectRows
+mod WorkRows
+mod DumpRows

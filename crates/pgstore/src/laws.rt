@@ -1,0 +1,14 @@
+//! What the effect of changes keeps true, as the contract of a function that does nothing.
+
+ghost use Rattle.pgstore.specs.Laws.{NoTablesAreTables, ChangeKeepsTables, ChangesKeepTables};
+
+/// Each row of a store's tables has its definition's width and all of its cells, and stands under the spelling of its
+/// identity; a row of a keyed table stands there once, a row of a bag 1 to 2147483647 times. A new store has no tables,
+/// and each change keeps them so.
+///
+/// PostgreSQL documentation, Logical Replication; ALTER TABLE, REPLICA IDENTITY.
+pub fn changes_keep_tables()
+    ensures new { NoTablesAreTables }
+    ensures one { ChangeKeepsTables }
+    ensures several { ChangesKeepTables }
+{}
