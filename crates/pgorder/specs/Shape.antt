@@ -14,6 +14,18 @@ HasXidExactlyInBlock false None = Unit {0}
 HasXidExactlyInBlock true None = ⊥
 HasXidExactlyInBlock false (Some xid) = ⊥
 
+abbrev pub IsMessageFor : Bool → Message → Type 0
+IsMessageFor in_block (TypeName xid oid namespace name) = HasXidExactlyInBlock in_block xid
+IsMessageFor in_block (Logical xid transactional lsn prefix content) = HasXidExactlyInBlock in_block xid
+IsMessageFor in_block (Item xid item) = HasXidExactlyInBlock in_block xid
+IsMessageFor in_block (Begin lsn time xid) = Unit {0}
+IsMessageFor in_block (Commit lsn end time) = Unit {0}
+IsMessageFor in_block (Origin lsn name) = Unit {0}
+IsMessageFor in_block (StreamStart xid first) = Unit {0}
+IsMessageFor in_block StreamStop = Unit {0}
+IsMessageFor in_block (StreamCommit xid lsn end time) = Unit {0}
+IsMessageFor in_block (StreamAbort xid label) = Unit {0}
+
 -- What may stand between Begin and Commit (in_block is false) and inside a block (in_block is true).
 abbrev pub IsInner : Bool → Message → Type 0
 IsInner in_block (Origin lsn name) = Unit {0}
