@@ -1,87 +1,114 @@
 -- Lists of sessions.
-use Rattle.std.proofs.Common.{◌≡◌, ◌≤◌, ℕ, List, [], ◌∷◌, Ok, refl, sym, ap, subst, ◌∙◌, max}
-use Rattle.std.specs.FinMap as map
+use Rattle.std.proofs.Common.{◌≡◌, ◌≤◌, ℕ, List, [], ◌∷◌, Ok, refl, sym, ap, subst, ◌∙◌, max, arith, inl, inr}
+use Rattle.std.proofs.lemmas.Bool.{cases_lt}
 use Rattle.pgorder.specs.declared.Version.{Version}
-use Rattle.pgorder.specs.Steps.{Outside}
-use Rattle.pgsub_core.specs.History.{Transaction, IsHistory, tables_as_of}
-use Rattle.pgsub_core.specs.Stream.{Sent, messages_in, marks}
+use Rattle.pgsub_core.specs.History.{Transaction, IsHistory, ChangesRows, tables_as_of}
+use Rattle.pgsub_core.specs.Stream.{Sent, commits_and_keepalives}
 use Rattle.pgsub_core.specs.Delivers.{Delivers}
-use Rattle.pgsub_core.specs.Machine.{Copy, Outcome, Goes, Halts, NoDefinition, Refuses, go_on}
-use Rattle.pgsub_core.specs.Engine.{run, ended}
+use Rattle.pgsub_core.specs.Replica.{Replica, Halt, Outcome, Running, Stopped, UnknownRelation, StoreRefuses, OutOfOrder, then_run}
+use Rattle.pgsub_core.specs.ApplyState.{run, replica_outcome, at_session, follow_all}
 use Rattle.pgsub_core.specs.Reached.{Progress, reached, disconnected, position_after, quiet_end}
-use Rattle.pgsub_core.specs.Sessions.{AreSessions, reached_all}
-use Rattle.pgsub_core.specs.Safe.{IsSafe}
-use Rattle.pgsub_core.specs.Fine.{IsFine, at_session, follow_all}
-use Rattle.pgsub_core.proofs.Delivered.{delivered_fine}
-use Rattle.pgsub_core.proofs.Agreeing.{agree_run}
-use Rattle.pgorder.specs.OpenXids.{none_open, is_open-none_open}
-use Rattle.pgorder.proofs.ShapeIsTaken.{shaped_runs}
-use Rattle.pgsub_core.proofs.Reaching.{HasReached, reached_by}
+use Rattle.pgsub_core.specs.Sessions.{AreSessions, starting_by, reached_all}
+use Rattle.pgsub_core.specs.Safe.{IsSafe, NothingBetween}
+use Rattle.pgsub_core.specs.Outcomes.{IsAllowedOutcome}
+use Rattle.pgsub_core.proofs.OneSession.{delivered_allowed, session_reached}
+use Rattle.pgsub_core.proofs.Reaching.{HasReached, quiet-most, above}
 use Rattle.pgsub_core.proofs.Fronts.{delivers_front}
 
--- what a session that is followed to its end has reached
-session_reached : (v : Version) (history : List Transaction) (copy new : Copy) (s : ℕ) (sent : List Sent) → copy.position ≤ copy.confirmed
-    → Delivers v history s sent → ended (run v (at_session copy) sent) ≡ Goes new → HasReached copy.position copy.confirmed (marks [] sent) new
-session_reached v history copy new s sent below delivers e =
-    let ordered = shaped_runs v (messages_in sent) delivers.shaped in
-    reached_by (marks [] sent) copy new below (sym (agree_run v sent [] Outside none_open map.empty copy (refl, refl) (λ x o. absurd (let none = is_open-none_open x in cc)) ordered.0 ordered.1) ∙ e)
+-- more is stored behind a later position
+nothing-later : (ts : List Transaction) (p q c d e : ℕ) → p ≤ q → e ≤ max c d → NothingBetween ts p c → NothingBetween ts q d → NothingBetween ts q e
+nothing-later [] p q c d e le most a b = tt
+nothing-later (t ∷ ts) p q c d e le most a b =
+    ((λ changes by. elim (cases_lt c t.end) [ inl lt ↦ b.0 changes (omega arith) | inr old ↦ let before : t.end ≤ p = a.0 changes old in omega arith ]), nothing-later ts p q c d e le most a.1 b.1)
 
-goes_on : (v : Version) (history : List Transaction) (wholes : List (List Sent)) (o : Outcome) → IsFine history o
-    → ((new : Copy) → o ≡ Goes new → IsSafe history new.tables new.position new.confirmed → IsFine history (follow_all v new wholes))
-    → IsFine history (go_on o (λ new. follow_all v new wholes))
-goes_on v history wholes (Goes new) fine rest = rest new refl fine
-goes_on v history wholes (Halts copy NoDefinition) fine rest = absurd fine
-goes_on v history wholes (Halts copy (Refuses fault)) fine rest = fine
+-- the sessions' own progress goes on with the replica's position, and nothing that changes rows lies up to what it confirms
+record GoesOn (history : List Transaction) (p : Progress) (replica : Replica) : Type 0 where
+  pub same : p.position ≡ replica.position
+  pub nothing : NothingBetween history replica.position p.confirmed
 
-pub follow_fine : (v : Version) (history : List Transaction) (sessions : List (List ℕ)) (wholes : List (List Sent)) (p : Progress) (copy : Copy) → IsHistory history
-    → p.position ≡ copy.position → p.confirmed ≡ copy.confirmed → IsSafe history copy.tables copy.position copy.confirmed
-    → AreSessions v history p sessions wholes → IsFine history (follow_all v copy wholes)
-follow_fine v history [] [] p copy is at c safe h = safe
-follow_fine v history [] (whole ∷ wholes) p copy is at c safe h = absurd h
-follow_fine v history (bytes ∷ sessions) [] p copy is at c safe h = absurd h
-follow_fine v history (bytes ∷ sessions) (whole ∷ wholes) p copy is at c safe h =
+goes_with : (history : List Transaction) (complete : List Sent) (p : Progress) (replica new : Replica) → GoesOn history p replica
+    → HasReached replica.position replica.confirmed (commits_and_keepalives [] complete) new → NothingBetween history new.position new.confirmed
+    → GoesOn history (reached (disconnected p) [] complete) new
+goes_with history complete p replica new on there stored =
+    let ms = commits_and_keepalives [] complete in
+    let same : position_after p.position ms ≡ new.position = ap (λ n. position_after n ms) on.same ∙ sym there.0 in
+    let more = above ms replica.position in
+    let most = quiet-most ms p.confirmed replica.confirmed in
+    let reached_it = there.0 in
+    let confirmed_it = there.1 in
+    record {
+      same = same;
+      nothing = nothing-later history replica.position new.position p.confirmed new.confirmed (max (position_after p.position ms) (quiet_end p.confirmed ms)) (omega arith) (omega arith) on.nothing stored;
+    }
+
+goes_on : (v : Version) (history : List Transaction) (all_complete : List (List Sent)) (o : Outcome Replica Halt) → IsAllowedOutcome history o
+    → ((new : Replica) → o ≡ Running new → IsSafe history new.tables new.position new.confirmed → IsAllowedOutcome history (follow_all v new all_complete))
+    → IsAllowedOutcome history (then_run o (λ new. follow_all v new all_complete))
+goes_on v history all_complete (Running new) allowed rest = rest new refl allowed
+goes_on v history all_complete (Stopped replica (UnknownRelation oid)) allowed rest = absurd allowed
+goes_on v history all_complete (Stopped replica (OutOfOrder fault)) allowed rest = absurd allowed
+goes_on v history all_complete (Stopped replica (StoreRefuses fault)) allowed rest = allowed
+
+follow_allowed : (v : Version) (history : List Transaction) (sessions : List (List ℕ)) (all_complete : List (List Sent)) (p : Progress) (replica : Replica) → IsHistory history
+    → IsSafe history replica.tables replica.position replica.confirmed → GoesOn history p replica
+    → AreSessions v history p sessions all_complete → IsAllowedOutcome history (follow_all v replica all_complete)
+follow_allowed v history [] [] p replica is safe on h = safe
+follow_allowed v history [] (complete ∷ all_complete) p replica is safe on h = absurd h
+follow_allowed v history (bytes ∷ sessions) [] p replica is safe on h = absurd h
+follow_allowed v history (bytes ∷ sessions) (complete ∷ all_complete) p replica is safe on h =
     let s = h.0.0 in
     let session = h.0.2 in
-    let start : Copy = record copy { relations = [] } in
-    let front : Delivers v history s whole = delivers_front v history s whole session.later (subst (Delivers v history s) session.parts session.delivered) in
-    goes_on v history wholes (ended (run v (at_session start) whole)) (delivered_fine v history start s whole is (subst (λ n. s ≤ n) c h.0.1) refl front safe)
-    (λ new e safe'.
-    let there = session_reached v history start new s whole safe.below front e in
-    follow_fine v history sessions wholes (reached (disconnected p) [] whole) new is
-    (ap (λ n. position_after n (marks [] whole)) at ∙ sym there.0)
-    (ap (λ n. max (position_after n (marks [] whole)) (quiet_end p.confirmed (marks [] whole))) at ∙ ap (λ n. max (position_after copy.position (marks [] whole)) (quiet_end n (marks [] whole))) c ∙ sym there.1)
-    safe' h.1)
+    let front : Delivers v history s complete = delivers_front v history s complete session.later (subst (Delivers v history s) session.parts session.delivered) in
+    goes_on v history all_complete (replica_outcome (run v (at_session replica) complete)) (delivered_allowed v history replica s p.confirmed complete is h.0.1 on.nothing front safe)
+    (λ new e safe'. follow_allowed v history sessions all_complete (reached (disconnected p) [] complete) new is safe'
+    (goes_with history complete p replica new on (session_reached v history replica new s complete safe.below front e) safe'.stored) h.1)
 
-pub same_rows : (history : List Transaction) (a b : Copy) → IsSafe history a.tables a.position a.confirmed → IsSafe history b.tables b.position b.confirmed
+pub all_sessions_allowed : (v : Version) (history : List Transaction) (sessions : List (List ℕ)) (all_complete : List (List Sent)) (p : Progress) (c : ℕ) (replica : Replica) → IsHistory history
+    → p.position ≡ replica.position → p.confirmed ≡ replica.confirmed → IsSafe history replica.tables replica.position replica.confirmed
+    → p.confirmed ≤ c → NothingBetween history p.position c → AreSessions v history (starting_by c p) sessions all_complete
+    → IsAllowedOutcome history (follow_all v replica all_complete)
+all_sessions_allowed v history sessions all_complete p c replica is at confirmed safe le nothing h =
+    follow_allowed v history sessions all_complete (starting_by c p) replica is safe (record { same = at; nothing = subst (λ n. NothingBetween history n c) at nothing }) h
+
+pub same_rows : (history : List Transaction) (a b : Replica) → IsSafe history a.tables a.position a.confirmed → IsSafe history b.tables b.position b.confirmed
     → a.position ≡ b.position → a.tables ≡ b.tables
 same_rows history a b one two same = let e : Ok a.tables ≡ tables_as_of history b.position = sym one.same ∙ ap (tables_as_of history) same in cc
 
-goes_to : (v : Version) (wholes : List (List Sent)) (p : Progress) (new : Copy) (o : Outcome) → go_on o (λ mid. follow_all v mid wholes) ≡ Goes new
-    → ((mid : Copy) → o ≡ Goes mid → follow_all v mid wholes ≡ Goes new → (new.position ≡ p.position) × (new.confirmed ≡ p.confirmed))
+goes_to : (v : Version) (all_complete : List (List Sent)) (p : Progress) (new : Replica) (o : Outcome Replica Halt) → then_run o (λ mid. follow_all v mid all_complete) ≡ Running new
+    → ((mid : Replica) → o ≡ Running mid → follow_all v mid all_complete ≡ Running new → (new.position ≡ p.position) × (new.confirmed ≡ p.confirmed))
     → (new.position ≡ p.position) × (new.confirmed ≡ p.confirmed)
-goes_to v wholes p new (Goes mid) h rest = rest mid refl h
-goes_to v wholes p new (Halts copy why) h rest = absurd (cc)
+goes_to v all_complete p new (Running mid) h rest = rest mid refl h
+goes_to v all_complete p new (Stopped replica why) h rest = absurd (cc)
 
--- what all sessions together have reached, where they are followed to their end
-pub follow_reached : (v : Version) (history : List Transaction) (sessions : List (List ℕ)) (wholes : List (List Sent)) (p : Progress) (copy new : Copy) → IsHistory history
-    → p.position ≡ copy.position → p.confirmed ≡ copy.confirmed → IsSafe history copy.tables copy.position copy.confirmed
-    → AreSessions v history p sessions wholes → follow_all v copy wholes ≡ Goes new
-    → (new.position ≡ (reached_all p wholes).position) × (new.confirmed ≡ (reached_all p wholes).confirmed)
-follow_reached v history [] [] p copy new is at c safe h e =
-    let same : copy ≡ new = cc in
-    (sym (ap (λ (k : Copy). k.position) same) ∙ sym at, sym (ap (λ (k : Copy). k.confirmed) same) ∙ sym c)
-follow_reached v history [] (whole ∷ wholes) p copy new is at c safe h e = absurd h
-follow_reached v history (bytes ∷ sessions) [] p copy new is at c safe h e = absurd h
-follow_reached v history (bytes ∷ sessions) (whole ∷ wholes) p copy new is at c safe h e =
+-- what all sessions together have reached, where they are followed to their end: from goes the sessions' own progress, from p the replica's
+follow_reached : (v : Version) (history : List Transaction) (sessions : List (List ℕ)) (all_complete : List (List Sent)) (from p : Progress) (replica new : Replica) → IsHistory history
+    → p.position ≡ replica.position → p.confirmed ≡ replica.confirmed → IsSafe history replica.tables replica.position replica.confirmed → GoesOn history from replica
+    → AreSessions v history from sessions all_complete → follow_all v replica all_complete ≡ Running new
+    → (new.position ≡ (reached_all p all_complete).position) × (new.confirmed ≡ (reached_all p all_complete).confirmed)
+follow_reached v history [] [] from p replica new is at c safe on h e =
+    let same : replica ≡ new = cc in
+    (sym (ap (λ (k : Replica). k.position) same) ∙ sym at, sym (ap (λ (k : Replica). k.confirmed) same) ∙ sym c)
+follow_reached v history [] (complete ∷ all_complete) from p replica new is at c safe on h e = absurd h
+follow_reached v history (bytes ∷ sessions) [] from p replica new is at c safe on h e = absurd h
+follow_reached v history (bytes ∷ sessions) (complete ∷ all_complete) from p replica new is at c safe on h e =
     let s = h.0.0 in
     let session = h.0.2 in
-    let start : Copy = record copy { relations = [] } in
-    let front : Delivers v history s whole = delivers_front v history s whole session.later (subst (Delivers v history s) session.parts session.delivered) in
-    let fine : IsFine history (ended (run v (at_session start) whole)) = delivered_fine v history start s whole is (subst (λ n. s ≤ n) c h.0.1) refl front safe in
-    goes_to v wholes (reached_all (reached (disconnected p) [] whole) wholes) new (ended (run v (at_session start) whole)) e
+    let ms = commits_and_keepalives [] complete in
+    let front : Delivers v history s complete = delivers_front v history s complete session.later (subst (Delivers v history s) session.parts session.delivered) in
+    let allowed : IsAllowedOutcome history (replica_outcome (run v (at_session replica) complete)) = delivered_allowed v history replica s from.confirmed complete is h.0.1 on.nothing front safe in
+    goes_to v all_complete (reached_all (reached (disconnected p) [] complete) all_complete) new (replica_outcome (run v (at_session replica) complete)) e
     (λ mid went rest.
-    let there = session_reached v history start mid s whole safe.below front went in
-    follow_reached v history sessions wholes (reached (disconnected p) [] whole) mid new is
-    (ap (λ n. position_after n (marks [] whole)) at ∙ sym there.0)
-    (ap (λ n. max (position_after n (marks [] whole)) (quiet_end p.confirmed (marks [] whole))) at ∙ ap (λ n. max (position_after copy.position (marks [] whole)) (quiet_end n (marks [] whole))) c ∙ sym there.1)
-    (subst (IsFine history) went fine) h.1 rest)
+    let there = session_reached v history replica mid s complete safe.below front went in
+    let safe' : IsSafe history mid.tables mid.position mid.confirmed = subst (IsAllowedOutcome history) went allowed in
+    follow_reached v history sessions all_complete (reached (disconnected from) [] complete) (reached (disconnected p) [] complete) mid new is
+    (ap (λ n. position_after n ms) at ∙ sym there.0)
+    (ap (λ n. max (position_after n ms) (quiet_end p.confirmed ms)) at ∙ ap (λ n. max (position_after replica.position ms) (quiet_end n ms)) c ∙ sym there.1)
+    safe' (goes_with history complete from replica mid on there safe'.stored) h.1 rest)
+
+pub all_sessions_reached : (v : Version) (history : List Transaction) (sessions : List (List ℕ)) (all_complete : List (List Sent)) (p : Progress) (c : ℕ) (replica new : Replica) → IsHistory history
+    → p.position ≡ replica.position → p.confirmed ≡ replica.confirmed → IsSafe history replica.tables replica.position replica.confirmed
+    → p.confirmed ≤ c → NothingBetween history p.position c → AreSessions v history (starting_by c p) sessions all_complete
+    → follow_all v replica all_complete ≡ Running new
+    → (new.position ≡ (reached_all p all_complete).position) × (new.confirmed ≡ (reached_all p all_complete).confirmed)
+all_sessions_reached v history sessions all_complete p c replica new is at confirmed safe le nothing h e =
+    follow_reached v history sessions all_complete (starting_by c p) p replica new is at confirmed safe (record { same = at; nothing = subst (λ n. NothingBetween history n c) at nothing }) h e

@@ -10,7 +10,7 @@ use Rattle.std.specs.Prelude.{nat_le, nat_lt}
 use Rattle.pgstore.specs.declared.rows.StoreFault.{StoreFault}
 use Rattle.pgstore.specs.Value.{Tables}
 use Rattle.pgstore.specs.Apply.{Change, apply, fold_changes, ◌>>=◌}
-use Rattle.pgsub_core.specs.Work.{kept}
+use Rattle.pgsub_core.specs.Work.{surviving_changes}
 use Rattle.pgsub_core.specs.History.{Transaction, IsHistoryFrom, all_changes, ended_by, ended_after, ChangesRows}
 use Rattle.pgsub_core.specs.Delivers.{ChangeNothing}
 
@@ -39,9 +39,9 @@ none_changed (c ∷ cs) P all none = absurd (none (all (λ e. cc)))
 pub ended-all : (p : ℕ) (ts : List Transaction) → AllEndBy p ts → all_changes (ended_by p ts) ≡ all_changes ts
 ended-all p [] h = refl
 ended-all p (t ∷ ts) h =
-    elim (nat_le t.end p) as (λ b. nat_le t.end p ≡ b → all_changes (cond b (t ∷ ended_by p ts) (ended_by p ts)) ≡ kept t.work ++ all_changes ts) [
-      | true ↦ λ e. ap (λ cs. kept t.work ++ cs) (ended-all p ts h.1)
-      | false ↦ λ e. ended-all p ts h.1 ∙ ap (λ cs. cs ++ all_changes ts) (sym (none_changed (kept t.work) (t.end ≤ p) h.0 (λ le. grind (arith, leb_tells))))
+    elim (nat_le t.end p) as (λ b. nat_le t.end p ≡ b → all_changes (cond b (t ∷ ended_by p ts) (ended_by p ts)) ≡ surviving_changes t.work ++ all_changes ts) [
+      | true ↦ λ e. ap (λ cs. surviving_changes t.work ++ cs) (ended-all p ts h.1)
+      | false ↦ λ e. ended-all p ts h.1 ∙ ap (λ cs. cs ++ all_changes ts) (sym (none_changed (surviving_changes t.work) (t.end ≤ p) h.0 (λ le. grind (arith, leb_tells))))
     ] refl
 
 pub ended-none : (p : ℕ) (ts : List Transaction) → AllEndAfter p ts → ended_by p ts ≡ []
@@ -53,15 +53,15 @@ ended-none p (t ∷ ts) h =
     ] refl
 
 pub changes-append : (xs ys : List Transaction) → all_changes (xs ++ ys) ≡ all_changes xs ++ all_changes ys
-changes-append xs ys = flat_map-append (λ (t : Transaction). kept t.work) xs ys
+changes-append xs ys = flat_map-append (λ (t : Transaction). surviving_changes t.work) xs ys
 
 pub ended-append : (p : ℕ) (xs ys : List Transaction) → ended_by p (xs ++ ys) ≡ ended_by p xs ++ ended_by p ys
 ended-append p xs ys = filter-append (λ (t : Transaction). nat_le t.end p) xs ys
 
 -- Where what came ends by p and what is to come ends later, the changes up to p are those of what came.
-pub tables_as_of-split : (p : ℕ) (gone to_come : List Transaction) → AllEndBy p gone → AllEndAfter p to_come → all_changes (ended_by p (gone ++ to_come)) ≡ all_changes gone
-tables_as_of-split p gone to_come by after =
-    ap all_changes (ended-append p gone to_come ∙ ap (λ ts. ended_by p gone ++ ts) (ended-none p to_come after) ∙ append-nil (ended_by p gone))
+pub tables_as_of-split : (p : ℕ) (gone remaining : List Transaction) → AllEndBy p gone → AllEndAfter p remaining → all_changes (ended_by p (gone ++ remaining)) ≡ all_changes gone
+tables_as_of-split p gone remaining by after =
+    ap all_changes (ended-append p gone remaining ∙ ap (λ ts. ended_by p gone ++ ts) (ended-none p remaining after) ∙ append-nil (ended_by p gone))
     ∙ ended-all p gone by
 
 pub AllEndBy-append : (p : ℕ) (xs ys : List Transaction) → AllEndBy p xs → AllEndBy p ys → AllEndBy p (xs ++ ys)
@@ -83,12 +83,12 @@ AllEndAfter-less p q (x ∷ xs) le a = ((let late : q < x.end = a.0 in omega ari
 -- in a history that stands from some place on, each transaction ends behind that place
 pub history-after : (from : ℕ) (ts : List Transaction) → IsHistoryFrom from ts → AllEndAfter from ts
 history-after from [] h = tt
-history-after from (t ∷ ts) h = (omega arith, AllEndAfter-less from t.end ts (omega arith) (history-after t.end ts h.3))
+history-after from (t ∷ ts) h = (omega arith, AllEndAfter-less from t.end ts (omega arith) (history-after t.end ts h.4))
 
 -- behind a transaction each one ends later
 pub later-after : (from : ℕ) (xs : List Transaction) (t : Transaction) (later : List Transaction) → IsHistoryFrom from (xs ++ t ∷ later) → AllEndAfter t.end later
-later-after from [] t later h = history-after t.end later h.3
-later-after from (x ∷ xs) t later h = later-after x.end xs t later h.3
+later-after from [] t later h = history-after t.end later h.4
+later-after from (x ∷ xs) t later h = later-after x.end xs t later h.4
 
 split-early : (p : ℕ) (t : Transaction) (ts : List Transaction) → t.end ≤ p → ended_by p ts ++ ended_after p ts ≡ ts → ended_by p (t ∷ ts) ++ ended_after p (t ∷ ts) ≡ t ∷ ts
 split-early p t ts le rest =
@@ -106,8 +106,8 @@ split-late p t ts lt none rest =
 pub split-at : (from p : ℕ) (ts : List Transaction) → IsHistoryFrom from ts → ended_by p ts ++ ended_after p ts ≡ ts
 split-at from p [] h = refl
 split-at from p (t ∷ ts) h =
-    let rest = split-at t.end p ts h.3 in
+    let rest = split-at t.end p ts h.4 in
     elim (cases_lt p t.end) [
-      | inl lt ↦ split-late p t ts lt (ended-none p ts (AllEndAfter-less p t.end ts (omega arith) (history-after t.end ts h.3))) rest
+      | inl lt ↦ split-late p t ts lt (ended-none p ts (AllEndAfter-less p t.end ts (omega arith) (history-after t.end ts h.4))) rest
       | inr le ↦ split-early p t ts le rest
     ]

@@ -7,8 +7,8 @@ use Rattle.pgorder.specs.declared.Version.{Version}
 use Rattle.pgstore.specs.Apply.{fold_changes}
 use Rattle.pgsub_core.specs.History.{Transaction, IsHistory, all_changes, tables_as_of}
 use Rattle.pgsub_core.specs.Described.{relations_after}
-use Rattle.pgsub_core.specs.Stream.{Sent, Data, Keepalive, Mark, Completes, Tells, messages_in, marks, marks_of, is_quiet}
-use Rattle.pgsub_core.specs.Delivers.{Follow, Delivers}
+use Rattle.pgsub_core.specs.Stream.{Sent, Data, Keepalive, CommitOrKeepalive, Committed, KeepaliveEnd, messages_in, commits_and_keepalives, commits_of, is_quiet}
+use Rattle.pgsub_core.specs.Delivers.{CommitsFollow, Delivers}
 use Rattle.pgsub_core.specs.Safe.{IsSafe}
 use Rattle.pgsub_core.proofs.Changes.{AllEndAfter, ended-none, history-after}
 use Rattle.pgsub_core.proofs.Safety.{AllStored}
@@ -37,17 +37,17 @@ behind before [] = before
 behind before (Data start end clock m ∷ sent) = behind (m ∷ before) sent
 behind before (Keepalive end clock reply ∷ sent) = behind before sent
 
-marks-append : (before : List Message) (a b : List Sent) → marks before (a ++ b) ≡ marks before a ++ marks (behind before a) b
-marks-append before [] b = refl
-marks-append before (Data start end clock m ∷ a) b =
-    ap (λ ms. marks_of before m ++ ms) (marks-append (m ∷ before) a b) ∙ sym (append_assoc (marks_of before m) (marks (m ∷ before) a) (marks (behind (m ∷ before) a) b))
-marks-append before (Keepalive end clock reply ∷ a) b = ap (λ ms. Tells end (is_quiet before) ∷ ms) (marks-append before a b)
+commits_and_keepalives-append : (before : List Message) (a b : List Sent) → commits_and_keepalives before (a ++ b) ≡ commits_and_keepalives before a ++ commits_and_keepalives (behind before a) b
+commits_and_keepalives-append before [] b = refl
+commits_and_keepalives-append before (Data start end clock m ∷ a) b =
+    ap (λ ms. commits_of before m ++ ms) (commits_and_keepalives-append (m ∷ before) a b) ∙ sym (append_assoc (commits_of before m) (commits_and_keepalives (m ∷ before) a) (commits_and_keepalives (behind (m ∷ before) a) b))
+commits_and_keepalives-append before (Keepalive end clock reply ∷ a) b = ap (λ ms. KeepaliveEnd end (is_quiet before) ∷ ms) (commits_and_keepalives-append before a b)
 
-follow_front : (earlier : List RelationDef) (to_come : List Transaction) (a b : List Mark) → Follow earlier to_come (a ++ b) → Follow earlier to_come a
-follow_front earlier to_come [] b h = tt
-follow_front earlier to_come (Tells end quiet ∷ a) b h = (h.0, follow_front earlier to_come a b h.1)
-follow_front earlier to_come (Completes completed ∷ a) b h =
-    (h.0, h.1, h.2, h.3, h.4, h.5, h.6, h.7, follow_front (relations_after earlier h.3) h.2 a b h.8)
+commits_front : (earlier : List RelationDef) (remaining : List Transaction) (a b : List CommitOrKeepalive) → CommitsFollow earlier remaining (a ++ b) → CommitsFollow earlier remaining a
+commits_front earlier remaining [] b h = tt
+commits_front earlier remaining (KeepaliveEnd end quiet ∷ a) b h = (h.0, commits_front earlier remaining a b h.1)
+commits_front earlier remaining (Committed completed ∷ a) b h =
+    (h.0, h.1, h.2, h.3, h.4, h.5, h.6, h.7, commits_front (relations_after earlier h.3) h.2 a b h.8)
 
 -- A front of what is delivered is delivered.
 pub delivers_front : (v : Version) (history : List Transaction) (s : ℕ) (a b : List Sent) → Delivers v history s (a ++ b) → Delivers v history s a
@@ -58,5 +58,5 @@ delivers_front v history s a b h = record {
     follow = h.shaped.follow;
     front = sym (append_assoc (messages_in a) (messages_in b) h.shaped.rest) ∙ ap (λ ms. ms ++ h.shaped.rest) (sym (messages-append a b)) ∙ h.shaped.front;
   };
-  follow = follow_front [] _ (marks [] a) (marks (behind [] a) b) (subst (Follow [] _) (marks-append [] a b) h.follow);
+  commits = commits_front [] _ (commits_and_keepalives [] a) (commits_and_keepalives (behind [] a) b) (subst (CommitsFollow [] _) (commits_and_keepalives-append [] a b) h.commits);
 }

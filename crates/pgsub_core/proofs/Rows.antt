@@ -36,10 +36,10 @@ insert_t key value = item.Insert 16384 (text key ∷ text value ∷ [])
 abbrev pub change_t : ℕ → ℕ → Change
 change_t key value = record { definition = t; op = op.Insert (text key ∷ text value ∷ []) }
 
-described_1 : described [] (item.Relation t ∷ insert_t 49 97 ∷ []) ≡ Some (change_t 49 97 ∷ [])
+described_1 : described [] (item.Relation t ∷ insert_t 49 97 ∷ []) ≡ Ok (change_t 49 97 ∷ [])
 described_1 = refl
 
-described_none : described [] (insert_t 49 97 ∷ []) ≡ None
+described_none : described [] (insert_t 49 97 ∷ []) ≡ Err 16384
 described_none = refl
 
 place_1 : identity_key t (text 49 ∷ text 97 ∷ []) ≡ 0 ∷ 1 ∷ 116 ∷ 0 ∷ 0 ∷ 0 ∷ 1 ∷ 49 ∷ []

@@ -15,10 +15,10 @@ use Rattle.pgstore.specs.Apply.{apply, fold_changes, rows_after}
 use Rattle.pgtuple.specs.Cells.{tuple_spelling}
 use Rattle.pgsub_core.specs.Work.{Work, Nothing, Changed, RolledBack}
 use Rattle.pgsub_core.specs.History.{Transaction, IsHistory, tables_as_of}
-use Rattle.pgsub_core.specs.Runs.{Labelled, Held, Aborted, Runs}
-use Rattle.pgsub_core.specs.Stream.{Sent, Data, marks, messages_in, Completes, OfStream}
+use Rattle.pgsub_core.specs.Streamed.{StreamedItem, Change, SubtransactionAbort, IsStreamOf}
+use Rattle.pgsub_core.specs.Stream.{Sent, Data, commits_and_keepalives, messages_in, Committed, StreamedCommit}
 use Rattle.pgsub_core.specs.Delivers.{Delivers}
-use Rattle.pgsub_core.specs.Machine.{surviving}
+use Rattle.pgsub_core.specs.Replica.{surviving_items}
 use Rattle.pgsub_core.proofs.Rows.{t, text, insert_t, place, row_of, lookups}
 
 abbrev sent : Message → Sent
@@ -50,15 +50,15 @@ history_10 =
     record { xid = 11; work = Changed (insert_t 49 101) (t ∷ []) Nothing; lsn = 768; end = 816 }
     ∷ record { xid = 10; work = Changed (update_t 49 108) (t ∷ []) (Changed (insert_t 50 109) (t ∷ []) Nothing); lsn = 1024; end = 1072 } ∷ []
 
-marks_10 : marks [] stream_10 ≡
-    Completes (OfStream 11 768 816 (Held 11 (item.Relation t) ∷ Held 11 (insert_t 49 101) ∷ []))
-    ∷ Completes (OfStream 10 1024 1072 (Held 10 (item.Relation t) ∷ Held 10 (update_t 49 108) ∷ Held 10 (insert_t 50 109) ∷ [])) ∷ []
+marks_10 : commits_and_keepalives [] stream_10 ≡
+    Committed (StreamedCommit 11 768 816 (Change 11 (item.Relation t) ∷ Change 11 (insert_t 49 101) ∷ []))
+    ∷ Committed (StreamedCommit 10 1024 1072 (Change 10 (item.Relation t) ∷ Change 10 (update_t 49 108) ∷ Change 10 (insert_t 50 109) ∷ [])) ∷ []
 marks_10 = refl
 
 delivers_10 : Delivers Two history_10 0 stream_10
 delivers_10 = record {
   shaped = record { pieces = pieces_10; rest = []; follow = ((((tt, (tt, tt)), simp open_rows), (((tt, (tt, tt)), simp open_rows), (((tt, tt), simp open_rows), (simp open_rows, (simp open_rows, tt)))))); front = refl };
-  follow = (
+  commits = (
     [],
     _,
     _,
@@ -84,14 +84,14 @@ rows_10 = simp lookups
 abbrev row_w : Item
 row_w = item.Insert 16385 (text 49 ∷ text 112 ∷ text 113 ∷ [])
 
-abbrev come_11 : List Labelled
-come_11 = Held 20 (item.Relation t) ∷ Held 20 (insert_t 49 97) ∷ Held 21 (item.Relation t) ∷ Held 21 row_w ∷ Held 21 (insert_t 50 98) ∷ Held 22 (insert_t 51 99)
-    ∷ Held 21 (insert_t 52 100) ∷ Aborted 22 ∷ Aborted 21 ∷ Held 20 (item.Relation t) ∷ Held 20 (insert_t 53 114) ∷ []
+abbrev come_11 : List StreamedItem
+come_11 = Change 20 (item.Relation t) ∷ Change 20 (insert_t 49 97) ∷ Change 21 (item.Relation t) ∷ Change 21 row_w ∷ Change 21 (insert_t 50 98) ∷ Change 22 (insert_t 51 99)
+    ∷ Change 21 (insert_t 52 100) ∷ SubtransactionAbort 22 ∷ SubtransactionAbort 21 ∷ Change 20 (item.Relation t) ∷ Change 20 (insert_t 53 114) ∷ []
 
 abbrev work_11 : Work
 work_11 = Changed (insert_t 49 97) (t ∷ []) (RolledBack 21 (22 ∷ []) (Changed (insert_t 53 114) (t ∷ []) Nothing))
 
-runs_11 : Runs work_11 20 come_11 (item.Relation t ∷ insert_t 49 97 ∷ item.Relation t ∷ insert_t 53 114 ∷ [])
+runs_11 : IsStreamOf work_11 20 come_11 (item.Relation t ∷ insert_t 49 97 ∷ item.Relation t ∷ insert_t 53 114 ∷ [])
 runs_11 = (
   t ∷ [],
   _,
@@ -100,8 +100,8 @@ runs_11 = (
   refl,
   (
     [],
-    Held 21 (item.Relation t) ∷ Held 21 row_w ∷ Held 21 (insert_t 50 98) ∷ Held 22 (insert_t 51 99) ∷ Held 21 (insert_t 52 100) ∷ Aborted 22 ∷ Aborted 21 ∷ [],
-    Held 20 (item.Relation t) ∷ Held 20 (insert_t 53 114) ∷ [],
+    Change 21 (item.Relation t) ∷ Change 21 row_w ∷ Change 21 (insert_t 50 98) ∷ Change 22 (insert_t 51 99) ∷ Change 21 (insert_t 52 100) ∷ SubtransactionAbort 22 ∷ SubtransactionAbort 21 ∷ [],
+    Change 20 (item.Relation t) ∷ Change 20 (insert_t 53 114) ∷ [],
     _,
     refl,
     refl,
@@ -110,7 +110,7 @@ runs_11 = (
   ),
 )
 
-survive_11 : surviving (OfStream 20 1280 1328 come_11) ≡ item.Relation t ∷ insert_t 49 97 ∷ item.Relation t ∷ insert_t 53 114 ∷ []
+survive_11 : surviving_items (StreamedCommit 20 1280 1328 come_11) ≡ item.Relation t ∷ insert_t 49 97 ∷ item.Relation t ∷ insert_t 53 114 ∷ []
 survive_11 = refl
 
 -- row 13: a block that no commit follows, and in the next session the transaction whole
@@ -120,7 +120,7 @@ history_13 = record { xid = 40; work = Changed (insert_t 49 97) (t ∷ []) (Chan
 delivers_13a : Delivers Two history_13 0 (sent (message.StreamStart 40 true) ∷ sent (under 40 (item.Relation t)) ∷ sent (under 40 (insert_t 49 97)) ∷ sent message.StreamStop ∷ [])
 delivers_13a = record {
   shaped = record { pieces = Block 40 true (under 40 (item.Relation t) ∷ under 40 (insert_t 49 97) ∷ []) ∷ []; rest = []; follow = (((tt, (tt, tt)), simp open_rows), tt); front = refl };
-  follow = tt;
+  commits = tt;
 }
 
 abbrev alone : Item → Message
@@ -129,7 +129,7 @@ alone i = message.Item None i
 delivers_13b : Delivers Two history_13 0 (sent (message.Begin 1792 (pos 0) 40) ∷ sent (alone (item.Relation t)) ∷ sent (alone (insert_t 49 97)) ∷ sent (alone (insert_t 50 98)) ∷ sent (message.Commit 1792 1840 (pos 0)) ∷ [])
 delivers_13b = record {
   shaped = record { pieces = Pair 1792 (pos 0) 40 (alone (item.Relation t) ∷ alone (insert_t 49 97) ∷ alone (insert_t 50 98) ∷ []) 1840 (pos 0) ∷ []; rest = []; follow = (((tt, (tt, (tt, tt))), simp open_rows), tt); front = refl };
-  follow = ([], _, _, item.Relation t ∷ insert_t 49 97 ∷ insert_t 50 98 ∷ [], refl, tt, (refl, refl, refl, refl), refl, tt);
+  commits = ([], _, _, item.Relation t ∷ insert_t 49 97 ∷ insert_t 50 98 ∷ [], refl, tt, (refl, refl, refl, refl), refl, tt);
 }
 
 -- row 17: the same history as pairs, and as blocks with rolled-back parts
@@ -139,7 +139,7 @@ history_17 =
     ∷ record { xid = 10; work = Changed (update_t 49 108) (t ∷ []) (RolledBack 12 [] (Changed (insert_t 50 109) (t ∷ []) (RolledBack 14 [] Nothing))); lsn = 1024; end = 1072 } ∷ []
 
 is_history_17 : IsHistory history_17
-is_history_17 = (omega arith, omega arith, (refl, (refl, tt)), (omega arith, omega arith, (refl, (refl, (refl, tt))), tt))
+is_history_17 = (omega arith, omega arith, (tt, refl, tt), (refl, (refl, tt)), (omega arith, omega arith, (tt, refl, (tt, refl, tt)), (refl, (refl, (refl, tt))), tt))
 
 left_17 : Delivers Two history_17 0
     (sent (message.Begin 768 (pos 0) 11) ∷ sent (alone (item.Relation t)) ∷ sent (alone (insert_t 49 101)) ∷ sent (message.Commit 768 816 (pos 0))
@@ -151,7 +151,7 @@ left_17 = record {
     follow = (((tt, (tt, tt)), simp open_rows), (((tt, (tt, tt)), simp open_rows), tt));
     front = refl;
   };
-  follow = (
+  commits = (
     [],
     _,
     _,
@@ -184,14 +184,14 @@ right_17 = record {
     follow = (((tt, (tt, (tt, tt))), simp open_rows), (((tt, (tt, tt)), simp open_rows), (tt, (tt, (((tt, tt), simp open_rows), (((tt, (tt, tt)), simp open_rows), (tt, (simp open_rows, (simp open_rows, tt)))))))));
     front = refl;
   };
-  follow = (
+  commits = (
     [],
     _,
     _,
     item.Relation t ∷ insert_t 49 101 ∷ [],
     refl,
     tt,
-    (refl, refl, refl, (t ∷ [], Held 13 (insert_t 57 121) ∷ Aborted 13 ∷ [], Held 11 (insert_t 49 101) ∷ [], _, refl, refl, record { named = (refl, (refl, tt)); aborted = (refl, tt) }, ([], [], [], refl, refl, ([], refl, refl)))),
+    (refl, refl, refl, (t ∷ [], Change 13 (insert_t 57 121) ∷ SubtransactionAbort 13 ∷ [], Change 11 (insert_t 49 101) ∷ [], _, refl, refl, record { named = (refl, (refl, tt)); aborted = (refl, tt) }, ([], [], [], refl, refl, ([], refl, refl)))),
     refl,
     (
       [],
@@ -206,25 +206,25 @@ right_17 = record {
         refl,
         (
           t ∷ [],
-          Held 12 (insert_t 56 120) ∷ Aborted 12 ∷ Held 10 (insert_t 50 109) ∷ Held 14 (delete_t 49) ∷ Aborted 14 ∷ [],
+          Change 12 (insert_t 56 120) ∷ SubtransactionAbort 12 ∷ Change 10 (insert_t 50 109) ∷ Change 14 (delete_t 49) ∷ SubtransactionAbort 14 ∷ [],
           insert_t 50 109 ∷ [],
           refl,
           refl,
           (
             [],
-            Held 12 (insert_t 56 120) ∷ Aborted 12 ∷ [],
-            Held 10 (insert_t 50 109) ∷ Held 14 (delete_t 49) ∷ Aborted 14 ∷ [],
+            Change 12 (insert_t 56 120) ∷ SubtransactionAbort 12 ∷ [],
+            Change 10 (insert_t 50 109) ∷ Change 14 (delete_t 49) ∷ SubtransactionAbort 14 ∷ [],
             _,
             refl,
             refl,
             record { named = (refl, (refl, tt)); aborted = (refl, tt) },
             (
               [],
-              Held 14 (delete_t 49) ∷ Aborted 14 ∷ [],
+              Change 14 (delete_t 49) ∷ SubtransactionAbort 14 ∷ [],
               [],
               refl,
               refl,
-              ([], Held 14 (delete_t 49) ∷ Aborted 14 ∷ [], [], _, refl, refl, record { named = (refl, (refl, tt)); aborted = (refl, tt) }, ([], refl, refl)),
+              ([], Change 14 (delete_t 49) ∷ SubtransactionAbort 14 ∷ [], [], _, refl, refl, record { named = (refl, (refl, tt)); aborted = (refl, tt) }, ([], refl, refl)),
             ),
           ),
         ),

@@ -1,12 +1,14 @@
--- A server's history, and the rows that it gives.
+-- PostgreSQL documentation, Logical Decoding Concepts: a server's history, the transactions in commit order, and the rows
+-- that it gives.
 use Rattle.std.specs.Prelude.{◌<◌, ◌≤◌, ◌≢◌, ℕ, List, [], ◌∷◌, nat_le, nat_lt, Result}
 use Rattle.std.specs.List.{flat_map, filter}
 use Rattle.std.specs.FinMap as map
 use Rattle.pgstore.specs.declared.rows.StoreFault.{StoreFault}
 use Rattle.pgstore.specs.Value.{Tables}
 use Rattle.pgstore.specs.Apply.{Change, fold_changes}
-use Rattle.pgsub_core.specs.Work.{Work, kept, xids_of, AllDiffer}
+use Rattle.pgsub_core.specs.Work.{Work, IsWork, surviving_changes, xids_of, AllDiffer}
 
+-- a transaction: lsn is that of its commit record, end the place behind that record
 pub record Transaction : Type 0 where
   pub xid : ℕ
   pub work : Work
@@ -16,13 +18,13 @@ pub record Transaction : Type 0 where
 -- Commits stand one behind the other, from this LSN on.
 abbrev pub IsHistoryFrom : ℕ → List Transaction → Type 0
 IsHistoryFrom from [] = Unit {0}
-IsHistoryFrom from (t ∷ ts) = (from ≤ t.lsn) × (t.lsn < t.end) × AllDiffer (t.xid ∷ xids_of t.work) × IsHistoryFrom t.end ts
+IsHistoryFrom from (t ∷ ts) = (from ≤ t.lsn) × (t.lsn < t.end) × IsWork t.work × AllDiffer (t.xid ∷ xids_of t.work) × IsHistoryFrom t.end ts
 
 abbrev pub IsHistory : List Transaction → Type 0
 IsHistory ts = IsHistoryFrom 0 ts
 
 abbrev pub all_changes : List Transaction → List Change
-all_changes ts = flat_map (λ (t : Transaction). kept t.work) ts
+all_changes ts = flat_map (λ (t : Transaction). surviving_changes t.work) ts
 
 abbrev pub ended_by : ℕ → List Transaction → List Transaction
 ended_by p ts = filter (λ (t : Transaction). nat_le t.end p) ts
@@ -35,4 +37,4 @@ unfoldable pub tables_as_of : List Transaction → ℕ → Result Tables StoreFa
 tables_as_of ts p = fold_changes map.empty (all_changes (ended_by p ts))
 
 abbrev pub ChangesRows : Transaction → Type 0
-ChangesRows t = kept t.work ≢ []
+ChangesRows t = surviving_changes t.work ≢ []

@@ -16,9 +16,9 @@ use Rattle.pgsub_core.specs.declared.fault.Fault.{Fault}
 use Rattle.pgsub_core.specs.declared.fault.Fault.TheVariants as fault
 use Rattle.pgwire.specs.declared.fault.WireFault.{WireFault}
 use Rattle.pgwire.specs.declared.fault.WireFault.TheVariants as wire
-use Rattle.pgsub_core.specs.History.{Transaction, tables_as_of}
+use Rattle.pgsub_core.specs.History.{Transaction}
 use Rattle.pgsub_core.specs.Reached.{Progress}
-use Rattle.pgsub_core.specs.Safe.{IsSafe}
+use Rattle.pgsub_core.specs.Safe.{IsSafe, RefusesNext}
 
 pub record Subscribed : Type 0 where
   pub tables : Tables
@@ -50,15 +50,11 @@ abbrev pub status_frame : ℕ → ℕ → ℤ → Bool → List ℕ
 status_frame received confirmed now ask =
     100 ∷ 0 ∷ 0 ∷ 0 ∷ 38 ∷ 114 ∷ (to_be_bytes w64 received ++ to_be_bytes w64 confirmed ++ to_be_bytes w64 confirmed ++ to_be_bytes w64 (cast_unsigned w64 now) ++ flag ask ∷ [])
 
--- what the history gives up to a commit behind the position
-abbrev pub Refuses : List Transaction → ℕ → StoreFault → Type 0
-Refuses history position k = (p : ℕ) × (position < p) × (tables_as_of history p ≡ Err k)
-
 -- the faults that can come of a well-formed server's sessions
 abbrev pub IsExpectedOfStore : List Transaction → ℕ → StoreFault → Type 0
 IsExpectedOfStore history position store.Refused = Unit {0}
 IsExpectedOfStore history position store.Memory = ⊥
-IsExpectedOfStore history position k = Refuses history position k
+IsExpectedOfStore history position k = RefusesNext history position k
 
 abbrev pub IsExpectedOfSpool : SpoolFault → Type 0
 IsExpectedOfSpool spool.SpoolFull = Unit {0}
