@@ -1,6 +1,12 @@
-//! Frames of a CopyBoth session, and the messages that a server sends in them.
+//! Frames of a replication session, and the messages that a server sends in them.
+//!
+//! PostgreSQL documentation, Message Formats (CopyData, CopyDone) and Streaming Replication Protocol.
 #![tactic(auto)]
 
 pub mod fault;
+pub mod frame;
+pub mod message;
 
 pub use fault::WireFault;
+pub use frame::{Frame, front};
+pub use message::{ServerMsg, decode_server};

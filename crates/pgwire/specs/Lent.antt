@@ -1,0 +1,15 @@
+-- What a lent frame and a lent message say.
+use Rattle.pgwire.specs.declared.frame.Frame.{Frame}
+use Rattle.pgwire.specs.declared.frame.Frame.TheVariants as lent_frame
+use Rattle.pgwire.specs.declared.message.ServerMsg.{ServerMsg}
+use Rattle.pgwire.specs.declared.message.ServerMsg.TheVariants as lent
+use Rattle.pgwire.specs.Frames as wire
+use Rattle.pgwire.specs.Payloads.{ServerMessage, XLogData, Keepalive}
+
+abbrev pub frame_value : Frame → wire.Frame
+frame_value (lent_frame.Data bytes) = wire.CopyData bytes.now
+frame_value lent_frame.Done = wire.CopyDone
+
+abbrev pub message_value : ServerMsg → ServerMessage
+message_value (lent.Data start end clock body) = XLogData start end clock body.now
+message_value (lent.Keepalive end clock reply) = Keepalive end clock reply

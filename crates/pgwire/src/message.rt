@@ -1,0 +1,124 @@
+//! The payloads of CopyData that a server sends.
+
+ghost use Rattle.std.specs.Prelude.{◌≡◌, MatchResult, IfOk, IfErr, Ok, Err};
+ghost use Rattle.pgwire.specs.Payloads.{ServerMessage, payload, payload_at, data_at, keepalive_at, IsServerMessage, HasPayloadFault};
+ghost use Rattle.pgwire.specs.Lent.{message_value};
+
+use crate::WireFault;
+use byteorder::{BigEndian, ByteOrder};
+use pglsn::Lsn;
+
+/// A message of a server, as a part of its payload.
+#[derive(Clone, Copy, Debug, PartialEq, Eq)]
+pub enum ServerMsg<'a> {
+    /// XLogData: where the data starts, the current end of WAL, the server's clock in microseconds since 2000-01-01, and the data.
+    Data {
+        start: Lsn,
+        end: Lsn,
+        clock: i64,
+        body: &'a [u8],
+    },
+    /// A primary keepalive: the end of WAL, the server's clock, and whether it asks for a reply as soon as possible.
+    Keepalive {
+        end: Lsn,
+        clock: i64,
+        reply: bool,
+    },
+}
+
+/// The message of a payload.
+pub fn decode_server(payload: &[u8]) -> Result<ServerMsg<'_>, WireFault>
+    ensures { MatchResult result (λ m. payload_at payload.now ≡ Ok (message_value m)) (λ fault. payload_at payload.now ≡ Err fault) }
+{
+    match payload {
+        [] => Err(WireFault::Short),
+        [b'w', fields @ ..] => decode_data(fields),
+        [b'k', fields @ ..] => decode_keepalive(fields),
+        [tag, ..] => Err(WireFault::UnknownServerMessage(*tag)),
+    }
+}
+
+fn decode_data(fields: &[u8]) -> Result<ServerMsg<'_>, WireFault>
+    ensures { MatchResult result (λ m. data_at fields.now ≡ Ok (message_value m)) (λ fault. data_at fields.now ≡ Err fault) }
+{
+    if fields.len() < 24 {
+        return Err(WireFault::Short);
+    }
+    Ok(ServerMsg::Data {
+        start: Lsn(BigEndian::read_u64(fields)),
+        end: Lsn(BigEndian::read_u64(&fields[8..])),
+        clock: BigEndian::read_i64(&fields[16..]),
+        body: &fields[24..],
+    })
+}
+
+fn decode_keepalive(fields: &[u8]) -> Result<ServerMsg<'_>, WireFault>
+    ensures { MatchResult result (λ m. keepalive_at fields.now ≡ Ok (message_value m)) (λ fault. keepalive_at fields.now ≡ Err fault) }
+{
+    if fields.len() < 17 {
+        return Err(WireFault::Short);
+    }
+    if fields.len() > 17 {
+        return Err(WireFault::Trailing);
+    }
+    if fields[16] > 1 {
+        return Err(WireFault::BadReplyByte);
+    }
+    Ok(ServerMsg::Keepalive {
+        end: Lsn(BigEndian::read_u64(fields)),
+        clock: BigEndian::read_i64(&fields[8..]),
+        reply: fields[16] == 1,
+    })
+}
+
+#[cfg(test)]
+mod tests {
+    use super::*;
+
+    #[test]
+    fn reads_messages(rt: HostRuntime) {
+        let mut data =
+            *b"w\x01\x02\x03\x04\x05\x06\x07\x08\xff\xfe\xfd\xfc\xfb\xfa\xf9\xf8\xff\xff\xff\xff\xff\xff\xff\xfehi";
+        let expected = ServerMsg::Data {
+            start: Lsn(0x0102030405060708),
+            end: Lsn(0xfffefdfcfbfaf9f8),
+            clock: -2,
+            body: &data[25..],
+        };
+        assert_eq!(rt; decode_server(&data), Ok(expected));
+        data[0] = b'x';
+        assert_eq!(rt;
+            decode_server(&data),
+            Err(WireFault::UnknownServerMessage(120))
+        );
+        let keepalive = b"k\0\0\0\0\0\0\x01\x80\0\0\0\0\0\0\0\x09\x01";
+        let expected = ServerMsg::Keepalive {
+            end: Lsn(0x180),
+            clock: 9,
+            reply: true,
+        };
+        assert_eq!(rt; decode_server(keepalive), Ok(expected));
+    }
+
+    #[test]
+    fn refuses_other_payloads(rt: HostRuntime) {
+        assert_eq!(rt; decode_server(b""), Err(WireFault::Short));
+        assert_eq!(rt;
+            decode_server(b"x"),
+            Err(WireFault::UnknownServerMessage(120))
+        );
+        assert_eq!(rt;
+            decode_server(b"w01234567012345670123456"),
+            Err(WireFault::Short)
+        );
+        assert_eq!(rt; decode_server(b"k0123456701234567"), Err(WireFault::Short));
+        assert_eq!(rt;
+            decode_server(b"k0123456701234567\x02"),
+            Err(WireFault::BadReplyByte)
+        );
+        assert_eq!(rt;
+            decode_server(b"k0123456701234567\x02\0"),
+            Err(WireFault::Trailing)
+        );
+    }
+}
