@@ -1,2 +1,4 @@
 pub mod Members
 pub mod ShapeIsTaken
+pub mod ShapeLaws
+pub mod TakenIsShaped

@@ -24,7 +24,7 @@ run_front v (m ∷ a) b old final h = go (order_step v old m) h (λ s. run_front
     go (Ok step) h rest = rest step.0 h
     go (Err e) h rest = absurd (cc)
 
-abbrev at : Context → OpenXids → OrderState
+abbrev pub at : Context → OpenXids → OrderState
 at context open_xids = record { context = context; open_xids = open_xids }
 
 in_pair : (v : Version) (lsn xid : ℕ) (open_xids : OpenXids) (inner rest : List Message) → AllByRecursion (IsInner false) inner
