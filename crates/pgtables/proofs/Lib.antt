@@ -1,0 +1,16 @@
+pub mod Maps
+pub mod Queries
+pub mod Edits
+pub mod Upserts
+pub mod Steps
+pub mod Texts
+pub mod Place
+pub mod HeldRows
+pub mod DefinedRows
+pub mod Gone
+pub mod Inside
+pub mod Held
+pub mod Answering
+pub mod Made
+pub mod Sorted
+pub mod DumpRows

@@ -1,0 +1,17 @@
+//! The tables of a store of replicated rows, over bytes: one function for each SQL statement.
+//!
+//! `rel` has the definition of each relation by its OID, `held` its rows by OID and the spelling of their identity, and
+//! `pos` the position up to which they stand. A contract sees them as two maps and a list of bytes.
+#![tactic(auto)]
+
+pub mod dumped;
+pub mod find;
+pub mod put;
+pub mod rows;
+pub mod schema;
+
+pub use dumped::dump;
+pub use find::{find_definition, find_row, has_rows};
+pub use put::{delete_row, delete_rows, put_definition, put_position, put_row};
+pub use rows::{StoredDefinition, StoredRow};
+pub use schema::create_tables;
