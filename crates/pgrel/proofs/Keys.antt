@@ -45,7 +45,7 @@ keyed_means def =
 pub full_never_keyed : (def : RelationDef) → def.letter ≡ identity_full → keyed def ≡ false
 full_never_keyed def e = ap (λ n. (n == identity_default || n == identity_index) && list_any is_key def.columns) e
 
-key_cells_bound : (columns : List Column) (cells : List Cell) → length (key_cells columns cells) ≤ length cells
+pub key_cells_bound : (columns : List Column) (cells : List Cell) → length (key_cells columns cells) ≤ length cells
 key_cells_bound [] cells = omega arith
 key_cells_bound (column ∷ columns) [] = omega arith
 key_cells_bound (column ∷ columns) (cell ∷ cells) =

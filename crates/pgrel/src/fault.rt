@@ -1,3 +1,7 @@
+ghost use Rattle.std.specs.Prelude.{◌≡◌};
+
+use std::alloc::{AllocError, AllocFailed};
+
 /// Why a tuple doesn't fit a relation, or a relation isn't known.
 #[derive(Clone, Copy, Debug, PartialEq, Eq)]
 pub enum RelFault {
@@ -13,4 +17,24 @@ pub enum RelFault {
     UnknownRelation(u32),
     /// Memory has run out.
     Memory,
+}
+
+impl From<AllocError> for RelFault {
+    ghost use Rattle.pgrel.specs.declared.fault.RelFault.TheVariants.{Memory};
+
+    ghost from_gives = { λ _ fault. fault ≡ Memory };
+
+    fn from(_error: AllocError) -> RelFault {
+        RelFault::Memory
+    }
+}
+
+impl<T: Drop> From<AllocFailed<T>> for RelFault {
+    ghost use Rattle.pgrel.specs.declared.fault.RelFault.TheVariants.{Memory};
+
+    ghost from_gives = { λ _ fault. fault ≡ Memory };
+
+    fn from(_error: AllocFailed<T>) -> RelFault {
+        RelFault::Memory
+    }
 }

@@ -1,0 +1,297 @@
+//! By what a row is known, and which tuples of a change fit its definition.
+//!
+//! PostgreSQL documentation, ALTER TABLE, REPLICA IDENTITY; Logical Replication Message Formats, Relation, Insert, Update,
+//! Delete.
+
+ghost use Rattle.std.specs.Prelude.{◌≡◌, ◌⊎◌, ◌++◌, true, false, length, slice_get, IsSome, IsOk, IfOk, IfErr, OnOk};
+ghost use Rattle.std.specs.Option.{option_to_list};
+ghost use Rattle.pgrel.specs.Steps.{key_cell};
+ghost use Rattle.std.specs.Cmp.Lexicographic.{pointwise};
+ghost use Rattle.std.specs.List.{list_any};
+ghost use Rattle.pglogical.specs.declared.item.Column.{Column};
+ghost use Rattle.pgrel.specs.Identity.{
+  keyed,
+  key_cells,
+  identity,
+  same_column,
+  same_shape,
+  has_unchanged,
+  resolved,
+  lacks_identity,
+  has_width,
+  old_has_width,
+  new_has_width,
+  checked_insert,
+  checked_identity,
+  searched_identity,
+};
+
+use crate::fault::RelFault;
+use pglogical::{Column, OldKind, RelationDef};
+use pgtuple::{Cell, CellRef, Tuple, TupleRef};
+use std::alloc::Global;
+
+/// Whether the table's rows are known by their key: the replica identity letter is `d` or `i` and some column is flagged
+/// as part of the key. Otherwise the table is a bag, whose rows are known by all their cells and counted in copies.
+pub fn keyed(def: &RelationDef) -> bool
+    ensures { result ≡ keyed def.now }
+{
+    if def.letter != b'd' && def.letter != b'i' {
+        return false;
+    }
+    has_key_column(def.columns.as_slice())
+}
+
+fn has_key_column(columns: &[Column]) -> bool
+    ensures { result ≡ list_any (λ (c : Column). c.key) columns.now }
+{
+    columns.iter().any(|column| column.key)
+}
+
+/// Whether two definitions have equal letters and equal lists of key flags and column names. Rows that stand under one are
+/// then rows under the other, with the same identities.
+pub fn same_shape(a: &RelationDef, b: &RelationDef) -> bool
+    ensures { result ≡ same_shape a.now b.now }
+{
+    a.letter == b.letter && same_columns(a.columns.as_slice(), b.columns.as_slice())
+}
+
+fn same_columns(a: &[Column], b: &[Column]) -> bool
+    ensures { result ≡ pointwise same_column a.now b.now }
+{
+    if a.len() != b.len() {
+        return false;
+    }
+    for (x, y) in a.iter().zip(b) {
+        if !same_column(x, y) {
+            return false;
+        }
+    }
+    true
+}
+
+fn same_column(a: &Column, b: &Column) -> bool
+    ensures { result ≡ same_column a.now b.now }
+{
+    a.key == b.key && a.name.as_str() == b.name.as_str()
+}
+
+/// Whether a row may be inserted: it has the definition's width, and every cell was sent.
+pub fn check_insert(def: &RelationDef, row: &TupleRef<'_>) -> Result<(), RelFault>
+    ensures { result ≡ checked_insert def.now row.now }
+{
+    if !has_width(def, row) {
+        return Err(RelFault::Width);
+    }
+    if has_unchanged(row) {
+        return Err(RelFault::UnchangedInInsert);
+    }
+    Ok(())
+}
+
+fn has_width(def: &RelationDef, row: &TupleRef<'_>) -> bool
+    ensures { result ≡ has_width def.now row.now }
+{
+    row.width() == def.columns.as_slice().len()
+}
+
+fn has_unchanged(row: &TupleRef<'_>) -> bool
+    ensures { result ≡ has_unchanged row.now }
+{
+    for k in 0..row.width() {
+        if is_unchanged_at(row, k) {
+            return true;
+        }
+    }
+    false
+}
+
+fn has_unchanged_key(columns: &[Column], row: &TupleRef<'_>) -> bool
+    ensures { result ≡ has_unchanged (key_cells columns.now row.now) }
+{
+    for (k, column) in columns.iter().enumerate() {
+        if is_unchanged_key(column, row, k) {
+            return true;
+        }
+    }
+    false
+}
+
+fn is_unchanged_key(column: &Column, row: &TupleRef<'_>, k: usize) -> bool
+    ensures { result ≡ has_unchanged (key_cell column.now row.now k) }
+{
+    column.key && is_unchanged_at(row, k)
+}
+
+fn is_unchanged_at(row: &TupleRef<'_>, k: usize) -> bool
+    ensures { result ≡ has_unchanged (option_to_list (slice_get row.now k)) }
+{
+    match row.get(k) {
+        Some(CellRef::Unchanged) => true,
+        _ => false,
+    }
+}
+
+// Puts a copy of the k-th cell behind the others.
+fn push_cell(
+    cells: &mut Vec<Cell>,
+    alloc: Global,
+    row: &TupleRef<'_>,
+    k: usize,
+) -> Result<(), RelFault>
+    ensures ok { OnOk result (cells.new.items ≡ cells.old.items ++ option_to_list (slice_get row.now k)) }
+    ensures memory { IfErr result (λ fault. fault ≡ RelFault.Memory) }
+{
+    if let Some(cell) = row.get(k) {
+        let cell = cell.to_cell(alloc).map_err(|_| RelFault::Memory)?;
+        cells.push(cell)?;
+    }
+    Ok(())
+}
+
+// The cells of the key columns, in column order.
+fn key_tuple(alloc: Global, columns: &[Column], row: &TupleRef<'_>) -> Result<Tuple, RelFault>
+    ensures ok { IfOk result (λ cells. cells ≡ key_cells columns.now row.now) }
+    ensures memory { IfErr result (λ fault. fault ≡ RelFault.Memory) }
+{
+    let _width = row.width();
+    let mut cells = Vec::new(alloc);
+    for (k, column) in columns.iter().enumerate() {
+        if column.key {
+            push_cell(&mut cells, alloc, row, k)?;
+        }
+    }
+    Ok(Tuple::from_vec(cells))
+}
+
+fn whole_tuple(alloc: Global, row: &TupleRef<'_>) -> Result<Tuple, RelFault>
+    ensures ok { IfOk result (λ cells. cells ≡ row.now) }
+    ensures memory { IfErr result (λ fault. fault ≡ RelFault.Memory) }
+{
+    let width = row.width();
+    let mut cells = Vec::with_capacity(alloc, width)?;
+    for k in 0..width {
+        push_cell(&mut cells, alloc, row, k)?;
+    }
+    Ok(Tuple::from_vec(cells))
+}
+
+fn identity_tuple(alloc: Global, def: &RelationDef, row: &TupleRef<'_>) -> Result<Tuple, RelFault>
+    ensures ok { IfOk result (λ cells. cells ≡ identity def.now row.now) }
+    ensures memory { IfErr result (λ fault. fault ≡ RelFault.Memory) }
+{
+    if keyed(def) {
+        key_tuple(alloc, def.columns.as_slice(), row)
+    } else {
+        whole_tuple(alloc, row)
+    }
+}
+
+/// The identity of a row: its key cells in column order, or in a bag all its cells. A cell that wasn't sent is a cell like
+/// another here. It refuses a row that hasn't the definition's width.
+pub fn row_identity(alloc: Global, def: &RelationDef, row: &TupleRef<'_>) -> Result<Tuple, RelFault>
+    ensures ok { IfOk result (λ cells. checked_identity def.now row.now ≡ Ok cells) }
+    ensures err { IfErr result (λ fault. (checked_identity def.now row.now ≡ Err fault) ⊎ ((fault ≡ RelFault.Memory) × IsOk (checked_identity def.now row.now))) }
+{
+    if !has_width(def, row) {
+        return Err(RelFault::Width);
+    }
+    identity_tuple(alloc, def, row)
+}
+
+/// The identity by which an update or a delete finds its row: that of the old tuple if one was sent, else that of the new
+/// one. The checks come in this order: the old tuple's width, the new tuple's width, `NoIdentity` where the table isn't keyed
+/// and isn't one of replica identity FULL whose old row was sent whole, and `UnknownIdentity` where a cell of the identity
+/// wasn't sent. Want of memory is answered only behind them.
+pub fn search_identity(
+    alloc: Global,
+    def: &RelationDef,
+    old: Option<(OldKind, TupleRef<'_>)>,
+    new: Option<TupleRef<'_>>,
+) -> Result<Tuple, RelFault>
+    requires { IsSome old ⊎ IsSome new }
+    ensures ok { IfOk result (λ cells. searched_identity def.now old.entry new.entry ≡ Ok cells) }
+    ensures err { IfErr result (λ fault. (searched_identity def.now old.entry new.entry ≡ Err fault) ⊎ ((fault ≡ RelFault.Memory) × IsOk (searched_identity def.now old.entry new.entry))) }
+{
+    if !old_has_width(def, &old) || !new_has_width(def, &new) {
+        return Err(RelFault::Width);
+    }
+    if lacks_identity(def, &old) {
+        return Err(RelFault::NoIdentity);
+    }
+    match (old, new) {
+        (Some((_, row)), _) => known_identity(alloc, def, &row),
+        (None, Some(row)) => known_identity(alloc, def, &row),
+        (None, None) => unreachable!(),
+    }
+}
+
+fn old_has_width(def: &RelationDef, old: &Option<(OldKind, TupleRef<'_>)>) -> bool
+    ensures { result ≡ old_has_width def.now old.now }
+{
+    match old {
+        None => true,
+        Some((_, row)) => has_width(def, row),
+    }
+}
+
+fn new_has_width(def: &RelationDef, new: &Option<TupleRef<'_>>) -> bool
+    ensures { result ≡ new_has_width def.now new.now }
+{
+    match new {
+        None => true,
+        Some(row) => has_width(def, row),
+    }
+}
+
+fn lacks_identity(def: &RelationDef, old: &Option<(OldKind, TupleRef<'_>)>) -> bool
+    ensures { result ≡ lacks_identity def.now old.now }
+{
+    if keyed(def) {
+        return false;
+    }
+    match old {
+        Some((OldKind::Full, _)) => def.letter != b'f',
+        _ => true,
+    }
+}
+
+fn has_unchanged_identity(def: &RelationDef, row: &TupleRef<'_>) -> bool
+    ensures { result ≡ has_unchanged (identity def.now row.now) }
+{
+    if keyed(def) {
+        has_unchanged_key(def.columns.as_slice(), row)
+    } else {
+        has_unchanged(row)
+    }
+}
+
+// The identity of a row, if each of its cells was sent.
+fn known_identity(alloc: Global, def: &RelationDef, row: &TupleRef<'_>) -> Result<Tuple, RelFault>
+    ensures ok { IfOk result (λ cells. (has_unchanged (identity def.now row.now) ≡ false) × (cells ≡ identity def.now row.now)) }
+    ensures err { IfErr result (λ fault. ((fault ≡ RelFault.UnknownIdentity) × (has_unchanged (identity def.now row.now) ≡ true)) ⊎ ((fault ≡ RelFault.Memory) × (has_unchanged (identity def.now row.now) ≡ false))) }
+{
+    if has_unchanged_identity(def, row) {
+        return Err(RelFault::UnknownIdentity);
+    }
+    identity_tuple(alloc, def, row)
+}
+
+/// The new row, with the old row's cell in place of each that wasn't sent. It refuses for want of memory alone.
+pub fn resolve(alloc: Global, new: &TupleRef<'_>, old_row: &TupleRef<'_>) -> Result<Tuple, RelFault>
+    requires { length new.now ≡ length old_row.now }
+    ensures ok { IfOk result (λ row. row ≡ resolved new.now old_row.now) }
+    ensures memory { IfErr result (λ fault. fault ≡ RelFault.Memory) }
+{
+    let width = new.width();
+    let _old_width = old_row.width();
+    let mut cells = Vec::with_capacity(alloc, width)?;
+    for k in 0..width {
+        if is_unchanged_at(new, k) {
+            push_cell(&mut cells, alloc, old_row, k)?;
+        } else {
+            push_cell(&mut cells, alloc, new, k)?;
+        }
+    }
+    Ok(Tuple::from_vec(cells))
+}
