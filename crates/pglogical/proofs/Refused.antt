@@ -1,5 +1,5 @@
 -- Bodies that say no message: the first field that can't be read, and why, by the definitions alone.
-use Rattle.std.proofs.Common.{◌≡◌, refl, ◌∷◌, [], Ok, Err, negsuc, true, false, Some}
+use Rattle.std.proofs.Common.{◌≡◌, refl, ◌∷◌, [], Ok, Err, true, false, Some}
 use Rattle.std.specs.Prelude.{codes}
 use Rattle.std.specs.Str.{is_utf8, chars}
 use lib.Utf8.{encode}
