@@ -1,2 +1,4 @@
 pub mod Headers
 pub mod Decoding
+pub mod Readings
+pub mod Messages

@@ -5,6 +5,7 @@
 
 pub mod fault;
 pub mod frame;
+pub mod laws;
 pub mod message;
 
 pub use fault::WireFault;

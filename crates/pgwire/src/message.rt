@@ -1,8 +1,9 @@
 //! The payloads of CopyData that a server sends.
 
-ghost use Rattle.std.specs.Prelude.{◌≡◌, MatchResult, IfOk, IfErr, Ok, Err};
-ghost use Rattle.pgwire.specs.Payloads.{ServerMessage, payload, payload_at, data_at, keepalive_at, IsServerMessage, HasPayloadFault};
-ghost use Rattle.pgwire.specs.Lent.{message_value};
+ghost use Rattle.std.specs.Prelude.{◌≡◌, MatchResult, IfOk, IfErr, IsOkAnd, IsErrOf, Ok, Err};
+ghost use Rattle.pgwire.specs.Payloads.{ServerMessage, payload, data_at, keepalive_at, IsServerMessage, HasPayloadFault};
+ghost use Rattle.pgwire.specs.declared.fault.WireFault.{WireFault};
+ghost use Rattle.pgwire.specs.Lent.{message_value, Gives};
 
 use crate::WireFault;
 use byteorder::{BigEndian, ByteOrder};
@@ -26,11 +27,24 @@ pub enum ServerMsg<'a> {
     },
 }
 
-/// The message of a payload.
-pub fn decode_server(payload: &[u8]) -> Result<ServerMsg<'_>, WireFault>
-    ensures { MatchResult result (λ m. payload_at payload.now ≡ Ok (message_value m)) (λ fault. payload_at payload.now ≡ Err fault) }
+/// The message that a payload spells, or the first fault: a keepalive's length is looked at before its reply byte.
+pub fn decode_server(bytes: &[u8]) -> Result<ServerMsg<'_>, WireFault>
+    ensures gives { Gives result bytes.now }
+    // What is read is spelled so.
+    ensures found { IfOk result (λ m. IsServerMessage (message_value m) × (bytes.now ≡ payload (message_value m))) }
+    // What is spelled so is read.
+    ensures only { (m : ServerMessage) → IsServerMessage m → bytes.now ≡ payload m → IsOkAnd result (λ x. message_value x ≡ m) }
+    // Which fault it is.
+    ensures first { IfErr result (λ fault. HasPayloadFault bytes.now fault) }
+    ensures refused { (fault : WireFault) → HasPayloadFault bytes.now fault → IsErrOf result fault }
 {
-    match payload {
+    read(bytes)
+}
+
+fn read(bytes: &[u8]) -> Result<ServerMsg<'_>, WireFault>
+    ensures { Gives result bytes.now }
+{
+    match bytes {
         [] => Err(WireFault::Short),
         [b'w', fields @ ..] => decode_data(fields),
         [b'k', fields @ ..] => decode_keepalive(fields),
