@@ -2,4 +2,5 @@ pub mod Limits
 pub mod Cells
 pub mod Lent
 pub mod Reading
+pub mod Writing
 pub mod Laws

@@ -1,6 +1,6 @@
 -- TupleData read from left to right: the cells and the number of bytes they take, or the first field that can't be read.
 -- PostgreSQL documentation, Logical Replication Message Formats, TupleData.
-use Rattle.std.specs.Prelude.{◌+◌, ℕ, zero, suc, List, [], ◌∷◌, length, take, drop, Result, Ok, Err, nat_lt, nat_le, ◌==◌, if◌then◌else◌}
+use Rattle.std.specs.Prelude.{◌≡◌, ◌+◌, ⊤, ℕ, zero, suc, List, [], ◌∷◌, length, take, drop, Result, Ok, Err, nat_lt, nat_le, ◌==◌, if◌then◌else◌}
 use Rattle.std.specs.Int.{Width, w16, w32, byte_len, from_be_bytes}
 use Rattle.std.specs.Str.{is_utf8}
 use Rattle.pgtuple.specs.declared.cell.Cell.{Cell}
@@ -16,6 +16,15 @@ At = ℕ × List ℕ
 abbrev pub Read : Type 0 → Type 0
 Read A = Result (A × At) TupleFault
 
+-- What a fault of a call has to do with what reading gives: all but want of memory is the definition's.
+abbrev pub Fails : {A : Type 0} → TupleFault → Result A TupleFault → Type 0
+Fails fault.Memory read = ⊤
+Fails (fault.Short place) read = read ≡ Err (fault.Short place)
+Fails (fault.BadKind place) read = read ≡ Err (fault.BadKind place)
+Fails (fault.BadLength place) read = read ≡ Err (fault.BadLength place)
+Fails (fault.NotUtf8 place) read = read ≡ Err (fault.NotUtf8 place)
+Fails (fault.TooManyColumns place) read = read ≡ Err (fault.TooManyColumns place)
+
 infixl 10 ◌>>=◌
 abbrev pub ◌>>=◌ : {A B E : Type 0} → Result A E → (A → Result B E) → Result B E
 (Ok x) >>= f = f x
@@ -26,6 +35,10 @@ further n at = (at.0 + n, drop n at.1)
 
 unfoldable pub number_at : Width → At → Read ℕ
 number_at w at = if nat_lt (length at.1) (byte_len w) then Err (fault.Short at.0) else Ok (from_be_bytes w (take (byte_len w) at.1), further (byte_len w) at)
+
+unfoldable pub byte_at : At → Read ℕ
+byte_at (place, []) = Err (fault.Short place)
+byte_at (place, byte ∷ bytes) = Ok (byte, (place + 1, bytes))
 
 -- a length as a signed number that isn't negative
 unfoldable pub length_at : At → Read ℕ
@@ -73,9 +86,13 @@ cells_at (suc n) at = do
   others ← cells_at n first.1
   Ok (first.0 ∷ others.0, others.1)
 
+-- the number of columns, and the cells
+abbrev pub tuple_from : At → Read (List Cell)
+tuple_from at = do
+  width ← number_at w16 at
+  _few ← (if nat_le width.0 1600 then Ok width else Err (fault.TooManyColumns at.0))
+  cells_at width.0 width.1
+
 -- the tuple at the front of these bytes, and the offset behind it
 unfoldable pub tuple_at : List ℕ → Read (List Cell)
-tuple_at bytes = do
-  width ← number_at w16 (0, bytes)
-  _few ← (if nat_le width.0 1600 then Ok width else Err (fault.TooManyColumns 0))
-  cells_at width.0 width.1
+tuple_at bytes = tuple_from (0, bytes)

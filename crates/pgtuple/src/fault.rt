@@ -1,5 +1,10 @@
-/// Why a tuple can't be read. Each but `Memory` carries the offset, from the tuple's first byte, of the first field
-/// that can't be read.
+ghost use Rattle.std.specs.Prelude.{◌≡◌};
+ghost use Rattle.pgtuple.specs.declared.fault.TupleFault.TheVariants.{Memory};
+
+use std::alloc::{AllocError, AllocFailed};
+
+/// Why a tuple can't be read. Each but `Memory` carries the offset, in bytes from the tuple's first byte, of the first
+/// field that can't be read.
 ///
 /// PostgreSQL documentation, Logical Replication Message Formats, TupleData.
 #[derive(Clone, Copy, Debug, PartialEq, Eq)]
@@ -16,4 +21,20 @@ pub enum TupleFault {
     TooManyColumns(usize),
     /// Memory has run out.
     Memory,
+}
+
+impl From<AllocError> for TupleFault {
+    ghost from_gives = { λ _ e. e ≡ Memory };
+
+    fn from(_e: AllocError) -> TupleFault {
+        TupleFault::Memory
+    }
+}
+
+impl<T: Drop> From<AllocFailed<T>> for TupleFault {
+    ghost from_gives = { λ _ e. e ≡ Memory };
+
+    fn from(_e: AllocFailed<T>) -> TupleFault {
+        TupleFault::Memory
+    }
 }

@@ -1,0 +1,7 @@
+use Rattle.std.proofs.Common.{◌≡◌, ◌-◌}
+use Rattle.pgtuple.specs.Reading.{cells_at}
+use Rattle.pgtuple.proofs.Loop.{with_front}
+use Rattle.pgtuple.proofs.decoding.cells.Given as goal
+
+abbrev pub invariant-loop : goal.invariant-loop
+invariant-loop l = with_front l.cells.items (cells_at (l.count - l.counter) l.reader) ≡ cells_at l.count l.fn.reader
