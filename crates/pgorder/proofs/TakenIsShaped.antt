@@ -1,20 +1,18 @@
 -- What is taken message by message has the shape of a stream.
 use Rattle.std.proofs.Common.{◌≡◌, ℕ, ℤ, pos, List, [], ◌∷◌, ◌++◌, Bool, true, false, cond, ◌==◌, not, Option, Some, None, Result, Ok, Err, refl, sym, ap, subst, ◌∙◌, arith, append_assoc}
-use Rattle.std.specs.Prelude.{IsOk, unwrap_or}
+use Rattle.std.specs.Prelude.{IsOk}
 use Rattle.std.specs.List.{AllByRecursion, flat_map}
 use Rattle.std.proofs.lemmas.Bool.Decides.{nat_tests}
-use Rattle.pglogical.specs.declared.item.Item.{Item}
 use Rattle.pglogical.specs.declared.message.Message.{Message}
 use Rattle.pglogical.specs.declared.message.Message.TheVariants as message
 use Rattle.pgorder.specs.declared.Version.{Version}
 use Rattle.pgorder.specs.declared.Version.TheVariants.{One, Two}
 use Rattle.pgorder.specs.declared.OrderFault.{OrderFault}
 use Rattle.pgorder.specs.declared.OrderFault.TheVariants as fault
-use Rattle.pgorder.specs.declared.Event.{Event}
 use Rattle.pgorder.specs.declared.Event.TheVariants as event
 use Rattle.pgorder.specs.OpenXids.{OpenXids, none_open, is_open, with_open, without, without_absent}
 use Rattle.pgorder.specs.Shape.{IsMessageFor, IsInner, StreamPart, Pair, Block, StreamEnd, Abort, LogicalMessage, messages_of, open_after, MayComeNext, MayFollow, IsShaped}
-use Rattle.pgorder.specs.Steps.{Context, Outside, InPair, InBlock, OrderState, initial_order, order_step, order_run, then_order}
+use Rattle.pgorder.specs.Steps.{Context, Outside, InPair, InBlock, OrderState, initial_order, order_run, then_order}
 use Rattle.pgorder.specs.States.{is_in_block}
 use Rattle.pgorder.specs.Laws.{AreMessagesFor}
 use Rattle.pgorder.proofs.ShapeIsTaken.{at}

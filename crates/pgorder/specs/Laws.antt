@@ -1,10 +1,13 @@
 -- What joins the shape of a stream with the order that takes one message after the other.
-use Rattle.std.specs.Prelude.{◌↔◌, List, [], ◌∷◌, Bool, true, false, IsOk}
+use Rattle.std.specs.Prelude.{◌≡◌, ◌↔◌, List, [], ◌∷◌, ◌++◌, Bool, true, false, Ok, Err, IsOk}
 use Rattle.pglogical.specs.declared.message.Message.{Message}
 use Rattle.pglogical.specs.declared.message.Message.TheVariants.{StreamStart, StreamStop}
 use Rattle.pgorder.specs.declared.Version.{Version}
 use Rattle.pgorder.specs.Shape.{IsMessageFor, IsShaped}
-use Rattle.pgorder.specs.Steps.{initial_order, order_run}
+use Rattle.pgorder.specs.declared.OrderFault.{OrderFault}
+use Rattle.pgorder.specs.Faults.{IsFaultOf}
+use Rattle.pgorder.specs.States.{is_in_block}
+use Rattle.pgorder.specs.Steps.{OrderState, initial_order, order_step, order_run}
 
 -- whether the next message stands inside a block
 abbrev pub in_block_after : Bool → Message → Bool
@@ -20,3 +23,15 @@ AreMessagesFor in_block (m ∷ ms) = IsMessageFor in_block m × AreMessagesFor (
 -- What has the shape of a stream is what is taken from the start on, with xids exactly inside blocks.
 abbrev pub ShapeIsWhatIsTaken : Type 0
 ShapeIsWhatIsTaken = (v : Version) (messages : List Message) → IsShaped v messages ↔ (AreMessagesFor false messages × IsOk (order_run v initial_order messages))
+
+-- In the state that a list of messages leaves, the next message is taken exactly if the list that is longer by it has the shape still.
+abbrev pub StepKeepsShape : Type 0
+StepKeepsShape =
+    (v : Version) (before : List Message) (state : OrderState) (m : Message) → IsShaped v before → order_run v initial_order before ≡ Ok state
+    → IsMessageFor (is_in_block state.context) m → IsOk (order_step v state m) ↔ IsShaped v (before ++ m ∷ [])
+
+-- It is refused with a fault exactly if this is the first that holds of it behind these messages.
+abbrev pub RefusedByFirstFault : Type 0
+RefusedByFirstFault =
+    (v : Version) (before : List Message) (state : OrderState) (m : Message) → order_run v initial_order before ≡ Ok state
+    → (e : OrderFault) → (order_step v state m ≡ Err e) ↔ IsFaultOf v before m e
