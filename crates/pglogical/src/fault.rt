@@ -1,4 +1,7 @@
+ghost use Rattle.std.specs.Prelude.{◌≡◌};
+
 use pgtuple::TupleFault;
+use std::alloc::{AllocError, AllocFailed};
 
 /// Why a field of a logical message can't be read.
 #[derive(Clone, Copy, Debug, PartialEq, Eq)]
@@ -29,4 +32,36 @@ pub enum Reason {
 pub struct DecodeFault {
     pub place: usize,
     pub reason: Reason,
+}
+
+impl DecodeFault {
+    /// The answer for want of memory.
+    pub fn out_of_memory() -> DecodeFault
+        ensures { result ≡ record { place = 0; reason = Reason.Memory } }
+    {
+        DecodeFault {
+            place: 0,
+            reason: Reason::Memory,
+        }
+    }
+}
+
+impl From<AllocError> for DecodeFault {
+    ghost use Rattle.pglogical.specs.Answers.{out_of_memory};
+
+    ghost from_gives = { λ _ e. e ≡ out_of_memory };
+
+    fn from(_error: AllocError) -> DecodeFault {
+        DecodeFault::out_of_memory()
+    }
+}
+
+impl<T: Drop> From<AllocFailed<T>> for DecodeFault {
+    ghost use Rattle.pglogical.specs.Answers.{out_of_memory};
+
+    ghost from_gives = { λ _ e. e ≡ out_of_memory };
+
+    fn from(_error: AllocFailed<T>) -> DecodeFault {
+        DecodeFault::out_of_memory()
+    }
 }

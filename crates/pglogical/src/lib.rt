@@ -2,12 +2,15 @@
 #![tactic(auto)]
 
 mod copying;
+mod decoding;
 pub mod fault;
 pub mod item;
 pub mod lent;
 pub mod message;
+mod reader;
 mod spelled;
 
+pub use decoding::{decode, decode_columns};
 pub use fault::{DecodeFault, Reason};
 pub use item::{Column, Item, OldKind, RelationDef};
 pub use lent::ItemRef;
