@@ -94,7 +94,7 @@ remove-absent : (held : HeldMap) (xid : ℕ) → map.get held xid ≡ None → m
 remove-absent held xid none = same_held (map.remove held xid) held (λ q. get-remove nat_cmp_total held xid q
     ∙ none_there (eq_by_cmp nat_cmp q xid) (map.get held q) (λ e. ap (map.get held) (one_key q xid e) ∙ none))
 
-absent : (o : Option (List LabelledItem)) → is_some o ≡ false → o ≡ None
+pub absent : (o : Option (List LabelledItem)) → is_some o ≡ false → o ≡ None
 absent None e = refl
 absent (Some x) e = absurd (true≢false e)
 

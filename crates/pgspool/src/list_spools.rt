@@ -1,0 +1,128 @@
+//! Spools that keep decoded items.
+ghost use Rattle.std.specs.Prelude.{◌≡◌, [], ◌∷◌, ◌++◌, length};
+ghost use Rattle.std.specs.FinMap as map;
+
+use crate::spool::Spool;
+use crate::spools::{SpoolFault, Spools};
+use indexmap::IndexMap;
+use pglogical::{ItemRef, spelled_len};
+use std::alloc::Global;
+use std::marker::Model;
+
+/// What an item costs beside its spelling: the bytes of its label and its place.
+const OVERHEAD: u64 = 8;
+
+/// Spools that keep each transaction's items decoded, in a list.
+#[derive(Debug, Drop)]
+pub struct ListSpools {
+    alloc: Global,
+    open: IndexMap<u32, Spool>,
+    bytes: u64,
+    max_bytes: u64,
+}
+
+impl Model for ListSpools {
+    ghost use Rattle.std.specs.Prelude.{◌≡◌, ◌≤◌};
+    ghost use Rattle.pgspool.specs.Spooled.{Spooled, spooled_code};
+
+    ghost Value = { Spooled };
+
+    ghost coded = { spooled_code };
+
+    ghost use Rattle.pgspool.specs.Spooled.{spooled_of, IsCounted};
+
+    ghost view = { λ s. record { held = spooled_of s.open.entries; most = s.max_bytes } };
+
+    ghost invariant = { λ s. IsCounted (spooled_of s.open.entries) s.bytes s.max_bytes };
+}
+
+impl ListSpools {
+    /// Spools without an open transaction, whose items may cost at most this many bytes.
+    pub fn new(alloc: Global, max_bytes: u64) -> ListSpools
+        ensures empty { result.held ≡ map.empty }
+        ensures limit { result.most ≡ max_bytes }
+    {
+        ListSpools {
+            alloc,
+            open: IndexMap::new(alloc),
+            bytes: 0,
+            max_bytes,
+        }
+    }
+}
+
+impl Spools for ListSpools {
+    ghost held = { λ s. s.held };
+
+    ghost most = { λ s. s.most };
+
+    fn is_open(&self, xid: u32) -> bool {
+        self.open.contains_key(&xid)
+    }
+
+    fn open(&mut self, xid: u32) -> Result<(), SpoolFault> {
+        match self.open.insert(xid, Spool::new(self.alloc)) {
+            Ok(_) => Ok(()),
+            Err(_) => Err(SpoolFault::Memory),
+        }
+    }
+
+    fn push(&mut self, xid: u32, label: u32, item: &ItemRef<'_>) -> Result<(), SpoolFault> {
+        let room = self.max_bytes - self.bytes;
+        let length = spelled_len(item);
+        if room < OVERHEAD || room - OVERHEAD < length {
+            return Err(SpoolFault::SpoolFull);
+        }
+        let Ok(copy) = item.to_item(self.alloc) else {
+            return Err(SpoolFault::Memory);
+        };
+        let Some(spool) = self.open.get_mut(&xid) else {
+            unreachable!()
+        };
+        let cost = OVERHEAD + length;
+        match spool.push(label, copy, cost) {
+            Ok(()) => {
+                self.bytes += cost;
+                Ok(())
+            }
+            Err(_) => Err(SpoolFault::Memory),
+        }
+    }
+
+    fn cut(&mut self, xid: u32, label: u32) {
+        if let Some(spool) = self.open.get_mut(&xid) {
+            self.bytes -= spool.cut(label);
+        }
+    }
+
+    fn count(&self, xid: u32) -> usize {
+        match self.open.get(&xid) {
+            Some(spool) => spool.len(),
+            None => 0,
+        }
+    }
+
+    fn item(&self, xid: u32, place: usize) -> Option<ItemRef<'_>> {
+        let spool = self.open.get(&xid)?;
+        spool.item(place)
+    }
+
+    fn drop_xid(&mut self, xid: u32) {
+        if let Some(spool) = self.open.swap_remove(&xid) {
+            self.bytes -= spool.bytes();
+        }
+    }
+
+    fn clear(&mut self) {
+        self.open = IndexMap::new(self.alloc);
+        self.bytes = 0;
+    }
+
+    fn bytes(&self) -> u64 {
+        self.bytes
+    }
+
+    fn limit(&self) -> u64 {
+        self.max_bytes
+    }
+}

@@ -1,0 +1,127 @@
+//! The items of one open transaction.
+ghost use Rattle.std.specs.Prelude.{◌≡◌, ◌<◌, ◌+◌, ◌^◌, [], ◌∷◌, ◌++◌, OnOk, OnErr, IfSome, option_map, slice_get, length};
+ghost use Rattle.pglogical.specs.Spelling.{IsSpellable};
+ghost use Rattle.pgspool.specs.Labels.{LabelledItem, cut, cost, costs};
+ghost use Rattle.pgspool.specs.FirstPlaces.{noted};
+
+use indexmap::IndexMap;
+use pglogical::{Item, ItemRef};
+use std::alloc::{AllocError, Global};
+use std::marker::Model;
+
+/// Where a label's first item stands: how many items are before it, and the bytes that these cost.
+#[derive(Clone, Copy, Debug)]
+pub(crate) struct FirstPlace {
+    place: usize,
+    bytes: u64,
+}
+
+/// One transaction's items, each under its label, seen as their list.
+///
+/// Beside them stands where each label first occurs, in the order of these places, so that a cut finds its place at once and
+/// costs no more than what it takes away.
+#[derive(Debug, Drop)]
+pub(crate) struct Spool {
+    items: Vec<(u32, Item)>,
+    firsts: IndexMap<u32, FirstPlace>,
+    bytes: u64,
+}
+
+/// Notes where a label first stands, unless it is noted already.
+fn note_first(
+    firsts: &mut IndexMap<u32, FirstPlace>,
+    label: u32,
+    first: FirstPlace,
+) -> Result<(), AllocError>
+    ensures ok { OnOk result (firsts.new.entries ≡ noted firsts.old.entries label first) }
+    ensures err { OnErr result (firsts.new.entries ≡ firsts.old.entries) }
+{
+    if !firsts.contains_key(&label) {
+        firsts.insert(label, first)?;
+    }
+    Ok(())
+}
+
+impl Model for Spool {
+    ghost use Rattle.std.specs.Prelude.{List};
+    ghost use Rattle.pgspool.specs.Labels.{LabelledItem};
+
+    ghost Value = { List LabelledItem };
+
+    ghost use Rattle.pgspool.specs.IsSpool.{IsSpool};
+
+    ghost view = { λ s. s.items.items };
+
+    ghost invariant = { λ s. IsSpool s.items.items s.firsts.entries s.bytes };
+}
+
+impl Spool {
+    /// An open transaction without items.
+    pub(crate) fn new(alloc: Global) -> Spool
+        ensures { result ≡ [] }
+    {
+        Spool {
+            items: Vec::new(alloc),
+            firsts: IndexMap::new(alloc),
+            bytes: 0,
+        }
+    }
+
+    /// What the items cost in bytes.
+    pub(crate) fn bytes(&self) -> u64
+        ensures { result ≡ costs self.now }
+    {
+        self.bytes
+    }
+
+    /// The number of items.
+    pub(crate) fn len(&self) -> usize
+        ensures { result ≡ length self.now }
+    {
+        self.items.len()
+    }
+
+    /// Lends an item.
+    pub(crate) fn item(&self, place: usize) -> Option<ItemRef<'_>>
+        ensures value { result ≡ option_map (λ (l : LabelledItem). l.1) (slice_get self.now place) }
+        ensures spellable { IfSome result (λ i. IsSpellable i) }
+    {
+        let (_, item) = self.items.get(place)?;
+        Some(item.borrowed())
+    }
+
+    /// Adds an item that costs this many bytes.
+    pub(crate) fn push(&mut self, label: u32, item: Item, bytes: u64) -> Result<(), AllocError>
+        requires spellable { IsSpellable item }
+        requires counted { bytes ≡ cost item }
+        requires fits { costs self.old + bytes < 2 ^ 64 }
+        ensures ok { OnOk result (self.new ≡ self.old ++ (label, item) ∷ []) }
+        ensures err { OnErr result (self.new ≡ self.old) }
+    {
+        self.items.reserve(1)?;
+        let first = FirstPlace {
+            place: self.items.len(),
+            bytes: self.bytes,
+        };
+        note_first(&mut self.firsts, label, first)?;
+        self.items.push((label, item)).unwrap();
+        self.bytes += bytes;
+        Ok(())
+    }
+
+    /// Keeps the items before the first one with the label, and answers the bytes that the others cost.
+    pub(crate) fn cut(&mut self, label: u32) -> u64
+        ensures held { self.new ≡ cut label self.old }
+        ensures freed { costs self.new + result ≡ costs self.old }
+    {
+        let Some((index, _, first)) = self.firsts.get_full(&label) else {
+            return 0;
+        };
+        let FirstPlace { place, bytes } = *first;
+        let freed = self.bytes - bytes;
+        self.items.truncate(place);
+        self.firsts.truncate(index);
+        self.bytes = bytes;
+        freed
+    }
+}
