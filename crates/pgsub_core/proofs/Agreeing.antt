@@ -18,11 +18,11 @@ use Rattle.pgorder.specs.declared.Event.TheVariants as event
 use Rattle.pgorder.specs.declared.Event.{Event}
 use Rattle.pgorder.specs.OpenXids.{OpenXids, is_open, with_open, without, is_open-with_open, is_open-opened, open_without, two_xids}
 use Rattle.pgorder.specs.Steps.{Context, Outside, InPair, InBlock, OrderState, order_step, order_run, then_order}
-use Rattle.pgspool.specs.Labels.{LabelledItem, cut, items_of, held_of}
+use Rattle.pgspool.specs.Labels.{LabelledItem, HeldMap, cut, items_of, held_of}
 use Rattle.pgsub_core.specs.Streamed.{Change, SubtransactionAbort}
 use Rattle.pgsub_core.specs.Stream.{Sent, Data, Keepalive, messages_in, pair_of, block_of, pair_items, streamed_since_first_segment, is_block, with_item, commits_and_keepalives, commits_of, CommitOrKeepalive, is_quiet}
 use Rattle.pgsub_core.specs.Replica.{Replica, Halt, Outcome, Running, Stopped, held_after, apply_all, then_run, on_commit, on_keepalive}
-use Rattle.pgsub_core.specs.ApplyState.{HeldMap, ApplyState, ApplyResult, committed, on_message, run, replica_outcome, is_outside}
+use Rattle.pgsub_core.specs.ApplyState.{ApplyState, ApplyResult, committed, on_message, run, replica_outcome, is_outside}
 use Rattle.pgsub_core.proofs.Surviving.{held_after-append}
 
 same_key : (x : ℕ) → eq_by_cmp nat_cmp x x ≡ true

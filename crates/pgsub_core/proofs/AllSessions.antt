@@ -47,7 +47,7 @@ goes_on : (v : Version) (history : List Transaction) (all_complete : List (List 
 goes_on v history all_complete (Running new) allowed rest = rest new refl allowed
 goes_on v history all_complete (Stopped replica (UnknownRelation oid)) allowed rest = absurd allowed
 goes_on v history all_complete (Stopped replica (OutOfOrder fault)) allowed rest = absurd allowed
-goes_on v history all_complete (Stopped replica (StoreRefuses fault)) allowed rest = allowed
+goes_on v history all_complete (Stopped replica (StoreRefuses end fault)) allowed rest = allowed
 
 follow_allowed : (v : Version) (history : List Transaction) (sessions : List (List ℕ)) (all_complete : List (List Sent)) (p : Progress) (replica : Replica) → IsHistory history
     → IsSafe history replica.tables replica.position replica.confirmed → GoesOn history p replica

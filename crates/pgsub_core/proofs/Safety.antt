@@ -174,6 +174,7 @@ stored_allowed history replica left_out later t relations next is nothing lt ami
     later = later;
     parts = append_assoc amid.gone left_out (t ∷ later) ∙ amid.parts;
     stored = AllEndBy-append replica.position amid.gone left_out amid.ended (AllEndBy-nothing replica.position left_out nothing);
+    ends = refl;
     passes = lt;
     gives = tables_as_of-next history amid.gone left_out later t replica.position replica.tables is amid.parts amid.ended nothing lt amid.safe.same ∙ fold;
   },

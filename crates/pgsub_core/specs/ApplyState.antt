@@ -1,7 +1,6 @@
 -- PostgreSQL documentation, Logical Streaming Replication Protocol: what a subscriber does with one message after the other,
 -- by the order of messages, what it holds of open transactions, and its replica.
 use Rattle.std.specs.Prelude.{ℕ, List, [], ◌∷◌, ◌++◌, Bool, true, false, Result, Ok, Err}
-use Rattle.std.specs.Ordering.{nat_cmp}
 use Rattle.std.specs.FinMap as map
 use Rattle.pglogical.specs.declared.message.Message.{Message}
 use Rattle.pgorder.specs.declared.Version.{Version}
@@ -9,13 +8,9 @@ use Rattle.pgorder.specs.declared.Event.{Event}
 use Rattle.pgorder.specs.declared.Event.TheVariants as event
 use Rattle.pgorder.specs.declared.OrderFault.{OrderFault}
 use Rattle.pgorder.specs.Steps.{Context, Outside, InPair, InBlock, OrderState, initial_order, order_step}
-use Rattle.pgspool.specs.Labels.{LabelledItem, cut, items_of, held_of}
+use Rattle.pgspool.specs.Labels.{HeldMap, cut, items_of, held_of}
 use Rattle.pgsub_core.specs.Stream.{Sent, Data, Keepalive, Kind, Holds, kind}
 use Rattle.pgsub_core.specs.Replica.{Replica, Halt, OutOfOrder, Outcome, Running, Stopped, then_run, on_commit, on_keepalive}
-
--- by xid, the items that are held of each transaction
-abbrev pub HeldMap : Type 0
-HeldMap = map.FinMap nat_cmp (List LabelledItem)
 
 pub record ApplyState : Type 0 where
   pub order : OrderState

@@ -16,8 +16,8 @@ abbrev pub IsAllowedOutcome : List Transaction → Outcome Replica Halt → Type
 IsAllowedOutcome history (Running replica) = IsSafe history replica.tables replica.position replica.confirmed
 IsAllowedOutcome history (Stopped replica (UnknownRelation oid)) = ⊥
 IsAllowedOutcome history (Stopped replica (OutOfOrder fault)) = ⊥
-IsAllowedOutcome history (Stopped replica (StoreRefuses fault)) =
-    IsSafe history replica.tables replica.position replica.confirmed × RefusesNext history replica.position fault
+IsAllowedOutcome history (Stopped replica (StoreRefuses end fault)) =
+    IsSafe history replica.tables replica.position replica.confirmed × RefusesNext history replica.position end fault
 
 -- A session of a history that starts at most at what is confirmed leaves the history's rows at every moment.
 abbrev pub SessionsAreSafe : Type 0

@@ -49,10 +49,10 @@ pub record Replica : Type 0 where
   pub confirmed : ℕ
   pub relations : RelationCache
 
--- why a message can't be applied
+-- why a message can't be applied; end is the end of the commit that the store refuses
 pub data Halt : Type 0 where
   UnknownRelation : (oid : ℕ) → Halt
-  StoreRefuses : (fault : StoreFault) → Halt
+  StoreRefuses : (end : ℕ) (fault : StoreFault) → Halt
   OutOfOrder : (fault : OrderFault) → Halt
 
 -- a run that goes on from a state, or one that was stopped in the state before the message that has the fault
@@ -66,7 +66,7 @@ then_run (Stopped state why) next = Stopped state why
 
 abbrev pub stored : Replica → ℕ → RelationCache → Result Tables StoreFault → Outcome Replica Halt
 stored old end relations (Ok tables) = Running (record { tables = tables; position = end; confirmed = max old.confirmed end; relations = relations })
-stored old end relations (Err fault) = Stopped old (StoreRefuses fault)
+stored old end relations (Err fault) = Stopped old (StoreRefuses end fault)
 
 abbrev pub taken : Replica → ℕ → RelationCache → Result (List Change) ℕ → Outcome Replica Halt
 taken old end relations (Err oid) = Stopped old (UnknownRelation oid)

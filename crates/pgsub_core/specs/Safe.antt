@@ -16,12 +16,14 @@ pub record IsSafe (history : List Transaction) (tables : Tables) (position confi
   pub stored : NothingBetween history position confirmed
   pub below : position ≤ confirmed
 
--- the next commit that changes rows behind the position, and that what the history gives up to it is this fault
-pub record RefusesNext (history : List Transaction) (position : ℕ) (fault : StoreFault) : Type 0 where
+-- The transaction that ends here is the next one that changes rows behind the position, and what the history gives up to it is
+-- this fault.
+pub record RefusesNext (history : List Transaction) (position end : ℕ) (fault : StoreFault) : Type 0 where
   pub earlier : List Transaction
   pub next : Transaction
   pub later : List Transaction
   pub parts : earlier ++ next ∷ later ≡ history
   pub stored : AllByRecursion (λ (t : Transaction). ChangesRows t → t.end ≤ position) earlier
-  pub passes : position < next.end
-  pub gives : tables_as_of history next.end ≡ Err fault
+  pub ends : next.end ≡ end
+  pub passes : position < end
+  pub gives : tables_as_of history end ≡ Err fault

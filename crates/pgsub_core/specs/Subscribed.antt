@@ -1,41 +1,83 @@
--- What a subscriber is seen as.
-use Rattle.std.specs.Prelude.{◌≡◌, ◌<◌, ◌++◌, ◌∷◌, [], ℕ, ℤ, List, Bool, true, false, map as mapped, Err}
+-- PostgreSQL documentation, Streaming Replication Protocol: what a subscriber is, as its contracts see it.
+use Rattle.std.specs.Prelude.{◌≡◌, ◌++◌, ◌∷◌, [], ℕ, ℤ, List, Bool, true, false, map as mapped}
 use Rattle.std.specs.List.{flat_map}
 use Rattle.std.specs.Int.{w64, to_be_bytes, cast_unsigned}
-use Rattle.std.specs.Ordering.{nat_cmp}
 use Rattle.std.specs.FinMap as map
 use Rattle.pgorder.specs.declared.Version.{Version}
-use Rattle.pgspool.specs.Labels.{LabelledItem}
-use Rattle.pgspool.specs.declared.spools.SpoolFault.{SpoolFault}
-use Rattle.pgspool.specs.declared.spools.SpoolFault.TheVariants as spool
-use Rattle.pgstore.specs.declared.rows.StoreFault.{StoreFault}
-use Rattle.pgstore.specs.declared.rows.StoreFault.TheVariants as store
+use Rattle.pgorder.specs.Steps.{OrderState, initial_order}
+use Rattle.pgspool.specs.Labels.{HeldMap}
 use Rattle.pgstore.specs.Value.{Tables}
 use Rattle.pgsub_core.specs.declared.session.Session.{Session}
-use Rattle.pgsub_core.specs.declared.fault.Fault.{Fault}
-use Rattle.pgsub_core.specs.declared.fault.Fault.TheVariants as fault
-use Rattle.pgwire.specs.declared.fault.WireFault.{WireFault}
-use Rattle.pgwire.specs.declared.fault.WireFault.TheVariants as wire
 use Rattle.pgsub_core.specs.History.{Transaction}
 use Rattle.pgsub_core.specs.Reached.{Progress}
-use Rattle.pgsub_core.specs.Safe.{IsSafe, RefusesNext}
+use Rattle.pgsub_core.specs.Replica.{Replica, RelationCache}
+use Rattle.pgsub_core.specs.ApplyState.{ApplyState}
+use Rattle.pgsub_core.specs.Safe.{IsSafe}
 
+-- The store's tables and position; what is confirmed and received; the version, the longest payload and the most that may be
+-- held; whether a fault has closed it; of this session the order of messages, what is held of open transactions, the relation
+-- cache, the bytes of a frame that isn't whole yet, and whether CopyDone has come; and the bytes that wait to be sent.
 pub record Subscribed : Type 0 where
   pub tables : Tables
   pub position : ℕ
   pub confirmed : ℕ
   pub received : ℕ
   pub version : Version
+  pub max_frame : ℕ
+  pub limit : ℕ
   pub closed : Bool
-  pub held : map.FinMap nat_cmp (List LabelledItem)
+  pub order : OrderState
+  pub held : HeldMap
+  pub relations : RelationCache
+  pub partial : List ℕ
+  pub copy_done : Bool
   pub replies : List ℕ
 
 abbrev pub progress_of : Subscribed → Progress
 progress_of s = record { position = s.position; confirmed = s.confirmed; received = s.received }
 
+abbrev pub replica_of : Subscribed → Replica
+replica_of s = record { tables = s.tables; position = s.position; confirmed = s.confirmed; relations = s.relations }
+
+abbrev pub apply_state_of : Subscribed → ApplyState
+apply_state_of s = record { order = s.order; held = s.held; replica = replica_of s }
+
 -- the rows are the history's up to the position, with all that is confirmed
 abbrev pub IsSafeFor : List Transaction → Subscribed → Type 0
 IsSafeFor history s = IsSafe history s.tables s.position s.confirmed
+
+-- Over a store with these tables and this position: nothing more is confirmed or received, and no session has begun.
+abbrev pub newly : Tables → ℕ → Version → ℕ → ℕ → Subscribed
+newly tables position version max_frame limit = record {
+  tables = tables;
+  position = position;
+  confirmed = position;
+  received = position;
+  version = version;
+  max_frame = max_frame;
+  limit = limit;
+  closed = false;
+  order = initial_order;
+  held = map.empty;
+  relations = map.empty;
+  partial = [];
+  copy_done = false;
+  replies = [];
+}
+
+-- A disconnection forgets the partial frame, the order of messages, the relation cache, all that is held and the bytes that wait
+-- to be sent. Received becomes what is confirmed.
+abbrev pub disconnect : Subscribed → Subscribed
+disconnect s = record s {
+  received = s.confirmed;
+  closed = false;
+  order = initial_order;
+  held = map.empty;
+  relations = map.empty;
+  partial = [];
+  copy_done = false;
+  replies = [];
+}
 
 -- each session's bytes, its pieces in one
 abbrev pub bytes_of : List Session → List (List ℕ)
@@ -45,32 +87,12 @@ abbrev pub flag : Bool → ℕ
 flag true = 1
 flag false = 0
 
--- a status: received as written, confirmed both as flushed and as applied
+-- Standby status update, in its CopyData frame: written is what was received, flushed and applied what is confirmed, the client's
+-- clock, and whether a reply is wanted.
 abbrev pub status_frame : ℕ → ℕ → ℤ → Bool → List ℕ
 status_frame received confirmed now ask =
     100 ∷ 0 ∷ 0 ∷ 0 ∷ 38 ∷ 114 ∷ (to_be_bytes w64 received ++ to_be_bytes w64 confirmed ++ to_be_bytes w64 confirmed ++ to_be_bytes w64 (cast_unsigned w64 now) ++ flag ask ∷ [])
 
--- the faults that can come of a well-formed server's sessions
-abbrev pub IsExpectedOfStore : List Transaction → ℕ → StoreFault → Type 0
-IsExpectedOfStore history position store.Refused = Unit {0}
-IsExpectedOfStore history position store.Memory = ⊥
-IsExpectedOfStore history position k = RefusesNext history position k
-
-abbrev pub IsExpectedOfSpool : SpoolFault → Type 0
-IsExpectedOfSpool spool.SpoolFull = Unit {0}
-IsExpectedOfSpool spool.Memory = ⊥
-
-abbrev pub IsExpectedOfWire : WireFault → Type 0
-IsExpectedOfWire wire.TooLarge = Unit {0}
-IsExpectedOfWire _ = ⊥
-
-abbrev pub IsExpected : List Transaction → Subscribed → Fault → Type 0
-IsExpected history s fault.Memory = Unit {0}
-IsExpected history s (fault.Spool f) = IsExpectedOfSpool f
-IsExpected history s (fault.Wire f) = IsExpectedOfWire f
-IsExpected history s (fault.Store f) = IsExpectedOfStore history s.position f
-IsExpected history s (fault.Order f) = ⊥
-IsExpected history s (fault.Decode f) = ⊥
-IsExpected history s (fault.Relation f) = ⊥
-IsExpected history s fault.Read = ⊥
-IsExpected history s fault.Closed = ⊥
+-- with a status of what is received and confirmed behind the bytes that wait to be sent
+abbrev pub with_status : ℤ → Bool → Subscribed → Subscribed
+with_status now ask s = record s { replies = s.replies ++ status_frame s.received s.confirmed now ask }
