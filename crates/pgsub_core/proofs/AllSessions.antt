@@ -22,11 +22,11 @@ nothing-later (t ∷ ts) p q c d e le most a b =
     ((λ changes by. elim (cases_lt c t.end) [ inl lt ↦ b.0 changes (omega arith) | inr old ↦ let before : t.end ≤ p = a.0 changes old in omega arith ]), nothing-later ts p q c d e le most a.1 b.1)
 
 -- the sessions' own progress goes on with the replica's position, and nothing that changes rows lies up to what it confirms
-record GoesOn (history : List Transaction) (p : Progress) (replica : Replica) : Type 0 where
+pub record GoesOn (history : List Transaction) (p : Progress) (replica : Replica) : Type 0 where
   pub same : p.position ≡ replica.position
   pub nothing : NothingBetween history replica.position p.confirmed
 
-goes_with : (history : List Transaction) (complete : List Sent) (p : Progress) (replica new : Replica) → GoesOn history p replica
+pub goes_with : (history : List Transaction) (complete : List Sent) (p : Progress) (replica new : Replica) → GoesOn history p replica
     → HasReached replica.position replica.confirmed (commits_and_keepalives [] complete) new → NothingBetween history new.position new.confirmed
     → GoesOn history (reached (disconnected p) [] complete) new
 goes_with history complete p replica new on there stored =
@@ -69,6 +69,11 @@ pub all_sessions_allowed : (v : Version) (history : List Transaction) (sessions 
     → IsAllowedOutcome history (follow_all v replica all_complete)
 all_sessions_allowed v history sessions all_complete p c replica is at confirmed safe le nothing h =
     follow_allowed v history sessions all_complete (starting_by c p) replica is safe (record { same = at; nothing = subst (λ n. NothingBetween history n c) at nothing }) h
+
+pub one_session_allowed : (v : Version) (history : List Transaction) (replica : Replica) (s : ℕ) (sent : List Sent) → IsHistory history
+    → IsSafe history replica.tables replica.position replica.confirmed → s ≤ replica.confirmed → Delivers v history s sent
+    → IsAllowedOutcome history (replica_outcome (run v (at_session replica) sent))
+one_session_allowed v history replica s sent is safe le delivers = delivered_allowed v history replica s replica.confirmed sent is le safe.stored delivers safe
 
 pub same_rows : (history : List Transaction) (a b : Replica) → IsSafe history a.tables a.position a.confirmed → IsSafe history b.tables b.position b.confirmed
     → a.position ≡ b.position → a.tables ≡ b.tables

@@ -22,7 +22,7 @@ use Rattle.pgsub_core.specs.Replica.{Replica, RelationCache, Halt, Outcome, Runn
 use Rattle.pgsub_core.specs.ApplyState.{ApplyState, ApplyResult, committed, on_event, on_message, is_outside, step, run}
 use Rattle.pgsub_core.specs.Subscribed.{Subscribed, apply_state_of}
 use Rattle.pgsub_core.specs.Taking.{fault_of, handled, message_passes_limit, taken_with, take, take_all}
-use Rattle.pgsub_core.specs.Handled.{KeepsSettings}
+use Rattle.pgsub_core.specs.Handled.{KeepsSettings, replied}
 
 pub running : {S F : Type 0} {a b : S} → ◌≡◌ {A = Outcome S F} (Running a) (Running b) → a ≡ b
 running e = cc
@@ -149,6 +149,16 @@ takes_one now old new m h =
       received = handled_received now m s.state old;
       grows = subst (λ x. old.confirmed ≤ x.replica.confirmed) (sym (handled_state now m s.state old)) (step_grows old.version (apply_state_of old) s.state m s.steps);
     })
+
+handled_replies : (now : ℤ) (m : Sent) (state : ApplyState) (old : Subscribed) → (handled now m state old).replies ≡ replied now m (handled now m state old) old.replies
+handled_replies now (Data start end clock m) state old = refl
+handled_replies now (Keepalive end clock true) state old = refl
+handled_replies now (Keepalive end clock false) state old = refl
+
+pub takes_reply : (now : ℤ) (old new : Subscribed) (m : Sent) → take now old m ≡ Running new → new.replies ≡ replied now m new old.replies
+takes_reply now old new m h =
+    let s = take_steps now old new m h in
+    subst (λ (x : Subscribed). x.replies ≡ replied now m x old.replies) s.is (handled_replies now m s.state old)
 
 pub settings_twice : (a b c : Subscribed) → KeepsSettings a b → KeepsSettings b c → KeepsSettings a c
 settings_twice a b c ab bc = record { version = bc.version ∙ ab.version; max_frame = bc.max_frame ∙ ab.max_frame; limit = bc.limit ∙ ab.limit }

@@ -2,8 +2,8 @@
 -- history leaves, and why it ends, whatever is answered.
 use Rattle.std.specs.Prelude.{◌≡◌, ◌≤◌, ◌<◌, ◌+◌, ◌++◌, ℕ, ℤ, List, [], ◌∷◌, Bool, true, false, Option, Some, None, Result, Ok, Err}
 use Rattle.pglogical.specs.declared.message.Message.{Message}
-use Rattle.pgorder.specs.declared.Version.{Version}
-use Rattle.pgspool.specs.Labels.{cost, all_costs}
+use Rattle.pgorder.specs.declared.OrderFault.TheVariants as order
+use Rattle.pgrel.specs.declared.fault.RelFault.TheVariants as rel
 use Rattle.pgspool.specs.declared.spools.SpoolFault.TheVariants as spool
 use Rattle.pgstore.specs.declared.rows.StoreFault.TheVariants as store
 use Rattle.pgwire.specs.Frames as wire
@@ -62,7 +62,7 @@ abbrev pub commit_end : Sent → Option ℕ
 commit_end (Data start end clock m) = end_by_kind (kind m)
 commit_end (Keepalive end clock asks) = None
 
--- Which faults the next message of a history's session can have: it holds an item with which all that is held would cost more than
+-- Which faults the next message of a session of the history can have: it holds an item with which all that is held would cost more than
 -- the limit, or it is the next commit that changes rows, and the history gives this fault there.
 abbrev pub IsAllowedFault : List Transaction → Subscribed → Sent → Fault → Type 0
 IsAllowedFault history s m (fault.Store k) = (end : ℕ) × (commit_end m ≡ Some end) × RefusesNext history s.position end k
@@ -76,20 +76,56 @@ IsAllowedFault history s m fault.Read = ⊥
 IsAllowedFault history s m fault.Closed = ⊥
 IsAllowedFault history s m fault.Memory = ⊥
 
--- Why following stopped in the state that what was handled leaves. Memory can run out anywhere, and the store can refuse a statement
--- of a commit whose end passes the position. A payload can be longer than what is allowed, as its header tells.
-abbrev pub WhyStopped : List Transaction → List (List ℕ) → List (List Sent) → List (List Sent) → Subscribed → Fault → Type 0
-WhyStopped history sessions all_complete handled s fault.Memory = Unit {0}
-WhyStopped history sessions all_complete handled s (fault.Store store.Memory) = ⊥
-WhyStopped history sessions all_complete handled s (fault.Store store.Refused) =
-    (m : Sent) × IsNextBehind handled m all_complete × (end : ℕ) × (commit_end m ≡ Some end) × (s.position < end)
-WhyStopped history sessions all_complete handled s (fault.Wire wire_fault.TooLarge) = IsTooLargeBehind s.max_frame handled sessions
-WhyStopped history sessions all_complete handled s f = (m : Sent) × IsNextBehind handled m all_complete × IsAllowedFault history s m f
+-- what a fault tells of where it comes from
+pub data Cause : Type 0 where
+  OutOfMemory : Cause
+  StatementRefused : Cause
+  HeaderTooLarge : Cause
+  NextMessage : Cause
+  NeverAnswered : Cause
 
--- An Ok says that all is handled.
-abbrev pub StopsAt : {A : Type 0} → List Transaction → List (List ℕ) → List (List Sent) → List (List Sent) → Subscribed → Result A Fault → Type 0
-StopsAt history sessions all_complete handled s (Ok done) = handled ≡ all_complete
-StopsAt history sessions all_complete handled s (Err f) = WhyStopped history sessions all_complete handled s f
+-- Memory can run out anywhere; in any part it is answered as Memory, never as that part's fault.
+abbrev pub cause : Fault → Cause
+cause fault.Memory = OutOfMemory
+cause (fault.Store store.Refused) = StatementRefused
+cause (fault.Store store.Memory) = NeverAnswered
+cause (fault.Spool spool.Memory) = NeverAnswered
+cause (fault.Order order.Memory) = NeverAnswered
+cause (fault.Relation rel.Memory) = NeverAnswered
+cause (fault.Wire wire_fault.Memory) = NeverAnswered
+cause (fault.Wire wire_fault.TooLarge) = HeaderTooLarge
+cause f = NextMessage
+
+-- the store can refuse a statement of a commit whose end passes the position
+abbrev pub IsRefusedBehind : List (List Sent) → List (List Sent) → Subscribed → Type 0
+IsRefusedBehind handled all_complete s = (m : Sent) × IsNextBehind handled m all_complete × (end : ℕ) × (commit_end m ≡ Some end) × (s.position < end)
+
+-- Why following stopped in the state that what was handled leaves, of the messages alone: the next one has this fault, or the header
+-- behind them tells that a payload is longer than what is allowed.
+abbrev pub StopsBy : ℤ → List (List ℕ) → List (List Sent) → List (List Sent) → Subscribed → Fault → Cause → Type 0
+StopsBy now sessions all_complete handled s f OutOfMemory = Unit {0}
+StopsBy now sessions all_complete handled s f StatementRefused = IsRefusedBehind handled all_complete s
+StopsBy now sessions all_complete handled s f HeaderTooLarge = IsTooLargeBehind s.max_frame handled sessions
+StopsBy now sessions all_complete handled s f NextMessage = (m : Sent) × IsNextBehind handled m all_complete × (stopped : Subscribed) × (take now s m ≡ Stopped stopped f)
+StopsBy now sessions all_complete handled s f NeverAnswered = ⊥
+
+-- and of the history
+abbrev pub StopsFor : List Transaction → List (List ℕ) → List (List Sent) → List (List Sent) → Subscribed → Fault → Cause → Type 0
+StopsFor history sessions all_complete handled s f OutOfMemory = Unit {0}
+StopsFor history sessions all_complete handled s f StatementRefused = IsRefusedBehind handled all_complete s
+StopsFor history sessions all_complete handled s f HeaderTooLarge = IsTooLargeBehind s.max_frame handled sessions
+StopsFor history sessions all_complete handled s f NextMessage = (m : Sent) × IsNextBehind handled m all_complete × IsAllowedFault history s m f
+StopsFor history sessions all_complete handled s f NeverAnswered = ⊥
+
+-- the fault that a call answers, if one
+abbrev pub fault_in : {A : Type 0} → Result A Fault → Option Fault
+fault_in (Ok done) = None
+fault_in (Err f) = Some f
+
+-- Where no fault is answered, all is handled.
+abbrev pub StopsAt : List Transaction → List (List ℕ) → List (List Sent) → List (List Sent) → Subscribed → Option Fault → Type 0
+StopsAt history sessions all_complete handled s None = handled ≡ all_complete
+StopsAt history sessions all_complete handled s (Some f) = StopsFor history sessions all_complete handled s f (cause f)
 
 -- what no call changes
 pub record KeepsSettings (old new : Subscribed) : Type 0 where
@@ -104,17 +140,17 @@ pub record IsLeft (state new : Subscribed) : Type 0 where
   pub settings : KeepsSettings state new
   pub replies : new.replies ≡ state.replies
 
--- What following these sessions leaves: the state that some of the complete messages leave, of whole sessions and a front of one,
+-- What following these sessions of a history leaves: what some of the complete messages leave, of whole sessions and a front of one,
 -- with the history's rows, exactly what they reach, and a reason why no more of them was handled.
-pub record IsFollowed {A : Type 0} (now : ℤ) (history : List Transaction) (sessions : List (List ℕ)) (all_complete : List (List Sent)) (old new : Subscribed) (result : Result A Fault) : Type 0 where
+pub record IsFollowed (history : List Transaction) (sessions : List (List ℕ)) (all_complete : List (List Sent)) (old new : Subscribed) (answered : Option Fault) : Type 0 where
   pub handled : List (List Sent)
   pub front : IsHandled handled all_complete
   pub state : Subscribed
-  pub takes : take_sessions now old handled ≡ Running state
   pub left : IsLeft state new
   pub progress : progress_of new ≡ reached_all (progress_of old) handled
   pub safe : IsSafeFor history new
-  pub why : StopsAt history sessions all_complete handled state result
+  pub settings : KeepsSettings old new
+  pub why : StopsAt history sessions all_complete handled state answered
 
 -- Whatever part of the sessions of a history is handled, the rows are the history's as of the position, and position, confirmed and
 -- received are exactly those that this part reaches.
@@ -135,6 +171,18 @@ FirstFaultIsAllowed =
     (now : ℤ) (history : List Transaction) (sessions : List (List ℕ)) (all_complete handled : List (List Sent)) (old state stopped : Subscribed) (m : Sent) (f : Fault)
     → IsSent history old sessions all_complete → IsNextBehind handled m all_complete → take_sessions now old handled ≡ Running state
     → take now state m ≡ Stopped stopped f → IsAllowedFault history state m f
+
+abbrev pub HasStopped : ℤ → List (List ℕ) → List (List Sent) → List (List Sent) → Subscribed → Option Fault → Type 0
+HasStopped now sessions all_complete handled s None = handled ≡ all_complete
+HasStopped now sessions all_complete handled s (Some f) = StopsBy now sessions all_complete handled s f (cause f)
+
+-- Whoever takes the complete messages one after the other up to the first fault, or stops earlier where memory or the store asks for
+-- it, has followed the sessions of each history that has them.
+abbrev pub TakingIsFollowing : Type 0
+TakingIsFollowing =
+    (now : ℤ) (history : List Transaction) (sessions : List (List ℕ)) (all_complete handled : List (List Sent)) (old state new : Subscribed) (answered : Option Fault)
+    → IsSent history old sessions all_complete → IsHandled handled all_complete → take_sessions now old handled ≡ Running state → IsLeft state new
+    → HasStopped now sessions all_complete handled state answered → IsFollowed history sessions all_complete old new answered
 
 -- Of any messages that are handled in a session, of a history or not: position, confirmed and received are those that they reach, and
 -- the tables are what their commits, described by the surviving Relation messages, make of the tables before.
