@@ -3,7 +3,7 @@
 //! PostgreSQL documentation, ALTER TABLE, REPLICA IDENTITY; Logical Replication Message Formats, Relation, Insert, Update,
 //! Delete.
 
-ghost use Rattle.std.specs.Prelude.{◌≡◌, ◌⊎◌, ◌++◌, true, false, length, slice_get, IsSome, IsOk, IfOk, IfErr, OnOk};
+ghost use Rattle.std.specs.Prelude.{◌≡◌, ◌⊎◌, ◌++◌, length, slice_get, IsSome, IfOk, IfErr, OnOk};
 ghost use Rattle.std.specs.Option.{option_to_list};
 ghost use Rattle.pgrel.specs.Steps.{key_cell};
 ghost use Rattle.std.specs.Cmp.Lexicographic.{pointwise};
@@ -23,7 +23,9 @@ ghost use Rattle.pgrel.specs.Identity.{
   new_has_width,
   checked_insert,
   checked_identity,
+  known_cells,
   searched_identity,
+  IsRefusalOf,
 };
 
 use crate::fault::RelFault;
@@ -154,6 +156,7 @@ fn key_tuple(alloc: Global, columns: &[Column], row: &TupleRef<'_>) -> Result<Tu
     ensures ok { IfOk result (λ cells. cells ≡ key_cells columns.now row.now) }
     ensures memory { IfErr result (λ fault. fault ≡ RelFault.Memory) }
 {
+    // Its contract says that the row is within a tuple's limits.
     let _width = row.width();
     let mut cells = Vec::new(alloc);
     for (k, column) in columns.iter().enumerate() {
@@ -191,12 +194,13 @@ fn identity_tuple(alloc: Global, def: &RelationDef, row: &TupleRef<'_>) -> Resul
 /// another here. It refuses a row that hasn't the definition's width.
 pub fn row_identity(alloc: Global, def: &RelationDef, row: &TupleRef<'_>) -> Result<Tuple, RelFault>
     ensures ok { IfOk result (λ cells. checked_identity def.now row.now ≡ Ok cells) }
-    ensures err { IfErr result (λ fault. (checked_identity def.now row.now ≡ Err fault) ⊎ ((fault ≡ RelFault.Memory) × IsOk (checked_identity def.now row.now))) }
+    ensures err { IfErr result (IsRefusalOf (checked_identity def.now row.now)) }
 {
-    if !has_width(def, row) {
-        return Err(RelFault::Width);
+    if has_width(def, row) {
+        identity_tuple(alloc, def, row)
+    } else {
+        Err(RelFault::Width)
     }
-    identity_tuple(alloc, def, row)
 }
 
 /// The identity by which an update or a delete finds its row: that of the old tuple if one was sent, else that of the new
@@ -211,7 +215,7 @@ pub fn search_identity(
 ) -> Result<Tuple, RelFault>
     requires { IsSome old ⊎ IsSome new }
     ensures ok { IfOk result (λ cells. searched_identity def.now old.entry new.entry ≡ Ok cells) }
-    ensures err { IfErr result (λ fault. (searched_identity def.now old.entry new.entry ≡ Err fault) ⊎ ((fault ≡ RelFault.Memory) × IsOk (searched_identity def.now old.entry new.entry))) }
+    ensures err { IfErr result (IsRefusalOf (searched_identity def.now old.entry new.entry)) }
 {
     if !old_has_width(def, &old) || !new_has_width(def, &new) {
         return Err(RelFault::Width);
@@ -268,8 +272,8 @@ fn has_unchanged_identity(def: &RelationDef, row: &TupleRef<'_>) -> bool
 
 // The identity of a row, if each of its cells was sent.
 fn known_identity(alloc: Global, def: &RelationDef, row: &TupleRef<'_>) -> Result<Tuple, RelFault>
-    ensures ok { IfOk result (λ cells. (has_unchanged (identity def.now row.now) ≡ false) × (cells ≡ identity def.now row.now)) }
-    ensures err { IfErr result (λ fault. ((fault ≡ RelFault.UnknownIdentity) × (has_unchanged (identity def.now row.now) ≡ true)) ⊎ ((fault ≡ RelFault.Memory) × (has_unchanged (identity def.now row.now) ≡ false))) }
+    ensures ok { IfOk result (λ cells. known_cells (identity def.now row.now) ≡ Ok cells) }
+    ensures err { IfErr result (IsRefusalOf (known_cells (identity def.now row.now))) }
 {
     if has_unchanged_identity(def, row) {
         return Err(RelFault::UnknownIdentity);
@@ -283,6 +287,7 @@ pub fn resolve(alloc: Global, new: &TupleRef<'_>, old_row: &TupleRef<'_>) -> Res
     ensures ok { IfOk result (λ row. row ≡ resolved new.now old_row.now) }
     ensures memory { IfErr result (λ fault. fault ≡ RelFault.Memory) }
 {
+    // Both rows are within a tuple's limits, by the contract of `width`.
     let width = new.width();
     let _old_width = old_row.width();
     let mut cells = Vec::with_capacity(alloc, width)?;
