@@ -1,6 +1,8 @@
 pub mod Described
+pub mod EventLaws
 pub mod FaultIsFirst
 pub mod Members
+pub mod Samples
 pub mod ShapeIsTaken
 pub mod ShapeLaws
 pub mod StepLaws

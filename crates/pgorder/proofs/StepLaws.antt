@@ -6,7 +6,7 @@ use Rattle.pglogical.specs.declared.message.Message.TheVariants as message
 use Rattle.pgorder.specs.declared.Version.{Version}
 use Rattle.pgorder.specs.declared.Version.TheVariants.{One, Two}
 use Rattle.pgorder.specs.OpenXids.{OpenXids, none_open, is_open}
-use Rattle.pgorder.specs.Shape.{IsMessageFor}
+use Rattle.pglogical.specs.Spelling.{IsMessageFor}
 use Rattle.pgorder.specs.States.{is_in_block}
 use Rattle.pgorder.specs.Steps.{Context, Outside, InPair, InBlock, OrderState, StepResult, initial_order, order_step, order_run, then_order, in_version_2, step_inner, step_item, step_begin, step_commit, step_stream_start, step_stream_stop, step_stream_commit, step_stream_abort}
 use Rattle.pgorder.specs.Laws.{AreMessagesFor, in_block_after, StepKeepsShape, RefusedByFirstFault}

@@ -3,8 +3,11 @@ use Rattle.std.specs.Prelude.{◌≡◌, ◌↔◌, List, [], ◌∷◌, ◌++�
 use Rattle.pglogical.specs.declared.message.Message.{Message}
 use Rattle.pglogical.specs.declared.message.Message.TheVariants.{StreamStart, StreamStop}
 use Rattle.pgorder.specs.declared.Version.{Version}
-use Rattle.pgorder.specs.Shape.{IsMessageFor, IsShaped}
+use Rattle.pglogical.specs.Spelling.{IsMessageFor}
+use Rattle.pgorder.specs.Shape.{IsShaped}
 use Rattle.pgorder.specs.declared.OrderFault.{OrderFault}
+use Rattle.pgorder.specs.declared.Event.{Event}
+use Rattle.pgorder.specs.Events.{IsEventOf}
 use Rattle.pgorder.specs.Faults.{IsFaultOf}
 use Rattle.pgorder.specs.States.{is_in_block}
 use Rattle.pgorder.specs.Steps.{OrderState, initial_order, order_step, order_run}
@@ -35,3 +38,9 @@ abbrev pub RefusedByFirstFault : Type 0
 RefusedByFirstFault =
     (v : Version) (before : List Message) (state : OrderState) (m : Message) → order_run v initial_order before ≡ Ok state
     → (e : OrderFault) → (order_step v state m ≡ Err e) ↔ IsFaultOf v before m e
+
+-- Where a message is taken, the event is that of the message.
+abbrev pub EventIsOfMessage : Type 0
+EventIsOfMessage =
+    (v : Version) (before : List Message) (state new : OrderState) (m : Message) (e : Event) → order_run v initial_order before ≡ Ok state
+    → IsMessageFor (is_in_block state.context) m → order_step v state m ≡ Ok (new, e) → IsEventOf before m e

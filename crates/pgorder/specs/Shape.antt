@@ -1,30 +1,12 @@
 -- Logical Streaming Replication Protocol: which lists of logical messages stand in order.
-use Rattle.std.specs.Prelude.{◌≡◌, ℕ, ℤ, List, [], ◌∷◌, ◌++◌, Bool, true, false, Option, Some, None, ◌==◌, not, if◌then◌else◌}
+use Rattle.std.specs.Prelude.{◌≡◌, ℕ, ℤ, List, [], ◌∷◌, ◌++◌, Bool, true, false, None, ◌==◌, not, if◌then◌else◌}
 use Rattle.std.specs.List.{flat_map, AllByRecursion}
 use Rattle.pglogical.specs.declared.message.Message.{Message}
+use Rattle.pglogical.specs.Spelling.{HasXidExactlyInBlock}
 use Rattle.pglogical.specs.declared.message.Message.TheVariants.{Begin, Commit, Origin, TypeName, Logical, Item, StreamStart, StreamStop, StreamCommit, StreamAbort}
 use Rattle.pgorder.specs.declared.Version.{Version}
 use Rattle.pgorder.specs.declared.Version.TheVariants.{One, Two}
 use Rattle.pgorder.specs.OpenXids.{OpenXids, none_open, is_open, with_open, without}
-
--- A message carries an xid exactly inside a block.
-abbrev pub HasXidExactlyInBlock : Bool → Option ℕ → Type 0
-HasXidExactlyInBlock true (Some xid) = Unit {0}
-HasXidExactlyInBlock false None = Unit {0}
-HasXidExactlyInBlock true None = ⊥
-HasXidExactlyInBlock false (Some xid) = ⊥
-
-abbrev pub IsMessageFor : Bool → Message → Type 0
-IsMessageFor in_block (TypeName xid oid namespace name) = HasXidExactlyInBlock in_block xid
-IsMessageFor in_block (Logical xid transactional lsn prefix content) = HasXidExactlyInBlock in_block xid
-IsMessageFor in_block (Item xid item) = HasXidExactlyInBlock in_block xid
-IsMessageFor in_block (Begin lsn time xid) = Unit {0}
-IsMessageFor in_block (Commit lsn end time) = Unit {0}
-IsMessageFor in_block (Origin lsn name) = Unit {0}
-IsMessageFor in_block (StreamStart xid first) = Unit {0}
-IsMessageFor in_block StreamStop = Unit {0}
-IsMessageFor in_block (StreamCommit xid lsn end time) = Unit {0}
-IsMessageFor in_block (StreamAbort xid label) = Unit {0}
 
 -- What may stand between Begin and Commit (in_block is false) and inside a block (in_block is true).
 abbrev pub IsInner : Bool → Message → Type 0

@@ -1,5 +1,5 @@
 ghost use Rattle.std.specs.Prelude.{◌≡◌, ◌≢◌, IfOk, IfErr, IsOk, OnErr, Err, IsTrue};
-ghost use Rattle.pgorder.specs.Shape.{IsMessageFor};
+ghost use Rattle.pglogical.specs.Spelling.{IsMessageFor};
 ghost use Rattle.pgorder.specs.Steps.{Outside, initial_order, order_step, in_version_2, step_inner, step_item, step_begin, step_commit, step_stream_start, step_stream_stop, step_stream_commit, step_stream_abort};
 ghost use Rattle.pgorder.specs.States.{StreamOrder, is_in_block, Answers, IsFirstSegment};
 
