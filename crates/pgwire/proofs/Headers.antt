@@ -9,6 +9,22 @@ use Rattle.pgwire.specs.Frames.{CopyData, IsFront, tag_of, length_of}
 abbrev pub IsBytes : List ℕ → Type 0
 IsBytes bytes = (i : ℕ) → get_or bytes i 0 < 256
 
+pub IsBytes-append : (xs ys : List ℕ) → IsBytes xs → IsBytes ys → IsBytes (xs ++ ys)
+IsBytes-append [] ys fx fy i = fy i
+IsBytes-append (x ∷ xs) ys fx fy zero = fx 0
+IsBytes-append (x ∷ xs) ys fx fy (suc i) = IsBytes-append xs ys (λ j. fx (suc j)) fy i
+
+pub IsBytes-take : (n : ℕ) (xs : List ℕ) → IsBytes xs → IsBytes (take n xs)
+IsBytes-take zero xs fits i = omega arith
+IsBytes-take (suc n) [] fits i = omega arith
+IsBytes-take (suc n) (x ∷ xs) fits zero = fits 0
+IsBytes-take (suc n) (x ∷ xs) fits (suc i) = IsBytes-take n xs (λ j. fits (suc j)) i
+
+pub IsBytes-drop : (n : ℕ) (xs : List ℕ) → IsBytes xs → IsBytes (drop n xs)
+IsBytes-drop zero xs fits i = fits i
+IsBytes-drop (suc n) [] fits i = omega arith
+IsBytes-drop (suc n) (x ∷ xs) fits i = IsBytes-drop n xs (λ j. fits (suc j)) i
+
 four : (a b c d : ℕ) → a < 256 → b < 256 → c < 256 → d < 256 → IsBytes (a ∷ b ∷ c ∷ d ∷ [])
 four a b c d p q r s zero = p
 four a b c d p q r s (suc zero) = q

@@ -2,3 +2,4 @@ pub mod Headers
 pub mod Decoding
 pub mod Readings
 pub mod Messages
+pub mod Holding

@@ -1,10 +1,10 @@
 -- A payload is read as a message exactly if it is spelled so; else it has one fault.
-use Rattle.std.proofs.Common.{◌≡◌, ◌<◌, ◌≤◌, ◌+◌, ◌^◌, ◌⊎◌, inl, inr, ℕ, ℤ, zero, suc, List, [], ◌∷◌, ◌++◌, true, false, length, take, drop, slice_index, refl, ap, sym, ◌∙◌, subst, arith, length-append, Result, Ok, Err, eqb, ltb}
+use Rattle.std.proofs.Common.{◌≡◌, ◌<◌, ◌≤◌, ◌^◌, ◌⊎◌, inl, inr, ℕ, ℤ, zero, suc, List, [], ◌∷◌, ◌++◌, true, false, length, take, drop, slice_index, refl, ap, sym, ◌∙◌, subst, arith, length-append, Result, Ok, Err, eqb, ltb}
 use Rattle.std.proofs.Math.Seq.{drop-drop, drop-cons, get_or-append_seam}
 use Rattle.std.proofs.Math.Facts.{Fits-of_z, sfits_to_z}
 use Rattle.std.proofs.lemmas.Bool.{le-ltb, lt-ltb, cases_lt, cases_eq}
 use Rattle.std.proofs.lemmas.Int.{to_z-of_z, of_z-to_z}
-use Rattle.std.proofs.lemmas.List.{length-drop, get_or-drop, length-take-le, take-append-drop, drop_all}
+use Rattle.std.proofs.lemmas.List.{length-drop, length-take-le, take-append-drop, drop_all}
 use Rattle.std.proofs.lemmas.Nat.{be_bytes_8}
 use Rattle.std.specs.Int.{w64, to_be_bytes, from_be_bytes, cast_signed, cast_unsigned}
 use mir.Val.{SFits}
@@ -16,7 +16,7 @@ use Rattle.pgwire.specs.Payloads.{ServerMessage, XLogData, Keepalive, flag_byte,
 use Rattle.pgwire.specs.declared.message.ServerMsg.{ServerMsg}
 use Rattle.pgwire.specs.Lent.{message_value, Gives}
 use Rattle.std.specs.Prelude.{IfOk, IfErr, IsOkAnd, IsErrOf}
-use Rattle.pgwire.proofs.Headers.{IsBytes}
+use Rattle.pgwire.proofs.Headers.{IsBytes, IsBytes-drop}
 use Rattle.pgwire.proofs.Decoding.{empty_at, data_gives, as_data, as_keepalive, as_unknown}
 
 eight : (a b c d e f g h : ℕ) → a < 256 → b < 256 → c < 256 → d < 256 → e < 256 → f < 256 → g < 256 → h < 256 → IsBytes (a ∷ b ∷ c ∷ d ∷ e ∷ f ∷ g ∷ h ∷ [])
@@ -69,15 +69,12 @@ payload_again (Keepalive end clock false) is = as_keepalive (payload (Keepalive 
     (sym (big_number-reads_back 8 end (to_be_bytes w64 (cast_unsigned w64 clock) ++ 0 ∷ []) is.0))
     (sym (ap (cast_signed w64) (big_number-reads_back 8 (cast_unsigned w64 clock) (0 ∷ []) (clock_fits clock is.1)) ∙ to_z-of_z w64 clock is.1))
 
-bytes_behind : (k : ℕ) (bytes : List ℕ) → IsBytes bytes → IsBytes (drop k bytes)
-bytes_behind k bytes fits i = let e = get_or-drop k bytes i 0 in let h = fits (k + i) in omega (arith, e, h)
-
 data_spelled : (fields : List ℕ) → IsBytes fields → 24 ≤ length fields
     → 119 ∷ fields ≡ payload (XLogData (big_number 8 fields) (big_number 8 (drop 8 fields)) (cast_signed w64 (big_number 8 (drop 16 fields))) (drop 24 fields))
 data_spelled fields fits long =
-    let at_8 = number_spelled (drop 8 fields) (bytes_behind 8 fields fits) (omega (arith, length-drop 8 fields)) in
-    let at_16 = number_spelled (drop 16 fields) (bytes_behind 16 fields fits) (omega (arith, length-drop 16 fields)) in
-    let clock = of_z-to_z w64 (big_number 8 (drop 16 fields)) (number_fits (drop 16 fields) (bytes_behind 16 fields fits)) in
+    let at_8 = number_spelled (drop 8 fields) (IsBytes-drop 8 fields fits) (omega (arith, length-drop 8 fields)) in
+    let at_16 = number_spelled (drop 16 fields) (IsBytes-drop 16 fields fits) (omega (arith, length-drop 16 fields)) in
+    let clock = of_z-to_z w64 (big_number 8 (drop 16 fields)) (number_fits (drop 16 fields) (IsBytes-drop 16 fields fits)) in
     let start = to_be_bytes w64 (big_number 8 fields) in
     let end = to_be_bytes w64 (big_number 8 (drop 8 fields)) in
     ap (λ behind. 119 ∷ behind) (number_spelled fields fits (omega arith))
@@ -98,8 +95,8 @@ flag_of (suc (suc byte)) small = absurd (omega arith)
 keepalive_spelled : (fields : List ℕ) → IsBytes fields → length fields ≡ 17 → slice_index fields 16 ≤ 1
     → 107 ∷ fields ≡ payload (Keepalive (big_number 8 fields) (cast_signed w64 (big_number 8 (drop 8 fields))) (eqb (slice_index fields 16) 1))
 keepalive_spelled fields fits long small =
-    let at_8 = number_spelled (drop 8 fields) (bytes_behind 8 fields fits) (omega (arith, length-drop 8 fields)) in
-    let clock = of_z-to_z w64 (big_number 8 (drop 8 fields)) (number_fits (drop 8 fields) (bytes_behind 8 fields fits)) in
+    let at_8 = number_spelled (drop 8 fields) (IsBytes-drop 8 fields fits) (omega (arith, length-drop 8 fields)) in
+    let clock = of_z-to_z w64 (big_number 8 (drop 8 fields)) (number_fits (drop 8 fields) (IsBytes-drop 8 fields fits)) in
     let end = to_be_bytes w64 (big_number 8 fields) in
     let spelled_clock = to_be_bytes w64 (cast_unsigned w64 (cast_signed w64 (big_number 8 (drop 8 fields)))) in
     ap (λ behind. 107 ∷ behind) (number_spelled fields fits (omega arith))
@@ -136,7 +133,7 @@ data_either fields fits =
         XLogData (big_number 8 fields) (big_number 8 (drop 8 fields)) (cast_signed w64 (big_number 8 (drop 16 fields))) (drop 24 fields),
         record {
           gives = at ∙ data_gives fields _ _ _ long refl refl refl;
-          is = (number_fits fields fits, number_fits (drop 8 fields) (bytes_behind 8 fields fits), sfits_to_z (record { fits = number_fits (drop 16 fields) (bytes_behind 16 fields fits) }));
+          is = (number_fits fields fits, number_fits (drop 8 fields) (IsBytes-drop 8 fields fits), sfits_to_z (record { fits = number_fits (drop 16 fields) (IsBytes-drop 16 fields fits) }));
           spelled = data_spelled fields fits long;
         },
       )
@@ -173,7 +170,7 @@ keepalive_either fields fits =
             Keepalive (big_number 8 fields) (cast_signed w64 (big_number 8 (drop 8 fields))) (eqb (slice_index fields 16) 1),
             record {
               gives = at ∙ keepalive_gives fields _ _ (omega arith) good refl refl;
-              is = (number_fits fields fits, sfits_to_z (record { fits = number_fits (drop 8 fields) (bytes_behind 8 fields fits) }));
+              is = (number_fits fields fits, sfits_to_z (record { fits = number_fits (drop 8 fields) (IsBytes-drop 8 fields fits) }));
               spelled = keepalive_spelled fields fits (omega arith) good;
             },
           )

@@ -44,10 +44,10 @@ one_frame max most f g x y af ag e =
     let behind : x ≡ y = sym (drop-append_seam (frame f) x) ∙ ap (λ n. drop n (frame f ++ x)) long ∙ ap (drop (length (frame g))) e ∙ drop-append_seam (frame g) y in
     (same_letter f g (sym hf.tag_is ∙ hg.tag_is) front, behind)
 
-tag-append : (bytes more : List ℕ) → 1 ≤ length bytes → tag_of (bytes ++ more) ≡ tag_of bytes
+pub tag-append : (bytes more : List ℕ) → 1 ≤ length bytes → tag_of (bytes ++ more) ≡ tag_of bytes
 tag-append bytes more some = get_or_append_left bytes more 0 0 (omega arith)
 
-length-of-append : (bytes more : List ℕ) → 5 ≤ length bytes → length_of (bytes ++ more) ≡ length_of bytes
+pub length-of-append : (bytes more : List ℕ) → 5 ≤ length bytes → length_of (bytes ++ more) ≡ length_of bytes
 length-of-append [] more long = absurd (omega arith)
 length-of-append (b ∷ bytes) more long = big_from-append 4 bytes more (omega arith)
 

@@ -83,3 +83,11 @@ pub record IsFront (max : ℕ) (bytes : List ℕ) (f : Frame) (n : ℕ) : Type 0
   pub whole : bytes ≡ frame f ++ drop n bytes
   pub count : n ≡ length (frame f)
   pub within : n ≤ length bytes
+
+-- what a header that keeps the rules says of its payload: nothing yet, or its length
+pub record HasPayloadLen (max : ℕ) (header : List ℕ) (n : ℕ) : Type 0 where
+  pub tag : 1 ≤ length header → IsTag (tag_of header)
+  pub begun : length header < 5 → n ≡ 0
+  pub counted : 5 ≤ length header → (n + 4 ≡ length_of header) × (length_of header ≤ 2147483647)
+  pub most : n ≤ max
+  pub done : 5 ≤ length header → tag_of header ≡ 99 → n ≡ 0

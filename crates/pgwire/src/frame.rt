@@ -51,7 +51,7 @@ pub fn front(bytes: &[u8], max_frame: u32) -> Result<Option<(Frame<'_>, usize)>,
 }
 
 // How many bytes of payload follow a header with this letter, `d` or `c`, and this length.
-fn payload_len(tag: u8, length: u32, max_frame: u32) -> Result<usize, WireFault>
+pub fn payload_len(tag: u8, length: u32, max_frame: u32) -> Result<usize, WireFault>
     requires { IsTag tag }
     ensures { MatchResult result
         (λ n. (n + 4 ≡ length) × (n ≤ max_frame) × (length ≤ 2147483647) × (tag ≡ 99 → n ≡ 0))

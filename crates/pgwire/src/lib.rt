@@ -3,11 +3,14 @@
 //! PostgreSQL documentation, Message Formats (CopyData, CopyDone) and Streaming Replication Protocol.
 #![tactic(auto)]
 
+pub mod deframer;
 pub mod fault;
 pub mod frame;
+pub mod header;
 pub mod laws;
 pub mod message;
 
+pub use deframer::Deframer;
 pub use fault::WireFault;
 pub use frame::{Frame, front};
 pub use message::{ServerMsg, decode_server};
