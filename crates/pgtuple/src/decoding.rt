@@ -8,10 +8,11 @@ ghost use Rattle.pgtuple.specs.Limits.{IsWireTuple};
 ghost use Rattle.pgtuple.specs.Cells.{tuple_spelling};
 ghost use Rattle.pgtuple.specs.Reading.{Fails, cell_at, cells_at, tuple_from, tuple_at};
 
-use crate::bytes::{Bytes, Text};
+use crate::bytes::Bytes;
 use crate::cell::{Cell, Tuple};
 use crate::fault::TupleFault;
 use crate::reader::Reader;
+use crate::text::Text;
 use std::alloc::Global;
 
 /// A cell: its kind, and behind `t` and `b` its length and its bytes.

@@ -8,12 +8,16 @@ pub mod encoding;
 pub mod fault;
 pub mod laws;
 mod reader;
+pub mod seq;
+pub mod text;
 
-pub use bytes::{Bytes, Seq, Text};
+pub use bytes::Bytes;
 pub use cell::{Cell, CellRef, Tuple, TupleRef};
 pub use decoding::decode;
 pub use encoding::encode;
 pub use fault::TupleFault;
+pub use seq::Seq;
+pub use text::Text;
 
 #[cfg(test)]
 mod tests;
