@@ -1,5 +1,5 @@
 -- What the definition's answer says of the bytes.
-use Rattle.std.proofs.Common.{◌≡◌, ℕ, List, ◌++◌, length, drop, Result, Ok, refl, sym, ap, subst, ◌∙◌}
+use Rattle.std.proofs.Common.{◌≡◌, ◌≢◌, ℕ, List, ◌++◌, length, drop, Result, Ok, refl, sym, ap, subst, ◌∙◌}
 use Rattle.std.proofs.lemmas.List.{drop_at}
 use Rattle.pgtuple.specs.declared.cell.Cell.{Cell}
 use Rattle.pgtuple.specs.declared.fault.TupleFault.{TupleFault}
@@ -7,7 +7,9 @@ use Rattle.pgtuple.specs.declared.fault.TupleFault.TheVariants as fault
 use Rattle.pgtuple.specs.Limits.{IsWireTuple, IsBytes}
 use Rattle.pgtuple.specs.Cells.{tuple_spelling}
 use Rattle.pgtuple.specs.Reading.{Fails, At, tuple_from, tuple_at}
+use Rattle.pgtuple.specs.Faults.{HasTupleFault}
 use Rattle.pgtuple.proofs.Fields.{ok_is}
+use Rattle.pgtuple.proofs.FirstFaults.{faults_are_first}
 use Rattle.pgtuple.proofs.Tuples.{tuple_takes, tuple_again}
 
 pub record IsFront (bytes : List ℕ) (cells : List Cell) (at : At) : Type 0 where
@@ -45,3 +47,13 @@ unfolding tuple_at
 is_memory bytes f t more e fits same =
     let again = ap (λ (l : List ℕ). tuple_from (0, l)) same ∙ tuple_again t more fits in
     only_memory f (t, (length (tuple_spelling t), more)) (subst (λ (r : Result (List Cell × At) TupleFault). Fails f r) again e)
+
+-- A fault that isn't want of memory is the first field that can't be read.
+pub is_first : (bytes : List ℕ) (f : TupleFault) → IsBytes bytes → Fails f (tuple_from (0, bytes)) → f ≢ fault.Memory → HasTupleFault bytes f
+unfolding tuple_at
+is_first bytes fault.Memory fits e other = absurd (other refl)
+is_first bytes (fault.Short place) fits e other = (faults_are_first bytes (fault.Short place) fits).0 e
+is_first bytes (fault.BadKind place) fits e other = (faults_are_first bytes (fault.BadKind place) fits).0 e
+is_first bytes (fault.BadLength place) fits e other = (faults_are_first bytes (fault.BadLength place) fits).0 e
+is_first bytes (fault.NotUtf8 place) fits e other = (faults_are_first bytes (fault.NotUtf8 place) fits).0 e
+is_first bytes (fault.TooManyColumns place) fits e other = (faults_are_first bytes (fault.TooManyColumns place) fits).0 e

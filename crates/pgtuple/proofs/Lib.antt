@@ -1,5 +1,6 @@
 pub mod Fields
 pub mod Tuples
+pub mod FirstFaults
 pub mod Readers
 pub mod Loop
 pub mod Decoded

@@ -18,16 +18,16 @@ use Rattle.pgtuple.proofs.Fields.{bind_ok, unless_ok, when_ok, ok_is, Takes, Tak
 
 -- ---- what is spelled is read
 
-then_is : {A B : Type 0} (r : Result A TupleFault) (x : A) (f : A → Result B TupleFault) → r ≡ Ok x → (r >>= f) ≡ f x
+pub then_is : {A B : Type 0} (r : Result A TupleFault) (x : A) (f : A → Result B TupleFault) → r ≡ Ok x → (r >>= f) ≡ f x
 then_is r x f e = ap (λ (q : Result _ TupleFault). q >>= f) e
 
-length_again : (n place : ℕ) (more : List ℕ) → n ≤ 2147483647 → length_at (place, to_be_bytes w32 n ++ more) ≡ Ok (n, (place + 4, more))
+pub length_again : (n place : ℕ) (more : List ℕ) → n ≤ 2147483647 → length_at (place, to_be_bytes w32 n ++ more) ≡ Ok (n, (place + 4, more))
 unfolding length_at
 length_again n place more le =
     then_is (number_at w32 (place, to_be_bytes w32 n ++ more)) (n, (place + 4, more)) (λ x. cond (leb x.0 2147483647) (Ok x) (Err (fault.BadLength place))) (number_again w32 (2 ^ 32) wide32 n place more (omega arith))
     ∙ rw (le-leb n 2147483647 le) refl
 
-bytes_again : (bytes : List ℕ) (place : ℕ) (more : List ℕ) → bytes_at (length bytes) (place, bytes ++ more) ≡ Ok (bytes, (place + length bytes, more))
+pub bytes_again : (bytes : List ℕ) (place : ℕ) (more : List ℕ) → bytes_at (length bytes) (place, bytes ++ more) ≡ Ok (bytes, (place + length bytes, more))
 unfolding bytes_at
 bytes_again bytes place more =
     let long : ltb (length (bytes ++ more)) (length bytes) ≡ false = le-ltb _ _ (omega (arith, length-append bytes more)) in
@@ -51,7 +51,7 @@ binary_cell_again bytes place more le =
     then_is (length_at (place, to_be_bytes w32 (length bytes) ++ (bytes ++ more))) (length bytes, (place + 4, bytes ++ more)) (λ n. bytes_at n.0 n.1 >>= λ bytes. Ok (Binary bytes.0, bytes.1)) (length_again (length bytes) place (bytes ++ more) le)
     ∙ then_is (bytes_at (length bytes) (place + 4, bytes ++ more)) (bytes, (place + 4 + length bytes, more)) (λ bytes. Ok (Binary bytes.0, bytes.1)) (bytes_again bytes (place + 4) more)
 
-cell_again : (c : Cell) (place : ℕ) (more : List ℕ) → IsCell c → IsTextCell c → cell_at (place, cell_spelling c ++ more) ≡ Ok (c, (place + length (cell_spelling c), more))
+pub cell_again : (c : Cell) (place : ℕ) (more : List ℕ) → IsCell c → IsTextCell c → cell_at (place, cell_spelling c ++ more) ≡ Ok (c, (place + length (cell_spelling c), more))
 unfolding cell_at
 cell_again Null place more fits text = refl
 cell_again Unchanged place more fits text = refl
@@ -151,7 +151,7 @@ tuples_apart a b x y fa fb e =
 
 -- ---- what is read was spelled so
 
-length_takes : (at : At) (x : ℕ × At) → IsBytes at.1 → length_at at ≡ Ok x → Takes at (to_be_bytes w32 x.0) x.1 × (x.0 ≤ 2147483647)
+pub length_takes : (at : At) (x : ℕ × At) → IsBytes at.1 → length_at at ≡ Ok x → Takes at (to_be_bytes w32 x.0) x.1 × (x.0 ≤ 2147483647)
 unfolding length_at
 length_takes at x fits e =
     let a = bind_ok (number_at w32 at) (λ n. cond (leb n.0 2147483647) (Ok n) (Err (fault.BadLength at.0))) x e in
@@ -159,7 +159,7 @@ length_takes at x fits e =
     let t = number_takes w32 (2 ^ 32) wide32 at a.0 fits a.1 in
     subst (λ (y : ℕ × At). Takes at (to_be_bytes w32 y.0) y.1 × (y.0 ≤ 2147483647)) g.1 (t.0, leb-true _ _ g.0)
 
-bytes_take : (n : ℕ) (at : At) (x : List ℕ × At) → IsBytes at.1 → bytes_at n at ≡ Ok x → Takes at x.0 x.1 × (length x.0 ≡ n)
+pub bytes_take : (n : ℕ) (at : At) (x : List ℕ × At) → IsBytes at.1 → bytes_at n at ≡ Ok x → Takes at x.0 x.1 × (length x.0 ≡ n)
 unfolding bytes_at
 bytes_take n at x fits e =
     let g = unless_ok (ltb (length at.1) n) (fault.Short at.0) (take n at.1, further n at) x e in
@@ -177,7 +177,7 @@ text_takes n at x fits e =
     subst (λ (y : List ℕ × At). Takes at y.0 y.1 × (length y.0 ≡ n) × (is_utf8 y.0 ≡ true)) g.1 (t.0, t.1, g.0)
 
 -- what is taken for a cell
-IsTaken : At → Cell × At → Type 0
+abbrev pub IsTaken : At → Cell × At → Type 0
 IsTaken at x = Takes at (cell_spelling x.0) x.1 × IsCell x.0 × IsTextCell x.0
 
 -- the kind, the length and the bytes
@@ -189,7 +189,7 @@ counted kind place rest n bytes a b len =
     record { parts = ap (λ (l : List ℕ). kind ∷ l) exact.parts; place = omega (arith, exact.place); rest_fits = exact.rest_fits }
 
 text_cell_takes : (place : ℕ) (rest : List ℕ) (x : Cell × At) → IsBytes rest → text_cell_at (place + 1, rest) ≡ Ok x → IsTaken (place, 116 ∷ rest) x
-unfolding text_cell_at IsTaken
+unfolding text_cell_at
 text_cell_takes place rest x fits e =
     let a = bind_ok (length_at (place + 1, rest)) (λ n. text_at n.0 n.1 >>= λ text. Ok (Text text.0, text.1)) x e in
     let b = bind_ok (text_at a.0.0 a.0.1) (λ text. Ok (Text text.0, text.1)) x a.2 in
@@ -200,7 +200,7 @@ text_cell_takes place rest x fits e =
     (counted 116 place rest a.0 b.0 n.0 bytes.0 bytes.1, omega (arith, bytes.1, n.1), bytes.2)
 
 binary_cell_takes : (place : ℕ) (rest : List ℕ) (x : Cell × At) → IsBytes rest → binary_cell_at (place + 1, rest) ≡ Ok x → IsTaken (place, 98 ∷ rest) x
-unfolding binary_cell_at IsTaken
+unfolding binary_cell_at
 binary_cell_takes place rest x fits e =
     let a = bind_ok (length_at (place + 1, rest)) (λ n. bytes_at n.0 n.1 >>= λ bytes. Ok (Binary bytes.0, bytes.1)) x e in
     let b = bind_ok (bytes_at a.0.0 a.0.1) (λ bytes. Ok (Binary bytes.0, bytes.1)) x a.2 in
@@ -211,7 +211,7 @@ binary_cell_takes place rest x fits e =
     (counted 98 place rest a.0 b.0 n.0 bytes.0 bytes.1, omega (arith, bytes.1, n.1), tt)
 
 -- which way a test went
-chosen : {A : Type 0} (b : Bool) (x y z : A) → cond b x y ≡ z → ((b ≡ true) × (x ≡ z)) ⊎ ((b ≡ false) × (y ≡ z))
+pub chosen : {A : Type 0} (b : Bool) (x y z : A) → cond b x y ≡ z → ((b ≡ true) × (x ≡ z)) ⊎ ((b ≡ false) × (y ≡ z))
 chosen true x y z e = inl (refl, e)
 chosen false x y z e = inr (refl, e)
 
@@ -219,7 +219,6 @@ plain : (kind place : ℕ) (rest : List ℕ) → IsBytes rest → Takes (place, 
 plain kind place rest fits = record { parts = refl; place = refl; rest_fits = fits }
 
 of_kind : (kind place : ℕ) (rest : List ℕ) (x : Cell × At) → IsBytes rest → cell_of kind (place, kind ∷ rest) (place + 1, rest) ≡ Ok x → IsTaken (place, kind ∷ rest) x
-unfolding IsTaken
 of_kind kind place rest x fits e =
     let here : At = (place, kind ∷ rest) in
     let behind : At = (place + 1, rest) in
@@ -242,14 +241,14 @@ of_kind kind place rest x fits e =
       ]
     ]
 
-cell_takes : (at : At) (x : Cell × At) → IsBytes at.1 → cell_at at ≡ Ok x → IsTaken at x
+pub cell_takes : (at : At) (x : Cell × At) → IsBytes at.1 → cell_at at ≡ Ok x → IsTaken at x
 unfolding cell_at
 cell_takes (place, []) x fits e = absurd cc
 cell_takes (place, kind ∷ rest) x fits e = of_kind kind place rest x (IsBytes-rest kind rest fits) e
 
 cells_take : (n : ℕ) (at : At) (x : List Cell × At) → IsBytes at.1 → cells_at n at ≡ Ok x
     → Takes at (flat_map cell_spelling x.0) x.1 × (length x.0 ≡ n) × AllByRecursion IsCell x.0 × AllByRecursion IsTextCell x.0
-unfolding cells_at IsTaken
+unfolding cells_at
 cells_take zero at x fits e =
     subst (λ (y : List Cell × At). Takes at (flat_map cell_spelling y.0) y.1 × (length y.0 ≡ 0) × AllByRecursion IsCell y.0 × AllByRecursion IsTextCell y.0) (ok_is ([], at) x e) (Takes-none at fits, refl, tt, tt)
 cells_take (suc n) at x fits e =

@@ -2,5 +2,6 @@ pub mod Limits
 pub mod Cells
 pub mod Lent
 pub mod Reading
+pub mod Faults
 pub mod Writing
 pub mod Laws

@@ -2,10 +2,11 @@
 //!
 //! PostgreSQL documentation, Logical Replication Message Formats, TupleData.
 
-ghost use Rattle.std.specs.Prelude.{◌≡◌, ◌∷◌, ◌++◌, ℕ, List, length, MatchResult, IfOk, Ok, Err, drop};
+ghost use Rattle.std.specs.Prelude.{◌≡◌, ◌≢◌, ◌∷◌, ◌++◌, ℕ, List, length, MatchResult, IfOk, IfErr, Ok, Err, drop};
 ghost use Rattle.pgtuple.specs.declared.cell.Cell.{Cell};
 ghost use Rattle.pgtuple.specs.Limits.{IsWireTuple};
 ghost use Rattle.pgtuple.specs.Cells.{tuple_spelling};
+ghost use Rattle.pgtuple.specs.Faults.{HasTupleFault};
 ghost use Rattle.pgtuple.specs.Reading.{Fails, cell_at, cells_at, tuple_from, tuple_at};
 
 use crate::bytes::Bytes;
@@ -74,7 +75,10 @@ pub fn decode(alloc: Global, bytes: &[u8]) -> Result<(Tuple, usize), TupleFault>
     ensures only { (t : List Cell) (more : List ℕ) → IsWireTuple t → bytes.now ≡ tuple_spelling t ++ more
         → MatchResult result (λ x. (x.0 ≡ t) × (x.1 ≡ length (tuple_spelling t))) (λ f. f ≡ TupleFault.Memory) }
 
-    // The fault is that of the first field that can't be read.
+    // The fault is that of the first field from the left that can't be read.
+    ensures fault { IfErr result (λ f. f ≢ TupleFault.Memory → HasTupleFault bytes.now f) }
+
+    // The same in one: the answer is the definition's.
     ensures exact { MatchResult result (λ x. tuple_at bytes.now ≡ Ok (x.0, (x.1, drop x.1 bytes.now))) (λ f. Fails f (tuple_at bytes.now)) }
 {
     let mut reader = Reader::new(bytes);

@@ -1,6 +1,6 @@
 //! What the spelling and the reading of tuples have to do with each other.
 
-ghost use Rattle.pgtuple.specs.Laws.{SpelledTuplesAreRead, ReadTuplesAreSpelled, NoSpellingBeginsAnother};
+ghost use Rattle.pgtuple.specs.Laws.{SpelledTuplesAreRead, ReadTuplesAreSpelled, NoSpellingBeginsAnother, FaultsAreTheFirst};
 
 /// What is spelled is read again, whatever follows it; what is read was spelled so and is within the limits; and no
 /// spelling begins another one.
@@ -10,4 +10,11 @@ pub fn tuples_have_one_spelling()
     ensures read { SpelledTuplesAreRead }
     ensures spelled { ReadTuplesAreSpelled }
     ensures apart { NoSpellingBeginsAnother }
+{}
+
+/// What can't be read has exactly the fault of the first field from the left that can't be read.
+///
+/// PostgreSQL documentation, Logical Replication Message Formats, TupleData.
+pub fn tuple_faults_are_the_first()
+    ensures { FaultsAreTheFirst }
 {}

@@ -1,7 +1,7 @@
 use Rattle.std.proofs.Common.{arith}
 use Rattle.std.proofs.lemmas.Result.{err_from_is_err_and}
 use Rattle.pgtuple.specs.Reading.{tuple_at}
-use Rattle.pgtuple.proofs.Decoded.{front_is, is_only, is_memory}
+use Rattle.pgtuple.proofs.Decoded.{front_is, is_only, is_memory, is_first}
 use Rattle.pgtuple.proofs.decoding.decode.Goals as goal
 
 pub returns-in_err-cells-clause-only : goal.returns-in_err-cells-clause-only
@@ -33,3 +33,8 @@ returns-clause-exact c =
     let read = rw c.new-reader.ensures at c.in_ok-cells.ensures in
     let front = front_is c.args.bytes.now c.in_ok-cells.cells.items c.columns.new.reader (λ i. omega (arith, c.type_inv.bytes i)) read in
     rw (c.from_vec.ensures, c.offset.ensures, ← front.rest) read
+
+pub returns-in_err-cells-clause-fault : goal.returns-in_err-cells-clause-fault
+returns-in_err-cells-clause-fault c =
+    let p = err_from_is_err_and c.from_residual.result c.from_residual.ensures.1 in
+    rw (p.1, p.2) (is_first c.args.bytes.now c.in_err-cells.field-0.0 (λ i. omega (arith, c.type_inv.bytes i)) (rw c.new-reader.ensures at c.in_err-cells.ensures))
