@@ -72,10 +72,14 @@ good_header max n h more BadLength good five breaks =
 good_header max n h more TooLarge good five breaks = omega (arith, length-of-append h more (omega arith), (good.counted (omega arith)).0, good.most, breaks.3)
 good_header max n h more _ good five breaks = absurd breaks
 
+not_done : (done : Bool) → (done ≡ true → ⊥) → done ≡ false
+not_done true never = absurd (never refl)
+not_done false never = refl
+
 -- the frame whose header and payload are there
-pub data_stands : (max n : ℕ) (h : Header) (payload : List ℕ) (done : Bool) (fault : Option WireFault) → fault ≡ None → HasPayloadLen max (come h) n → h.len ≡ 5 → length payload ≡ n → tag_of (come h) ≡ 100
+pub data_stands : (max n : ℕ) (h : Header) (payload : List ℕ) (done : Bool) (fault : Option WireFault) → fault ≡ None → (done ≡ true → h.len ≡ 0) → HasPayloadLen max (come h) n → h.len ≡ 5 → length payload ≡ n → tag_of (come h) ≡ 100
     → Stands (record { max = max; held = come h ++ payload; done = done; fault = fault }) (CopyData payload)
-data_stands max n h payload done fault none_yet good five whole is_data =
+data_stands max n h payload done fault none_yet last good five whole is_data =
     let len = length-come h in
     let counted = good.counted (omega arith) in
     let size : length_of (come h) ≡ length payload + 4 = omega (arith, counted.0) in
@@ -87,12 +91,13 @@ data_stands max n h payload done fault none_yet good five whole is_data =
           ∙ ap (λ t. t ∷ (to_be_bytes w32 (length_of (come h)) ++ drop 5 (come h))) is_data
           ∙ ap (λ k. 100 ∷ (to_be_bytes w32 k ++ drop 5 (come h))) size
           ∙ ap (λ behind. 100 ∷ (to_be_bytes w32 (length payload + 4) ++ behind)) none);
+      first = not_done done (λ d. omega (arith, last d));
       fault = none_yet;
     }
 
-pub done_stands : (max n : ℕ) (h : Header) (payload : List ℕ) (done : Bool) (fault : Option WireFault) → fault ≡ None → HasPayloadLen max (come h) n → h.len ≡ 5 → length payload ≡ n → tag_of (come h) ≡ 99
+pub done_stands : (max n : ℕ) (h : Header) (payload : List ℕ) (done : Bool) (fault : Option WireFault) → fault ≡ None → (done ≡ true → h.len ≡ 0) → HasPayloadLen max (come h) n → h.len ≡ 5 → length payload ≡ n → tag_of (come h) ≡ 99
     → Stands (record { max = max; held = come h ++ payload; done = done; fault = fault }) CopyDone
-done_stands max n h payload done fault none_yet good five whole is_done =
+done_stands max n h payload done fault none_yet last good five whole is_done =
     let len = length-come h in
     let zero_len = good.done (omega arith) is_done in
     let counted = good.counted (omega arith) in
@@ -106,15 +111,16 @@ done_stands max n h payload done fault none_yet good five whole is_done =
           ∙ ap (λ t. t ∷ (to_be_bytes w32 (length_of (come h)) ++ drop 5 (come h))) is_done
           ∙ ap (λ k. 99 ∷ (to_be_bytes w32 k ++ drop 5 (come h))) size
           ∙ ap (λ behind. 99 ∷ (to_be_bytes w32 4 ++ behind)) none;
+      first = not_done done (λ d. omega (arith, last d));
       fault = none_yet;
     }
 
-pub stands_now : (max n : ℕ) (h : Header) (payload : List ℕ) (done : Bool) (fault : Option WireFault) → fault ≡ None → HasPayloadLen max (come h) n → h.len ≡ 5 → length payload ≡ n
+pub stands_now : (max n : ℕ) (h : Header) (payload : List ℕ) (done : Bool) (fault : Option WireFault) → fault ≡ None → (done ≡ true → h.len ≡ 0) → HasPayloadLen max (come h) n → h.len ≡ 5 → length payload ≡ n
     → (f : Frame) × Stands (record { max = max; held = come h ++ payload; done = done; fault = fault }) f
-stands_now max n h payload done fault none_yet good five whole =
+stands_now max n h payload done fault none_yet last good five whole =
     elim (good.tag (omega (arith, length-come h))) [
-      | inl is_data ↦ (CopyData payload, data_stands max n h payload done fault none_yet good five whole is_data)
-      | inr is_done ↦ (CopyDone, done_stands max n h payload done fault none_yet good five whole is_done)
+      | inl is_data ↦ (CopyData payload, data_stands max n h payload done fault none_yet last good five whole is_data)
+      | inr is_done ↦ (CopyDone, done_stands max n h payload done fault none_yet last good five whole is_done)
     ]
 
 -- a header that isn't whole has no payload behind it
@@ -214,7 +220,7 @@ fed_ok max old new payload piece done before after k fault none_yet step =
       ap (λ held. let d : Deframed = record { max = max; held = held; done = done; fault = fault } in d) (held_grows max old new payload piece done before after k step),
       elim (cases_eq (length (payload ++ more)) after) [
         | inl whole ↦ elim (cases_eq new.len 5) [
-          | inl five ↦ inl (stands_now max after new (payload ++ more) done fault none_yet step.is five whole)
+          | inl five ↦ inl (stands_now max after new (payload ++ more) done fault none_yet last step.is five whole)
           | inr short ↦ inr (omega (arith, taken, step.count, new.within), waits_now max after new (payload ++ more) done fault step.is room last (λ five. absurd (short five)))
         ]
         | inr fewer ↦ inr (omega (arith, taken, step.count, len, more_len, fits), waits_now max after new (payload ++ more) done fault step.is room last (λ five. omega (arith, room)))

@@ -19,6 +19,7 @@ fresh max = record { max = max; held = []; done = false; fault = None }
 pub record Stands (d : Deframed) (f : Frame) : Type 0 where
   pub allowed : IsAllowed d.max f
   pub whole : d.held ≡ frame f
+  pub first : d.done ≡ false
   pub fault : d.fault ≡ None
 
 -- less than a whole frame is held, and nothing behind CopyDone

@@ -1,10 +1,12 @@
 //! What holds of frames and payloads whatever program reads them. The functions do nothing: their contracts are the laws.
 
-ghost use Rattle.std.specs.Prelude.{◌≡◌, ◌<◌, ◌+◌, ◌++◌, ℕ, List, false, length, Ok, Err};
+ghost use Rattle.std.specs.Prelude.{◌≡◌, ◌≢◌, ◌<◌, ◌+◌, ◌⊎◌, ◌++◌, ◌∷◌, [], ℕ, List, false, length, Ok, Err, None};
+ghost use Rattle.pgwire.specs.Calls.{Call, Leads};
+ghost use Rattle.pgwire.specs.Deframed.{Deframed, Stands, Waits, IsFed};
 ghost use Rattle.pgwire.specs.Frames.{Frame, frame, IsAllowed, IsDeframedAs, HasFramingFault, IsFramingFault, IsPartial};
 ghost use Rattle.pgwire.specs.Payloads.{ServerMessage, payload, payload_at, IsServerMessage, HasPayloadFault};
 ghost use Rattle.pgwire.specs.declared.fault.WireFault.{WireFault};
-ghost use Rattle.pgwire.specs.declared.fault.WireFault.TheVariants.{TooLarge};
+ghost use Rattle.pgwire.specs.declared.fault.WireFault.TheVariants.{Memory, TooLarge};
 
 /// Two readings of one stream are one: equal bytes have the same frames and the same rest, however they were cut.
 pub fn stream_has_one_reading()
@@ -33,4 +35,23 @@ pub fn front_tells_the_frame()
 pub fn payload_has_one_reading()
     ensures message { (m : ServerMessage) → IsServerMessage m → payload_at (payload m) ≡ Ok m }
     ensures fault { (bytes : List ℕ) (x : WireFault) → HasPayloadFault bytes x → payload_at bytes ≡ Err x }
+{}
+
+/// Over any calls of a deframer since it was made or reset, the bytes taken are the frames that it released and what it holds: one
+/// frame that stands whole, or less than one.
+pub fn frames_are_those_of_the_bytes()
+    ensures { (max : ℕ) (calls : List Call) (taken : List ℕ) (released : List Frame) (d : Deframed) → Leads max calls taken released d
+        → ((f : Frame) × Stands d f × IsDeframedAs max taken (released ++ f ∷ []) []) ⊎ (Waits d × IsDeframedAs max taken released d.held) }
+{}
+
+/// However a stream is cut, and whenever its frames are released, they are the same, and so is what is left.
+pub fn cuts_change_nothing()
+    ensures { (max : ℕ) (calls others : List Call) (taken : List ℕ) (fs gs : List Frame) (d e : Deframed) → Leads max calls taken fs d
+        → Leads max others taken gs e → Waits d → Waits e → (fs ≡ gs) × (d.held ≡ e.held) }
+{}
+
+/// The first fault of a deframer is that of the bytes that it took and the piece in which it comes.
+pub fn first_fault_is_that_of_the_bytes()
+    ensures { (max : ℕ) (calls : List Call) (taken piece : List ℕ) (released : List Frame) (old new : Deframed) (x : WireFault)
+        → Leads max calls taken released old → old.fault ≡ None → x ≢ Memory → IsFed old piece (Err x) new → HasFramingFault max (taken ++ piece) x }
 {}

@@ -9,8 +9,10 @@ pub mod frame;
 pub mod header;
 pub mod laws;
 pub mod message;
+pub mod status;
 
 pub use deframer::Deframer;
 pub use fault::WireFault;
 pub use frame::{Frame, front};
 pub use message::{ServerMsg, decode_server};
+pub use status::{Status, encode_status};

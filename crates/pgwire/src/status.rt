@@ -1,0 +1,53 @@
+//! The status that a subscriber sends.
+
+ghost use Rattle.std.specs.Prelude.{◌≡◌, ◌≤◌, ◌+◌, ◌++◌, MatchResult};
+ghost use Rattle.std.specs.Int.{w64, to_be_bytes};
+ghost use Rattle.pgwire.specs.Statuses.{status_frame};
+ghost use Rattle.pgwire.specs.declared.fault.WireFault.TheVariants.{Memory};
+
+use crate::WireFault;
+use bytes::{BufMut, BytesMut};
+use pglsn::Lsn;
+
+/// A standby status update: up to where the WAL was written, flushed and applied (each the last byte and one), the client's clock in
+/// microseconds since 2000-01-01, and whether a reply is wanted.
+#[derive(Clone, Copy, Debug, PartialEq, Eq)]
+pub struct Status {
+    pub written: Lsn,
+    pub flushed: Lsn,
+    pub applied: Lsn,
+    pub clock: i64,
+    pub ask: bool,
+}
+
+// The frame's header, the letter and the fields.
+const FRAME_LEN: usize = 39;
+
+/// Appends the CopyData frame of a status. A refusal, for want of memory alone, leaves the buffer as it was.
+pub fn encode_status(status: &Status, out: &mut BytesMut) -> Result<(), WireFault>
+    ensures { MatchResult result
+        (λ _. out.new.items ≡ out.old.items ++ status_frame status.now)
+        (λ fault. (fault ≡ Memory) × (out.new.items ≡ out.old.items)) }
+{
+    if out.reserve(FRAME_LEN).is_err() {
+        return Err(WireFault::Memory);
+    }
+    out.put_u8(b'd').unwrap();
+    out.put_u32(38).unwrap();
+    out.put_u8(b'r').unwrap();
+    put_lsn(out, status.written);
+    put_lsn(out, status.flushed);
+    put_lsn(out, status.applied);
+    out.put_i64(status.clock).unwrap();
+    out.put_u8(u8::from(status.ask)).unwrap();
+    Ok(())
+}
+
+// Appends an LSN where there is room for it.
+fn put_lsn(out: &mut BytesMut, lsn: Lsn)
+    requires { 8 ≤ out.old.spare }
+    ensures items { out.new.items ≡ out.old.items ++ to_be_bytes w64 lsn }
+    ensures spare { out.old.spare ≤ out.new.spare + 8 }
+{
+    out.put_u64(lsn.0).unwrap();
+}
