@@ -4,6 +4,7 @@ use super::*;
 use pglogical::OldKind;
 use pgtuple::{CellRef, Seq, Text, Tuple};
 use std::alloc::{AllocError, Global};
+use std::process::Abort;
 use std::test::Fail;
 
 fn text(alloc: Global, text: &str) -> Result<Text, AllocError> {
@@ -89,17 +90,75 @@ fn row(alloc: Global, cells: &[CellRef<'_>]) -> Result<Tuple, Fail> {
     Ok(Tuple::from_cells(owned).ok_or("beyond the limits of a tuple")?)
 }
 
-/// Whether the call answered these cells.
-fn gives(found: &Result<Tuple, RelFault>, cells: &Tuple) -> bool {
-    match found {
-        Ok(found) => found.as_slice() == cells.as_slice(),
-        Err(_) => false,
+/// Whether the cell is this one.
+fn is_cell(found: Option<CellRef<'_>>, cell: &CellRef<'_>) -> bool {
+    match (found, *cell) {
+        (Some(CellRef::Null), CellRef::Null) => true,
+        (Some(CellRef::Unchanged), CellRef::Unchanged) => true,
+        (Some(CellRef::Text(found)), CellRef::Text(text)) => found == text,
+        (Some(CellRef::Binary(found)), CellRef::Binary(bytes)) => found == bytes,
+        _ => false,
     }
 }
 
-/// The fault that the call answered.
-fn fault(found: Result<Tuple, RelFault>) -> Option<RelFault> {
-    found.err()
+/// Whether the call answered these cells. Want of memory goes on as an error.
+fn gives(answer: Result<Tuple, RelFault>, cells: &[CellRef<'_>]) -> Result<bool, RelFault> {
+    match answer {
+        Ok(tuple) => {
+            let lent = tuple.borrowed();
+            let same = cells
+                .iter()
+                .enumerate()
+                .all(|(k, cell)| is_cell(lent.get(k), cell));
+            Ok(same && tuple.width() == cells.len())
+        }
+        Err(RelFault::Memory) => Err(RelFault::Memory),
+        Err(_) => Ok(false),
+    }
+}
+
+/// Whether the call answered this fault. Want of memory goes on as an error.
+fn refuses(answer: Result<Tuple, RelFault>, fault: RelFault) -> Result<bool, RelFault> {
+    match answer {
+        Ok(_) => Ok(false),
+        Err(RelFault::Memory) => Err(RelFault::Memory),
+        Err(found) => Ok(found == fault),
+    }
+}
+
+/// The identity that an update without an old tuple searches.
+fn of_new(
+    alloc: Global,
+    def: &RelationDef,
+    new: &[CellRef<'_>],
+) -> Result<Result<Tuple, RelFault>, Fail> {
+    let new = row(alloc, new)?;
+    Ok(search_identity(alloc, def, None, Some(new.borrowed())))
+}
+
+/// The identity that an update with an old tuple searches.
+fn of_old(
+    alloc: Global,
+    def: &RelationDef,
+    kind: OldKind,
+    old: &[CellRef<'_>],
+    new: &[CellRef<'_>],
+) -> Result<Result<Tuple, RelFault>, Fail> {
+    let old = row(alloc, old)?;
+    let new = row(alloc, new)?;
+    let prior = Some((kind, old.borrowed()));
+    Ok(search_identity(alloc, def, prior, Some(new.borrowed())))
+}
+
+/// The identity that a delete searches.
+fn of_delete(
+    alloc: Global,
+    def: &RelationDef,
+    kind: OldKind,
+    old: &[CellRef<'_>],
+) -> Result<Result<Tuple, RelFault>, Fail> {
+    let old = row(alloc, old)?;
+    Ok(search_identity(alloc, def, Some((kind, old.borrowed())), None))
 }
 
 #[test]
@@ -109,13 +168,10 @@ fn keyed_tables_and_bags(rt: HostRuntime) -> Result<(), Fail> {
     assert!(rt; keyed(&by_index(alloc)?));
     assert!(rt; !keyed(&f(alloc)?));
     assert!(rt; !keyed(&n(alloc)?));
-    let unflagged = relation(alloc, 1, "u", b'd', &[(false, "v", 25)])?;
-    assert!(rt; !keyed(&unflagged));
+    assert!(rt; !keyed(&relation(alloc, 1, "u", b'd', &[(false, "v", 25)])?));
     assert!(rt; !keyed(&relation(alloc, 1, "u", b'i', &[(false, "v", 25)])?));
     assert!(rt; !keyed(&relation(alloc, 1, "u", b'd', &[])?));
     assert!(rt; !keyed(&relation(alloc, 1, "u", b'n', &[(true, "v", 25)])?));
-    let x = row(alloc, &[CellRef::Text("x")])?;
-    assert!(rt; gives(&row_identity(alloc, &unflagged, &x.borrowed()), &x));
     Ok(())
 }
 
@@ -126,137 +182,81 @@ fn shapes(rt: HostRuntime) -> Result<(), Fail> {
     assert!(rt; same_shape(&t, &t));
     assert!(rt; !same_shape(&t, &t3(alloc)?));
     assert!(rt; !same_shape(&t3(alloc)?, &t));
-    let renamed = relation(
-        alloc,
-        7,
-        "other",
-        b'd',
-        &[(true, "id", 20), (false, "v", 1043)],
-    )?;
-    assert!(rt; same_shape(&t, &renamed));
-    let letter = relation(
-        alloc,
-        16384,
-        "t",
-        b'i',
-        &[(true, "id", 23), (false, "v", 25)],
-    )?;
-    assert!(rt; !same_shape(&t, &letter));
-    let flag = relation(
-        alloc,
-        16384,
-        "t",
-        b'd',
-        &[(true, "id", 23), (true, "v", 25)],
-    )?;
-    assert!(rt; !same_shape(&t, &flag));
-    let column = relation(
-        alloc,
-        16384,
-        "t",
-        b'd',
-        &[(true, "id", 23), (false, "w", 25)],
-    )?;
-    assert!(rt; !same_shape(&t, &column));
-    let order = relation(
-        alloc,
-        16384,
-        "t",
-        b'd',
-        &[(false, "v", 25), (true, "id", 23)],
-    )?;
-    assert!(rt; !same_shape(&t, &order));
+    for (letter, columns, same) in [
+        (b'd', [(true, "id", 20), (false, "v", 1043)], true),
+        (b'i', [(true, "id", 23), (false, "v", 25)], false),
+        (b'd', [(true, "id", 23), (true, "v", 25)], false),
+        (b'd', [(true, "id", 23), (false, "w", 25)], false),
+        (b'd', [(false, "v", 25), (true, "id", 23)], false),
+    ] {
+        let other = relation(alloc, 7, "other", letter, columns.as_slice())?;
+        assert_eq!(rt; same_shape(&t, &other), same);
+    }
     Ok(())
 }
 
+const ONE: CellRef<'static> = CellRef::Text("1");
+
+const TWO: CellRef<'static> = CellRef::Text("2");
+
+const X: CellRef<'static> = CellRef::Text("x");
+
+const Y: CellRef<'static> = CellRef::Text("y");
+
+const BYTES: CellRef<'static> = CellRef::Binary(&[0, 255]);
+
+const NULL: CellRef<'static> = CellRef::Null;
+
+const UNSENT: CellRef<'static> = CellRef::Unchanged;
+
 #[test]
-fn searched_identities(rt: HostRuntime) -> Result<(), Fail> {
+fn searched_in_a_keyed_table(rt: HostRuntime) -> Result<(), Fail> {
     let alloc = rt.alloc();
     let t = t(alloc)?;
-    let key = row(alloc, &[CellRef::Text("1"), CellRef::Null])?;
-    let new = row(alloc, &[CellRef::Text("2"), CellRef::Unchanged])?;
-    let first = row(alloc, &[CellRef::Text("1")])?;
-    let second = row(alloc, &[CellRef::Text("2")])?;
-    let old = Some((OldKind::Key, key.borrowed()));
-    assert!(rt;
-        gives(
-            &search_identity(alloc, &t, old, Some(new.borrowed())),
-            &first
-        )
-    );
-    assert!(rt;
-        gives(
-            &search_identity(alloc, &t, None, Some(new.borrowed())),
-            &second
-        )
-    );
-    let old = Some((OldKind::Full, new.borrowed()));
-    assert!(rt; gives(&search_identity(alloc, &t, old, None), &second));
-    let null = row(alloc, &[CellRef::Null, CellRef::Null])?;
-    let old = Some((OldKind::Key, null.borrowed()));
-    assert!(rt;
-        gives(
-            &search_identity(alloc, &t, old, None),
-            &row(alloc, &[CellRef::Null])?
-        )
-    );
-    let three = row(
-        alloc,
-        &[
-            CellRef::Text("1"),
-            CellRef::Null,
-            CellRef::Binary(&[0, 255]),
-        ],
-    )?;
-    let ends = row(alloc, &[CellRef::Text("1"), CellRef::Binary(&[0, 255])])?;
-    let old = Some((OldKind::Key, three.borrowed()));
-    assert!(rt; gives(&search_identity(alloc, &by_index(alloc)?, old, None), &ends));
-    let x = row(alloc, &[CellRef::Text("x")])?;
-    let y = row(alloc, &[CellRef::Text("y")])?;
-    let old = Some((OldKind::Full, x.borrowed()));
-    assert!(rt;
-        gives(
-            &search_identity(alloc, &f(alloc)?, old, Some(y.borrowed())),
-            &x
-        )
-    );
+    let old = of_old(alloc, &t, OldKind::Key, &[ONE, NULL], &[TWO, UNSENT])?;
+    assert!(rt; gives(old, &[ONE])?);
+    let new = of_new(alloc, &t, &[TWO, UNSENT])?;
+    assert!(rt; gives(new, &[TWO])?);
+    let deleted = of_delete(alloc, &t, OldKind::Full, &[TWO, X])?;
+    assert!(rt; gives(deleted, &[TWO])?);
+    let null = of_delete(alloc, &t, OldKind::Key, &[NULL, NULL])?;
+    assert!(rt; gives(null, &[NULL])?);
+    let ends = of_delete(alloc, &by_index(alloc)?, OldKind::Key, &[ONE, NULL, BYTES])?;
+    assert!(rt; gives(ends, &[ONE, BYTES])?);
     Ok(())
 }
 
 #[test]
-fn refused_identities(rt: HostRuntime) -> Result<(), Fail> {
+fn refused_in_a_keyed_table(rt: HostRuntime) -> Result<(), Fail> {
     let alloc = rt.alloc();
-    let (t, f, n) = (t(alloc)?, f(alloc)?, n(alloc)?);
-    let x = row(alloc, &[CellRef::Text("x")])?;
-    let y = row(alloc, &[CellRef::Text("y")])?;
-    let pair = row(alloc, &[CellRef::Text("x"), CellRef::Text("y")])?;
-    let unsent = row(alloc, &[CellRef::Unchanged])?;
-    let unsent_key = row(alloc, &[CellRef::Unchanged, CellRef::Null])?;
-    let none = fault(search_identity(alloc, &f, None, Some(x.borrowed())));
-    assert_eq!(rt; none, Some(RelFault::NoIdentity));
-    let key = Some((OldKind::Key, x.borrowed()));
-    let by_key = fault(search_identity(alloc, &f, key, Some(y.borrowed())));
-    assert_eq!(rt; by_key, Some(RelFault::NoIdentity));
-    let nothing = fault(search_identity(alloc, &n, None, Some(x.borrowed())));
-    assert_eq!(rt; nothing, Some(RelFault::NoIdentity));
-    let whole = Some((OldKind::Full, x.borrowed()));
-    assert_eq!(rt;
-        fault(search_identity(alloc, &n, whole, None)),
-        Some(RelFault::NoIdentity)
-    );
-    let wide = fault(search_identity(alloc, &n, None, Some(pair.borrowed())));
-    assert_eq!(rt; wide, Some(RelFault::Width));
-    let narrow = Some((OldKind::Key, unsent.borrowed()));
-    let narrow = fault(search_identity(alloc, &t, narrow, Some(pair.borrowed())));
-    assert_eq!(rt; narrow, Some(RelFault::Width));
-    let key = Some((OldKind::Key, unsent_key.borrowed()));
-    let unknown = fault(search_identity(alloc, &t, key, Some(pair.borrowed())));
-    assert_eq!(rt; unknown, Some(RelFault::UnknownIdentity));
-    let unsent_new = fault(search_identity(alloc, &t, None, Some(unsent_key.borrowed())));
-    assert_eq!(rt; unsent_new, Some(RelFault::UnknownIdentity));
-    let unsent_full = Some((OldKind::Full, unsent.borrowed()));
-    let unsent_full = fault(search_identity(alloc, &f, unsent_full, None));
-    assert_eq!(rt; unsent_full, Some(RelFault::UnknownIdentity));
+    let t = t(alloc)?;
+    let old = of_old(alloc, &t, OldKind::Key, &[UNSENT], &[ONE, X])?;
+    assert!(rt; refuses(old, RelFault::Width)?);
+    let new = of_old(alloc, &t, OldKind::Key, &[UNSENT, NULL], &[ONE])?;
+    assert!(rt; refuses(new, RelFault::Width)?);
+    let unsent = of_old(alloc, &t, OldKind::Key, &[UNSENT, NULL], &[ONE, X])?;
+    assert!(rt; refuses(unsent, RelFault::UnknownIdentity)?);
+    let unsent = of_new(alloc, &t, &[UNSENT, X])?;
+    assert!(rt; refuses(unsent, RelFault::UnknownIdentity)?);
+    Ok(())
+}
+
+#[test]
+fn searched_in_a_bag(rt: HostRuntime) -> Result<(), Fail> {
+    let alloc = rt.alloc();
+    let f = f(alloc)?;
+    let n = n(alloc)?;
+    let whole = of_old(alloc, &f, OldKind::Full, &[X], &[Y])?;
+    assert!(rt; gives(whole, &[X])?);
+    assert!(rt; refuses(of_new(alloc, &f, &[X])?, RelFault::NoIdentity)?);
+    let by_key = of_old(alloc, &f, OldKind::Key, &[X], &[Y])?;
+    assert!(rt; refuses(by_key, RelFault::NoIdentity)?);
+    let unsent = of_delete(alloc, &f, OldKind::Full, &[UNSENT])?;
+    assert!(rt; refuses(unsent, RelFault::UnknownIdentity)?);
+    assert!(rt; refuses(of_new(alloc, &n, &[X])?, RelFault::NoIdentity)?);
+    let nothing = of_delete(alloc, &n, OldKind::Full, &[X])?;
+    assert!(rt; refuses(nothing, RelFault::NoIdentity)?);
+    assert!(rt; refuses(of_new(alloc, &n, &[X, Y])?, RelFault::Width)?);
     Ok(())
 }
 
@@ -264,17 +264,23 @@ fn refused_identities(rt: HostRuntime) -> Result<(), Fail> {
 fn identities_of_rows(rt: HostRuntime) -> Result<(), Fail> {
     let alloc = rt.alloc();
     let t = t(alloc)?;
-    let kept = row(alloc, &[CellRef::Unchanged, CellRef::Text("a")])?;
-    let unsent = row(alloc, &[CellRef::Unchanged])?;
-    assert!(rt; gives(&row_identity(alloc, &t, &kept.borrowed()), &unsent));
+    let kept = row(alloc, &[UNSENT, X])?;
+    let unsent = row(alloc, &[UNSENT])?;
+    assert!(rt; gives(row_identity(alloc, &t, &kept.borrowed()), &[UNSENT])?);
     assert!(rt;
         gives(
-            &row_identity(alloc, &f(alloc)?, &unsent.borrowed()),
-            &unsent
-        )
+            row_identity(alloc, &f(alloc)?, &unsent.borrowed()),
+            &[UNSENT]
+        )?
     );
-    let narrow = fault(row_identity(alloc, &t, &unsent.borrowed()));
-    assert_eq!(rt; narrow, Some(RelFault::Width));
+    let unflagged = relation(alloc, 1, "u", b'd', &[(false, "v", 25), (false, "w", 25)])?;
+    assert!(rt;
+        gives(
+            row_identity(alloc, &unflagged, &kept.borrowed()),
+            &[UNSENT, X]
+        )?
+    );
+    assert!(rt; refuses(row_identity(alloc, &t, &unsent.borrowed()), RelFault::Width)?);
     Ok(())
 }
 
@@ -282,49 +288,37 @@ fn identities_of_rows(rt: HostRuntime) -> Result<(), Fail> {
 fn inserted_rows(rt: HostRuntime) -> Result<(), Fail> {
     let alloc = rt.alloc();
     let t = t(alloc)?;
-    let whole = row(alloc, &[CellRef::Text("1"), CellRef::Null])?;
+    let whole = row(alloc, &[ONE, NULL])?;
     assert_eq!(rt; check_insert(&t, &whole.borrowed()), Ok(()));
-    let unsent = row(alloc, &[CellRef::Text("9"), CellRef::Unchanged])?;
+    let unsent = row(alloc, &[ONE, UNSENT])?;
     let refused = check_insert(&t, &unsent.borrowed());
     assert_eq!(rt; refused, Err(RelFault::UnchangedInInsert));
-    let narrow = row(alloc, &[CellRef::Unchanged])?;
+    let narrow = row(alloc, &[UNSENT])?;
     assert_eq!(rt; check_insert(&t, &narrow.borrowed()), Err(RelFault::Width));
     Ok(())
+}
+
+/// The new row with the old row's cells in place of those that weren't sent.
+fn resolved(
+    rt: &impl Abort,
+    alloc: Global,
+    new: &[CellRef<'_>],
+    old: &[CellRef<'_>],
+) -> Result<Result<Tuple, RelFault>, Fail> {
+    let new = row(alloc, new)?;
+    let old = row(alloc, old)?;
+    assert_eq!(rt; new.width(), old.width());
+    Ok(resolve(alloc, &new.borrowed(), &old.borrowed()))
 }
 
 #[test]
 fn unsent_cells_are_the_old_rows(rt: HostRuntime) -> Result<(), Fail> {
     let alloc = rt.alloc();
-    let new = row(
-        alloc,
-        &[CellRef::Text("1"), CellRef::Text("b"), CellRef::Unchanged],
-    )?;
-    let old = row(
-        alloc,
-        &[CellRef::Text("1"), CellRef::Text("a"), CellRef::Text("big")],
-    )?;
-    let whole = row(
-        alloc,
-        &[CellRef::Text("1"), CellRef::Text("b"), CellRef::Text("big")],
-    )?;
-    assert_eq!(rt; new.width(), old.width());
-    assert!(rt; gives(&resolve(alloc, &new.borrowed(), &old.borrowed()), &whole));
-    let nulls = row(alloc, &[CellRef::Null])?;
-    let binary = row(alloc, &[CellRef::Binary(&[1])])?;
-    assert_eq!(rt; nulls.width(), binary.width());
-    assert!(rt;
-        gives(
-            &resolve(alloc, &nulls.borrowed(), &binary.borrowed()),
-            &nulls
-        )
-    );
-    let unsent = row(alloc, &[CellRef::Unchanged])?;
-    assert_eq!(rt; unsent.width(), binary.width());
-    assert!(rt;
-        gives(
-            &resolve(alloc, &unsent.borrowed(), &binary.borrowed()),
-            &binary
-        )
-    );
+    let kept = resolved(&rt, alloc, &[ONE, Y, UNSENT], &[ONE, X, BYTES])?;
+    assert!(rt; gives(kept, &[ONE, Y, BYTES])?);
+    let null = resolved(&rt, alloc, &[NULL], &[BYTES])?;
+    assert!(rt; gives(null, &[NULL])?);
+    let all = resolved(&rt, alloc, &[UNSENT, UNSENT], &[NULL, X])?;
+    assert!(rt; gives(all, &[NULL, X])?);
     Ok(())
 }
