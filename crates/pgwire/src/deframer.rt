@@ -141,3 +141,126 @@ fn next(
     let payload_len = header.payload_len(max_frame)?;
     Ok((header, payload_len))
 }
+
+#[cfg(test)]
+mod tests {
+    use super::*;
+    use std::alloc::AllocError;
+    use std::process::Abort;
+
+    // Appends, at the second try where memory ran out once.
+    fn put(log: &mut Vec<u8>, bytes: &[u8]) -> Result<(), AllocError> {
+        if log.extend_from_slice(bytes).is_err() {
+            log.extend_from_slice(bytes)?;
+        }
+        Ok(())
+    }
+
+    // Feeds the bytes in pieces of `step` bytes and writes each frame as it is released: a letter, the payload's length and the
+    // payload. A piece that was refused for want of memory alone is fed again.
+    fn read(
+        rt: &(impl Abort + AllocGlobal),
+        bytes: &[u8],
+        step: usize,
+    ) -> Result<(Vec<u8>, Option<WireFault>), AllocError> {
+        let mut deframer = Deframer::new(rt.alloc(), 64);
+        let mut log = Vec::new(rt.alloc());
+        for piece in bytes.chunks(step.max(1)) {
+            let mut taken = 0;
+            for _ in 0..10000 {
+                let rest = piece.get(taken..).unwrap_or(&[]);
+                match deframer.feed(rest) {
+                    Ok(n) => {
+                        taken = taken.saturating_add(n);
+                        match deframer.whole() {
+                            Some(Frame::Data(payload)) => {
+                                let len = (payload.len() % 256) as u8;
+                                put(&mut log, &[b'd', len])?;
+                                put(&mut log, payload)?;
+                            }
+                            Some(Frame::Done) => put(&mut log, b"c")?,
+                            None => break,
+                        }
+                        deframer.release();
+                    }
+                    Err(WireFault::Memory) => assert!(rt; deframer.whole().is_none()),
+                    Err(fault) => {
+                        assert!(rt; deframer.feed(&[]) == Err(fault), "{fault:?} is forgotten");
+                        deframer.reset();
+                        assert!(rt; deframer.feed(&[b'c', 0, 0, 0, 4]) == Ok(5));
+                        assert!(rt; deframer.whole() == Some(Frame::Done));
+                        return Ok((log, Some(fault)));
+                    }
+                }
+            }
+        }
+        Ok((log, None))
+    }
+
+    // The stream in any cuts gives these frames, and then this fault.
+    fn check(
+        rt: &(impl Abort + AllocGlobal),
+        bytes: &[u8],
+        frames: &[u8],
+        fault: Option<WireFault>,
+    ) -> Result<(), AllocError> {
+        for step in [1usize, 2, 3, 4, 5, 6, 7, 64, 1000] {
+            let (log, found) = read(rt, bytes, step)?;
+            assert!(rt; log.as_slice() == frames, "frames of {bytes:?} by {step}");
+            assert!(rt; found == fault, "fault of {bytes:?} by {step}");
+        }
+        Ok(())
+    }
+
+    #[test]
+    fn frames_in_any_cuts(rt: HostRuntime) -> Result<(), AllocError> {
+        check(&rt, b"", b"", None)?;
+        check(&rt, b"d\0\0\0\x04", b"d\0", None)?;
+        check(&rt, b"d\0\0\0\x06hid\0\0\0\x05!", b"d\x02hid\x01!", None)?;
+        check(&rt, b"d\0\0\0\x06hid\0\0", b"d\x02hi", None)?;
+        check(&rt, b"d\0\0\0\x06hidxyz", b"d\x02hi", None)?;
+        check(&rt, b"d\0\0\0\x06hid\0\0\0\x44xyz", b"d\x02hi", None)?;
+        check(&rt, b"d\0\0\0\x04c\0\0\0\x04", b"d\0c", None)
+    }
+
+    #[test]
+    fn faults_in_any_cuts(rt: HostRuntime) -> Result<(), AllocError> {
+        check(&rt, b"\x78", b"", Some(WireFault::UnknownFrame(120)))?;
+        check(
+            &rt,
+            b"d\0\0\0\x04xd",
+            b"d\0",
+            Some(WireFault::UnknownFrame(120)),
+        )?;
+        check(&rt, b"d\0\0\0\x03", b"", Some(WireFault::BadLength))?;
+        check(&rt, b"d\x80\0\0\0", b"", Some(WireFault::BadLength))?;
+        check(&rt, b"c\0\0\0\x05", b"", Some(WireFault::BadLength))?;
+        check(&rt, b"d\0\0\0\x45", b"", Some(WireFault::TooLarge))?;
+        check(
+            &rt,
+            b"d\0\0\0\x06hid\0\0\0\x45!",
+            b"d\x02hi",
+            Some(WireFault::TooLarge),
+        )?;
+        check(&rt, b"c\0\0\0\x04d", b"c", Some(WireFault::AfterDone))?;
+        check(&rt, b"c\0\0\0\x04\x78", b"c", Some(WireFault::AfterDone))
+    }
+
+    #[test]
+    fn takes_no_more_than_a_frame(rt: HostRuntime) {
+        let mut deframer = Deframer::new(rt.alloc(), 64);
+        assert_eq!(rt; deframer.feed(&[b'c', 0, 0, 0, 4, b'x']), Ok(5));
+        assert_eq!(rt; deframer.feed(b"x"), Ok(0));
+        assert!(rt; deframer.whole() == Some(Frame::Done));
+        deframer.release();
+        deframer.release();
+        assert_eq!(rt; deframer.feed(&[]), Ok(0));
+        assert_eq!(rt; deframer.feed(&[b'd']), Err(WireFault::AfterDone));
+        assert_eq!(rt; deframer.feed(&[]), Err(WireFault::AfterDone));
+        deframer.reset();
+        assert_eq!(rt; deframer.feed(&[b'd', 0, 0, 0, 0x44]), Ok(5));
+        assert!(rt; deframer.whole().is_none());
+        assert_eq!(rt; deframer.feed(&[7; 70]), Ok(64));
+        assert!(rt; deframer.whole() == Some(Frame::Data(&[7; 64])));
+    }
+}

@@ -3,13 +3,13 @@
 //! PostgreSQL documentation, Message Formats (CopyData, CopyDone) and Streaming Replication Protocol.
 #![tactic(auto)]
 
-pub mod deframer;
+mod deframer;
 pub mod fault;
-pub mod frame;
-pub mod header;
+mod frame;
+mod header;
 pub mod laws;
-pub mod message;
-pub mod status;
+mod message;
+mod status;
 
 pub use deframer::Deframer;
 pub use fault::WireFault;

@@ -51,3 +51,31 @@ fn put_lsn(out: &mut BytesMut, lsn: Lsn)
 {
     out.put_u64(lsn.0).unwrap();
 }
+
+#[cfg(test)]
+mod tests {
+    use super::*;
+
+    #[test]
+    fn appends_the_frame(rt: HostRuntime) {
+        let status = Status {
+            written: Lsn(0x0180),
+            flushed: Lsn(0x0130),
+            applied: Lsn(0x0120),
+            clock: -2,
+            ask: true,
+        };
+        let mut out = BytesMut::new(rt.alloc());
+        // Refused for want of memory, it leaves the buffer as it was, and the next call appends.
+        for _ in 0..2 {
+            let Err(fault) = encode_status(&status, &mut out) else {
+                break;
+            };
+            assert_eq!(rt; fault, WireFault::Memory);
+            assert!(rt; out.is_empty());
+        }
+        let frame =
+            b"d\0\0\0\x26r\0\0\0\0\0\0\x01\x80\0\0\0\0\0\0\x01\x30\0\0\0\0\0\0\x01\x20\xff\xff\xff\xff\xff\xff\xff\xfe\x01";
+        assert!(rt; out.as_slice() == frame.as_slice());
+    }
+}
