@@ -2,7 +2,7 @@
 //!
 //! PostgreSQL documentation, Logical Replication Message Formats, TupleData.
 
-ghost use Rattle.std.specs.Prelude.{◌≡◌, ◌≢◌, ◌∷◌, ◌++◌, ℕ, List, length, MatchResult, IfOk, IfErr, Ok, Err, drop};
+ghost use Rattle.std.specs.Prelude.{◌≡◌, ◌≢◌, ◌∷◌, ◌++◌, ℕ, List, length, MatchResult, IfOk, IfErr, OnOk, [], Ok, Err, drop};
 ghost use Rattle.pgtuple.specs.declared.cell.Cell.{Cell};
 ghost use Rattle.pgtuple.specs.Limits.{IsWireTuple};
 ghost use Rattle.pgtuple.specs.Cells.{tuple_spelling};
@@ -14,7 +14,7 @@ use crate::cell::{Cell, Tuple};
 use crate::fault::TupleFault;
 use crate::reader::Reader;
 use crate::text::Text;
-use std::alloc::Global;
+use std::alloc::{AllocError, Global};
 
 /// A cell: its kind, and behind `t` and `b` its length and its bytes.
 #[tactic(auto, unfolding(crate::specs::Reading::cell_at, crate::specs::Reading::byte_at, crate::specs::Reading::text_cell_at, crate::specs::Reading::binary_cell_at))]
@@ -41,14 +41,30 @@ fn cell(alloc: Global, reader: &mut Reader<'_>) -> Result<Cell, TupleFault>
     }
 }
 
-/// That many cells, one after the other. Memory is held only for as many as the bytes that are left can be.
+/// Appends the cell. In front of the first one there is made room for as many as there can be.
+fn push(cells: &mut Vec<Cell>, next: Cell, most: usize) -> Result<(), AllocError>
+    ensures { OnOk result (cells.new.items ≡ cells.old.items ++ next ∷ []) }
+{
+    if cells.is_empty() {
+        cells.reserve(most)?;
+    }
+    cells.push(next)?;
+    Ok(())
+}
+
+/// That many cells, one after the other. No memory is reserved before the first cell is whole, nor for more cells than
+/// the bytes that are left can be.
 fn cells(alloc: Global, count: usize, reader: &mut Reader<'_>) -> Result<Vec<Cell>, TupleFault>
     ensures { MatchResult result (λ v. cells_at count reader.old ≡ Ok (v.items, reader.new)) (λ f. Fails f (cells_at count reader.old)) }
 {
-    let mut cells = Vec::with_capacity(alloc, count.min(reader.remaining()))?;
+    let mut cells = Vec::new(alloc);
     for _ in 0..count {
         let next = cell(alloc, reader)?;
-        cells.push(next)?;
+        push(
+            &mut cells,
+            next,
+            count.min(reader.remaining().saturating_add(1)),
+        )?;
     }
     Ok(cells)
 }
