@@ -1,6 +1,7 @@
 pub mod Fields
 pub mod Tuples
 pub mod FirstFaults
+pub mod Equality
 pub mod Readers
 pub mod Loop
 pub mod Decoded

@@ -3,5 +3,6 @@ pub mod Cells
 pub mod Lent
 pub mod Reading
 pub mod Faults
+pub mod Equal
 pub mod Writing
 pub mod Laws

@@ -24,7 +24,8 @@ fn goes_both_ways(rt: &impl Abort, alloc: Global, bytes: &[u8]) -> Result<(), Tu
     assert_eq!(rt; &out[6..], bytes);
     let (again, length) = decode(alloc, &out[6..])?;
     assert_eq!(rt; length, bytes.len());
-    assert!(rt; again.as_slice() == tuple.as_slice());
+    assert!(rt; again == tuple);
+    assert!(rt; tuple.clone()? == tuple);
     Ok(())
 }
 
