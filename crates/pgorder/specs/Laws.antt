@@ -1,11 +1,12 @@
 -- What joins the shape of a stream with the order that takes one message after the other.
-use Rattle.std.specs.Prelude.{◌≡◌, ◌↔◌, List, [], ◌∷◌, ◌++◌, Bool, true, false, Ok, Err, IsOk}
+use Rattle.std.specs.Prelude.{◌≡◌, ◌↔◌, List, [], ◌∷◌, ◌++◌, Bool, true, false, Ok, Err, Result, IsOk, ◌≢◌, MatchResult}
 use Rattle.pglogical.specs.declared.message.Message.{Message}
 use Rattle.pglogical.specs.declared.message.Message.TheVariants.{StreamStart, StreamStop}
 use Rattle.pgorder.specs.declared.Version.{Version}
 use Rattle.pglogical.specs.Spelling.{IsMessageFor}
 use Rattle.pgorder.specs.Shape.{IsShaped}
 use Rattle.pgorder.specs.declared.OrderFault.{OrderFault}
+use Rattle.pgorder.specs.declared.OrderFault.TheVariants.{Memory}
 use Rattle.pgorder.specs.declared.Event.{Event}
 use Rattle.pgorder.specs.Events.{IsEventOf}
 use Rattle.pgorder.specs.Faults.{IsFaultOf}
@@ -44,3 +45,10 @@ abbrev pub EventIsOfMessage : Type 0
 EventIsOfMessage =
     (v : Version) (before : List Message) (state new : OrderState) (m : Message) (e : Event) → order_run v initial_order before ≡ Ok state
     → IsMessageFor (is_in_block state.context) m → order_step v state m ≡ Ok (new, e) → IsEventOf before m e
+
+-- What is answered to a message, behind any messages that leave this state: its event exactly where the shape goes on,
+-- and else the first fault that holds of it.
+abbrev pub AnswersByShape : Version → OrderState → Message → Result Event OrderFault → Type 0
+AnswersByShape v state m answer =
+    (before : List Message) → IsShaped v before → order_run v initial_order before ≡ Ok state
+    → MatchResult answer (λ e. IsShaped v (before ++ m ∷ []) × IsEventOf before m e) (λ fault. fault ≢ Memory → (¬ IsShaped v (before ++ m ∷ [])) × IsFaultOf v before m fault)

@@ -1,6 +1,7 @@
 ghost use Rattle.std.specs.Prelude.{◌≡◌, ◌≢◌, IfOk, IfErr, IsOk, OnErr, Err, IsTrue};
 ghost use Rattle.pglogical.specs.Spelling.{IsMessageFor};
 ghost use Rattle.pgorder.specs.Steps.{Outside, initial_order, order_step, in_version_2, step_inner, step_item, step_begin, step_commit, step_stream_start, step_stream_stop, step_stream_commit, step_stream_abort};
+ghost use Rattle.pgorder.specs.Laws.{AnswersByShape};
 ghost use Rattle.pgorder.specs.States.{StreamOrder, is_in_block, Answers, IsFirstSegment};
 
 use crate::open::OpenXids;
@@ -69,10 +70,25 @@ impl Order {
     /// takes memory.
     pub fn step(&mut self, message: &Message) -> Result<Event, OrderFault>
         requires { IsMessageFor (is_in_block self.old.state.context) message.now }
+
+        // Behind any messages that leave this state: exactly where the shape goes on, with the message's event, and
+        // else with the first fault that holds.
+        ensures shape { AnswersByShape self.old.version self.old.state message.now result }
+
         ensures taken { IfOk result (λ event. order_step self.old.version self.old.state message.now ≡ Ok (self.new.state, event)) }
         ensures version { self.new.version ≡ self.old.version }
 
         // The fault is that of the message, or memory ran out where the message would be taken.
+        ensures fault { IfErr result (λ fault. fault ≢ OrderFault.Memory → order_step self.old.version self.old.state message.now ≡ Err fault) }
+        ensures memory { result ≡ Err OrderFault.Memory → IsFirstSegment message.now × IsOk (order_step self.old.version self.old.state message.now) }
+        ensures unchanged { OnErr result (self.new ≡ self.old) }
+    {
+        self.answer(message)
+    }
+
+    fn answer(&mut self, message: &Message) -> Result<Event, OrderFault>
+        ensures taken { IfOk result (λ event. order_step self.old.version self.old.state message.now ≡ Ok (self.new.state, event)) }
+        ensures version { self.new.version ≡ self.old.version }
         ensures fault { IfErr result (λ fault. fault ≢ OrderFault.Memory → order_step self.old.version self.old.state message.now ≡ Err fault) }
         ensures memory { result ≡ Err OrderFault.Memory → IsFirstSegment message.now × IsOk (order_step self.old.version self.old.state message.now) }
         ensures unchanged { OnErr result (self.new ≡ self.old) }
