@@ -8,6 +8,7 @@ pub mod item;
 pub mod lent;
 pub mod message;
 mod reader;
+mod spellable;
 mod spelled;
 
 pub use decoding::{decode, decode_columns};
