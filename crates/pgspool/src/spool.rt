@@ -9,6 +9,9 @@ use pglogical::{Item, ItemRef};
 use std::alloc::{AllocError, Global};
 use std::marker::Model;
 
+// Room for so many items or labels is kept, however few there are.
+const SMALL_ROOM: usize = 64;
+
 /// Where a label's first item stands: how many items are before it, and the bytes that these cost.
 #[derive(Clone, Copy, Debug)]
 pub(crate) struct FirstPlace {
@@ -98,6 +101,7 @@ impl Spool {
         ensures ok { OnOk result (self.new ≡ self.old ++ (label, item) ∷ []) }
         ensures err { OnErr result (self.new ≡ self.old) }
     {
+        self.give_back_spare();
         self.items.reserve(1)?;
         let first = FirstPlace {
             place: self.items.len(),
@@ -122,6 +126,32 @@ impl Spool {
         self.items.truncate(place);
         self.firsts.truncate(index);
         self.bytes = bytes;
+        self.give_back_all();
         freed
+    }
+
+    /// Gives back the room of a spool that a cut left without items. Nothing has to be moved, so this takes no memory.
+    fn give_back_all(&mut self)
+        ensures { self.new ≡ self.old }
+    {
+        if self.items.is_empty() {
+            self.items.shrink_to_fit();
+            self.firsts.shrink_to_fit();
+        }
+    }
+
+    /// Gives back room that cuts left, once three quarters of it are unused: so no more is moved than was cut away. Where there is
+    /// no memory to move to, the room stays.
+    fn give_back_spare(&mut self)
+        ensures { self.new ≡ self.old }
+    {
+        let (len, room) = (self.items.len(), self.items.capacity());
+        if room > SMALL_ROOM && len < room / 4 {
+            self.items.shrink_to(2 * len + 1);
+        }
+        let (len, room) = (self.firsts.len(), self.firsts.capacity());
+        if room > SMALL_ROOM && len < room / 4 {
+            self.firsts.shrink_to(2 * len + 1);
+        }
     }
 }

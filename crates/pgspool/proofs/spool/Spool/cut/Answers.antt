@@ -21,10 +21,10 @@ invariant_of-self c =
 pub returns-clause-held : goal.returns-clause-held
 returns-clause-held c =
     let t = tells (goal.at.returns-clause-held c).In-Some in
-    rw (← c.self.view_is) (c.truncate.ensures.items ∙ t.kept)
+    rw (← c.self.view_is) (c.give_back_all.ensures ∙ c.truncate.ensures.items ∙ t.kept)
 
 pub returns-clause-freed : goal.returns-clause-freed
 returns-clause-freed c =
     let t = tells (goal.at.returns-clause-freed c).In-Some in
     let freed = (left_of_cut c.args.label c.self.inside.items.items _ _ c.self.invariant.counted t.bytes).1 in
-    rw (c.truncate.ensures.items ∙ t.kept, ← c.self.view_is) freed
+    rw (c.give_back_all.ensures ∙ c.truncate.ensures.items ∙ t.kept, ← c.self.view_is) freed
