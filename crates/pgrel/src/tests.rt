@@ -322,3 +322,59 @@ fn unsent_cells_are_the_old_rows(rt: HostRuntime) -> Result<(), Fail> {
     assert!(rt; gives(all, &[NULL, X])?);
     Ok(())
 }
+
+/// Puts a definition that can be spelled.
+fn put(rt: &impl Abort, book: &mut Book, def: RelationDef) -> Result<(), RelFault> {
+    assert!(rt; def.spellable());
+    book.set(def)
+}
+
+/// The number of columns of the last definition of this OID.
+fn columns(book: &Book, oid: u32) -> Result<usize, RelFault> {
+    Ok(book.get(oid)?.columns.len())
+}
+
+#[test]
+fn book_is_a_map(rt: HostRuntime) -> Result<(), Fail> {
+    let alloc = rt.alloc();
+    let mut book = Book::new(alloc);
+    assert_eq!(rt;
+        columns(&book, 16384),
+        Err(RelFault::UnknownRelation(16384))
+    );
+    put(&rt, &mut book, t(alloc)?)?;
+    put(&rt, &mut book, f(alloc)?)?;
+    assert_eq!(rt; columns(&book, 16384), Ok(2));
+    assert_eq!(rt; columns(&book, 16386), Ok(1));
+    assert_eq!(rt; columns(&book, 0), Err(RelFault::UnknownRelation(0)));
+    put(&rt, &mut book, t3(alloc)?)?;
+    assert_eq!(rt; columns(&book, 16384), Ok(3));
+    assert_eq!(rt; columns(&book, 16386), Ok(1));
+    assert_eq!(rt; book.get(16386)?.name.as_str(), "f");
+    book.clear();
+    assert_eq!(rt;
+        columns(&book, 16384),
+        Err(RelFault::UnknownRelation(16384))
+    );
+    assert_eq!(rt;
+        columns(&book, 16386),
+        Err(RelFault::UnknownRelation(16386))
+    );
+    put(&rt, &mut book, t(alloc)?)?;
+    assert_eq!(rt; columns(&book, 16384), Ok(2));
+    Ok(())
+}
+
+#[test]
+fn many_relations(rt: HostRuntime) -> Result<(), Fail> {
+    let alloc = rt.alloc();
+    let mut book = Book::new(alloc);
+    for oid in 0..300 {
+        put(&rt, &mut book, relation(alloc, oid, "r", b'n', &[])?)?;
+    }
+    for oid in 0..300 {
+        assert_eq!(rt; columns(&book, oid), Ok(0));
+    }
+    assert_eq!(rt; columns(&book, 300), Err(RelFault::UnknownRelation(300)));
+    Ok(())
+}
