@@ -103,14 +103,17 @@ abbrev pub with_xid : {A : Type 0} → Bool → (Option ℕ → Layout A) → La
 with_xid true others = Int32 >>= λ xid. others (Some xid)
 with_xid false others = others None
 
-unfoldable pub with_columns : {A : Type 0} → ℕ → (List Column → Layout A) → Layout A
-with_columns zero others = others []
-with_columns (suc n) others = do
+abbrev pub with_column : {A : Type 0} → (Column → Layout A) → Layout A
+with_column others = do
   key ← Flag
   name ← Text
   type_oid ← Int32
   modifier ← Signed32
-  with_columns n (λ columns. others (record { key = key == 1; name = name; type_oid = type_oid; modifier = modifier } ∷ columns))
+  others (record { key = key == 1; name = name; type_oid = type_oid; modifier = modifier })
+
+unfoldable pub with_columns : {A : Type 0} → ℕ → (List Column → Layout A) → Layout A
+with_columns zero others = others []
+with_columns (suc n) others = with_column (λ first. with_columns n (λ columns. others (first ∷ columns)))
 
 -- the number of columns, and the columns
 abbrev pub with_counted_columns : {A : Type 0} → (List Column → Layout A) → Layout A
@@ -139,63 +142,72 @@ origin_layout = do
   name ← Text
   Done (message.Origin lsn name)
 
-abbrev pub relation_layout : Bool → Layout Message
-relation_layout in_block = with_xid in_block (λ xid. do
+abbrev pub relation_layout : Option ℕ → Layout Message
+relation_layout xid = do
   oid ← Int32
   namespace ← Text
   name ← Text
   letter ← Letter (codes "dnfi")
-  with_counted_columns (λ columns. Done (message.Item xid (Relation (record { oid = oid; namespace = namespace; name = name; letter = letter; columns = columns })))))
+  with_counted_columns (λ columns. Done (message.Item xid (Relation (record { oid = oid; namespace = namespace; name = name; letter = letter; columns = columns }))))
 
-abbrev pub type_layout : Bool → Layout Message
-type_layout in_block = with_xid in_block (λ xid. do
+abbrev pub type_layout : Option ℕ → Layout Message
+type_layout xid = do
   oid ← Int32
   namespace ← Text
   name ← Text
-  Done (message.TypeName xid oid namespace name))
+  Done (message.TypeName xid oid namespace name)
 
-abbrev pub insert_layout : Bool → Layout Message
-insert_layout in_block = with_xid in_block (λ xid. do
+abbrev pub insert_layout : Option ℕ → Layout Message
+insert_layout xid = do
   oid ← Int32
   _new ← Letter (codes "N")
   row ← TupleData
-  Done (message.Item xid (Insert oid row)))
+  Done (message.Item xid (Insert oid row))
+
+abbrev pub update_alone : Option ℕ → ℕ → Layout Message
+update_alone xid oid = do
+  row ← TupleData
+  Done (message.Item xid (Update oid None row))
+
+abbrev pub update_with_old : Option ℕ → ℕ → ℕ → Layout Message
+update_with_old xid oid letter = do
+  old ← TupleData
+  _new ← Letter (codes "N")
+  row ← TupleData
+  Done (message.Item xid (Update oid (Some (old_kind letter, old)) row))
 
 -- K or O with an old tuple, then N with the new one; or N alone
-abbrev pub update_layout : Bool → Layout Message
-update_layout in_block = with_xid in_block (λ xid. do
+abbrev pub update_rows : Option ℕ → ℕ → ℕ → Layout Message
+update_rows xid oid letter = if letter == 78 then update_alone xid oid else update_with_old xid oid letter
+
+abbrev pub update_layout : Option ℕ → Layout Message
+update_layout xid = do
   oid ← Int32
   letter ← Letter (codes "KON")
-  if letter == 78 then (do
-    row ← TupleData
-    Done (message.Item xid (Update oid None row))) else (do
-      old ← TupleData
-      _new ← Letter (codes "N")
-      row ← TupleData
-      Done (message.Item xid (Update oid (Some (old_kind letter, old)) row))))
+  update_rows xid oid letter
 
-abbrev pub delete_layout : Bool → Layout Message
-delete_layout in_block = with_xid in_block (λ xid. do
+abbrev pub delete_layout : Option ℕ → Layout Message
+delete_layout xid = do
   oid ← Int32
   letter ← Letter (codes "KO")
   row ← TupleData
-  Done (message.Item xid (Delete oid (old_kind letter) row)))
+  Done (message.Item xid (Delete oid (old_kind letter) row))
 
-abbrev pub truncate_layout : Bool → Layout Message
-truncate_layout in_block = with_xid in_block (λ xid. do
+abbrev pub truncate_layout : Option ℕ → Layout Message
+truncate_layout xid = do
   count ← Count32 2147483647
   options ← OneOf (0 ∷ 1 ∷ 2 ∷ 3 ∷ []) BadFlag
   oids ← Bytes (4 * count)
-  Done (message.Item xid (Truncate options (oids_in oids))))
+  Done (message.Item xid (Truncate options (oids_in oids)))
 
-abbrev pub logical_layout : Bool → Layout Message
-logical_layout in_block = with_xid in_block (λ xid. do
+abbrev pub logical_layout : Option ℕ → Layout Message
+logical_layout xid = do
   flags ← Flag
   lsn ← Int64
   prefix ← Text
   count ← Count32 2147483647
   content ← Bytes count
-  Done (message.Logical xid (flags == 1) lsn prefix content))
+  Done (message.Logical xid (flags == 1) lsn prefix content)
 
 abbrev pub stream_start_layout : Layout Message
 stream_start_layout = do
@@ -224,13 +236,13 @@ layout_of in_block letter =
     if letter == 66 then begin_layout
     else (if letter == 67 then commit_layout
     else (if letter == 79 then origin_layout
-    else (if letter == 82 then relation_layout in_block
-    else (if letter == 89 then type_layout in_block
-    else (if letter == 73 then insert_layout in_block
-    else (if letter == 85 then update_layout in_block
-    else (if letter == 68 then delete_layout in_block
-    else (if letter == 84 then truncate_layout in_block
-    else (if letter == 77 then logical_layout in_block
+    else (if letter == 82 then with_xid in_block relation_layout
+    else (if letter == 89 then with_xid in_block type_layout
+    else (if letter == 73 then with_xid in_block insert_layout
+    else (if letter == 85 then with_xid in_block update_layout
+    else (if letter == 68 then with_xid in_block delete_layout
+    else (if letter == 84 then with_xid in_block truncate_layout
+    else (if letter == 77 then with_xid in_block logical_layout
     else (if letter == 83 then stream_start_layout
     else (if letter == 69 then Done message.StreamStop
     else (if letter == 99 then stream_commit_layout
@@ -266,9 +278,9 @@ HasReason (Bytes count) bytes why = IsCut count bytes why
 HasReason TupleData bytes why = (fault : TupleFault) × (tuple_at bytes ≡ Err fault) × (why ≡ Tuple fault)
 
 -- how far behind the field's first byte the fault stands: inside TupleData, at the field of the tuple
-abbrev pub offset_inside : Reason → ℕ
-offset_inside (Tuple fault) = offset_in_tuple fault
-offset_inside _ = 0
+abbrev pub offset_inside : Field → Reason → ℕ
+offset_inside TupleData (Tuple fault) = offset_in_tuple fault
+offset_inside _ _ = 0
 
 -- The fault of these bytes, of which the first stands at this offset: some fields are spelled, and the next can't be read;
 -- or all are spelled, and bytes are left over.
@@ -277,7 +289,7 @@ HasFault (Done a) offset [] fault = ⊥
 HasFault (Done a) offset (b ∷ bs) fault = fault ≡ record { place = offset; reason = Trailing }
 HasFault (Then field others) offset bytes fault =
     ((value : Value field) × (behind : List ℕ) × IsValue field value × (bytes ≡ field_spelling field value ++ behind) × HasFault (others value) (offset + length (field_spelling field value)) behind fault)
-    ⊎ ((why : Reason) × BeginsWithNo field bytes × HasReason field bytes why × (fault ≡ record { place = offset + offset_inside why; reason = why }))
+    ⊎ ((why : Reason) × BeginsWithNo field bytes × HasReason field bytes why × (fault ≡ record { place = offset + offset_inside field why; reason = why }))
 
 -- These bytes, all of them, are the fields of this value.
 abbrev pub Spells : {A : Type 0} → Layout A → A → List ℕ → Type 0

@@ -2,9 +2,13 @@
 //!
 //! PostgreSQL documentation, Logical Replication Message Formats.
 
-ghost use Rattle.std.specs.Prelude.{◌≡◌, ◌+◌, ◌-◌, ◌*◌, ◌≤◌, ◌<◌, ◌++◌, ℕ, List, length, IfOk, Ok, Err};
+ghost use Rattle.std.specs.Prelude.{◌≡◌, ◌+◌, ◌-◌, ◌*◌, ◌≤◌, ◌<◌, ◌++◌, ℕ, List, ◌⊎◌, length, IfOk, IfErr, MatchResult, Ok, Err};
 ghost use Rattle.pglogical.specs.Reading.{message_at, message_of, begin_at, commit_at, origin_at, relation_message_at, relation_at, counted_columns_at, columns_at, column_at, type_name_at, logical_at, stream_start_at, stream_commit_at, stream_abort_at, truncate_at, oids_in, insert_at, prior_at, old_kind, update_at, delete_at, columns_in};
-ghost use Rattle.pglogical.specs.Answers.{Answers};
+ghost use Rattle.pglogical.specs.Answers.{Answers, out_of_memory};
+ghost use Rattle.pglogical.specs.Spelling.{Says, AreColumns, columns_spelling};
+ghost use Rattle.pglogical.specs.Laws.{IsFaultOf, IsColumnFault};
+ghost use Rattle.pglogical.specs.declared.message.Message.{Message};
+ghost use Rattle.pglogical.specs.declared.item.Column.{Column};
 
 use crate::fault::{DecodeFault, Reason};
 use crate::item::{Column, Item, OldKind, RelationDef};
@@ -317,22 +321,42 @@ fn whole(alloc: Global, body: &[u8], in_block: bool) -> Result<Message, DecodeFa
 ///
 /// PostgreSQL documentation, Logical Replication Message Formats.
 pub fn decode(alloc: Global, body: &[u8], in_block: bool) -> Result<Message, DecodeFault>
+    // The body is the spelling of the message, with its xid exactly inside a block.
+    ensures found { IfOk result (λ m. Says in_block m body.now) }
+
+    // A message that is spelled so is read, unless memory runs out.
+    ensures only { (m : Message) → Says in_block m body.now → MatchResult result (λ r. r ≡ m) (λ f. f ≡ out_of_memory) }
+
     // The fault is that of the first field that can't be read.
+    ensures fault { IfErr result (λ f. (f ≡ out_of_memory) ⊎ IsFaultOf in_block body.now f) }
+
+    // The same by the reading from left to right.
     ensures exact { Answers (λ m. m) result (message_at in_block body.now) }
 {
     whole(alloc, body, in_block)
+}
+
+#[tactic(auto, unfolding(crate::specs::Reading::columns_in))]
+fn whole_columns(alloc: Global, bytes: &[u8]) -> Result<Seq<Column>, DecodeFault>
+    ensures { Answers (λ columns. columns) result (columns_in bytes.now) }
+{
+    let mut reader = Reader::new(bytes);
+    let columns = counted_columns(alloc, &mut reader)?;
+    reader.end()?;
+    Ok(columns)
 }
 
 /// The columns that these bytes spell, all of them: those fields of a Relation message from the number of columns on.
 /// Places count from there.
 ///
 /// PostgreSQL documentation, Logical Replication Message Formats, Relation.
-#[tactic(auto, unfolding(crate::specs::Reading::columns_in))]
 pub fn decode_columns(alloc: Global, bytes: &[u8]) -> Result<Seq<Column>, DecodeFault>
+    ensures found { IfOk result (λ columns. AreColumns columns × (bytes.now ≡ columns_spelling columns)) }
+    ensures only { (columns : List Column) → AreColumns columns → bytes.now ≡ columns_spelling columns → MatchResult result (λ r. r ≡ columns) (λ f. f ≡ out_of_memory) }
+    ensures fault { IfErr result (λ f. (f ≡ out_of_memory) ⊎ IsColumnFault bytes.now f) }
+
+    // The same by the reading from left to right.
     ensures exact { Answers (λ columns. columns) result (columns_in bytes.now) }
 {
-    let mut reader = Reader::new(bytes);
-    let columns = counted_columns(alloc, &mut reader)?;
-    reader.end()?;
-    Ok(columns)
+    whole_columns(alloc, bytes)
 }

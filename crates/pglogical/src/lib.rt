@@ -5,6 +5,7 @@ mod copying;
 mod decoding;
 pub mod fault;
 pub mod item;
+pub mod laws;
 pub mod lent;
 pub mod message;
 mod reader;
