@@ -1,6 +1,6 @@
 //! The status that a subscriber sends.
 
-ghost use Rattle.std.specs.Prelude.{◌≡◌, ◌≤◌, ◌+◌, ◌++◌, MatchResult};
+ghost use Rattle.std.specs.Prelude.{◌≡◌, ◌≤◌, ◌<◌, ◌+◌, ◌++◌, MatchResult, OnErr};
 ghost use Rattle.std.specs.Int.{w64, to_be_bytes};
 ghost use Rattle.pgwire.specs.Statuses.{status_frame};
 ghost use Rattle.pgwire.specs.declared.fault.WireFault.TheVariants.{Memory};
@@ -25,9 +25,11 @@ const FRAME_LEN: usize = 39;
 
 /// Appends the CopyData frame of a status. A refusal, for want of memory alone, leaves the buffer as it was.
 pub fn encode_status(status: &Status, out: &mut BytesMut) -> Result<(), WireFault>
-    ensures { MatchResult result
+    ensures appended { MatchResult result
         (λ _. out.new.items ≡ out.old.items ++ status_frame status.now)
         (λ fault. (fault ≡ Memory) × (out.new.items ≡ out.old.items)) }
+    // Where there is room it isn't refused.
+    ensures full { OnErr result (out.old.spare < 39) }
 {
     if out.reserve(FRAME_LEN).is_err() {
         return Err(WireFault::Memory);

@@ -6,8 +6,8 @@ use Rattle.pgwire.specs.Payloads.{flag_byte}
 use Rattle.pgwire.proofs.Sending.{appended, same_flag}
 use Rattle.pgwire.proofs.status.encode_status.Goals as goal
 
-pub returns : goal.returns
-returns c =
+pub returns-clause-appended : goal.returns-clause-appended
+returns-clause-appended c =
     let s = c.args.status.now in
     let tag : c.put_u8.new.self.items ≡ c.args.out.now.items ++ 100 ∷ [] = (rw c.unwrap.ensures at c.put_u8.ensures.ok) ∙ ap (λ xs. xs ++ 100 ∷ []) c.reserve.ensures.items in
     let len : c.put_u32.new.self.items ≡ c.put_u8.new.self.items ++ 0 ∷ 0 ∷ 0 ∷ 38 ∷ [] = rw c.unwrap-2.ensures at c.put_u32.ensures.ok in
