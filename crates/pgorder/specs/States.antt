@@ -1,4 +1,4 @@
--- An order as its contracts see it: the version, and the state that the messages so far leave.
+-- Logical Streaming Replication Protocol: an order as its contracts see it, the version and the state that the messages so far leave.
 use Rattle.std.specs.Prelude.{◌≡◌, Bool, true, false, Result, Ok, Err, refl}
 use Rattle.std.specs.Coded.{Coded, code_by, coded×}
 use Rattle.pglogical.specs.declared.message.Message.{Message}
