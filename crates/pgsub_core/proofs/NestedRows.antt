@@ -1,7 +1,7 @@
 -- Two transactions whose blocks alternate, with subtransactions that commit and are rolled back inside one another; a session that is
 -- cut inside a frame, and a second one that repeats the first transaction and is cut inside CopyDone.
-use Rattle.std.proofs.Common.{◌≡◌, ◌∷◌, ◌++◌, ◌<◌, [], List, ℕ, ℤ, true, false, Some, None, Ok, refl, pos, arith, ◌+◌, ◌≤◌, inl, inr}
-use Rattle.std.specs.Prelude.{take, drop, length, FitsSigned, Bool, negsuc, ◌^◌, codes}
+use Rattle.std.proofs.Common.{◌≡◌, ◌∷◌, ◌++◌, ◌<◌, [], List, ℕ, true, false, Some, Ok, refl, pos, arith, ◌+◌, ◌≤◌, inl, inr}
+use Rattle.std.specs.Prelude.{take, drop, length, FitsSigned, Bool, negsuc, ◌^◌}
 use Rattle.std.specs.List.{AllByRecursion}
 use Rattle.std.specs.Int.{w32, w64}
 use Rattle.std.proofs.lemmas.Int.{fits_signed_from_abs}
@@ -11,23 +11,24 @@ use Rattle.pglogical.specs.declared.item.RelationDef.{RelationDef}
 use Rattle.pglogical.specs.declared.item.Item.TheVariants as item
 use Rattle.pglogical.specs.declared.message.Message.{Message}
 use Rattle.pglogical.specs.declared.message.Message.TheVariants as message
-use Rattle.pglogical.specs.Spelling.{message_spelling, item_spelling, IsWireMessage, IsWire, IsName, IsText, IsRow}
+use Rattle.pglogical.specs.Spelling.{message_spelling, item_spelling, IsWireMessage, IsWire}
+use Rattle.pgtuple.specs.Limits.{IsWireTuple}
 use Rattle.std.specs.Str.{is_utf8, chars}
 use lib.Utf8.{encode}
 use Rattle.pgtuple.specs.Cells.{tuple_spelling}
 use Rattle.pgorder.specs.OpenXids.{open_rows}
 use Rattle.pgorder.specs.declared.Version.TheVariants.{Two}
-use Rattle.pgorder.specs.Shape.{StreamPart, Pair, Block, StreamEnd, Abort}
+use Rattle.pgorder.specs.Shape.{Pair, Block, StreamEnd, Abort}
 use Rattle.pgwire.specs.Frames as wire
 use Rattle.pgstore.specs.Apply.{apply, fold_changes, rows_after}
 use Rattle.pgsub_core.specs.Work.{Work, Nothing, Changed, Subtransaction, RolledBack}
 use Rattle.pgsub_core.specs.History.{Transaction, IsHistory, tables_as_of}
 use Rattle.pgsub_core.specs.Streamed.{StreamedItem, Change, SubtransactionAbort, IsStreamOf}
-use Rattle.pgsub_core.specs.Stream.{Sent, Data, Keepalive, commits_and_keepalives, messages_in, Committed, KeepaliveEnd, StreamedCommit, WholeCommit}
+use Rattle.pgsub_core.specs.Stream.{Sent, Keepalive, commits_and_keepalives, Committed, KeepaliveEnd, StreamedCommit}
 use Rattle.pgsub_core.specs.Delivers.{Delivers}
 use Rattle.pgsub_core.specs.Reached.{Progress, reached, disconnected}
-use Rattle.pgsub_core.specs.Sessions.{IsSession, AreSessions, IsWireSent, reached_all, frames_of, starting_by}
-use Rattle.pgsub_core.specs.Replica.{surviving_items, Replica, Outcome, Running}
+use Rattle.pgsub_core.specs.Sessions.{IsSession, AreSessions, IsWireSent, reached_all, frames_of}
+use Rattle.pgsub_core.specs.Replica.{surviving_items}
 use Rattle.pgsub_core.specs.ApplyState.{follow_all}
 use Rattle.pgsub_core.specs.Outcomes.{IsAllowedOutcome}
 use Rattle.pgsub_core.specs.Handled.{IsSent}
@@ -278,8 +279,8 @@ t_fits = (
   ((record { plain = ((λ e. absurd (cc)), ((λ e. absurd (cc)), tt)); utf8 = refl }, omega arith, any_modifier), ((record { plain = ((λ e. absurd (cc)), tt); utf8 = refl }, omega arith, any_modifier), tt)),
 )
 
-row_fits : (a b : ℕ) → is_utf8 (a ∷ []) ≡ true → is_utf8 (b ∷ []) ≡ true → IsRow (text a ∷ text b ∷ [])
-row_fits a b x y = (record { width = omega arith; each = (omega arith, (omega arith, tt)) }, (x, (y, tt)))
+row_fits : (a b : ℕ) → is_utf8 (a ∷ []) ≡ true → is_utf8 (b ∷ []) ≡ true → IsWireTuple (text a ∷ text b ∷ [])
+row_fits a b x y = record { tuple = record { width = omega arith; each = (omega arith, (omega arith, tt)) }; texts = (x, (y, tt)) }
 
 relation_fits : (xid : ℕ) → xid < 2 ^ 32 → IsWireSent (under xid relation)
 unfolding message_spelling item_spelling

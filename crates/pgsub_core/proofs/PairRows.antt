@@ -1,23 +1,20 @@
 -- Worked rows of whole transactions: what stands after their messages.
-use Rattle.std.proofs.Common.{◌≡◌, ◌∷◌, ◌++◌, [], List, ℕ, true, false, Some, None, Ok, Err, refl, pos}
+use Rattle.std.proofs.Common.{◌≡◌, ◌∷◌, ◌++◌, [], Some, None, Ok, Err, refl}
 use Rattle.std.specs.FinMap as map
 use Rattle.pgtuple.specs.Cells.{tuple_spelling}
 use Rattle.pgtuple.specs.declared.cell.Cell.TheVariants.{Null, Unchanged}
-use Rattle.pglogical.specs.declared.item.Item.{Item}
 use Rattle.pglogical.specs.declared.item.Item.TheVariants as item
 use Rattle.pglogical.specs.declared.item.OldKind.TheVariants.{Key, Full}
 use Rattle.pgorder.specs.declared.OrderFault.TheVariants as order
 use Rattle.pgorder.specs.declared.Version.TheVariants.{One}
 use Rattle.pgstore.specs.declared.op.Op.TheVariants as op
 use Rattle.pgstore.specs.declared.rows.StoreFault.TheVariants as store
-use Rattle.pgstore.specs.Value.{Rows, Tables}
 use Rattle.pgstore.specs.Apply.{apply, fold_changes, rows_after}
 use Rattle.pgsub_core.specs.Work.{surviving_changes, Changed, Nothing}
 use Rattle.pgsub_core.specs.Described.{described}
-use Rattle.pgsub_core.specs.Stream.{Sent}
 use Rattle.pgsub_core.specs.Replica.{UnknownRelation, StoreRefuses, OutOfOrder}
 use Rattle.pgsub_core.specs.ApplyState.{follow_all}
-use Rattle.pgsub_core.proofs.Samples.{t, t3, w, f, n, text, insert_t, update_t, change_t, row_of, place, table_t, put_t, sent, alone, begin, commit, first, first_rows, first_tables, empty_replica, stands, lookups}
+use Rattle.pgsub_core.proofs.Samples.{t, t3, w, f, n, text, insert_t, update_t, change_t, row_of, place, put_t, sent, alone, begin, commit, first, first_rows, first_tables, empty_replica, stands, lookups}
 
 -- ---- which definition a change has
 

@@ -1,5 +1,5 @@
 -- Worked rows of limits, of what is received and confirmed, and of the statuses that tell it.
-use Rattle.std.proofs.Common.{◌≡◌, ◌∷◌, ◌++◌, [], List, ℕ, true, false, Option, Some, None, refl, pos}
+use Rattle.std.proofs.Common.{◌≡◌, ◌∷◌, [], List, ℕ, true, false, Option, Some, None, refl, pos}
 use Rattle.std.specs.FinMap as map
 use Rattle.pgtuple.specs.Cells.{tuple_spelling}
 use Rattle.pglogical.specs.Spelling.{item_spelling}
@@ -9,7 +9,7 @@ use Rattle.pgspool.specs.declared.spools.SpoolFault.TheVariants as spool
 use Rattle.pgstore.specs.Apply.{apply, fold_changes, rows_after}
 use Rattle.pgsub_core.specs.declared.fault.Fault.{Fault}
 use Rattle.pgsub_core.specs.declared.fault.Fault.TheVariants as fault
-use Rattle.pgsub_core.specs.Stream.{Sent, Data}
+use Rattle.pgsub_core.specs.Stream.{Data}
 use Rattle.pgsub_core.specs.Replica.{Outcome, Running, Stopped}
 use Rattle.pgsub_core.specs.Reached.{Progress, reached, disconnected}
 use Rattle.pgsub_core.specs.Subscribed.{Subscribed, progress_of, with_status, disconnect}

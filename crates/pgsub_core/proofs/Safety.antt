@@ -1,5 +1,5 @@
 -- A subscriber that applies what a well-formed server sends has the history's rows at every moment.
-use Rattle.std.proofs.Common.{◌≡◌, ◌<◌, ◌≤◌, ℕ, List, [], ◌∷◌, ◌++◌, true, false, cond, Some, Result, Ok, Err, refl, sym, ap, subst, ◌∙◌, arith, append_assoc, inl, inr, max}
+use Rattle.std.proofs.Common.{◌≡◌, ◌<◌, ◌≤◌, ℕ, List, [], ◌∷◌, ◌++◌, true, false, cond, Result, Ok, Err, refl, sym, ap, subst, ◌∙◌, arith, append_assoc, inl, inr, max}
 use Rattle.std.specs.List.{AllByRecursion}
 use Rattle.std.specs.FinMap as map
 use Rattle.std.proofs.lemmas.List.{append-nil}
@@ -16,8 +16,8 @@ use Rattle.pgsub_core.specs.History.{Transaction, IsHistory, IsHistoryFrom, all_
 use Rattle.pgsub_core.specs.Described.{described, relations_after}
 use Rattle.pgsub_core.specs.Stream.{CommitOrKeepalive, Committed, KeepaliveEnd, Completed, WholeCommit, StreamedCommit, end_of}
 use Rattle.pgsub_core.specs.Delivers.{ChangeNothing, IsCommitOf, CommitsFollow}
-use Rattle.pgsub_core.specs.Replica.{Replica, RelationCache, Halt, Outcome, Running, stored, on_commit, on_keepalive, then_run, apply_all, all_cached}
-use Rattle.pgsub_core.specs.Safe.{IsSafe, NothingBetween, RefusesNext}
+use Rattle.pgsub_core.specs.Replica.{Replica, RelationCache, Halt, Outcome, stored, on_commit, on_keepalive, then_run, apply_all, all_cached}
+use Rattle.pgsub_core.specs.Safe.{IsSafe, NothingBetween}
 use Rattle.pgsub_core.specs.Outcomes.{IsAllowedOutcome}
 use Rattle.pgsub_core.proofs.Changes.{AllEndBy, AllEndAfter, fold-append, tables_as_of-split, changes-append, AllEndBy-append, AllEndBy-more, AllEndBy-nothing, later-after, split-at}
 use Rattle.pgsub_core.proofs.Surviving.{commit_survives}

@@ -1,5 +1,5 @@
 -- What one message does to a subscriber.
-use Rattle.std.proofs.Common.{◌≡◌, ◌≤◌, ◌++◌, ℕ, ℤ, List, [], ◌∷◌, Bool, true, false, cond, Some, Result, Ok, Err, refl, sym, ap, subst, ◌∙◌, arith, max}
+use Rattle.std.proofs.Common.{◌≡◌, ◌≤◌, ◌++◌, ℕ, ℤ, List, [], ◌∷◌, Bool, true, false, cond, Result, Ok, Err, refl, sym, ap, subst, ◌∙◌, arith, max}
 use Rattle.std.specs.Prelude.{nat_lt}
 use Rattle.std.specs.FinMap as map
 use Rattle.pglogical.specs.declared.item.Item.{Item}
@@ -14,14 +14,13 @@ use Rattle.pgspool.specs.declared.spools.SpoolFault.TheVariants as spool
 use Rattle.pgstore.specs.declared.rows.StoreFault.{StoreFault}
 use Rattle.pgstore.specs.Value.{Tables}
 use Rattle.pgstore.specs.Apply.{Change, fold_changes}
-use Rattle.pgsub_core.specs.declared.fault.Fault.{Fault}
 use Rattle.pgsub_core.specs.declared.fault.Fault.TheVariants as fault
 use Rattle.pgsub_core.specs.Described.{described_from}
 use Rattle.pgsub_core.specs.Stream.{Sent, Data, Keepalive, messages_in}
 use Rattle.pgsub_core.specs.Replica.{Replica, RelationCache, Halt, Outcome, Running, Stopped, then_run, stored, taken, on_commit, on_keepalive, all_cached}
 use Rattle.pgsub_core.specs.ApplyState.{ApplyState, ApplyResult, committed, on_event, on_message, is_outside, step, run}
 use Rattle.pgsub_core.specs.Subscribed.{Subscribed, apply_state_of}
-use Rattle.pgsub_core.specs.Taking.{fault_of, handled, message_passes_limit, taken_with, take, take_all}
+use Rattle.pgsub_core.specs.Taking.{handled, message_passes_limit, taken_with, take}
 use Rattle.pgsub_core.specs.Handled.{KeepsSettings, replied}
 
 pub running : {S F : Type 0} {a b : S} → ◌≡◌ {A = Outcome S F} (Running a) (Running b) → a ≡ b
@@ -164,7 +163,7 @@ pub settings_twice : (a b c : Subscribed) → KeepsSettings a b → KeepsSetting
 settings_twice a b c ab bc = record { version = bc.version ∙ ab.version; max_frame = bc.max_frame ∙ ab.max_frame; limit = bc.limit ∙ ab.limit }
 
 -- where messages are taken to their end, order holds
-order_of : (v : Version) (old new : ApplyState) (m : Message) (r : Result (OrderState × Event) OrderFault) → on_message old m r ≡ Running new → (e : Event) × (r ≡ Ok (new.order, e))
+pub order_of : (v : Version) (old new : ApplyState) (m : Message) (r : Result (OrderState × Event) OrderFault) → on_message old m r ≡ Running new → (e : Event) × (r ≡ Ok (new.order, e))
 order_of v old new m (Ok (order, e)) h = (e, ap (λ o. Ok (o, e)) (ordered e h))
   where
     in_state : (state : ApplyState) → state.order ≡ order → ◌≡◌ {A = ApplyResult} (Running state) (Running new) → order ≡ new.order

@@ -1,5 +1,5 @@
 -- Why one message of a session stops a subscriber, and where.
-use Rattle.std.proofs.Common.{◌≡◌, ℕ, ℤ, List, Bool, true, false, cond, Option, Some, None, Result, Ok, Err, refl, sym, ap, subst, ◌∙◌, eqb}
+use Rattle.std.proofs.Common.{◌≡◌, ℕ, List, Bool, true, false, cond, Option, Some, None, Result, Ok, Err, refl, sym, ap, subst, ◌∙◌, eqb}
 use Rattle.std.specs.Prelude.{nat_lt}
 use Rattle.std.specs.FinMap as map
 use Rattle.pglogical.specs.declared.item.Item.{Item}
@@ -19,7 +19,7 @@ use Rattle.pgstore.specs.Apply.{Change, fold_changes}
 use Rattle.pgsub_core.specs.Described.{described_from}
 use Rattle.pgsub_core.specs.Stream.{Sent, Data, Keepalive, kind}
 use Rattle.pgsub_core.specs.Replica.{Replica, RelationCache, Halt, UnknownRelation, StoreRefuses, OutOfOrder, Outcome, Running, Stopped, stored, taken, on_commit, all_cached}
-use Rattle.pgsub_core.specs.ApplyState.{ApplyState, ApplyResult, committed, on_event, on_message, step}
+use Rattle.pgsub_core.specs.ApplyState.{ApplyState, committed, on_event, on_message, step}
 use Rattle.pgsub_core.specs.Handled.{end_by_kind, commit_end}
 
 -- the end of the commit that an event is

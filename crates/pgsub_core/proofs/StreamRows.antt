@@ -1,12 +1,12 @@
 -- Worked rows of streamed transactions: what a well-formed server delivers, and what stands after it.
-use Rattle.std.proofs.Common.{◌≡◌, ◌∷◌, ◌++◌, [], List, ℕ, true, false, Option, Some, None, Ok, refl, ap, ◌∙◌, pos, arith}
+use Rattle.std.proofs.Common.{◌≡◌, ◌∷◌, ◌++◌, [], List, ℕ, true, false, Option, None, Ok, refl, ap, ◌∙◌, pos, arith}
 use Rattle.std.specs.FinMap as map
 use Rattle.pgtuple.specs.Cells.{tuple_spelling}
 use Rattle.pglogical.specs.declared.item.Item.{Item}
 use Rattle.pglogical.specs.declared.item.Item.TheVariants as item
 use Rattle.pglogical.specs.declared.message.Message.TheVariants as message
 use Rattle.pgorder.specs.OpenXids.{open_rows}
-use Rattle.pgorder.specs.Shape.{StreamPart, Pair, Block, StreamEnd, Abort, LogicalMessage}
+use Rattle.pgorder.specs.Shape.{StreamPart, Pair, Block, StreamEnd, Abort}
 use Rattle.pgorder.specs.declared.Version.TheVariants.{Two}
 use Rattle.pgstore.specs.Apply.{apply, fold_changes, rows_after}
 use Rattle.pgstore.specs.Value.{Rows, Tables}
@@ -16,9 +16,9 @@ use Rattle.pgsub_core.specs.Streamed.{StreamedItem, Change, SubtransactionAbort,
 use Rattle.pgsub_core.specs.Stream.{Sent, commits_and_keepalives, Committed, StreamedCommit}
 use Rattle.pgsub_core.specs.Delivers.{Delivers}
 use Rattle.pgsub_core.specs.Replica.{Replica, Halt, Outcome, Running, surviving_items, then_run}
-use Rattle.pgsub_core.specs.ApplyState.{follow_all}
+use Rattle.pgsub_core.specs.ApplyState.{run, at_session, follow_all}
 use Rattle.pgsub_core.proofs.OneSession.{session_agrees}
-use Rattle.pgsub_core.proofs.Samples.{t, t3, w, text, insert_t, update_t, delete_t, place, row_of, table_t, put_t, sent, alone, under, begin, commit, stream_commit, first, first_rows, first_tables, empty_replica, stands, lookups}
+use Rattle.pgsub_core.proofs.Samples.{t, t3, w, text, insert_t, update_t, delete_t, place, row_of, put_t, sent, alone, under, begin, commit, stream_commit, first, first_rows, first_tables, empty_replica, stands, lookups, spools}
 
 -- what one session leaves
 abbrev left : Outcome Replica Halt → Tables × (ℕ × Option Halt)
@@ -160,6 +160,11 @@ aborted : stands (follow_all Two empty_replica ((sent (message.StreamStart 50 tr
     ∷ sent (message.StreamAbort 50 52) ∷ sent (stream_commit 50 2048 2096) ∷ []) ∷ [])) ≡ (map.empty, (2096, None))
 unfolding fold_changes
 aborted = simp lookups
+
+-- of a transaction that is aborted as a whole nothing is held and nothing is open
+dropped : run Two (at_session empty_replica) (sent (message.StreamStart 60 true) ∷ sent (under 60 (item.Relation t)) ∷ sent (under 60 (insert_t 49 97)) ∷ sent message.StreamStop ∷ sent (message.StreamAbort 60 60) ∷ [])
+    ≡ Running (at_session empty_replica)
+dropped = simp spools
 
 -- an xid that was aborted as a whole begins anew
 begun_anew : stands (follow_all Two empty_replica ((sent (message.StreamStart 60 true) ∷ sent (under 60 (item.Relation t)) ∷ sent (under 60 (insert_t 49 97)) ∷ sent message.StreamStop

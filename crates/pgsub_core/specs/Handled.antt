@@ -1,8 +1,9 @@
 -- PostgreSQL documentation, Streaming Replication Protocol and Logical Replication, Architecture: what following the sessions of a
 -- history leaves, and why it ends, whatever is answered.
-use Rattle.std.specs.Prelude.{◌≡◌, ◌≤◌, ◌<◌, ◌+◌, ◌++◌, ℕ, ℤ, List, [], ◌∷◌, Bool, true, false, Option, Some, None, Result, Ok, Err}
-use Rattle.pglogical.specs.declared.message.Message.{Message}
+use Rattle.std.specs.Prelude.{◌≡◌, ◌≤◌, ◌<◌, ◌++◌, ℕ, ℤ, List, [], ◌∷◌, true, false, Option, Some, None, Result, Ok, Err}
+use Rattle.pgorder.specs.declared.OrderFault.{OrderFault}
 use Rattle.pgorder.specs.declared.OrderFault.TheVariants as order
+use Rattle.pgrel.specs.declared.fault.RelFault.{RelFault}
 use Rattle.pgrel.specs.declared.fault.RelFault.TheVariants as rel
 use Rattle.pgspool.specs.declared.spools.SpoolFault.TheVariants as spool
 use Rattle.pgstore.specs.declared.rows.StoreFault.TheVariants as store
@@ -11,7 +12,7 @@ use Rattle.pgwire.specs.declared.fault.WireFault.TheVariants as wire_fault
 use Rattle.pgsub_core.specs.declared.fault.Fault.{Fault}
 use Rattle.pgsub_core.specs.declared.fault.Fault.TheVariants as fault
 use Rattle.pgsub_core.specs.History.{Transaction, IsHistory}
-use Rattle.pgsub_core.specs.Stream.{Sent, Data, Keepalive, Kind, Holds, CommitsPair, CommitsStream, kind, commits_and_keepalives}
+use Rattle.pgsub_core.specs.Stream.{Sent, Data, Keepalive, Kind, CommitsPair, CommitsStream, kind, commits_and_keepalives}
 use Rattle.pgsub_core.specs.Replica.{Running, Stopped, apply_all}
 use Rattle.pgsub_core.specs.ApplyState.{step}
 use Rattle.pgsub_core.specs.Reached.{reached, disconnected}
@@ -171,6 +172,13 @@ FirstFaultIsAllowed =
     (now : ℤ) (history : List Transaction) (sessions : List (List ℕ)) (all_complete handled : List (List Sent)) (old state stopped : Subscribed) (m : Sent) (f : Fault)
     → IsSent history old sessions all_complete → IsNextBehind handled m all_complete → take_sessions now old handled ≡ Running state
     → take now state m ≡ Stopped stopped f → IsAllowedFault history state m f
+
+-- No message of a session of the history is out of order, and none names a relation that isn't described.
+abbrev pub NeverDisordered : Type 0
+NeverDisordered =
+    (now : ℤ) (history : List Transaction) (sessions : List (List ℕ)) (all_complete handled : List (List Sent)) (old state stopped : Subscribed) (m : Sent)
+    → IsSent history old sessions all_complete → IsNextBehind handled m all_complete → take_sessions now old handled ≡ Running state
+    → ((k : OrderFault) → take now state m ≡ Stopped stopped (fault.Order k) → ⊥) × ((k : RelFault) → take now state m ≡ Stopped stopped (fault.Relation k) → ⊥)
 
 abbrev pub HasStopped : ℤ → List (List ℕ) → List (List Sent) → List (List Sent) → Subscribed → Option Fault → Type 0
 HasStopped now sessions all_complete handled s None = handled ≡ all_complete

@@ -1,6 +1,6 @@
 -- PostgreSQL documentation, Logical Replication, Subscription: what a subscriber does with one commit or keepalive after the
 -- other, by what it has stored and knows.
-use Rattle.std.specs.Prelude.{ℕ, List, [], ◌∷◌, ◌++◌, Bool, true, false, Option, Some, None, Result, Ok, Err, max, nat_lt, if◌then◌else◌}
+use Rattle.std.specs.Prelude.{ℕ, List, [], ◌∷◌, ◌++◌, Bool, true, false, Result, Ok, Err, max, nat_lt, if◌then◌else◌}
 use Rattle.std.specs.Ordering.{nat_cmp}
 use Rattle.std.specs.FinMap as map
 use Rattle.pglogical.specs.declared.item.RelationDef.{RelationDef}

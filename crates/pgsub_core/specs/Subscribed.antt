@@ -1,12 +1,13 @@
 -- PostgreSQL documentation, Streaming Replication Protocol: what a subscriber is, as its contracts see it.
-use Rattle.std.specs.Prelude.{◌≡◌, ◌++◌, ◌∷◌, [], ℕ, ℤ, List, Bool, true, false, map as mapped}
+use Rattle.std.specs.Prelude.{◌++◌, [], ℕ, ℤ, List, Bool, false, map as mapped}
 use Rattle.std.specs.List.{flat_map}
-use Rattle.std.specs.Int.{w64, to_be_bytes, cast_unsigned}
 use Rattle.std.specs.FinMap as map
 use Rattle.pgorder.specs.declared.Version.{Version}
 use Rattle.pgorder.specs.Steps.{OrderState, initial_order}
 use Rattle.pgspool.specs.Labels.{HeldMap}
 use Rattle.pgstore.specs.Value.{Tables}
+use Rattle.pgwire.specs.Statuses.{status_frame}
+use Rattle.pgwire.specs.declared.status.Status.{Status}
 use Rattle.pgsub_core.specs.declared.session.Session.{Session}
 use Rattle.pgsub_core.specs.History.{Transaction}
 use Rattle.pgsub_core.specs.Reached.{Progress}
@@ -83,16 +84,10 @@ disconnect s = record s {
 abbrev pub bytes_of : List Session → List (List ℕ)
 bytes_of sessions = mapped (λ (s : Session). flat_map (λ (piece : List ℕ). piece) s.pieces) sessions
 
-abbrev pub flag : Bool → ℕ
-flag true = 1
-flag false = 0
+-- Standby status update: written is what was received, flushed and applied what is confirmed.
+abbrev pub status_of : Subscribed → ℤ → Bool → Status
+status_of s now ask = record { written = s.received; flushed = s.confirmed; applied = s.confirmed; clock = now; ask = ask }
 
--- Standby status update, in its CopyData frame: written is what was received, flushed and applied what is confirmed, the client's
--- clock, and whether a reply is wanted.
-abbrev pub status_frame : ℕ → ℕ → ℤ → Bool → List ℕ
-status_frame received confirmed now ask =
-    100 ∷ 0 ∷ 0 ∷ 0 ∷ 38 ∷ 114 ∷ (to_be_bytes w64 received ++ to_be_bytes w64 confirmed ++ to_be_bytes w64 confirmed ++ to_be_bytes w64 (cast_unsigned w64 now) ++ flag ask ∷ [])
-
--- with a status of what is received and confirmed behind the bytes that wait to be sent
+-- with such a status behind the bytes that wait to be sent
 abbrev pub with_status : ℤ → Bool → Subscribed → Subscribed
-with_status now ask s = record s { replies = s.replies ++ status_frame s.received s.confirmed now ask }
+with_status now ask s = record s { replies = s.replies ++ status_frame (status_of s now ask) }
