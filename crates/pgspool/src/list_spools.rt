@@ -16,7 +16,7 @@ const OVERHEAD: u64 = 8;
 #[derive(Debug, Drop)]
 pub struct ListSpools {
     alloc: Global,
-    open: IndexMap<u32, Spool>,
+    transactions: IndexMap<u32, Spool>,
     bytes: u64,
     max_bytes: u64,
 }
@@ -31,9 +31,9 @@ impl Model for ListSpools {
 
     ghost use Rattle.pgspool.specs.Spooled.{spooled_of, IsCounted};
 
-    ghost view = { λ s. record { held = spooled_of s.open.entries; most = s.max_bytes } };
+    ghost view = { λ s. record { held = spooled_of s.transactions.entries; most = s.max_bytes } };
 
-    ghost invariant = { λ s. IsCounted (spooled_of s.open.entries) s.bytes s.max_bytes };
+    ghost invariant = { λ s. IsCounted (spooled_of s.transactions.entries) s.bytes s.max_bytes };
 }
 
 impl ListSpools {
@@ -44,7 +44,7 @@ impl ListSpools {
     {
         ListSpools {
             alloc,
-            open: IndexMap::new(alloc),
+            transactions: IndexMap::new(alloc),
             bytes: 0,
             max_bytes,
         }
@@ -57,11 +57,11 @@ impl Spools for ListSpools {
     ghost most = { λ s. s.most };
 
     fn is_open(&self, xid: u32) -> bool {
-        self.open.contains_key(&xid)
+        self.transactions.contains_key(&xid)
     }
 
     fn open(&mut self, xid: u32) -> Result<(), SpoolFault> {
-        match self.open.insert(xid, Spool::new(self.alloc)) {
+        match self.transactions.insert(xid, Spool::new(self.alloc)) {
             Ok(_) => Ok(()),
             Err(_) => Err(SpoolFault::Memory),
         }
@@ -76,7 +76,7 @@ impl Spools for ListSpools {
         let Ok(copy) = item.to_item(self.alloc) else {
             return Err(SpoolFault::Memory);
         };
-        let Some(spool) = self.open.get_mut(&xid) else {
+        let Some(spool) = self.transactions.get_mut(&xid) else {
             unreachable!()
         };
         let cost = OVERHEAD + length;
@@ -90,31 +90,31 @@ impl Spools for ListSpools {
     }
 
     fn cut(&mut self, xid: u32, label: u32) {
-        if let Some(spool) = self.open.get_mut(&xid) {
+        if let Some(spool) = self.transactions.get_mut(&xid) {
             self.bytes -= spool.cut(label);
         }
     }
 
     fn count(&self, xid: u32) -> usize {
-        match self.open.get(&xid) {
+        match self.transactions.get(&xid) {
             Some(spool) => spool.len(),
             None => 0,
         }
     }
 
     fn item(&self, xid: u32, place: usize) -> Option<ItemRef<'_>> {
-        let spool = self.open.get(&xid)?;
+        let spool = self.transactions.get(&xid)?;
         spool.item(place)
     }
 
     fn drop_xid(&mut self, xid: u32) {
-        if let Some(spool) = self.open.swap_remove(&xid) {
+        if let Some(spool) = self.transactions.swap_remove(&xid) {
             self.bytes -= spool.bytes();
         }
     }
 
     fn clear(&mut self) {
-        self.open = IndexMap::new(self.alloc);
+        self.transactions = IndexMap::new(self.alloc);
         self.bytes = 0;
     }
 

@@ -3,4 +3,4 @@ use Rattle.pgspool.proofs.OpenEntries.{contains_key-spooled_of}
 use Rattle.pgspool.proofs.list_spools.ListSpoolsSpools.is_open.Goals as goal
 
 pub returns : goal.returns
-returns c = rw (← c.self.view_is) (c.contains_key.ensures ∙ sym (contains_key-spooled_of c.self.inside.open.entries c.args.xid))
+returns c = rw (← c.self.view_is) (c.contains_key.ensures ∙ sym (contains_key-spooled_of c.self.inside.transactions.entries c.args.xid))

@@ -10,18 +10,18 @@ use Rattle.pgspool.proofs.list_spools.ListSpoolsSpools.push.Goals as goal
 
 pub unreachable-requires : goal.unreachable-requires
 unreachable-requires c =
-    true≢false (sym (ap (λ s. map.contains_key s.held c.args.xid) c.self.view_is ∙ c.requires.open) ∙ closed_absent c.self.inside.open.entries c.args.xid c.in_default-get_mut.ensures.value)
+    true≢false (sym (ap (λ s. map.contains_key s.held c.args.xid) c.self.view_is ∙ c.requires.open) ∙ closed_absent c.self.inside.transactions.entries c.args.xid c.in_default-get_mut.ensures.value)
 
-there : (c : In-Some) → held_of (spooled_of c.self.inside.open.entries) c.args.xid ≡ c.in-Some.spool.now
-there c = held_there c.self.inside.open.entries c.args.xid c.in-Some.spool.now c.in-Some.ensures.value
+there : (c : In-Some) → held_of (spooled_of c.self.inside.transactions.entries) c.args.xid ≡ c.in-Some.spool.now
+there c = held_there c.self.inside.transactions.entries c.args.xid c.in-Some.spool.now c.in-Some.ensures.value
 
-changed : (c : After-push) → spooled_of (c.get_mut.follows.lender c.push.new.self).entries ≡ map.insert (spooled_of c.self.inside.open.entries) c.args.xid c.push.new.self
-changed c = spooled_of-put c.self.inside.open.entries (c.get_mut.follows.lender c.push.new.self).entries c.args.xid c.push.new.self
+changed : (c : After-push) → spooled_of (c.get_mut.follows.lender c.push.new.self).entries ≡ map.insert (spooled_of c.self.inside.transactions.entries) c.args.xid c.push.new.self
+changed c = spooled_of-put c.self.inside.transactions.entries (c.get_mut.follows.lender c.push.new.self).entries c.args.xid c.push.new.self
     ((c.get_mut.follows.holds c.push.new.self).3 (subst IsSome c.in-Some.ensures.value refl)).0
 
 pub push-requires-clause-fits : goal.push-requires-clause-fits
 push-requires-clause-fits c =
-    let all = one_within_all (spooled_of c.self.inside.open.entries) c.self.inside.bytes c.self.inside.max_bytes c.args.xid c.self.invariant in
+    let all = one_within_all (spooled_of c.self.inside.transactions.entries) c.self.inside.bytes c.self.inside.max_bytes c.args.xid c.self.invariant in
     let here = ap costs (there (goal.at.push-requires-clause-fits c).In-Some) in
     omega arith
 
@@ -31,13 +31,13 @@ invariant_of-self c =
     let copied = ap cost c.in-Ok.ensures.same in
     let pushed = ap costs c.in-Ok-push.ensures.ok ∙ sum_by_push (λ (l : LabelledItem). cost l.1) c.in-Some.spool.now (c.args.label, c.in-Ok.copy) in
     rw (changed (goal.at.invariant_of-self c).After-push)
-    (IsCounted-insert (spooled_of c.self.inside.open.entries) c.self.inside.bytes c.self.inside.max_bytes c.args.xid c.push.new.self _ c.self.invariant (omega arith) (omega arith))
+    (IsCounted-insert (spooled_of c.self.inside.transactions.entries) c.self.inside.bytes c.self.inside.max_bytes c.args.xid c.push.new.self _ c.self.invariant (omega arith) (omega arith))
 
-unchanged : (c : In-Err) → spooled_of (c.get_mut.follows.lender c.push.new.self).entries ≡ spooled_of c.self.inside.open.entries
+unchanged : (c : In-Err) → spooled_of (c.get_mut.follows.lender c.push.new.self).entries ≡ spooled_of c.self.inside.transactions.entries
 unchanged c =
     changed (goal.at.invariant_of-self-in-Err c).After-push
-    ∙ ap (map.insert (spooled_of c.self.inside.open.entries) c.args.xid) c.in-Err.ensures.err
-    ∙ insert_back c.self.inside.open.entries c.args.xid c.in-Some.spool.now c.in-Some.ensures.value
+    ∙ ap (map.insert (spooled_of c.self.inside.transactions.entries) c.args.xid) c.in-Err.ensures.err
+    ∙ insert_back c.self.inside.transactions.entries c.args.xid c.in-Some.spool.now c.in-Some.ensures.value
 
 pub invariant_of-self-in-Err : goal.invariant_of-self-in-Err
 invariant_of-self-in-Err c = rw (unchanged c) c.self.invariant
@@ -45,7 +45,7 @@ invariant_of-self-in-Err c = rw (unchanged c) c.self.invariant
 pub returns-in-Ok-push-clause-ok : goal.returns-in-Ok-push-clause-ok
 returns-in-Ok-push-clause-ok c =
     rw (← c.self.view_is) (changed (goal.at.returns-in-Ok-push-clause-ok c).After-push
-    ∙ ap (map.insert (spooled_of c.self.inside.open.entries) c.args.xid) (c.in-Ok-push.ensures.ok ∙ (λ i. sym (there (goal.at.returns-in-Ok-push-clause-ok c).In-Some) i ++ (c.args.label, c.in-Ok.ensures.same i) ∷ [])))
+    ∙ ap (map.insert (spooled_of c.self.inside.transactions.entries) c.args.xid) (c.in-Ok-push.ensures.ok ∙ (λ i. sym (there (goal.at.returns-in-Ok-push-clause-ok c).In-Some) i ++ (c.args.label, c.in-Ok.ensures.same i) ∷ [])))
 
 pub returns-in-Err-clause-err : goal.returns-in-Err-clause-err
 returns-in-Err-clause-err c = rw (← c.self.view_is) (unchanged c)
