@@ -1,0 +1,6 @@
+//! The program: applies recorded sessions of a server, and prints the rows that they leave.
+#![tactic(auto)]
+
+pub mod capture;
+
+fn main() {}
