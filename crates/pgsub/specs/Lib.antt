@@ -1,2 +1,3 @@
 pub mod Capture
 pub mod Refused
+pub mod DumpText

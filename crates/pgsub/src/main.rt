@@ -2,5 +2,6 @@
 #![tactic(auto)]
 
 pub mod capture;
+pub mod dump;
 
 fn main() {}
