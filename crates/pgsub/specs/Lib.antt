@@ -1,3 +1,4 @@
 pub mod Capture
 pub mod Refused
 pub mod DumpText
+pub mod Plain

@@ -3,5 +3,6 @@
 
 pub mod capture;
 pub mod dump;
+pub mod plain_table;
 
 fn main() {}

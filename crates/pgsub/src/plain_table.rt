@@ -1,0 +1,94 @@
+//! A keyed table in memory: its definition, and its rows by the spelling of their keys.
+ghost use Rattle.std.specs.Prelude.{◌≡◌, ◌⊎◌, ◌==◌, OnOk, IfErr, None, IsSome};
+ghost use Rattle.std.specs.FinMap as map;
+ghost use Rattle.pgsub.specs.Plain.{one_copy};
+
+use pglogical::RelationDef;
+use pgstore::StoreFault;
+use pgtuple::Tuple;
+use std::alloc::Global;
+use std::collections::BTreeMap;
+use std::marker::Model;
+
+/// A row that stands once.
+#[derive(Drop)]
+pub struct PlainRow {
+    cells: Tuple,
+}
+
+impl Model for PlainRow {
+    ghost use Rattle.pgstore.specs.Value.{Row};
+    ghost use Rattle.pgstore.specs.Codes.{row_code};
+
+    ghost Value = { Row };
+
+    ghost coded = { row_code };
+
+    ghost use Rattle.pgsub.specs.Plain.{one_copy};
+
+    ghost view = { λ r. one_copy r.cells };
+}
+
+/// A table, seen as its definition and the map from the spelling of each row's key to the row.
+#[derive(Drop)]
+pub struct PlainTable {
+    definition: RelationDef,
+    rows: BTreeMap<Vec<u8>, PlainRow>,
+}
+
+impl Model for PlainTable {
+    ghost use Rattle.pgstore.specs.Value.{Table};
+    ghost use Rattle.pgstore.specs.Codes.{table_code};
+
+    ghost Value = { Table };
+
+    ghost coded = { table_code };
+
+    ghost use Rattle.pgsub.specs.Plain.{rows_by_key};
+
+    ghost view = { λ t. record { definition = t.definition; rows = rows_by_key t.rows.entries } };
+}
+
+impl PlainTable {
+    pub fn new(alloc: Global, definition: RelationDef) -> PlainTable
+        ensures { result ≡ record { definition = definition; rows = map.empty } }
+    {
+        PlainTable {
+            definition,
+            rows: BTreeMap::new(alloc),
+        }
+    }
+
+    pub fn definition(&self) -> &RelationDef
+        ensures { result.now ≡ self.now.definition }
+    {
+        &self.definition
+    }
+
+    /// Whether no row stands.
+    pub fn is_empty(&self) -> bool
+        ensures { result ≡ (map.len self.now.rows == 0) }
+    {
+        self.rows.is_empty()
+    }
+
+    /// The same rows under another definition.
+    pub fn redefined(self, definition: RelationDef) -> PlainTable
+        ensures { result ≡ record { definition = definition; rows = self.rows } }
+    {
+        let PlainTable { rows, .. } = self;
+        PlainTable { definition, rows }
+    }
+
+    /// Adds a row at a key. It refuses a key that stands; after a refusal the table is of no more use.
+    pub fn insert(&mut self, key: Vec<u8>, cells: Tuple) -> Result<(), StoreFault>
+        ensures ok { OnOk result ((map.get self.old.rows key.items ≡ None) × (self.new ≡ record { definition = self.old.definition; rows = map.insert self.old.rows key.items (one_copy cells) })) }
+        ensures fault { IfErr result (λ fault. (fault ≡ StoreFault.Memory) ⊎ ((fault ≡ StoreFault.Clash) × IsSome (map.get self.old.rows key.items))) }
+    {
+        match self.rows.insert(key, PlainRow { cells }) {
+            Ok(None) => Ok(()),
+            Ok(Some(_)) => Err(StoreFault::Clash),
+            Err(_) => Err(StoreFault::Memory),
+        }
+    }
+}
