@@ -8,8 +8,8 @@ use Rattle.std.specs.Ordering.{nat_cmp, eq_by_cmp, is_eq, match_ordering}
 use Rattle.std.specs.Cmp.{nat_cmp_total, eq_by_cmp_equiv}
 use Rattle.std.specs.Cmp.Lexicographic.{slice_cmp, nat_list_cmp_total}
 use Rattle.std.specs.FinMap as map
-use Rattle.std.specs.FinMap.{find, get-empty, get-insert, get-from_entries, len-empty, empty_of_len, same_map, nat_cmp-IsAntisymmetric, slice_cmp-IsAntisymmetric}
-use Rattle.std.specs.BTreeMap.{insert_entry, is_at}
+use Rattle.std.specs.FinMap.{find, get-empty, get-insert, get-remove, get-from_entries, len-empty, empty_of_len, same_map, nat_cmp-IsAntisymmetric, slice_cmp-IsAntisymmetric}
+use Rattle.std.specs.BTreeMap.{BTreeMap, insert_entry, is_at, Updates}
 use Rattle.std.specs.FinMap.Entries.{put, find-put, by_order}
 use Rattle.std.specs.Map.{lookup}
 use Rattle.std.proofs.lemmas.Bool.Decides.{nat_tests}
@@ -85,3 +85,39 @@ is_none false n h =
 
 pub some_is : (o : Option Row) (row : Row) → o ≡ Some row → IsSome o
 some_is o row e = rw e refl
+
+-- tables by OID
+find-table : (entries : List (ℕ × Table)) (oid : ℕ) → find nat_cmp oid entries ≡ lookup (is_at (nat_cmp oid)) entries
+find-table [] oid = refl
+find-table (e ∷ entries) oid = ap (cond (eq_by_cmp nat_cmp oid e.0) (Some e.1)) (find-table entries oid)
+
+pub get-tables_by_oid : (entries : List (ℕ × Table)) (oid : ℕ) → map.get (tables_by_oid entries) oid ≡ lookup (is_at (nat_cmp oid)) entries
+get-tables_by_oid entries oid = get-from_entries nat_cmp_total entries oid ∙ find-table entries oid
+
+module _ (old new : BTreeMap ℕ Table) (oid : ℕ) where
+  same_test : (q : ℕ) → eq_by_cmp nat_cmp oid q ≡ eq_by_cmp nat_cmp q oid
+  same_test q = (eq_by_cmp_equiv nat_cmp_total).symm oid q
+
+  pub tables_by_oid-inserted : (table : Table) → Updates nat_cmp old new oid (Some table) → tables_by_oid new.entries ≡ map.insert (tables_by_oid old.entries) oid table
+  tables_by_oid-inserted table updates = same_map nat_cmp_total nat_cmp-IsAntisymmetric _ _ (λ q.
+      get-tables_by_oid new.entries q ∙ updates.0 q ∙ ap (λ b. cond b (Some table) (lookup (is_at (nat_cmp q)) old.entries)) (same_test q)
+      ∙ ap (cond (eq_by_cmp nat_cmp q oid) (Some table)) (sym (get-tables_by_oid old.entries q))
+      ∙ sym (get-insert nat_cmp_total (tables_by_oid old.entries) oid table q))
+
+  pub tables_by_oid-removed : Updates nat_cmp old new oid None → tables_by_oid new.entries ≡ map.remove (tables_by_oid old.entries) oid
+  tables_by_oid-removed updates = same_map nat_cmp_total nat_cmp-IsAntisymmetric _ _ (λ q.
+      get-tables_by_oid new.entries q ∙ updates.0 q ∙ ap (λ b. cond b None (lookup (is_at (nat_cmp q)) old.entries)) (same_test q)
+      ∙ ap (cond (eq_by_cmp nat_cmp q oid) None) (sym (get-tables_by_oid old.entries q))
+      ∙ sym (get-remove nat_cmp_total (tables_by_oid old.entries) oid q))
+
+-- what was taken out is put back
+pub insert-remove : (tables : Tables) (oid : ℕ) (table : Table) → map.insert (map.remove tables oid) oid table ≡ map.insert tables oid table
+insert-remove tables oid table = same_map nat_cmp_total nat_cmp-IsAntisymmetric _ _ (λ q.
+    get-insert nat_cmp_total (map.remove tables oid) oid table q
+    ∙ ap (cond (eq_by_cmp nat_cmp q oid) (Some table)) (get-remove nat_cmp_total tables oid q)
+    ∙ again (eq_by_cmp nat_cmp q oid) (map.get tables q)
+    ∙ sym (get-insert nat_cmp_total tables oid table q))
+  where
+    again : (b : Bool) (found : Option Table) → cond b (Some table) (cond b None found) ≡ cond b (Some table) found
+    again true found = refl
+    again false found = refl

@@ -6,7 +6,8 @@ use Rattle.pglogical.specs.declared.item.RelationDef.{RelationDef}
 use Rattle.pgtuple.specs.declared.cell.Cell.{Cell}
 use Rattle.pgstore.specs.declared.op.Op.TheVariants as op
 use Rattle.pgstore.specs.Value.{Row, Rows, Table, Tables}
-use Rattle.pgstore.specs.Apply.{Change}
+use Rattle.pgstore.specs.declared.rows.StoreFault.{StoreFault}
+use Rattle.pgstore.specs.Apply.{Change, fold_changes}
 
 -- rows by the bytes of their key
 abbrev pub rows_by_key : List (Vec ℕ Global × Row) → Rows
@@ -22,3 +23,11 @@ one_copy cells = record { cells = cells; copies = 1 }
 -- the insert of a row under its definition
 abbrev pub insert_of : RelationDef → List Cell → Change
 insert_of def row = record { definition = def; op = op.Insert row }
+
+-- the tables that some changes leave; there are such wherever this is used
+abbrev pub held : Result Tables StoreFault → Tables
+held (Ok tables) = tables
+held (Err fault) = map.empty
+
+abbrev pub tables_after : List Change → Tables
+tables_after changes = held (fold_changes map.empty changes)
