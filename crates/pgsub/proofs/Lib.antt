@@ -1,3 +1,4 @@
 pub mod Lines
 pub mod DumpLines
 pub mod PlainMaps
+pub mod PlainApply

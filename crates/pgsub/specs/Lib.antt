@@ -2,4 +2,3 @@ pub mod Capture
 pub mod Refused
 pub mod DumpText
 pub mod Plain
-pub mod PlainStore

@@ -1,9 +1,12 @@
 //! A keyed table in memory: its definition, and its rows by the spelling of their keys.
-ghost use Rattle.std.specs.Prelude.{◌≡◌, ◌⊎◌, ◌==◌, OnOk, IfErr, None, IsSome};
+ghost use Rattle.std.specs.Prelude.{◌≡◌, ◌⊎◌, ◌==◌, OnOk, IfOk, IfErr, None, Some, IsSome, Ok, Err};
 ghost use Rattle.std.specs.FinMap as map;
+ghost use Rattle.pgstore.specs.declared.op.Op.{Op};
+ghost use Rattle.pgstore.specs.Apply.{found_rows};
 ghost use Rattle.pgsub.specs.Plain.{one_copy};
 
 use pglogical::RelationDef;
+use pgrel::same_shape;
 use pgstore::StoreFault;
 use pgtuple::Tuple;
 use std::alloc::Global;
@@ -66,18 +69,22 @@ impl PlainTable {
     }
 
     /// Whether no row stands.
-    pub fn is_empty(&self) -> bool
+    fn is_empty(&self) -> bool
         ensures { result ≡ (map.len self.now.rows == 0) }
     {
         self.rows.is_empty()
     }
 
-    /// The same rows under another definition.
-    pub fn redefined(self, definition: RelationDef) -> PlainTable
-        ensures { result ≡ record { definition = definition; rows = self.rows } }
+    /// The same rows under another definition. Rows of another shape are refused.
+    pub fn under(self, definition: RelationDef) -> Result<PlainTable, StoreFault>
+        ensures ok { IfOk result (λ table. (table.definition ≡ definition) × ((operation : Op) → found_rows (Some self) definition operation ≡ Ok table.rows)) }
+        ensures fault { IfErr result (λ fault. (operation : Op) → found_rows (Some self) definition operation ≡ Err fault) }
     {
+        if !same_shape(&self.definition, &definition) && !self.is_empty() {
+            return Err(StoreFault::SchemaChanged);
+        }
         let PlainTable { rows, .. } = self;
-        PlainTable { definition, rows }
+        Ok(PlainTable { definition, rows })
     }
 
     /// Adds a row at a key. It refuses a key that stands; after a refusal the table is of no more use.
