@@ -3,7 +3,7 @@ use Rattle.std.proofs.Common.{◌≡◌, ℕ, ◌+◌, List, [], ◌∷◌, ◌+
 use Rattle.std.specs.declared.alloc.AllocError.{AllocError}
 use Rattle.std.specs.declared.alloc.Global.{Global}
 use Rattle.std.specs.Prelude.{slice_get}
-use Rattle.std.proofs.lemmas.List.{map_more}
+use Rattle.std.proofs.lemmas.List.{map_more, take_more}
 use Rattle.std.proofs.lemmas.Option.{slice_get_within, get_or_from_slice_get}
 use Rattle.std.proofs.lemmas.List.{map-append}
 use Rattle.serde_json.specs.declared.value.Value.{Value}
@@ -45,3 +45,10 @@ pub text-of_row : (text : Result (String Global) AllocError) (row : DumpRow) (va
     → IfOk text (λ s. has_float (view value) ≡ false → string_bytes s ≡ compact_text (view value)) → IfOk text (λ s. string_bytes s ≡ compact_text (row_data row))
 text-of_row (Ok s) row value is h = rw is at (h (ap has_float is ∙ row_plain row))
 text-of_row (Err e) row value is h = tt
+
+-- a cell more of a copy
+pub take-next : (old new : List Cell) (cell : Cell) (cells : List Cell) (place : ℕ) → new ≡ old ++ cell ∷ [] → old ≡ take place cells → {is : Cell} → slice_get cells place ≡ Some is → cell ≡ is
+    → new ≡ take (place + 1) cells
+take-next old new cell cells place e so {is} at same =
+    e ∙ ap (λ xs. xs ++ cell ∷ []) so ∙ ap (λ x. take place cells ++ x ∷ []) (same ∙ sym (get_or_from_slice_get cells place is is at))
+    ∙ sym (take_more cells place is (slice_get_within cells place is at))

@@ -1,20 +1,25 @@
 -- The plain store's trees as finite maps.
-use Rattle.std.proofs.Common.{◌≡◌, ℕ, List, [], ◌∷◌, Bool, true, false, cond, Option, Some, None, refl, sym, ap, ◌∙◌, map as mapped, length, arith, ◌+◌}
-use Rattle.std.specs.Prelude.{◌==◌, Vec, IsTrue, ◌↔◌, IsSome}
+use Rattle.std.proofs.Common.{◌≡◌, ℕ, List, [], ◌∷◌, Bool, true, false, cond, Option, Some, None, refl, sym, ap, subst, ◌∙◌, map as mapped, length, arith, ◌+◌}
+use Rattle.std.specs.Prelude.{◌==◌, T, ◌&&◌, Vec, IsTrue, ◌↔◌, IsSome}
 use Rattle.std.specs.declared.alloc.Global.{Global}
 use Rattle.std.specs.declared.cmp.Ordering.{Ordering}
 use Rattle.std.specs.declared.cmp.Ordering.TheVariants.{Less, Equal, Greater}
-use Rattle.std.specs.Ordering.{nat_cmp, eq_by_cmp, is_eq, match_ordering}
-use Rattle.std.specs.Cmp.{nat_cmp_total, eq_by_cmp_equiv}
+use Rattle.std.specs.Ordering.{nat_cmp, eq_by_cmp, is_eq, is_lt, match_ordering}
+use Rattle.std.specs.Cmp.{IsTotalOrder, nat_cmp_total, eq_by_cmp_equiv}
 use Rattle.std.specs.Cmp.Lexicographic.{slice_cmp, nat_list_cmp_total}
 use Rattle.std.specs.FinMap as map
-use Rattle.std.specs.FinMap.{find, get-empty, get-insert, get-remove, get-from_entries, len-empty, empty_of_len, same_map, nat_cmp-IsAntisymmetric, slice_cmp-IsAntisymmetric}
+use Rattle.std.specs.FinMap.{find, get-empty, get-insert, get-remove, get-from_entries, len-empty, empty_of_len, same_map, IsAntisymmetric, nat_cmp-IsAntisymmetric, slice_cmp-IsAntisymmetric, get-from_sorted, entries-from_sorted}
 use Rattle.std.specs.BTreeMap.{BTreeMap, insert_entry, is_at, Updates}
-use Rattle.std.specs.FinMap.Entries.{put, find-put, by_order}
+use Rattle.std.specs.FinMap.Entries.{put, find-put, by_order, is_sorted, below_all}
+use Rattle.std.specs.List.{flat_map, AllByRecursion}
+use Rattle.std.specs.List.Sorted.{IsStrictlySortedBy}
+use Rattle.std.specs.Map.{keys_of}
+use Rattle.pglogical.specs.declared.item.RelationDef.{RelationDef}
+use Rattle.pgstore.specs.Dump.{dump, table_dump, dump_row}
 use Rattle.std.specs.Map.{lookup}
 use Rattle.std.proofs.lemmas.Bool.Decides.{nat_tests}
 use Rattle.pgstore.specs.Value.{Row, Rows, Table, Tables}
-use Rattle.pgsub.specs.Plain.{rows_by_key, tables_by_oid}
+use Rattle.pgsub.specs.Plain.{rows_by_key, tables_by_oid, printed}
 
 abbrev Key : Type 0
 Key = Vec ℕ Global
@@ -121,3 +126,44 @@ insert-remove tables oid table = same_map nat_cmp_total nat_cmp-IsAntisymmetric 
     again : (b : Bool) (found : Option Table) → cond b (Some table) (cond b None found) ≡ cond b (Some table) found
     again true found = refl
     again false found = refl
+
+-- a list whose keys rise is the list of entries of its map
+pub entries-from_entries : {K X : Type 0} {R : K → K → Ordering} → IsTotalOrder R → IsAntisymmetric R → (entries : List (K × X)) → T (is_sorted R entries) → map.entries (map.from_entries {R = R} entries) ≡ entries
+entries-from_entries {R = R} total apart entries rise =
+    ap map.entries (same_map total apart (map.from_entries entries) (map.from_sorted entries) (λ q. get-from_entries total entries q ∙ sym (get-from_sorted R entries q rise)))
+    ∙ entries-from_sorted R entries rise
+
+both : (a b : Bool) → T a → T b → T (a && b)
+both true b p q = q
+both false b p q = absurd p
+
+below_keyed : (key : Key) (entries : List (Key × Row)) → AllByRecursion (λ k. key_cmp key k ≡ Less) (keys_of entries) → T (below_all bytes_cmp key.items (mapped (λ e. (e.0.items, e.1)) entries))
+below_keyed key [] h = tt
+below_keyed key (e ∷ entries) h = both _ _ (subst (λ o. T (is_lt o)) (sym h.0) tt) (below_keyed key entries h.1)
+
+sorted_keyed : (entries : List (Key × Row)) → IsStrictlySortedBy key_cmp (keys_of entries) → T (is_sorted bytes_cmp (mapped (λ e. (e.0.items, e.1)) entries))
+unfolding IsStrictlySortedBy
+sorted_keyed [] h = tt
+sorted_keyed (e ∷ entries) h = both _ _ (below_keyed e.0 entries h.0) (sorted_keyed entries h.1)
+
+below_oid : (oid : ℕ) (entries : List (ℕ × Table)) → AllByRecursion (λ k. nat_cmp oid k ≡ Less) (keys_of entries) → T (below_all nat_cmp oid entries)
+below_oid oid [] h = tt
+below_oid oid (e ∷ entries) h = both _ _ (subst (λ o. T (is_lt o)) (sym h.0) tt) (below_oid oid entries h.1)
+
+sorted_oids : (entries : List (ℕ × Table)) → IsStrictlySortedBy nat_cmp (keys_of entries) → T (is_sorted nat_cmp entries)
+unfolding IsStrictlySortedBy
+sorted_oids [] h = tt
+sorted_oids (e ∷ entries) h = both _ _ (below_oid e.0 entries h.0) (sorted_oids entries h.1)
+
+pub dump-tables : (entries : List (ℕ × Table)) → IsStrictlySortedBy nat_cmp (keys_of entries) → dump (tables_by_oid entries) ≡ flat_map table_dump entries
+dump-tables entries rise = ap (flat_map table_dump) (entries-from_entries nat_cmp_total nat_cmp-IsAntisymmetric entries (sorted_oids entries rise))
+
+printed_all : (oid : ℕ) (table : Table) (entries : List (Key × Row)) → mapped (dump_row oid table) (mapped (λ e. (e.0.items, e.1)) entries) ≡ mapped (printed oid table.definition) entries
+printed_all oid table [] = refl
+printed_all oid table (e ∷ entries) = ap (λ rest. printed oid table.definition e ∷ rest) (printed_all oid table entries)
+
+pub table_dump-rows : (oid : ℕ) (def : RelationDef) (entries : List (Key × Row)) → IsStrictlySortedBy key_cmp (keys_of entries)
+    → table_dump (oid, record { definition = def; rows = rows_by_key entries }) ≡ mapped (printed oid def) entries
+table_dump-rows oid def entries rise =
+    ap (mapped (dump_row oid (record { definition = def; rows = rows_by_key entries }))) (entries-from_entries nat_list_cmp_total (slice_cmp-IsAntisymmetric nat_cmp-IsAntisymmetric) _ (sorted_keyed entries rise))
+    ∙ printed_all oid (record { definition = def; rows = rows_by_key entries }) entries

@@ -2,3 +2,4 @@ pub mod Capture
 pub mod Refused
 pub mod DumpText
 pub mod Plain
+pub mod PlainStore

@@ -8,6 +8,8 @@ use Rattle.pgstore.specs.declared.op.Op.TheVariants as op
 use Rattle.pgstore.specs.Value.{Row, Rows, Table, Tables}
 use Rattle.pgstore.specs.declared.rows.StoreFault.{StoreFault}
 use Rattle.pgstore.specs.Apply.{Change, fold_changes}
+use Rattle.pgstore.specs.declared.rows.DumpRow.{DumpRow}
+use Rattle.pgstore.specs.Dump.{shown_namespace}
 
 -- rows by the bytes of their key
 abbrev pub rows_by_key : List (Vec ℕ Global × Row) → Rows
@@ -31,3 +33,7 @@ held (Err fault) = map.empty
 
 abbrev pub tables_after : List Change → Tables
 tables_after changes = held (fold_changes map.empty changes)
+
+-- a row of a table as it is printed
+abbrev pub printed : ℕ → RelationDef → Vec ℕ Global × Row → DumpRow
+printed oid def entry = record { oid = oid; namespace = shown_namespace def.namespace; name = def.name; cells = entry.1.cells; copies = entry.1.copies }

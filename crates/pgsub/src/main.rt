@@ -3,6 +3,7 @@
 
 pub mod capture;
 pub mod dump;
+pub mod plain_store;
 pub mod plain_table;
 pub mod plain_tables;
 

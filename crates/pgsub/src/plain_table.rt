@@ -1,15 +1,16 @@
 //! A keyed table in memory: its definition, and its rows by the spelling of their keys.
-ghost use Rattle.std.specs.Prelude.{◌≡◌, ◌⊎◌, ◌==◌, OnOk, IfOk, IfErr, None, Some, IsSome, Ok, Err};
+ghost use Rattle.std.specs.Prelude.{◌≡◌, ◌++◌, ◌⊎◌, ◌==◌, OnOk, IfOk, IfErr, None, Some, IsSome, Ok, Err};
 ghost use Rattle.std.specs.FinMap as map;
 ghost use Rattle.pgstore.specs.declared.op.Op.{Op};
 ghost use Rattle.pgstore.specs.Apply.{found_rows};
+ghost use Rattle.pgstore.specs.Dump.{shown_namespace, table_dump};
 ghost use Rattle.pgsub.specs.Plain.{one_copy};
 
 use pglogical::RelationDef;
 use pgrel::same_shape;
-use pgstore::StoreFault;
-use pgtuple::Tuple;
-use std::alloc::Global;
+use pgstore::{DumpRow, StoreFault};
+use pgtuple::{Text, Tuple, TupleRef};
+use std::alloc::{AllocError, Global};
 use std::collections::BTreeMap;
 use std::marker::Model;
 
@@ -35,6 +36,7 @@ impl Model for PlainRow {
 /// A table, seen as its definition and the map from the spelling of each row's key to the row.
 #[derive(Drop)]
 pub struct PlainTable {
+    alloc: Global,
     definition: RelationDef,
     rows: BTreeMap<Vec<u8>, PlainRow>,
 }
@@ -57,6 +59,7 @@ impl PlainTable {
         ensures { result ≡ record { definition = definition; rows = map.empty } }
     {
         PlainTable {
+            alloc,
             definition,
             rows: BTreeMap::new(alloc),
         }
@@ -83,8 +86,12 @@ impl PlainTable {
         if !same_shape(&self.definition, &definition) && !self.is_empty() {
             return Err(StoreFault::SchemaChanged);
         }
-        let PlainTable { rows, .. } = self;
-        Ok(PlainTable { definition, rows })
+        let PlainTable { alloc, rows, .. } = self;
+        Ok(PlainTable {
+            alloc,
+            definition,
+            rows,
+        })
     }
 
     /// Adds a row at a key. It refuses a key that stands; after a refusal the table is of no more use.
@@ -98,4 +105,55 @@ impl PlainTable {
             Err(_) => Err(StoreFault::Memory),
         }
     }
+
+    /// Appends the rows, by the bytes of their keys.
+    pub fn push_rows(&self, oid: u32, out: &mut Vec<DumpRow>) -> Result<(), AllocError>
+        ensures { OnOk result (out.new.items ≡ out.old.items ++ table_dump (oid, self.now)) }
+    {
+        for (_key, row) in self.rows.iter() {
+            out.push(dump_row(self.alloc, oid, &self.definition, &row.cells.borrowed())?)?;
+        }
+        Ok(())
+    }
+}
+
+/// A row that stands once, as it is printed: an empty namespace is `pg_catalog`.
+fn dump_row(
+    alloc: Global,
+    oid: u32,
+    definition: &RelationDef,
+    cells: &TupleRef<'_>,
+) -> Result<DumpRow, AllocError>
+    ensures { IfOk result (λ row. row ≡ record { oid = oid; namespace = shown_namespace definition.now.namespace; name = definition.now.name; cells = cells.now; copies = 1 }) }
+{
+    Ok(DumpRow {
+        oid,
+        namespace: printed_namespace(alloc, &definition.namespace)?,
+        name: definition.name.clone()?,
+        cells: copied(alloc, cells)?,
+        copies: 1,
+    })
+}
+
+fn printed_namespace(alloc: Global, namespace: &Text) -> Result<Text, AllocError>
+    ensures { IfOk result (λ text. text ≡ shown_namespace namespace.now) }
+{
+    if namespace.is_empty() {
+        return Ok(Text::from_string(String::from_str(alloc, "pg_catalog")?));
+    }
+    namespace.clone()
+}
+
+/// A copy of a tuple.
+pub fn copied(alloc: Global, row: &TupleRef<'_>) -> Result<Tuple, AllocError>
+    ensures { IfOk result (λ tuple. tuple ≡ row.now) }
+{
+    let mut cells = Vec::with_capacity(alloc, row.width())?;
+    for place in 0..row.width() {
+        match row.get(place).unwrap().to_cell(alloc) {
+            Ok(cell) => cells.push(cell)?,
+            Err(_) => return Err(AllocError),
+        }
+    }
+    Ok(Tuple::from_vec(cells))
 }

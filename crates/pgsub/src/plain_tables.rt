@@ -5,15 +5,16 @@ ghost use Rattle.pgstore.specs.declared.op.Op.{Op};
 ghost use Rattle.pgrel.specs.Identity.{keyed, checked_insert};
 ghost use Rattle.pgstore.specs.Value.{identity_key};
 ghost use Rattle.pgstore.specs.Apply.{store_fault, found_rows, in_store, apply};
+ghost use Rattle.pgstore.specs.Dump.{dump};
 ghost use Rattle.pgtuple.specs.Cells.{tuple_spelling};
 ghost use Rattle.pgsub.specs.Plain.{insert_of};
 
 use crate::plain_table::PlainTable;
 use pglogical::RelationDef;
 use pgrel::{RelFault, check_insert, keyed, row_identity};
-use pgstore::StoreFault;
+use pgstore::{DumpRow, StoreFault};
 use pgtuple::{Tuple, TupleRef};
-use std::alloc::Global;
+use std::alloc::{AllocError, Global};
 use std::collections::BTreeMap;
 use std::marker::Model;
 
@@ -69,12 +70,16 @@ fn insert_key(
     spelled(alloc, &identity.borrowed())
 }
 
-/// TEMPORARY
-fn spelled(_alloc: Global, _tuple: &TupleRef<'_>) -> Result<Vec<u8>, StoreFault>
-    ensures ok { IfOk result (λ key. key.items ≡ tuple_spelling _tuple.now) }
+/// The spelling of a tuple.
+fn spelled(alloc: Global, tuple: &TupleRef<'_>) -> Result<Vec<u8>, StoreFault>
+    ensures ok { IfOk result (λ key. key.items ≡ tuple_spelling tuple.now) }
     ensures fault { IfErr result (λ fault. fault ≡ StoreFault.Memory) }
 {
-    Err(StoreFault::Memory)
+    let mut key = Vec::new(alloc);
+    match pgtuple::encode(tuple, &mut key) {
+        Ok(()) => Ok(key),
+        Err(_) => Err(StoreFault::Memory),
+    }
 }
 
 impl PlainTables {
@@ -116,5 +121,16 @@ impl PlainTables {
         let key = insert_key(self.alloc, table.definition(), &row.borrowed())?;
         table.insert(key, row)?;
         self.put_table(table)
+    }
+
+    /// The rows, by OID and then by the bytes of their keys.
+    pub fn rows(&self) -> Result<Vec<DumpRow>, AllocError>
+        ensures { IfOk result (λ rows. rows.items ≡ dump self.now) }
+    {
+        let mut rows = Vec::new(self.alloc);
+        for (oid, table) in self.tables.iter() {
+            table.push_rows(*oid, &mut rows)?;
+        }
+        Ok(rows)
     }
 }
