@@ -3,3 +3,5 @@ pub mod DumpLines
 pub mod PlainMaps
 pub mod PlainApply
 pub mod PlainFold
+pub mod PlainItems
+pub mod PlainSteps

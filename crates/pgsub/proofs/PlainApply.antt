@@ -13,7 +13,7 @@ use Rattle.pgstore.specs.declared.op.Op.TheVariants.{Insert}
 use Rattle.pgstore.specs.Value.{Row, Rows, Table, Tables, identity_key}
 use Rattle.pgstore.specs.Apply.{apply, rows_after, found_rows, ◌>>=◌, in_store}
 use Rattle.pgsub.specs.Plain.{one_copy, insert_of, tables_by_oid}
-use Rattle.pgsub.proofs.PlainMaps.{insert-remove, get-tables_by_oid, tables_by_oid-removed}
+use Rattle.pgsub.proofs.PlainMaps.{insert-remove, get-numbered, numbered-removed}
 
 pub applied : (old : Tables) (def : RelationDef) (row : List Cell) (found : Rows) → found_rows (map.get old def.oid) def (Insert row) ≡ Ok found
     → checked_insert def row ≡ Ok tt → map.get found (identity_key def row) ≡ None
@@ -39,10 +39,10 @@ IsTakenFor old def new table =
 
 module _ (old new : BTreeMap ℕ Table) (now : Tables) (def : RelationDef) (seen : tables_by_oid old.entries ≡ now) (updates : Updates nat_cmp old new def.oid None) where
   stood : (found : Option Table) → found ≡ get_by (nat_cmp def.oid) old → map.get now def.oid ≡ found
-  stood found is = ap (λ (ts : Tables). map.get ts def.oid) (sym seen) ∙ get-tables_by_oid old.entries def.oid ∙ sym is
+  stood found is = ap (λ (ts : Tables). map.get ts def.oid) (sym seen) ∙ get-numbered old.entries def.oid ∙ sym is
 
   gone : tables_by_oid new.entries ≡ map.remove now def.oid
-  gone = tables_by_oid-removed old new def.oid updates ∙ ap (λ (ts : Tables). map.remove ts def.oid) seen
+  gone = numbered-removed old new def.oid updates ∙ ap (λ (ts : Tables). map.remove ts def.oid) seen
 
   pub taken_new : (found : Option Table) → found ≡ get_by (nat_cmp def.oid) old → found ≡ None → (table : Table) → table ≡ record { definition = def; rows = map.empty }
       → IsTakenFor now def (tables_by_oid new.entries) table

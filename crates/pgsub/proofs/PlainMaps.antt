@@ -91,29 +91,30 @@ is_none false n h =
 pub some_is : (o : Option Row) (row : Row) → o ≡ Some row → IsSome o
 some_is o row e = rw e refl
 
--- tables by OID
-find-table : (entries : List (ℕ × Table)) (oid : ℕ) → find nat_cmp oid entries ≡ lookup (is_at (nat_cmp oid)) entries
-find-table [] oid = refl
-find-table (e ∷ entries) oid = ap (cond (eq_by_cmp nat_cmp oid e.0) (Some e.1)) (find-table entries oid)
+-- what stands under numbers, as tables under their OIDs
+module _ {X : Type 0} where
+  find-numbered : (entries : List (ℕ × X)) (n : ℕ) → find nat_cmp n entries ≡ lookup (is_at (nat_cmp n)) entries
+  find-numbered [] n = refl
+  find-numbered (e ∷ entries) n = ap (cond (eq_by_cmp nat_cmp n e.0) (Some e.1)) (find-numbered entries n)
 
-pub get-tables_by_oid : (entries : List (ℕ × Table)) (oid : ℕ) → map.get (tables_by_oid entries) oid ≡ lookup (is_at (nat_cmp oid)) entries
-get-tables_by_oid entries oid = get-from_entries nat_cmp_total entries oid ∙ find-table entries oid
+  pub get-numbered : (entries : List (ℕ × X)) (n : ℕ) → map.get (map.from_entries {R = nat_cmp} entries) n ≡ lookup (is_at (nat_cmp n)) entries
+  get-numbered entries n = get-from_entries nat_cmp_total entries n ∙ find-numbered entries n
 
-module _ (old new : BTreeMap ℕ Table) (oid : ℕ) where
-  same_test : (q : ℕ) → eq_by_cmp nat_cmp oid q ≡ eq_by_cmp nat_cmp q oid
-  same_test q = (eq_by_cmp_equiv nat_cmp_total).symm oid q
+module _ {X : Type 0} (old new : BTreeMap ℕ X) (n : ℕ) where
+  same_test : (q : ℕ) → eq_by_cmp nat_cmp n q ≡ eq_by_cmp nat_cmp q n
+  same_test q = (eq_by_cmp_equiv nat_cmp_total).symm n q
 
-  pub tables_by_oid-inserted : (table : Table) → Updates nat_cmp old new oid (Some table) → tables_by_oid new.entries ≡ map.insert (tables_by_oid old.entries) oid table
-  tables_by_oid-inserted table updates = same_map nat_cmp_total nat_cmp-IsAntisymmetric _ _ (λ q.
-      get-tables_by_oid new.entries q ∙ updates.0 q ∙ ap (λ b. cond b (Some table) (lookup (is_at (nat_cmp q)) old.entries)) (same_test q)
-      ∙ ap (cond (eq_by_cmp nat_cmp q oid) (Some table)) (sym (get-tables_by_oid old.entries q))
-      ∙ sym (get-insert nat_cmp_total (tables_by_oid old.entries) oid table q))
+  pub numbered-inserted : (x : X) → Updates nat_cmp old new n (Some x) → map.from_entries {R = nat_cmp} new.entries ≡ map.insert (map.from_entries old.entries) n x
+  numbered-inserted x updates = same_map nat_cmp_total nat_cmp-IsAntisymmetric _ _ (λ q.
+      get-numbered new.entries q ∙ updates.0 q ∙ ap (λ b. cond b (Some x) (lookup (is_at (nat_cmp q)) old.entries)) (same_test q)
+      ∙ ap (cond (eq_by_cmp nat_cmp q n) (Some x)) (sym (get-numbered old.entries q))
+      ∙ sym (get-insert nat_cmp_total (map.from_entries old.entries) n x q))
 
-  pub tables_by_oid-removed : Updates nat_cmp old new oid None → tables_by_oid new.entries ≡ map.remove (tables_by_oid old.entries) oid
-  tables_by_oid-removed updates = same_map nat_cmp_total nat_cmp-IsAntisymmetric _ _ (λ q.
-      get-tables_by_oid new.entries q ∙ updates.0 q ∙ ap (λ b. cond b None (lookup (is_at (nat_cmp q)) old.entries)) (same_test q)
-      ∙ ap (cond (eq_by_cmp nat_cmp q oid) None) (sym (get-tables_by_oid old.entries q))
-      ∙ sym (get-remove nat_cmp_total (tables_by_oid old.entries) oid q))
+  pub numbered-removed : Updates nat_cmp old new n None → map.from_entries {R = nat_cmp} new.entries ≡ map.remove (map.from_entries old.entries) n
+  numbered-removed updates = same_map nat_cmp_total nat_cmp-IsAntisymmetric _ _ (λ q.
+      get-numbered new.entries q ∙ updates.0 q ∙ ap (λ b. cond b None (lookup (is_at (nat_cmp q)) old.entries)) (same_test q)
+      ∙ ap (cond (eq_by_cmp nat_cmp q n) None) (sym (get-numbered old.entries q))
+      ∙ sym (get-remove nat_cmp_total (map.from_entries old.entries) n q))
 
 -- what was taken out is put back
 pub insert-remove : (tables : Tables) (oid : ℕ) (table : Table) → map.insert (map.remove tables oid) oid table ≡ map.insert tables oid table

@@ -3,3 +3,4 @@ pub mod Refused
 pub mod DumpText
 pub mod Plain
 pub mod PlainStore
+pub mod PlainSession

@@ -3,8 +3,10 @@
 
 pub mod capture;
 pub mod dump;
+pub mod plain_session;
 pub mod plain_store;
 pub mod plain_table;
 pub mod plain_tables;
+pub mod relations;
 
 fn main() {}
