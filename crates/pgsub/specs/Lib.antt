@@ -4,3 +4,4 @@ pub mod DumpText
 pub mod Plain
 pub mod PlainStore
 pub mod PlainSession
+pub mod PlainFollow

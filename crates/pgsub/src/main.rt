@@ -8,5 +8,6 @@ pub mod plain_store;
 pub mod plain_table;
 pub mod plain_tables;
 pub mod relations;
+pub mod subscriber;
 
 fn main() {}

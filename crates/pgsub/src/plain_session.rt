@@ -2,7 +2,10 @@
 ghost use Rattle.std.specs.Prelude.{◌≡◌, List, [], ◌∷◌, OnOk, IfOk, Ok, Some, false};
 ghost use Rattle.pglogical.specs.declared.item.Item.{Item};
 ghost use Rattle.std.specs.FinMap as map;
+ghost use Rattle.pglogical.specs.declared.message.Message.{Message};
+ghost use Rattle.pglogical.specs.Reading.{message_at};
 ghost use Rattle.pglogical.specs.Spelling.{IsMessageFor};
+ghost use Rattle.pgorder.specs.States.{is_in_block};
 ghost use Rattle.pgorder.specs.Steps.{initial_order};
 ghost use Rattle.pgsub_core.specs.Described.{described_from};
 ghost use Rattle.pgsub_core.specs.Replica.{cached, all_cached, on_commit, Running};
@@ -208,13 +211,11 @@ impl PlainSession {
     pub fn take(&mut self, store: &mut PlainStore, message: Message) -> Result<(), Fault>
         requires version { self.old.order.version ≡ Version.One }
         requires given { IsMessageFor false message }
+        requires outside { is_in_block self.old.order.state.context ≡ false }
         ensures steps { OnOk result (Steps (state_of self.old.order.state self.old.items.items self.old.relations store.old) message (state_of self.new.order.state self.new.items.items self.new.relations store.new)) }
         ensures version { OnOk result (self.new.order.version ≡ Version.One) }
     {
         if !is_taken(&message) {
-            return Err(not_taken());
-        }
-        if self.order.in_block() {
             return Err(not_taken());
         }
         if let Err(fault) = self.order.step(&message) {
@@ -231,6 +232,30 @@ impl PlainSession {
                 commit(self.alloc, &mut self.relations, store, items, end)
             }
             _ => hold(&mut self.items, message),
+        }
+    }
+
+    /// Takes the next message of the session, as it is spelled.
+    pub fn take_body(
+        &mut self,
+        alloc: Global,
+        store: &mut PlainStore,
+        body: &[u8],
+    ) -> Result<(), Fault>
+        requires { self.old.order.version ≡ Version.One }
+        ensures steps { OnOk result ((m : Message) × (message_at (is_in_block self.old.order.state.context) body.now ≡ Ok m) × Steps (state_of self.old.order.state self.old.items.items self.old.relations store.old) m (state_of self.new.order.state self.new.items.items self.new.relations store.new)) }
+        ensures version { OnOk result (self.new.order.version ≡ Version.One) }
+    {
+        if self.order.in_block() {
+            return Err(not_taken());
+        }
+        match pglogical::decode(alloc, body, false) {
+            Ok(message) => self.take(store, message),
+            Err(DecodeFault {
+                reason: Reason::Memory,
+                ..
+            }) => Err(Fault::Memory),
+            Err(fault) => Err(Fault::Decode(fault)),
         }
     }
 }

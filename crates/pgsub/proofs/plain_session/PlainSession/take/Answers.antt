@@ -16,6 +16,6 @@ pub returns-in_default-message : goal.returns-in_default-message
 returns-in_default-message c = record {
   steps = and_ok c.hold.result _ _ c.hold.ensures (λ held.
       item_taken c.args.self.now.order.version c.args.self.now.order.state c.step.new.self.state c.in_default.field-0 c.args.message c.args.self.now.items.items c.hold.new.items.items c.args.self.now.relations c.args.store.now
-      c.requires.version c.in_default.ensures.taken (sym c.in_block.ensures ∙ c.if-in_block.false) held);
+      c.requires.version c.in_default.ensures.taken c.requires.outside held);
   version = and_ok c.hold.result _ _ c.hold.ensures (λ _. c.step.ensures.version ∙ c.requires.version);
 }

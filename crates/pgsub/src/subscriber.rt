@@ -1,0 +1,167 @@
+//! The plain core: a subscriber to whole transactions of Relations and Inserts, with its rows in memory.
+ghost use Rattle.std.specs.Prelude.{◌≡◌, ◌++◌, List, ℕ, [], OnOk, IfOk, IfSome, MatchOption, false};
+ghost use Rattle.std.specs.List.{flat_map};
+ghost use Rattle.pgorder.specs.declared.Version.TheVariants.{One};
+ghost use Rattle.pgwire.specs.Frames.{CopyData, IsAllowed, IsPartial, frame};
+ghost use Rattle.pgsub_core.specs.Stream.{Sent};
+ghost use Rattle.pgsub_core.specs.History.{Transaction, IsHistory};
+ghost use Rattle.pgsub_core.specs.Safe.{IsSafe};
+ghost use Rattle.pgsub_core.specs.Sessions.{AreSessions, reached_all};
+ghost use Rattle.pgsub_core.specs.Replica.{RelationCache};
+ghost use Rattle.pgstore.specs.Dump.{dump};
+ghost use Rattle.std.specs.FinMap as map;
+ghost use Rattle.pgsub.specs.PlainSession.{state_of, replica_of};
+ghost use Rattle.pgsub.specs.PlainFollow.{FrameSteps, IsFollowed, AreFollowed, all_bytes_of, progress_of};
+
+use crate::plain_session::PlainSession;
+use crate::plain_store::PlainStore;
+use pglsn::Lsn;
+use pgstore::{DumpRow, StoreFault};
+use pgsub_core::{Fault, Session};
+use pgtuple::Bytes;
+use pgwire::{Frame, ServerMsg, WireFault, decode_server, front};
+use std::alloc::{AllocError, Global};
+use std::marker::Model;
+
+/// A subscriber, seen as its rows and the position up to which they stand.
+#[derive(Drop)]
+pub struct Subscriber {
+    alloc: Global,
+    max_frame: u32,
+    store: PlainStore,
+}
+
+impl Model for Subscriber {
+    ghost use Rattle.pgstore.specs.Stored.{Stored};
+    ghost use Rattle.pgstore.specs.Codes.{stored_code};
+
+    ghost Value = { Stored };
+
+    ghost coded = { stored_code };
+
+    ghost view = { λ s. s.store };
+}
+
+/// The payload of the first frame and the bytes behind it, or None where less than a frame stands.
+fn next_payload(bytes: &[u8], max_frame: u32) -> Result<Option<(&[u8], &[u8])>, Fault>
+    ensures { IfOk result (λ found. MatchOption found (IsPartial max_frame bytes.now) (λ parts. IsAllowed max_frame (CopyData parts.0.now) × (bytes.now ≡ frame (CopyData parts.0.now) ++ parts.1.now))) }
+{
+    if bytes.first() == Some(&b'c') {
+        return Err(Fault::Wire(WireFault::UnknownFrame(b'c')));
+    }
+    match front(bytes, max_frame) {
+        Ok(None) => Ok(None),
+        Ok(Some((Frame::Data(payload), end))) => Ok(Some((payload, &bytes[end..]))),
+        Ok(Some((Frame::Done, _))) => Err(Fault::Wire(WireFault::UnknownFrame(b'c'))),
+        Err(fault) => Err(Fault::Wire(fault)),
+    }
+}
+
+/// Takes the message of a payload.
+fn take_payload(
+    alloc: Global,
+    session: &mut PlainSession,
+    store: &mut PlainStore,
+    payload: &[u8],
+) -> Result<(), Fault>
+    requires { session.old.order.version ≡ One }
+    ensures steps { OnOk result (FrameSteps (state_of session.old.order.state session.old.items.items session.old.relations store.old) (CopyData payload.now) (state_of session.new.order.state session.new.items.items session.new.relations store.new)) }
+    ensures version { OnOk result (session.new.order.version ≡ One) }
+{
+    let body = match decode_server(payload) {
+        Ok(ServerMsg::Data { body, .. }) => body,
+        Ok(ServerMsg::Keepalive { .. }) => {
+            return Err(Fault::Wire(WireFault::UnknownServerMessage(b'k')));
+        }
+        Err(fault) => return Err(Fault::Wire(fault)),
+    };
+    session.take_body(alloc, store, body)
+}
+
+/// A session's bytes, its pieces in one.
+fn joined(alloc: Global, pieces: &[Bytes]) -> Result<Vec<u8>, AllocError>
+    ensures { IfOk result (λ bytes. bytes.items ≡ flat_map (λ (piece : List ℕ). piece) pieces.now) }
+{
+    let mut bytes = Vec::new(alloc);
+    for piece in pieces {
+        bytes.extend_from_slice(piece.as_slice())?;
+    }
+    Ok(bytes)
+}
+
+/// Takes the frames of a session's bytes, from a disconnection on. A front of a frame at the end is no fault.
+fn follow_bytes(
+    alloc: Global,
+    max_frame: u32,
+    store: &mut PlainStore,
+    bytes: &[u8],
+) -> Result<(), Fault>
+    ensures { OnOk result ((relations : RelationCache) × IsFollowed (replica_of store.old map.empty) bytes.now (replica_of store.new relations)) }
+{
+    let mut session = PlainSession::new(alloc);
+    let mut rest = bytes;
+    while let Some((payload, behind)) = next_payload(rest, max_frame)? {
+        take_payload(alloc, &mut session, store, payload)?;
+        rest = behind;
+    }
+    Ok(())
+}
+
+impl Subscriber {
+    /// A subscriber with no rows, at position 0/0. It refuses a payload longer than `max_frame` bytes.
+    pub fn new(alloc: Global, max_frame: u32) -> Subscriber
+        ensures { result ≡ record { tables = map.empty; position = 0 } }
+    {
+        Subscriber {
+            alloc,
+            max_frame,
+            store: PlainStore::new(alloc),
+        }
+    }
+
+    pub fn position(&self) -> Lsn
+        ensures { result ≡ self.now.position }
+    {
+        self.store.position()
+    }
+
+    /// The rows, by OID and then by the bytes of their keys.
+    pub fn rows(&mut self) -> Result<Vec<DumpRow>, Fault>
+        ensures rows { IfOk result (λ rows. rows.items ≡ dump self.old.tables) }
+        ensures same { self.new ≡ self.old }
+    {
+        match self.store.rows() {
+            Ok(rows) => Ok(rows),
+            Err(StoreFault::Memory) => Err(Fault::Memory),
+            Err(fault) => Err(Fault::Store(fault)),
+        }
+    }
+
+    /// Follows one session.
+    fn follow_session(&mut self, session: &Session) -> Result<(), Fault>
+        ensures { OnOk result ((relations : RelationCache) × IsFollowed (replica_of self.old map.empty) (flat_map (λ (piece : List ℕ). piece) session.now.pieces) (replica_of self.new relations)) }
+    {
+        let Ok(bytes) = joined(self.alloc, session.pieces.as_slice()) else {
+            return Err(Fault::Memory);
+        };
+        follow_bytes(self.alloc, self.max_frame, &mut self.store, bytes.as_slice())
+    }
+}
+
+/// Follows sessions, each from a disconnection on. The first fault ends it.
+///
+/// Whole transactions, end to end: where it answers Ok to sessions that a well-formed server sends of its history, cut
+/// anywhere, the rows are those of all transactions up to the position, and the position is that of the latest commit
+/// that is complete in them.
+pub fn follow(subscriber: &mut Subscriber, sessions: &[Session]) -> Result<(), Fault>
+    ensures whole { OnOk result ((history : List Transaction) (all_complete : List (List Sent)) → IsHistory history
+        → IsSafe history subscriber.old.tables subscriber.old.position subscriber.old.position
+        → AreSessions One history (progress_of subscriber.old) (all_bytes_of sessions.now) all_complete
+        → IsSafe history subscriber.new.tables subscriber.new.position subscriber.new.position
+        × (subscriber.new.position ≡ (reached_all (progress_of subscriber.old) all_complete).position)) }
+{
+    for session in sessions {
+        subscriber.follow_session(session)?;
+    }
+    Ok(())
+}
