@@ -5,3 +5,4 @@ pub mod PlainApply
 pub mod PlainFold
 pub mod PlainItems
 pub mod PlainSteps
+pub mod PlainFrames

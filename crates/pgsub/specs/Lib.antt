@@ -5,3 +5,4 @@ pub mod Plain
 pub mod PlainStore
 pub mod PlainSession
 pub mod PlainFollow
+pub mod PlainRest

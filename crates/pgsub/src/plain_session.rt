@@ -1,5 +1,5 @@
 //! One session of the plain core: whole transactions of Relations and Inserts, message by message.
-ghost use Rattle.std.specs.Prelude.{◌≡◌, List, [], ◌∷◌, OnOk, IfOk, Ok, Some, false};
+ghost use Rattle.std.specs.Prelude.{◌≡◌, List, [], ◌∷◌, OnOk, IfOk, Ok, Some, false, IsTrue};
 ghost use Rattle.pglogical.specs.declared.item.Item.{Item};
 ghost use Rattle.std.specs.FinMap as map;
 ghost use Rattle.pglogical.specs.declared.message.Message.{Message};
@@ -53,10 +53,12 @@ fn is_text(row: &TupleRef<'_>) -> bool {
 }
 
 /// Whether the plain core takes the message: Begin, Commit, Relation, and Insert of text alone.
-fn is_taken(message: &Message) -> bool {
+fn is_taken(message: &Message) -> bool
+    ensures { IsTrue result → IsMessageFor false message.now }
+{
     match message {
         Message::Begin { .. } | Message::Commit { .. } => true,
-        Message::Item { item, .. } => match item {
+        Message::Item { xid: None, item } => match item {
             Item::Relation(_) => true,
             Item::Insert { row, .. } => is_text(&row.borrowed()),
             _ => false,
@@ -210,7 +212,6 @@ impl PlainSession {
     /// Takes the next message of the session.
     pub fn take(&mut self, store: &mut PlainStore, message: Message) -> Result<(), Fault>
         requires version { self.old.order.version ≡ Version.One }
-        requires given { IsMessageFor false message }
         requires outside { is_in_block self.old.order.state.context ≡ false }
         ensures steps { OnOk result (Steps (state_of self.old.order.state self.old.items.items self.old.relations store.old) message (state_of self.new.order.state self.new.items.items self.new.relations store.new)) }
         ensures version { OnOk result (self.new.order.version ≡ Version.One) }

@@ -1,0 +1,9 @@
+use Rattle.std.proofs.Common.{◌≡◌, ℕ, List, take}
+use Rattle.std.specs.FinMap as map
+use Rattle.pgsub_core.specs.Replica.{RelationCache}
+use Rattle.pgsub.specs.PlainSession.{replica_of}
+use Rattle.pgsub.specs.PlainFollow.{AreFollowed, all_bytes_of}
+use Rattle.pgsub.proofs.subscriber.follow.Given as goal
+
+abbrev pub invariant-loop-session : goal.invariant-loop-session
+invariant-loop-session l = (relations : RelationCache) × AreFollowed (replica_of l.initial.subscriber map.empty) (all_bytes_of (take l.session-index l.sessions)) (replica_of l.subscriber relations)
