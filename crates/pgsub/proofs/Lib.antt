@@ -6,3 +6,4 @@ pub mod PlainFold
 pub mod PlainItems
 pub mod PlainSteps
 pub mod PlainFrames
+pub mod PlainSessions
