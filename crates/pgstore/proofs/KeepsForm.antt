@@ -16,17 +16,14 @@ use Rattle.pgtuple.specs.declared.cell.Cell.{Cell}
 use Rattle.pglogical.specs.declared.item.RelationDef.{RelationDef}
 use Rattle.pglogical.specs.declared.item.OldKind.{OldKind}
 use Rattle.pgrel.specs.declared.fault.RelFault.{RelFault}
-use Rattle.pgrel.specs.Identity.{keyed, identity, shape, same_shape, has_unchanged, has_width, old_has_width, new_has_width, lacks_identity, resolved, searched_tuple, checked_insert, searched_identity}
+use Rattle.pgrel.specs.Identity.{keyed, shape, same_shape, has_unchanged, has_width, old_has_width, resolved, checked_insert, searched_identity}
 use Rattle.pgrel.proofs.Shapes.{shapes_decide, shape_gives_identity}
 use Rattle.pgrel.proofs.Rows.{resolved_width, resolved_whole}
 use Rattle.pgstore.specs.declared.op.Op.{Op}
 use Rattle.pgstore.specs.declared.op.Op.TheVariants.{Insert, Update, Delete, Truncate}
 use Rattle.pgstore.specs.declared.rows.StoreFault.{StoreFault}
-use Rattle.pgstore.specs.Value.{Row, Rows, Table, Tables, IsRow, IsTable, AreTables, identity_key, most_copies}
-use Rattle.pgstore.specs.Apply.{Change, ◌>>=◌, in_store, found_rows, added, with_row, without_row, updated, deleted, row_at, rows_after, apply, fold_changes}
-
-abbrev pub AreRows : RelationDef → Rows → Type 0
-AreRows def rows = (place : List ℕ) (row : Row) → map.get rows place ≡ Some row → IsRow def place row
+use Rattle.pgstore.specs.Value.{Row, Rows, Table, Tables, IsRow, AreRows, IsTable, AreTables, identity_key, most_copies}
+use Rattle.pgstore.specs.Apply.{Change, ◌>>=◌, in_store, found_rows, added, without_row, updated, deleted, row_at, rows_after, apply, fold_changes}
 
 -- ---- lookups
 
@@ -41,10 +38,10 @@ same_place a b e = slice_cmp-IsAntisymmetric nat_cmp-IsAntisymmetric a b (orderi
 pub same_number : (a b : ℕ) → eq_by_cmp nat_cmp a b ≡ true → a ≡ b
 same_number a b e = nat_cmp-IsAntisymmetric a b (ordering_equal _ e)
 
-same_some : {A : Type 0} {a b : A} → ◌≡◌ {A = Option A} (Some a) (Some b) → a ≡ b
+pub same_some : {A : Type 0} {a b : A} → ◌≡◌ {A = Option A} (Some a) (Some b) → a ≡ b
 same_some e = cc
 
-same_ok : {A E : Type 0} {a b : A} → ◌≡◌ {A = Result A E} (Ok a) (Ok b) → a ≡ b
+pub same_ok : {A E : Type 0} {a b : A} → ◌≡◌ {A = Result A E} (Ok a) (Ok b) → a ≡ b
 same_ok e = cc
 
 -- a check that went well
@@ -57,10 +54,10 @@ allowed true k y next e = (refl, e)
 allowed false k y next e = absurd (cc)
 
 module _ (def : RelationDef) where
-  no_rows : AreRows def map.empty
+  pub no_rows : AreRows def map.empty
   no_rows place row e = absurd (let none = sym (get-empty (slice_cmp nat_cmp) place) ∙ e in cc)
 
-  row_inserted : (rows : Rows) (place : List ℕ) (row : Row) → AreRows def rows → IsRow def place row → AreRows def (map.insert rows place row)
+  pub row_inserted : (rows : Rows) (place : List ℕ) (row : Row) → AreRows def rows → IsRow def place row → AreRows def (map.insert rows place row)
   row_inserted rows place row h one q r e =
       let at = sym (get-insert nat_list_cmp_total rows place row q) ∙ e in
       elim (cases_Bool (eq_by_cmp (slice_cmp nat_cmp) q place)) [
@@ -70,7 +67,7 @@ module _ (def : RelationDef) where
         | inr other ↦ h q r (sym (ap (λ b. cond b (Some row) (map.get rows q)) other) ∙ at)
       ]
 
-  row_removed : (rows : Rows) (place : List ℕ) → AreRows def rows → AreRows def (map.remove rows place)
+  pub row_removed : (rows : Rows) (place : List ℕ) → AreRows def rows → AreRows def (map.remove rows place)
   row_removed rows place h q r e =
       let at = sym (get-remove nat_list_cmp_total rows place q) ∙ e in
       elim (cases_Bool (eq_by_cmp (slice_cmp nat_cmp) q place)) [
@@ -79,11 +76,11 @@ module _ (def : RelationDef) where
       ]
 
   -- the row with the fields of a new one
-  new_row : (cells : List Cell) (copies : ℕ) → length cells ≡ length def.columns → has_unchanged cells ≡ false → 1 ≤ copies → copies ≤ (if keyed def then 1 else most_copies)
+  pub new_row : (cells : List Cell) (copies : ℕ) → length cells ≡ length def.columns → has_unchanged cells ≡ false → 1 ≤ copies → copies ≤ (if keyed def then 1 else most_copies)
       → IsRow def (identity_key def cells) (record { cells = cells; copies = copies })
   new_row cells copies w sent some few = record { width = w; known = refl; sent = sent; some = some; copies = few }
 
-  one_is_few : 1 ≤ (if keyed def then 1 else most_copies)
+  pub one_is_few : 1 ≤ (if keyed def then 1 else most_copies)
   one_is_few = elim (keyed def) as (λ b. 1 ≤ (if b then 1 else most_copies)) [ true ↦ omega arith | false ↦ omega arith ]
 
   row_added : (cells : List Cell) (rows next : Rows) (there : Option Row) → length cells ≡ length def.columns → has_unchanged cells ≡ false → AreRows def rows → added def cells rows there ≡ Ok next → AreRows def next
@@ -96,7 +93,7 @@ module _ (def : RelationDef) where
       let few : row.copies + 1 ≤ (if keyed def then 1 else most_copies) = rw bag.0 (omega arith) in
       subst (AreRows def) (same_ok below.1) (row_inserted rows (identity_key def cells) (record { cells = cells; copies = row.copies + 1 }) h (new_row cells (row.copies + 1) w sent (omega arith) few))
 
-  row_taken : (place : List ℕ) (row : Row) (rows : Rows) → AreRows def rows → map.get rows place ≡ Some row → AreRows def (without_row place row rows)
+  pub row_taken : (place : List ℕ) (row : Row) (rows : Rows) → AreRows def rows → map.get rows place ≡ Some row → AreRows def (without_row place row rows)
   row_taken place row rows h there = elim (nat_lt 1 row.copies) as (λ b. nat_lt 1 row.copies ≡ b → AreRows def (if b then map.insert rows place (record { cells = row.cells; copies = row.copies - 1 }) else map.remove rows place)) [
     | true ↦ λ e.
         let is = h place row there in
@@ -175,7 +172,7 @@ of_shape a b rows e h place row there =
       copies = subst (λ k. row.copies ≤ (if k then 1 else most_copies)) same.same_keyed is.copies;
     }
 
-found : (there : Option Table) (def : RelationDef) (op : Op) (rows : Rows) → ((table : Table) → there ≡ Some table → AreRows table.definition table.rows) → found_rows there def op ≡ Ok rows → AreRows def rows
+pub found : (there : Option Table) (def : RelationDef) (op : Op) (rows : Rows) → ((table : Table) → there ≡ Some table → AreRows table.definition table.rows) → found_rows there def op ≡ Ok rows → AreRows def rows
 found None def op rows h e = subst (AreRows def) (same_ok e) (no_rows def)
 found (Some table) def op rows h e = let ok = allowed (same_shape table.definition def || map.len table.rows == 0) _ _ rows e in elim (or_cases _ _ ok.0) [
   | inl same ↦ subst (AreRows def) (same_ok ok.1) (of_shape table.definition def table.rows same (h table refl))

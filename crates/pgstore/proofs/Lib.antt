@@ -1,4 +1,12 @@
 pub mod KeepsForm
+pub mod SpelledRows
+pub mod Acting
+pub mod Deciding
+pub mod Working
+pub mod ColumnSpellings
+pub mod Definitions
+pub mod Applying
+pub mod Committed
 mod Relations
 mod EffectRows
 mod WorkRows

@@ -1,16 +1,15 @@
 -- Changes of a store, one after the other: which definition a table gets, and when a change is refused for its shape.
 -- PostgreSQL documentation, Logical Replication; Logical Replication Message Formats, Relation and Truncate.
-use Rattle.std.proofs.Common.{◌≡◌, ◌∷◌, [], List, None, Ok, Err, refl}
+use Rattle.std.proofs.Common.{◌≡◌, ◌∷◌, [], None, Ok, Err, refl}
 use Rattle.std.specs.FinMap as map
 use Rattle.pgtuple.specs.Cells.{tuple_spelling}
 use Rattle.pglogical.specs.declared.item.RelationDef.{RelationDef}
-use Rattle.pglogical.specs.declared.item.OldKind.TheVariants.{Full}
 use Rattle.pgstore.specs.declared.op.Op.{Op}
 use Rattle.pgstore.specs.declared.op.Op.TheVariants as op
 use Rattle.pgstore.specs.declared.rows.StoreFault.TheVariants as fault
-use Rattle.pgstore.specs.Value.{Row, Tables}
+use Rattle.pgstore.specs.Value.{Tables}
 use Rattle.pgstore.specs.Apply.{Change, apply, fold_changes, rows_after}
-use Rattle.pgstore.proofs.Relations.{text, t, t3, renamed, w, f, x, place, row_of, rows_1, rows_x, table_t, tables_1, lookups}
+use Rattle.pgstore.proofs.Relations.{text, t, t3, renamed, w, place, rows_1, table_t, tables_1, lookups}
 
 abbrev change : RelationDef → Op → Change
 change def op = record { definition = def; op = op }

@@ -1,0 +1,175 @@
+-- What is done to the rows of one relation inside a transaction, in terms of the store's value.
+use Rattle.std.specs.Prelude.{◌≡◌, ◌⊎◌, ◌<◌, ◌≤◌, ◌+◌, ◌-◌, nat_lt, if◌then◌else◌, not, ◌==◌, Bool, List, ℕ, length, true, false, IsTrue, IfSome, slice_get, Option, Some, None, Result, Ok}
+use Rattle.std.specs.List.{list_all}
+use Rattle.std.specs.FinMap as map
+use Rattle.sqlite.specs.Store.{Ghosts}
+use Rattle.sqlite.specs.Held.{Held, state}
+use Rattle.pgtuple.specs.declared.cell.Cell.{Cell}
+use Rattle.pgtuple.specs.Cells.{tuple_spelling}
+use Rattle.pgtuple.specs.Limits.{IsTuple}
+use Rattle.pglogical.specs.declared.item.RelationDef.{RelationDef}
+use Rattle.pgrel.specs.Identity.{keyed, has_unchanged, resolved}
+use Rattle.pgtables.specs.Kept as stored
+use Rattle.pgtables.specs.Kept.{tables_of, IsUnderWay}
+use Rattle.pgstore.specs.declared.rows.StoreFault.{StoreFault}
+use Rattle.pgstore.specs.declared.rows.StoreFault.TheVariants.{Clash, TooManyCopies, Refused, Memory}
+use Rattle.pgstore.specs.Value.{Row, Rows, Tables, identity_key, most_copies}
+use Rattle.pglogical.specs.Spelling.{IsDefinition}
+use Rattle.pgstore.specs.declared.op.Op.{Op}
+use Rattle.pgstore.specs.Works.{change_value, change_values}
+use Rattle.pgstore.specs.Apply.{with_row, without_row, found_rows, apply, fold_changes}
+use Rattle.pgstore.specs.Stored.{IsFault}
+use Rattle.pgstore.specs.Spelled.{IsChanging, IsStored, spelled_row}
+
+-- the store's own cause or want of memory, which say nothing of the change
+abbrev pub IsOwnFault : StoreFault → Type 0
+IsOwnFault e = (e ≡ Memory) ⊎ (e ≡ Refused)
+
+-- the cells of a row that is new, with its spellings
+pub record IsNewRow (def : RelationDef) (cells : List Cell) (place body : List ℕ) : Type 0 where
+  pub place_is : place ≡ identity_key def cells
+  pub body_is : body ≡ tuple_spelling cells
+  pub tuple : IsTuple cells
+  pub width : length cells ≡ length def.columns
+  pub sent : has_unchanged cells ≡ false
+
+-- a row that was found at its place
+pub record IsFound (rows : Rows) (place : List ℕ) (there : stored.Copies) (was : Row) : Type 0 where
+  pub at : map.get rows place ≡ Some was
+  pub is : there ≡ spelled_row was
+
+-- whatever the rows were, they are those that the change makes of them
+abbrev pub MakesOf : Tables → RelationDef → Result Rows StoreFault → stored.Tables → Type 0
+MakesOf v def made t = (next : Rows) × (made ≡ Ok next) × IsChanging v def next t
+
+module _ {S : Type 0} (g : Ghosts S) (old new : Held S) where
+  -- a transaction goes on
+  pub record GoesOpen : Type 0 where
+    pub was_open : IsTrue (state g old).is_open
+    pub is_open : IsTrue (state g new).is_open
+    pub under_way : IsUnderWay g new
+
+  -- the rows of a relation are changed
+  abbrev pub Changes : RelationDef → (Rows → Result Rows StoreFault) → Type 0
+  Changes def change = GoesOpen × ((v : Tables) (rows : Rows) → IsChanging v def rows (tables_of g old) → MakesOf v def (change rows) (tables_of g new))
+
+-- the change is refused
+abbrev pub Refuses : {S : Type 0} → Ghosts S → Held S → RelationDef → (Rows → Result Rows StoreFault) → StoreFault → Type 0
+Refuses g old def change e = (v : Tables) (rows : Rows) → IsChanging v def rows (tables_of g old) → IsFault e (change rows)
+
+-- ---- steps on the tables of bytes
+
+-- a row goes; of several copies one
+abbrev pub taken_row : ℕ → List ℕ → stored.Copies → stored.Tables → stored.Tables
+taken_row oid place there t = if nat_lt 1 there.copies then stored.with_row oid place (record { body = there.body; copies = there.copies - 1 }) t else stored.without_row oid place t
+
+-- a copy more of a row of a bag
+pub record AddsCopy {S : Type 0} (g : Ghosts S) (def : RelationDef) (place body : List ℕ) (there : stored.Copies) (old new : Held S) : Type 0 where
+  pub bag : keyed def ≡ false
+  pub below : there.copies < most_copies
+  pub made : stored.Makes g (stored.with_row def.oid place (record { body = body; copies = there.copies + 1 })) old new
+
+abbrev pub RefusesCopy : RelationDef → stored.Copies → StoreFault → Type 0
+RefusesCopy def there fault = IsOwnFault fault ⊎ (((fault ≡ Clash) × (keyed def ≡ true)) ⊎ ((fault ≡ TooManyCopies) × (keyed def ≡ false) × (most_copies ≤ there.copies)))
+
+-- ---- a row comes
+
+abbrev pub Adds : {S : Type 0} → Ghosts S → Held S → Held S → RelationDef → List ℕ → List ℕ → Type 0
+Adds g old new def place body =
+    GoesOpen g old new × ((cells : List Cell) → IsNewRow def cells place body → (v : Tables) (rows : Rows) → IsChanging v def rows (tables_of g old) → MakesOf v def (with_row def cells rows) (tables_of g new))
+
+-- ---- a row that was found gets new cells
+
+-- a row with these cells stands in the place of the one that was found
+abbrev pub Moves : {S : Type 0} → Ghosts S → Held S → Held S → RelationDef → List ℕ → stored.Copies → List Cell → Type 0
+Moves g old new def place there cells =
+    GoesOpen g old new × ((v : Tables) (rows : Rows) (was : Row) → IsChanging v def rows (tables_of g old) → IsFound rows place there was → has_unchanged cells ≡ false
+    → MakesOf v def (with_row def cells (without_row place was rows)) (tables_of g new))
+
+abbrev pub RefusesToMove : {S : Type 0} → Ghosts S → Held S → RelationDef → List ℕ → stored.Copies → List Cell → StoreFault → Type 0
+RefusesToMove g old def place there cells e =
+    (v : Tables) (rows : Rows) (was : Row) → IsChanging v def rows (tables_of g old) → IsFound rows place there was → has_unchanged cells ≡ false → IsFault e (with_row def cells (without_row place was rows))
+
+-- a row whose missing cells are the found row's stands in its place
+abbrev pub Replaces : {S : Type 0} → Ghosts S → Held S → Held S → RelationDef → List ℕ → stored.Copies → List Cell → Type 0
+Replaces g old new def place there row =
+    GoesOpen g old new × ((v : Tables) (rows : Rows) (was : Row) → IsChanging v def rows (tables_of g old) → IsFound rows place there was
+    → MakesOf v def (with_row def (resolved row was.cells) (without_row place was rows)) (tables_of g new))
+
+abbrev pub RefusesToReplace : {S : Type 0} → Ghosts S → Held S → RelationDef → List ℕ → stored.Copies → List Cell → StoreFault → Type 0
+RefusesToReplace g old def place there row e =
+    (v : Tables) (rows : Rows) (was : Row) → IsChanging v def rows (tables_of g old) → IsFound rows place there was → IsFault e (with_row def (resolved row was.cells) (without_row place was rows))
+
+-- ---- a relation gets its definition
+
+-- a relation has this definition
+abbrev pub IsGiven : Tables → RelationDef → Type 0
+IsGiven v def = (rows : Rows) × (map.get v def.oid ≡ Some (record { definition = def; rows = rows }))
+
+abbrev pub Gives : {S : Type 0} → Ghosts S → Held S → Held S → RelationDef → Type 0
+Gives g old new def =
+    GoesOpen g old new × ((v : Tables) (op : Op) → IsStored v (tables_of g old) → (rows : Rows) × (found_rows (map.get v def.oid) def op ≡ Ok rows) × IsChanging v def rows (tables_of g new))
+
+abbrev pub RefusesToGive : {S : Type 0} → Ghosts S → Held S → RelationDef → StoreFault → Type 0
+RefusesToGive g old def e = (v : Tables) (op : Op) → IsStored v (tables_of g old) → IsFault e (found_rows (map.get v def.oid) def op)
+
+-- bytes without a zero byte
+abbrev pub is_text : List ℕ → Bool
+is_text bytes = list_all (λ b. not (b == 0)) bytes
+
+-- the rows that stand under the stored definition can stand under this one
+abbrev pub ShapeHolds : {S : Type 0} → Ghosts S → Held S → Held S → stored.Definition → RelationDef → Type 0
+ShapeHolds g old new there def =
+    (tables_of g new ≡ tables_of g old) × ((v : Tables) (op : Op) → IsStored v (tables_of g old) → map.get (tables_of g old).defined def.oid ≡ Some there → (rows : Rows) × (found_rows (map.get v def.oid) def op ≡ Ok rows))
+
+abbrev pub RefusesShape : {S : Type 0} → Ghosts S → Held S → stored.Definition → RelationDef → StoreFault → Type 0
+RefusesShape g old there def e = (v : Tables) (op : Op) → IsStored v (tables_of g old) → map.get (tables_of g old).defined def.oid ≡ Some there → IsFault e (found_rows (map.get v def.oid) def op)
+
+-- ---- one change
+
+abbrev pub AppliesOne : {S : Type 0} → Ghosts S → Held S → Held S → RelationDef → Bool → Op → Type 0
+AppliesOne g old new def given op =
+    GoesOpen g old new × ((v : Tables) → IsStored v (tables_of g old) → IsDefinition def → (given ≡ true → IsGiven v def)
+    → (next : Tables) × (apply v (record { definition = def; op = op }) ≡ Ok next) × IsStored next (tables_of g new) × IsGiven next def)
+
+abbrev pub RefusesOne : {S : Type 0} → Ghosts S → Held S → RelationDef → Bool → Op → StoreFault → Type 0
+RefusesOne g old def given op e = (v : Tables) → IsStored v (tables_of g old) → (given ≡ true → IsGiven v def) → IsFault e (apply v (record { definition = def; op = op }))
+
+-- ---- several changes
+
+-- the definition that the last change gave still stands
+abbrev pub LastGiven : List RelationDef → Option ℕ → Tables → Type 0
+LastGiven definitions None v = Unit {0}
+LastGiven definitions (Some k) v = IfSome (slice_get definitions k) (IsGiven v)
+
+abbrev pub Folds : {S : Type 0} → Ghosts S → Held S → Held S → List RelationDef → List (ℕ × Op) → Option ℕ → Type 0
+Folds g old new definitions changes last =
+    GoesOpen g old new × ((v : Tables) → IsStored v (tables_of g old)
+    → (next : Tables) × (fold_changes v (change_values definitions changes) ≡ Ok next) × IsStored next (tables_of g new) × LastGiven definitions last next)
+
+-- one change of several
+abbrev pub Steps : {S : Type 0} → Ghosts S → Held S → Held S → List RelationDef → Option ℕ → ℕ × Op → Option ℕ → Type 0
+Steps g old new definitions last entry next_last =
+    GoesOpen g old new × ((v : Tables) → IsStored v (tables_of g old) → LastGiven definitions last v
+    → (next : Tables) × (fold_changes v (change_value definitions entry) ≡ Ok next) × IsStored next (tables_of g new) × LastGiven definitions next_last next)
+
+abbrev pub RefusesToStep : {S : Type 0} → Ghosts S → Held S → List RelationDef → Option ℕ → ℕ × Op → StoreFault → Type 0
+RefusesToStep g old definitions last entry e = (v : Tables) → IsStored v (tables_of g old) → LastGiven definitions last v → IsFault e (fold_changes v (change_value definitions entry))
+
+-- what a loop over the changes keeps
+pub record FoldsOn {S : Type 0} (g : Ghosts S) (old new : Held S) (definitions : List RelationDef) (changes : List (ℕ × Op)) (last : Option ℕ) : Type 0 where
+  pub goes : stored.Goes g old new
+  pub made : stored.IfServing g new (Folds g old new definitions changes last)
+
+abbrev pub RefusesToFold : {S : Type 0} → Ghosts S → Held S → List RelationDef → List (ℕ × Op) → StoreFault → Type 0
+RefusesToFold g old definitions changes e = (v : Tables) → IsStored v (tables_of g old) → IsFault e (fold_changes v (change_values definitions changes))
+
+-- ---- a commit
+
+-- the changes were folded, with this position
+pub record HasTaken {S : Type 0} (g : Ghosts S) (old new : Held S) (definitions : List RelationDef) (changes : List (ℕ × Op)) (position : List ℕ) : Type 0 where
+  pub was_open : IsTrue (state g old).is_open
+  pub is_open : IsTrue (state g new).is_open
+  pub kept : stored.IsKept (state g new).now
+  pub position_is : (tables_of g new).place ≡ position
+  pub folds : (v : Tables) → IsStored v (tables_of g old) → (next : Tables) × (fold_changes v (change_values definitions changes) ≡ Ok next) × IsStored next (tables_of g new)

@@ -1,0 +1,247 @@
+//! What is done to the rows of one relation inside a transaction.
+//!
+//! PostgreSQL documentation, Logical Replication; ALTER TABLE, REPLICA IDENTITY.
+
+ghost use Rattle.std.specs.Prelude.{◌≡◌, false, List, length, OnOk, IfErr, Ok};
+ghost use Rattle.std.specs.FinMap.{empty};
+ghost use Rattle.sqlite.specs.Held.{state};
+ghost use Rattle.sqlite.specs.State.{HasCleanDisk};
+ghost use Rattle.pgtuple.specs.declared.cell.Cell.{Cell};
+ghost use Rattle.pgrel.specs.Identity.{has_unchanged, resolved};
+ghost use Rattle.pgtables.specs.Kept.{IfServing, IsUnderWay, Makes, Goes, tables_of};
+ghost use Rattle.pgstore.specs.declared.op.Op.TheVariants as op;
+ghost use Rattle.pgstore.specs.Value.{Row, Rows, Tables};
+ghost use Rattle.pgstore.specs.Apply.{with_row, without_row, rows_after};
+ghost use Rattle.pgstore.specs.Stored.{IsFault};
+ghost use Rattle.pgstore.specs.Spelled.{IsChanging};
+ghost use Rattle.pgstore.specs.Acts.{IsOwnFault, IsNewRow, Adds, Changes, Refuses, Moves, RefusesToMove, Replaces, RefusesToReplace, AddsCopy, RefusesCopy, taken_row};
+
+use crate::op::Op;
+use crate::rows::StoreFault;
+use crate::spelling::{lend_prior, read_tuple, spell, spell_identity, spell_searched};
+use pglogical::{OldKind, RelationDef};
+use pgrel::{check_insert, keyed, resolve};
+use pgtables::{StoredRow, delete_row, delete_rows, find_row, put_row};
+use pgtuple::TupleRef;
+use sqlite::{Alter, Transaction};
+use std::alloc::Global;
+
+/// The greatest number of copies of a row.
+const MOST_COPIES: u32 = 2147483647;
+
+/// A row goes; of several copies one.
+fn take_row<S: Alter>(
+    tx: &mut Transaction<'_, S>,
+    oid: u32,
+    place: &[u8],
+    row: &StoredRow,
+) -> Result<(), StoreFault>
+    requires { IfServing S.Store tx.old.conn.now (IsUnderWay S.Store tx.old.conn.now) }
+    ensures same_reference { tx.new.conn.ghost_name ≡ tx.old.conn.ghost_name }
+    ensures made { HasCleanDisk (state S.Store tx.new.conn.now) → OnOk result (Makes S.Store (taken_row oid place.now row.now) tx.old.conn.now tx.new.conn.now) }
+    ensures fault { IfErr result IsOwnFault }
+    ensures goes { Goes S.Store tx.old.conn.now tx.new.conn.now }
+{
+    let copies = row.copies();
+    if copies > 1 {
+        put_row(tx, oid, place, row.body(), copies - 1)?;
+    } else {
+        delete_row(tx, oid, place)?;
+    }
+    Ok(())
+}
+
+/// A copy more of a row that stands already, where the table is a bag.
+fn add_copy<S: Alter>(
+    tx: &mut Transaction<'_, S>,
+    def: &RelationDef,
+    place: &[u8],
+    body: &[u8],
+    there: &StoredRow,
+) -> Result<(), StoreFault>
+    requires { IfServing S.Store tx.old.conn.now (IsUnderWay S.Store tx.old.conn.now) }
+    ensures same_reference { tx.new.conn.ghost_name ≡ tx.old.conn.ghost_name }
+    ensures made { HasCleanDisk (state S.Store tx.new.conn.now) → OnOk result (AddsCopy S.Store def.now place.now body.now there.now tx.old.conn.now tx.new.conn.now) }
+    ensures fault { IfErr result (RefusesCopy def.now there.now) }
+    ensures goes { Goes S.Store tx.old.conn.now tx.new.conn.now }
+{
+    if keyed(def) {
+        return Err(StoreFault::Clash);
+    }
+    let copies = there.copies();
+    if copies >= MOST_COPIES {
+        return Err(StoreFault::TooManyCopies);
+    }
+    put_row(tx, def.oid, place, body, copies + 1)?;
+    Ok(())
+}
+
+/// A row comes, or one copy of it.
+fn add_row<S: Alter>(
+    tx: &mut Transaction<'_, S>,
+    def: &RelationDef,
+    place: &[u8],
+    body: &[u8],
+) -> Result<(), StoreFault>
+    requires { IfServing S.Store tx.old.conn.now (IsUnderWay S.Store tx.old.conn.now) }
+    ensures same_reference { tx.new.conn.ghost_name ≡ tx.old.conn.ghost_name }
+    ensures made { HasCleanDisk (state S.Store tx.new.conn.now) → OnOk result (Adds S.Store tx.old.conn.now tx.new.conn.now def.now place.now body.now) }
+    ensures fault { HasCleanDisk (state S.Store tx.new.conn.now) → IfErr result (λ fault. (cells : List Cell) → IsNewRow def.now cells place.now body.now → Refuses S.Store tx.old.conn.now def.now (with_row def.now cells) fault) }
+    ensures goes { Goes S.Store tx.old.conn.now tx.new.conn.now }
+{
+    match find_row(tx, def.oid, place)? {
+        None => {
+            put_row(tx, def.oid, place, body, 1)?;
+            Ok(())
+        }
+        Some(there) => add_copy(tx, def, place, body, &there),
+    }
+}
+
+/// A row stands in the place of the one that was found: that one goes, or one copy of it, and the new one comes.
+fn move_row<S: Alter>(
+    tx: &mut Transaction<'_, S>,
+    alloc: Global,
+    def: &RelationDef,
+    place: &[u8],
+    there: &StoredRow,
+    row: &TupleRef<'_>,
+) -> Result<(), StoreFault>
+    requires serving { IfServing S.Store tx.old.conn.now (IsUnderWay S.Store tx.old.conn.now) }
+    requires width { length row.now ≡ length def.now.columns }
+    ensures same_reference { tx.new.conn.ghost_name ≡ tx.old.conn.ghost_name }
+    ensures made { HasCleanDisk (state S.Store tx.new.conn.now) → OnOk result (Moves S.Store tx.old.conn.now tx.new.conn.now def.now place.now there.now row.now) }
+    ensures fault { HasCleanDisk (state S.Store tx.new.conn.now) → IfErr result (RefusesToMove S.Store tx.old.conn.now def.now place.now there.now row.now) }
+    ensures goes { Goes S.Store tx.old.conn.now tx.new.conn.now }
+{
+    let _width = row.width();
+    let next = spell_identity(alloc, def, row)?;
+    let body = spell(alloc, row)?;
+    if next.as_slice() == place {
+        put_row(tx, def.oid, place, body.as_slice(), there.copies())?;
+        return Ok(());
+    }
+    take_row(tx, def.oid, place, there)?;
+    add_row(tx, def, next.as_slice(), body.as_slice())
+}
+
+/// A row, its missing cells filled in from the one that was found, stands in that one's place.
+fn replace_row<S: Alter>(
+    tx: &mut Transaction<'_, S>,
+    alloc: Global,
+    def: &RelationDef,
+    place: &[u8],
+    there: &StoredRow,
+    row: &TupleRef<'_>,
+) -> Result<(), StoreFault>
+    requires serving { IfServing S.Store tx.old.conn.now (IsUnderWay S.Store tx.old.conn.now) }
+    requires width { length row.now ≡ length def.now.columns }
+    ensures same_reference { tx.new.conn.ghost_name ≡ tx.old.conn.ghost_name }
+    ensures made { HasCleanDisk (state S.Store tx.new.conn.now) → OnOk result (Replaces S.Store tx.old.conn.now tx.new.conn.now def.now place.now there.now row.now) }
+    ensures fault { HasCleanDisk (state S.Store tx.new.conn.now) → IfErr result (RefusesToReplace S.Store tx.old.conn.now def.now place.now there.now row.now) }
+    ensures goes { Goes S.Store tx.old.conn.now tx.new.conn.now }
+{
+    let was = read_tuple(alloc, there.body())?;
+    if was.width() != row.width() {
+        return Err(StoreFault::Refused);
+    }
+    let next = resolve(alloc, row, &was.borrowed())?;
+    move_row(tx, alloc, def, place, there, &next.borrowed())
+}
+
+/// An inserted row.
+fn insert<S: Alter>(
+    tx: &mut Transaction<'_, S>,
+    alloc: Global,
+    def: &RelationDef,
+    row: &TupleRef<'_>,
+) -> Result<(), StoreFault>
+    requires { IfServing S.Store tx.old.conn.now (IsUnderWay S.Store tx.old.conn.now) }
+    ensures same_reference { tx.new.conn.ghost_name ≡ tx.old.conn.ghost_name }
+    ensures made { HasCleanDisk (state S.Store tx.new.conn.now) → OnOk result (Changes S.Store tx.old.conn.now tx.new.conn.now def.now (rows_after def.now (op.Insert row.now))) }
+    ensures fault { HasCleanDisk (state S.Store tx.new.conn.now) → IfErr result (Refuses S.Store tx.old.conn.now def.now (rows_after def.now (op.Insert row.now))) }
+    ensures goes { Goes S.Store tx.old.conn.now tx.new.conn.now }
+{
+    check_insert(def, row)?;
+    let _width = row.width();
+    let place = spell_identity(alloc, def, row)?;
+    let body = spell(alloc, row)?;
+    add_row(tx, def, place.as_slice(), body.as_slice())
+}
+
+/// An updated row, which was sent with its old key or its whole old row where that is needed.
+fn update<S: Alter>(
+    tx: &mut Transaction<'_, S>,
+    alloc: Global,
+    def: &RelationDef,
+    prior: &Option<(OldKind, TupleRef<'_>)>,
+    row: &TupleRef<'_>,
+) -> Result<(), StoreFault>
+    requires { IfServing S.Store tx.old.conn.now (IsUnderWay S.Store tx.old.conn.now) }
+    ensures same_reference { tx.new.conn.ghost_name ≡ tx.old.conn.ghost_name }
+    ensures made { HasCleanDisk (state S.Store tx.new.conn.now) → OnOk result (Changes S.Store tx.old.conn.now tx.new.conn.now def.now (rows_after def.now (op.Update prior.now row.now))) }
+    ensures fault { HasCleanDisk (state S.Store tx.new.conn.now) → IfErr result (Refuses S.Store tx.old.conn.now def.now (rows_after def.now (op.Update prior.now row.now))) }
+    ensures goes { Goes S.Store tx.old.conn.now tx.new.conn.now }
+{
+    let spelled = spell_searched(alloc, def, lend_prior(prior), Some(row.lend()))?;
+    let place = spelled.as_slice();
+    match find_row(tx, def.oid, place)? {
+        None => Ok(()),
+        Some(there) => replace_row(tx, alloc, def, place, &there, row),
+    }
+}
+
+/// A deleted row, of which the key or the whole row was sent.
+fn delete<S: Alter>(
+    tx: &mut Transaction<'_, S>,
+    alloc: Global,
+    def: &RelationDef,
+    kind: OldKind,
+    row: &TupleRef<'_>,
+) -> Result<(), StoreFault>
+    requires { IfServing S.Store tx.old.conn.now (IsUnderWay S.Store tx.old.conn.now) }
+    ensures same_reference { tx.new.conn.ghost_name ≡ tx.old.conn.ghost_name }
+    ensures made { HasCleanDisk (state S.Store tx.new.conn.now) → OnOk result (Changes S.Store tx.old.conn.now tx.new.conn.now def.now (rows_after def.now (op.Delete kind row.now))) }
+    ensures fault { HasCleanDisk (state S.Store tx.new.conn.now) → IfErr result (Refuses S.Store tx.old.conn.now def.now (rows_after def.now (op.Delete kind row.now))) }
+    ensures goes { Goes S.Store tx.old.conn.now tx.new.conn.now }
+{
+    let spelled = spell_searched(alloc, def, Some((kind, row.lend())), None)?;
+    let place = spelled.as_slice();
+    match find_row(tx, def.oid, place)? {
+        None => Ok(()),
+        Some(there) => take_row(tx, def.oid, place, &there),
+    }
+}
+
+/// A truncated table.
+fn truncate<S: Alter>(tx: &mut Transaction<'_, S>, def: &RelationDef) -> Result<(), StoreFault>
+    requires { IfServing S.Store tx.old.conn.now (IsUnderWay S.Store tx.old.conn.now) }
+    ensures same_reference { tx.new.conn.ghost_name ≡ tx.old.conn.ghost_name }
+    ensures made { HasCleanDisk (state S.Store tx.new.conn.now) → OnOk result (Changes S.Store tx.old.conn.now tx.new.conn.now def.now (rows_after def.now op.Truncate)) }
+    ensures fault { HasCleanDisk (state S.Store tx.new.conn.now) → IfErr result (Refuses S.Store tx.old.conn.now def.now (rows_after def.now op.Truncate)) }
+    ensures goes { Goes S.Store tx.old.conn.now tx.new.conn.now }
+{
+    delete_rows(tx, def.oid)?;
+    Ok(())
+}
+
+/// What a change does to the rows of its relation, which has its definition already.
+pub(crate) fn change_rows<S: Alter>(
+    tx: &mut Transaction<'_, S>,
+    alloc: Global,
+    def: &RelationDef,
+    op: &Op<'_>,
+) -> Result<(), StoreFault>
+    requires { IfServing S.Store tx.old.conn.now (IsUnderWay S.Store tx.old.conn.now) }
+    ensures same_reference { tx.new.conn.ghost_name ≡ tx.old.conn.ghost_name }
+    ensures made { HasCleanDisk (state S.Store tx.new.conn.now) → OnOk result (Changes S.Store tx.old.conn.now tx.new.conn.now def.now (rows_after def.now op.now)) }
+    ensures fault { HasCleanDisk (state S.Store tx.new.conn.now) → IfErr result (Refuses S.Store tx.old.conn.now def.now (rows_after def.now op.now)) }
+    ensures goes { Goes S.Store tx.old.conn.now tx.new.conn.now }
+{
+    match op {
+        Op::Insert { row } => insert(tx, alloc, def, row),
+        Op::Update { prior, row } => update(tx, alloc, def, prior, row),
+        Op::Delete { kind, row } => delete(tx, alloc, def, *kind, row),
+        Op::Truncate => truncate(tx, def),
+    }
+}
