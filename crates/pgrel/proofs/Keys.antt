@@ -3,7 +3,7 @@ use Rattle.std.proofs.Common.{◌≡◌, ◌≤◌, ◌+◌, List, [], ◌∷◌
 use Rattle.std.specs.Prelude.{Bool, true, false, ◌&&◌, ◌||◌, ◌==◌, ◌↔◌, ◌⊎◌, IsTrue, count_by, if◌then◌else◌}
 use Rattle.std.specs.List.{list_any}
 use Rattle.std.specs.Cmp.{unsigned_Decides}
-use Rattle.std.proofs.lemmas.Bool.{and_parts, and_from}
+use Rattle.std.proofs.lemmas.Bool.{and_parts, and_from, or_cases}
 use Rattle.std.proofs.lemmas.List.Folds.{Any-from_list_any, list_any-from_Any}
 use Rattle.std.proofs.lemmas.List.Sums.{sum_by-append}
 use Rattle.pgtuple.specs.declared.cell.Cell.{Cell}
@@ -13,10 +13,6 @@ use Rattle.pgrel.specs.Identity.{keyed, IsKeyed, identity, identity_default, ide
 
 abbrev is_key : Column → Bool
 is_key c = c.key
-
-either : (x y : Bool) → IsTrue (x || y) → (x ≡ true) ⊎ (y ≡ true)
-either true y e = inl refl
-either false y e = inr e
 
 or_from : (x y : Bool) → (x ≡ true) ⊎ (y ≡ true) → IsTrue (x || y)
 or_from true y h = refl
@@ -36,7 +32,7 @@ keyed_means def =
     let test : Bool = def.letter == identity_default || def.letter == identity_index in (
       (λ e. let parts = and_parts test (list_any is_key def.columns) e in
           record {
-            by_key_or_index = letters def.letter (either (def.letter == identity_default) (def.letter == identity_index) parts.0);
+            by_key_or_index = letters def.letter (or_cases (def.letter == identity_default) (def.letter == identity_index) parts.0);
             has_key_column = Any-from_list_any is_key def.columns parts.1;
           }),
       (λ h. and_from test (list_any is_key def.columns) (or_from (def.letter == identity_default) (def.letter == identity_index) (letter_tests def.letter h.by_key_or_index)) (list_any-from_Any is_key def.columns h.has_key_column)),

@@ -1,13 +1,10 @@
 -- Rows whose missing cells are filled in from the old row.
 use Rattle.std.proofs.Common.{◌≡◌, List, [], ◌∷◌, length, ap, refl, arith}
 use Rattle.std.specs.Prelude.{Bool, true, false, ◌||◌, if◌then◌else◌}
+use Rattle.std.proofs.lemmas.Bool.{or_parts}
 use Rattle.pgtuple.specs.declared.cell.Cell.{Cell}
 use Rattle.pgtuple.specs.declared.cell.Cell.TheVariants.{Null, Unchanged, Text, Binary}
 use Rattle.pgrel.specs.Identity.{is_unchanged, has_unchanged, resolved}
-
-neither : (x y : Bool) → (x || y) ≡ false → (x ≡ false) × (y ≡ false)
-neither true y e = absurd (cc)
-neither false y e = (refl, e)
 
 pub resolved_width : (new old : List Cell) → length (resolved new old) ≡ length new
 resolved_width [] old = refl
@@ -25,7 +22,7 @@ pub resolved_whole : (new old : List Cell) → length new ≡ length old → has
 resolved_whole [] old w e = refl
 resolved_whole (cell ∷ cells) [] w e = absurd (omega arith)
 resolved_whole (cell ∷ cells) (old ∷ olds) w e =
-    let parts = neither (is_unchanged old) (has_unchanged olds) e in
+    let parts = or_parts (is_unchanged old) (has_unchanged olds) e in
     let here : is_unchanged (if is_unchanged cell then old else cell) ≡ false = filled cell old parts.0 in
     let rest : has_unchanged (resolved cells olds) ≡ false = resolved_whole cells olds (omega arith) parts.1 in
     λ i. here i || rest i
@@ -37,7 +34,7 @@ pub sent_stays : (new old : List Cell) → has_unchanged new ≡ false → resol
 sent_stays [] old e = refl
 sent_stays (cell ∷ cells) [] e = refl
 sent_stays (cell ∷ cells) (old ∷ olds) e =
-    let parts = neither (is_unchanged cell) (has_unchanged cells) e in
+    let parts = or_parts (is_unchanged cell) (has_unchanged cells) e in
     let here : (if is_unchanged cell then old else cell) ≡ cell = kept cell old parts.0 in
     let rest : resolved cells olds ≡ cells = sent_stays cells olds parts.1 in
     λ i. here i ∷ rest i
