@@ -310,6 +310,19 @@ fn one_cell(alloc: Global) -> Result<Item, AllocError>
     }
 }
 
+// Holds the item, once more where memory was refused, which changes nothing.
+fn hold_in_the_end<P: Spools>(rt: &impl Abort, spools: &mut P, xid: u32, label: u32, item: &Item)
+    requires { IsSpellable item.now }
+{
+    let bytes = spools.bytes();
+    let count = spools.count(xid);
+    if hold(rt, spools, xid, label, item) == Err(SpoolFault::Memory) {
+        assert_eq!(rt; spools.bytes(), bytes);
+        assert_eq!(rt; spools.count(xid), count);
+        assert_eq!(rt; hold(rt, spools, xid, label, item), Ok(()));
+    }
+}
+
 // Run it with each allocation failing in turn: a call that is refused changes nothing, and is answered when it comes once more.
 #[test]
 fn refused_memory_changes_nothing(rt: HostRuntime) -> Result<(), Fail> {
@@ -326,19 +339,13 @@ fn refused_memory_changes_nothing(rt: HostRuntime) -> Result<(), Fail> {
     }
     for round in 0..40u32 {
         for xid in 1..10u32 {
-            let bytes = spools.bytes();
-            let count = spools.count(xid);
-            if hold(&rt, &mut spools, xid, xid + round, &item) == Err(SpoolFault::Memory) {
-                assert_eq!(rt; spools.bytes(), bytes);
-                assert_eq!(rt; spools.count(xid), count);
-                assert_eq!(rt; hold(&rt, &mut spools, xid, xid + round, &item), Ok(()));
-            }
+            hold_in_the_end(&rt, &mut spools, xid, xid + round, &item);
         }
     }
     assert_eq!(rt; spools.bytes(), 40 * 9 * 22);
     for xid in 1..10u32 {
         spools.cut(xid, xid + 3);
-        assert_eq!(rt; hold(&rt, &mut spools, xid, xid + 3, &item), Ok(()));
+        hold_in_the_end(&rt, &mut spools, xid, xid + 3, &item);
         spools.cut(xid, xid + 3);
         assert_eq!(rt; spools.count(xid), 3);
     }
