@@ -3,6 +3,7 @@
 
 mod copying;
 mod decoding;
+mod encoding;
 pub mod fault;
 pub mod item;
 pub mod laws;
@@ -13,8 +14,12 @@ mod spellable;
 mod spelled;
 
 pub use decoding::{decode, decode_columns};
+pub use encoding::{encode_columns, encode_item};
 pub use fault::{DecodeFault, Reason};
 pub use item::{Column, Item, OldKind, RelationDef};
 pub use lent::ItemRef;
 pub use message::Message;
 pub use spelled::spelled_len;
+
+#[cfg(test)]
+mod tests;
