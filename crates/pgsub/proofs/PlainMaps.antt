@@ -42,7 +42,7 @@ put_key : (entries : List (Key × Row)) (key : Key) (row : Row) → mapped (λ e
 put_key [] key row = refl
 put_key (e ∷ entries) key row =
     elim (bytes_cmp key.items e.0.items) as (λ r. mapped (λ e. (e.0.items, e.1)) (match_ordering r ((key, row) ∷ e ∷ entries) ((e.0, row) ∷ entries) (e ∷ insert_entry key_cmp entries key row))
-        ≡ by_order r ((key.items, row) ∷ (e.0.items, e.1) ∷ mapped (λ e. (e.0.items, e.1)) entries) ((e.0.items, row) ∷ mapped (λ e. (e.0.items, e.1)) entries) ((e.0.items, e.1) ∷ put bytes_cmp key.items row (mapped (λ e. (e.0.items, e.1)) entries))) [
+    ≡ by_order r ((key.items, row) ∷ (e.0.items, e.1) ∷ mapped (λ e. (e.0.items, e.1)) entries) ((e.0.items, row) ∷ mapped (λ e. (e.0.items, e.1)) entries) ((e.0.items, e.1) ∷ put bytes_cmp key.items row (mapped (λ e. (e.0.items, e.1)) entries))) [
       | Less ↦ refl
       | Equal ↦ refl
       | Greater ↦ ap (λ rest. (e.0.items, e.1) ∷ rest) (put_key entries key row)
@@ -52,8 +52,8 @@ put_key (e ∷ entries) key row =
 pub rows_by_key-insert : (old new : List (Key × Row)) (key : Key) (row : Row) → new ≡ insert_entry key_cmp old key row → rows_by_key new ≡ map.insert (rows_by_key old) key.items row
 rows_by_key-insert old new key row e =
     same_map nat_list_cmp_total (slice_cmp-IsAntisymmetric nat_cmp-IsAntisymmetric) _ _ (λ q.
-        get-from_entries nat_list_cmp_total _ q ∙ ap (find bytes_cmp q) (ap (mapped (λ e. (e.0.items, e.1))) e ∙ put_key old key row) ∙ find-put bytes_cmp nat_list_cmp_total q key.items row _
-        ∙ sym (get-insert nat_list_cmp_total (rows_by_key old) key.items row q ∙ ap (cond (eq_by_cmp bytes_cmp q key.items) (Some row)) (get-from_entries nat_list_cmp_total _ q)))
+    get-from_entries nat_list_cmp_total _ q ∙ ap (find bytes_cmp q) (ap (mapped (λ e. (e.0.items, e.1))) e ∙ put_key old key row) ∙ find-put bytes_cmp nat_list_cmp_total q key.items row _
+    ∙ sym (get-insert nat_list_cmp_total (rows_by_key old) key.items row q ∙ ap (cond (eq_by_cmp bytes_cmp q key.items) (Some row)) (get-from_entries nat_list_cmp_total _ q)))
 
 same_bytes : (key : List ℕ) → eq_by_cmp bytes_cmp key key ≡ true
 same_bytes key = (eq_by_cmp_equiv nat_list_cmp_total).refl key

@@ -36,14 +36,17 @@ use Rattle.pgsub_core.proofs.SessionFrames.{session_frames, fits_split}
 use Rattle.pgsub_core.proofs.Steps.{order_of}
 use Rattle.pgsub.specs.PlainSession.{Steps, replica_of}
 use Rattle.pgsub.specs.PlainFollow.{FrameSteps, FramesStep, IsFollowed, AreFollowed, bytes_of, all_bytes_of, progress_of}
+
 reads : (in_block : Bool) (m : Message) → IsWireMessage m → IsMessageFor in_block m → message_at in_block (message_spelling m) ≡ Ok m
 reads in_block m wire here = message_reads in_block (message_spelling m) ∙ spells_read (message_layout in_block) 0 (message_spelling m) m (message_spells in_block m wire here)
+
 -- behind a message that is applied, the next one stands inside a block exactly if this says so
 block_behind : (clock : ℤ) (old new : ApplyState) (m : Message) → Steps old m new → is_in_block new.order.context ≡ in_block_after (is_in_block old.order.context) m
 block_behind clock old new m steps =
     let ordered = order_of One old new m (order_step One old.order m) (steps 0 0 clock) in
     let leaves : Leaves (in_block_after (is_in_block old.order.context) m) (order_step One old.order m) = step_leaves old.order.open_xids One old.order.context m in
     subst (Leaves (in_block_after (is_in_block old.order.context) m)) ordered.1 leaves
+
 one_data : (start end : ℕ) (clock : ℤ) (m : Message) (old new : ApplyState) → IsWireSent (Data start end clock m) → IsMessageFor (is_in_block old.order.context) m
     → FrameSteps old (CopyData (payload (server_message (Data start end clock m)))) new → Steps old m new
 one_data start end clock m old new fits for h =
@@ -52,12 +55,14 @@ one_data start end clock m old new fits for h =
     let body_is : message_spelling m ≡ body = cc in
     let m_is : m ≡ n = let one : message_at (is_in_block old.order.context) body ≡ Ok m = subst (λ (b : List ℕ). message_at (is_in_block old.order.context) b ≡ Ok m) body_is (reads (is_in_block old.order.context) m fits.3 for) in cc in
     subst (λ (k : Message). Steps old k new) (sym m_is) (λ s e c. steps)
+
 -- keepalives are refused
 no_keepalive : {A : Type 0} (end : ℕ) (clock : ℤ) (asks : Bool) (old new : ApplyState) → IsWireSent (Keepalive end clock asks) → FrameSteps old (CopyData (payload (server_message (Keepalive end clock asks)))) new → A
 no_keepalive end clock asks old new fits h =
     let again = payload_again (server_message (Keepalive end clock asks)) fits in
     let is = h.4 in
     absurd (cc)
+
 pub framed_run : (sent : List Sent) (old new : ApplyState) → AllByRecursion IsWireSent sent → AreMessagesFor (is_in_block old.order.context) (messages_in sent)
     → FramesStep old (frames_of sent) new → run One old sent ≡ Running new
 framed_run [] old new fits for h = ap Running h
@@ -66,10 +71,12 @@ framed_run (Data start end clock m ∷ sent) old new fits for h =
     ap (λ (o : Outcome ApplyState Halt). then_run o (λ next. run One next sent)) (steps start end clock)
     ∙ framed_run sent h.0 new fits.1 (subst (λ b. AreMessagesFor b (messages_in sent)) (sym (block_behind clock old h.0 m steps)) for.1) h.2
 framed_run (Keepalive end clock asks ∷ sent) old new fits for h = no_keepalive end clock asks old h.0 fits.0 h.1
+
 -- CopyDone is refused
 no_done : (fs : List Frame) (old new : ApplyState) → FramesStep old (fs ++ CopyDone ∷ []) new → {A : Type 0} → A
 no_done [] old new h = absurd h.1
 no_done (f ∷ fs) old new h = no_done fs h.0 new h.2
+
 pub session_followed : (history : List Transaction) (s : ℕ) (bytes : List ℕ) (complete : List Sent) (old new : Replica) → IsSession One history s bytes complete → IsFollowed old bytes new
     → replica_outcome (run One (at_session old) complete) ≡ Running new
 session_followed history s bytes complete old new session so =
@@ -77,10 +84,11 @@ session_followed history s bytes complete old new session so =
     let fits = fits_split complete session.later (subst (AllByRecursion IsWireSent) session.parts session.fits) in
     let frames = session_frames One history s so.max bytes complete so.fs so.rest session so.deframed in
     let steps : FramesStep (at_session old) (frames_of complete) so.state = elim frames.last [
-        | inl none ↦ subst (λ (fs : List Frame). FramesStep (at_session old) fs so.state) (frames.same ∙ ap (λ (d : List Frame). frames_of complete ++ d) none ∙ append-nil (frames_of complete)) so.steps
-        | inr done ↦ no_done (frames_of complete) (at_session old) so.state (subst (λ (fs : List Frame). FramesStep (at_session old) fs so.state) (frames.same ∙ ap (λ (d : List Frame). frames_of complete ++ d) done) so.steps)
+      | inl none ↦ subst (λ (fs : List Frame). FramesStep (at_session old) fs so.state) (frames.same ∙ ap (λ (d : List Frame). frames_of complete ++ d) none ∙ append-nil (frames_of complete)) so.steps
+      | inr done ↦ no_done (frames_of complete) (at_session old) so.state (subst (λ (fs : List Frame). FramesStep (at_session old) fs so.state) (frames.same ∙ ap (λ (d : List Frame). frames_of complete ++ d) done) so.steps)
     ] in
     ap replica_outcome (framed_run complete (at_session old) so.state fits.0 (shaped_for One (messages_in complete) front.shaped) steps) ∙ ap Running so.leaves
+
 pub sessions_followed : (history : List Transaction) (p : Progress) (sessions : List (List ℕ)) (all_complete : List (List Sent)) (old new : Replica) → AreSessions One history p sessions all_complete
     → AreFollowed old sessions new → follow_all One old all_complete ≡ Running new
 sessions_followed history p [] [] old new are so = ap Running so
@@ -89,19 +97,23 @@ sessions_followed history p (bytes ∷ sessions) [] old new are so = absurd are
 sessions_followed history p (bytes ∷ sessions) (complete ∷ all_complete) old new are so =
     ap (λ (o : Outcome Replica Halt). then_run o (λ next. follow_all One next all_complete)) (session_followed history are.0.0 bytes complete old so.0 are.0.2 so.1)
     ∙ sessions_followed history (reached (disconnected p) [] complete) sessions all_complete so.0 new are.1 so.2
+
 -- one session more
 pub followed_more : (sessions : List (List ℕ)) (bytes : List ℕ) (old mid new : Replica) → AreFollowed old sessions mid → IsFollowed mid bytes new → AreFollowed old (sessions ++ bytes ∷ []) new
 followed_more [] bytes old mid new e so = subst (λ (r : Replica). AreFollowed r (bytes ∷ []) new) (sym e) (new, so, refl)
 followed_more (b ∷ sessions) bytes old mid new h so = (h.0, h.1, followed_more sessions bytes h.0 mid new h.2 so)
+
 -- a session starts with no relation known
 pub followed_anew : (stored : Stored) (a b : RelationCache) (bytes : List ℕ) (new : Replica) → IsFollowed (replica_of stored a) bytes new → IsFollowed (replica_of stored b) bytes new
 followed_anew stored a b bytes new so = record { max = so.max; fs = so.fs; rest = so.rest; deframed = so.deframed; state = so.state; steps = so.steps; leaves = so.leaves }
+
 pub followed_next : (sessions : List Session) (i : ℕ) (session : Session) → i < length sessions → session ≡ get_or sessions i session → (old mid new : Replica)
     → AreFollowed old (all_bytes_of (take i sessions)) mid → IsFollowed mid (bytes_of session) new → AreFollowed old (all_bytes_of (take (i + 1) sessions)) new
 followed_next sessions i session lt is old mid new so one =
     let more : all_bytes_of (take (i + 1) sessions) ≡ all_bytes_of (take i sessions) ++ bytes_of session ∷ [] =
-        ap all_bytes_of (take_more sessions i session lt ∙ ap (λ (x : Session). take i sessions ++ x ∷ []) (sym is)) ∙ map-append bytes_of (take i sessions) (session ∷ []) in
+    ap all_bytes_of (take_more sessions i session lt ∙ ap (λ (x : Session). take i sessions ++ x ∷ []) (sym is)) ∙ map-append bytes_of (take i sessions) (session ∷ []) in
     subst (λ (all : List (List ℕ)). AreFollowed old all new) (sym more) (followed_more (all_bytes_of (take i sessions)) (bytes_of session) old mid new so one)
+
 pub whole_sessions : (old new : Stored) (relations : RelationCache) (sessions : List (List ℕ)) → AreFollowed (replica_of old map.empty) sessions (replica_of new relations)
     → (history : List Transaction) (all_complete : List (List Sent)) → IsHistory history → IsSafe history old.tables old.position old.position
     → AreSessions One history (progress_of old) sessions all_complete

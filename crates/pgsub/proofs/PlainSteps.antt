@@ -79,7 +79,7 @@ module _ (opens : OpenXids) (relations : RelationCache) (stored : Stored) (new :
       → Steps (state_of (at context) items relations stored) (message.Begin lsn time xid) (state_of new [] relations stored)
   begin_steps Outside items lsn time xid h =
       elim (is_open xid opens) as (λ b. cond {A = StepResult} b (Err fault.NestedBegin) (Ok (at (InPair lsn xid), event.Begin xid)) ≡ Ok (new, e)
-          → (start end : ℕ) (clock : ℤ) → on_message (state_of (at Outside) items relations stored) (message.Begin lsn time xid) (cond {A = StepResult} b (Err fault.NestedBegin) (Ok (at (InPair lsn xid), event.Begin xid))) ≡ Running (state_of new [] relations stored)) [
+      → (start end : ℕ) (clock : ℤ) → on_message (state_of (at Outside) items relations stored) (message.Begin lsn time xid) (cond {A = StepResult} b (Err fault.NestedBegin) (Ok (at (InPair lsn xid), event.Begin xid))) ≡ Running (state_of new [] relations stored)) [
         | true ↦ λ h'. refused fault.NestedBegin new e h'
         | false ↦ λ h' start end clock. let same : at (InPair lsn xid) ≡ new = same_order _ _ _ _ h' in subst (λ (o : OrderState). on_message (state_of (at Outside) items relations stored) (message.Begin lsn time xid) (Ok (at (InPair lsn xid), event.Begin xid)) ≡ Running (state_of o [] relations stored)) same refl
       ] h
@@ -109,7 +109,7 @@ module _ (opens : OpenXids) (relations : RelationCache) (stored : Stored) (new :
   commit_steps (InBlock xid) items lsn end time stored' relations' h is = absurd (cc)
   commit_steps (InPair final xid) items lsn end time stored' relations' h is =
       elim (lsn == final) as (λ b. cond {A = StepResult} b (Ok (at Outside, event.CommitPair xid lsn end)) (Err fault.CommitLsnDiffers) ≡ Ok (new, e)
-          → (s f : ℕ) (clock : ℤ) → on_message (state_of (at (InPair final xid)) items relations stored) (message.Commit lsn end time) (cond {A = StepResult} b (Ok (at Outside, event.CommitPair xid lsn end)) (Err fault.CommitLsnDiffers)) ≡ Running (state_of new [] relations' stored')) [
+      → (s f : ℕ) (clock : ℤ) → on_message (state_of (at (InPair final xid)) items relations stored) (message.Commit lsn end time) (cond {A = StepResult} b (Ok (at Outside, event.CommitPair xid lsn end)) (Err fault.CommitLsnDiffers)) ≡ Running (state_of new [] relations' stored')) [
         | true ↦ λ so s f clock. let same : at Outside ≡ new = same_order _ _ _ _ so in
             subst (λ (o : OrderState). on_message (state_of (at (InPair final xid)) items relations stored) (message.Commit lsn end time) (Ok (at Outside, event.CommitPair xid lsn end)) ≡ Running (state_of o [] relations' stored')) same
             (after_commit final xid items (replica_of stored' relations') (on_commit (replica_of stored relations) end (items_of (held_of (map.insert map.empty xid (labelled xid items)) xid)))

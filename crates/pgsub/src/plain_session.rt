@@ -252,10 +252,12 @@ impl PlainSession {
         }
         match pglogical::decode(alloc, body, false) {
             Ok(message) => self.take(store, message),
-            Err(DecodeFault {
-                reason: Reason::Memory,
-                ..
-            }) => Err(Fault::Memory),
+            Err(
+                DecodeFault {
+                    reason: Reason::Memory,
+                    ..
+                },
+            ) => Err(Fault::Memory),
             Err(fault) => Err(Fault::Decode(fault)),
         }
     }

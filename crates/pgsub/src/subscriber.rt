@@ -144,7 +144,12 @@ impl Subscriber {
         let Ok(bytes) = joined(self.alloc, session.pieces.as_slice()) else {
             return Err(Fault::Memory);
         };
-        follow_bytes(self.alloc, self.max_frame, &mut self.store, bytes.as_slice())
+        follow_bytes(
+            self.alloc,
+            self.max_frame,
+            &mut self.store,
+            bytes.as_slice(),
+        )
     }
 }
 

@@ -12,9 +12,9 @@ loop-item-preserved c =
     let left = into_iter_items c.next.new.self in
     let first = c.in-Some.ensures.steps.0 in (
       c.in_ok-describe_item.ensures.changes left
-      ∙ ap (λ (items : List Item). behind_changes (changes_of c.loop-item.inserts.items) (described_from (known_to c.loop-item.relations) items)) (sym first)
-      ∙ c.loop-item.invariant.0,
+          ∙ ap (λ (items : List Item). behind_changes (changes_of c.loop-item.inserts.items) (described_from (known_to c.loop-item.relations) items)) (sym first)
+          ∙ c.loop-item.invariant.0,
       ap (λ (relations : RelationCache). all_cached relations left) c.in_ok-describe_item.ensures.cached
-      ∙ ap (all_cached c.loop-item.relations) (sym first)
-      ∙ c.loop-item.invariant.1,
+          ∙ ap (all_cached c.loop-item.relations) (sym first)
+          ∙ c.loop-item.invariant.1,
     )

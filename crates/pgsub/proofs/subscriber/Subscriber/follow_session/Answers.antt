@@ -10,7 +10,9 @@ use Rattle.pgsub.proofs.subscriber.Subscriber.follow_session.Goals as goal
 pub returns : goal.returns
 returns c = and_ok c.follow_bytes.result _ _ c.follow_bytes.ensures (λ taken.
     let same : c.as_slice-2.result.now ≡ flat_map (λ (piece : List ℕ). piece) c.args.session.now.pieces =
-        c.as_slice-2.ensures.value ∙ c.in-Ok.ensures ∙ ap (λ (pieces : List (List ℕ)). flat_map (λ (piece : List ℕ). piece) pieces) c.as_slice.ensures in
-    let view : c.self.inside.store ≡ c.args.self.now = c.self.view_is in
-    (taken.0, subst (λ (bytes : List ℕ). IsFollowed (replica_of c.args.self.now map.empty) bytes (replica_of c.follow_bytes.new.store taken.0)) same
-        (subst (λ (s : Stored). IsFollowed (replica_of s map.empty) c.as_slice-2.result.now (replica_of c.follow_bytes.new.store taken.0)) view taken.1)))
+    c.as_slice-2.ensures.value ∙ c.in-Ok.ensures ∙ ap (λ (pieces : List (List ℕ)). flat_map (λ (piece : List ℕ). piece) pieces) c.as_slice.ensures in
+    let view : c.self.inside.store ≡ c.args.self.now = c.self.view_is in (
+      taken.0,
+      subst (λ (bytes : List ℕ). IsFollowed (replica_of c.args.self.now map.empty) bytes (replica_of c.follow_bytes.new.store taken.0)) same
+          (subst (λ (s : Stored). IsFollowed (replica_of s map.empty) c.as_slice-2.result.now (replica_of c.follow_bytes.new.store taken.0)) view taken.1),
+    ))

@@ -1,0 +1,143 @@
+//! Runs a task over readers and writers.
+ghost use Rattle.std.specs.Prelude.{◌≤◌};
+
+use crate::capture::{CaptureFault, read_capture};
+use crate::dump::dump_text;
+use crate::fault_text::FaultText;
+use crate::subscriber::{Subscriber, follow};
+use pgsub_core::Fault;
+use std::alloc::Global;
+use std::io::{ErrorKind, Read, Write};
+
+/// The longest payload of a frame that is taken, in bytes.
+const MAX_FRAME: u32 = 16777216;
+
+/// The longest capture text that is taken, in bytes.
+const MAX_TEXT: usize = 67108864;
+
+/// What the program is asked for.
+#[derive(Drop)]
+pub enum Task {
+    /// Apply the sessions of a capture text, and print the rows that they leave and their position.
+    Apply { file: String },
+}
+
+/// Why a run stopped.
+#[derive(Clone, Copy, Debug, PartialEq, Eq)]
+pub enum RunFault {
+    /// Following refused the stream, or memory has run out.
+    Stream(Fault),
+    /// The line of the capture text with this number is not hexadecimal.
+    NotHexadecimal(usize),
+    /// The capture text is above the limit.
+    TooLong,
+    /// The file can't be opened or read.
+    CannotRead,
+    /// The output can't be written.
+    CannotWrite,
+}
+
+impl RunFault {
+    /// The exit status: 1 for a refused stream and want of memory, 3 for a fault of a file.
+    pub fn status(self) -> u8
+        ensures { result ≤ 3 }
+    {
+        match self {
+            RunFault::Stream(_) => 1,
+            _ => 3,
+        }
+    }
+}
+
+/// The bytes of a capture text. Not more than one byte behind the limit is read.
+fn read_text<R: Read + Drop>(alloc: Global, file: Option<R>) -> Result<Vec<u8>, RunFault> {
+    let Some(reader) = file else {
+        return Err(RunFault::CannotRead);
+    };
+    let mut text = Vec::new(alloc);
+    match reader.take(MAX_TEXT as u64 + 1).read_to_end(&mut text) {
+        Ok(_) if text.len() > MAX_TEXT => Err(RunFault::TooLong),
+        Ok(_) => Ok(text),
+        Err(error) if error.kind() == ErrorKind::OutOfMemory => Err(RunFault::Stream(
+            Fault::Memory,
+        )),
+        Err(_) => Err(RunFault::CannotRead),
+    }
+}
+
+/// Writes the rows and the position.
+fn print_rows<W: Write>(
+    alloc: Global,
+    subscriber: &mut Subscriber,
+    out: &mut W,
+) -> Result<(), RunFault> {
+    let position = subscriber.position();
+    let rows = match subscriber.rows() {
+        Ok(rows) => rows,
+        Err(fault) => return Err(RunFault::Stream(fault)),
+    };
+    let Ok(text) = dump_text(alloc, rows.as_slice(), position) else {
+        return Err(RunFault::Stream(Fault::Memory));
+    };
+    if out.write_all(text.as_bytes()).is_err() || out.flush().is_err() {
+        return Err(RunFault::CannotWrite);
+    }
+    Ok(())
+}
+
+/// Applies the sessions of a capture text. What stands is printed behind a refusal too.
+fn apply<R: Read + Drop, W: Write>(
+    alloc: Global,
+    file: Option<R>,
+    out: &mut W,
+) -> Result<(), RunFault> {
+    let text = read_text(alloc, file)?;
+    let sessions = match read_capture(alloc, text.as_slice()) {
+        Ok(sessions) => sessions,
+        Err(CaptureFault::NotHexadecimal(line)) => return Err(RunFault::NotHexadecimal(line)),
+        Err(CaptureFault::Memory) => return Err(RunFault::Stream(Fault::Memory)),
+    };
+    let mut subscriber = Subscriber::new(alloc, MAX_FRAME);
+    let followed = follow(&mut subscriber, sessions.as_slice());
+    print_rows(alloc, &mut subscriber, out)?;
+    match followed {
+        Ok(()) => Ok(()),
+        Err(fault) => Err(RunFault::Stream(fault)),
+    }
+}
+
+/// Writes the line of a fault.
+fn report<E: Write>(fault: RunFault, path: &str, err: &mut E) -> std::io::Result<()> {
+    match fault {
+        RunFault::Stream(fault) => writeln!(err, "pgsub: {}", FaultText(fault)),
+        RunFault::NotHexadecimal(line) => writeln!(
+            err,
+            "pgsub: capture line {line}: not hexadecimal"
+        ),
+        RunFault::TooLong => writeln!(err, "pgsub: capture too long"),
+        RunFault::CannotRead => writeln!(err, "pgsub: cannot read {path}"),
+        RunFault::CannotWrite => writeln!(err, "pgsub: cannot write"),
+    }
+}
+
+/// Runs a task: `file` is a reader of the file that it names, None where that can't be opened. The answer is the exit
+/// status: 0 done, 1 refused stream or want of memory, 3 file fault; `err` then gets the line of the fault.
+pub fn run<R: Read + Drop, W: Write, E: Write>(
+    alloc: Global,
+    task: &Task,
+    file: Option<R>,
+    out: &mut W,
+    err: &mut E,
+) -> u8
+    ensures { result ≤ 3 }
+{
+    let Task::Apply { file: path } = task;
+    match apply(alloc, file, out) {
+        Ok(()) => 0,
+        Err(fault) => {
+            // where standard error can't be written either, the status alone tells
+            let _ = report(fault, path.as_str(), err);
+            fault.status()
+        }
+    }
+}
