@@ -1,5 +1,5 @@
 #!/usr/bin/env bash
-# Builds main.rt over the repository's crates in a folder of its own, and runs it.
+# Builds the program main.rattle over the repository's crates in a folder of its own, and runs it.
 set -e
 here="$(cd "$(dirname "$0")" && pwd)"
 top="$(cd "$here/../.." && pwd)"
@@ -11,7 +11,7 @@ for crate in pglsn pgtuple pglogical pgspool; do
     grep "^$crate:" "$top/crates.txt" >> "$work/crates.txt"
 done
 echo "spool_cuts: pgtuple pglogical pgspool" >> "$work/crates.txt"
-cp "$here/main.rt" "$work/crates/spool_cuts/src/main.rt"
+cp "$here/main.rattle" "$work/crates/spool_cuts/src/main.rt"
 cd "$work"
 git init -q
 cd crates/spool_cuts
