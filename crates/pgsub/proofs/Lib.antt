@@ -7,3 +7,4 @@ pub mod PlainItems
 pub mod PlainSteps
 pub mod PlainFrames
 pub mod PlainSessions
+pub mod Printed

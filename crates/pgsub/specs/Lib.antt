@@ -6,3 +6,4 @@ pub mod PlainStore
 pub mod PlainSession
 pub mod PlainFollow
 pub mod PlainRest
+pub mod Whole

@@ -1,5 +1,6 @@
 //! Runs a task over readers and writers.
-ghost use Rattle.std.specs.Prelude.{◌≤◌};
+ghost use Rattle.std.specs.Prelude.{◌≤◌, ◌≡◌, IfOk, None, string_bytes};
+ghost use Rattle.pgsub.specs.Whole.{PrintsWhole};
 
 use crate::capture::{CaptureFault, read_capture};
 use crate::dump::dump_text;
@@ -65,44 +66,52 @@ fn read_text<R: Read + Drop>(alloc: Global, file: Option<R>) -> Result<Vec<u8>, 
     }
 }
 
-/// Writes the rows and the position.
-fn print_rows<W: Write>(
-    alloc: Global,
-    subscriber: &mut Subscriber,
-    out: &mut W,
-) -> Result<(), RunFault> {
+/// What a capture text leads to: the lines that are printed, and why following stopped.
+#[derive(Drop)]
+pub struct Applied {
+    pub lines: String,
+    pub refused: Option<Fault>,
+}
+
+/// Applies the sessions of a capture text. What stands is printed behind a refusal too.
+///
+/// Where nothing is refused, the lines are those of the rows and the position that all sessions leave: for whatever history
+/// a well-formed server sent them of, the rows of its transactions up to the position.
+pub fn apply_text(alloc: Global, text: &[u8]) -> Result<Applied, RunFault>
+    ensures { IfOk result (λ applied. applied.refused ≡ None → PrintsWhole text.now (string_bytes applied.lines)) }
+{
+    let sessions = match read_capture(alloc, text) {
+        Ok(sessions) => sessions,
+        Err(CaptureFault::NotHexadecimal(line)) => return Err(RunFault::NotHexadecimal(line)),
+        Err(CaptureFault::Memory) => return Err(RunFault::Stream(Fault::Memory)),
+    };
+    let mut subscriber = Subscriber::new(alloc, MAX_FRAME);
+    let refused = follow(&mut subscriber, sessions.as_slice()).err();
     let position = subscriber.position();
     let rows = match subscriber.rows() {
         Ok(rows) => rows,
         Err(fault) => return Err(RunFault::Stream(fault)),
     };
-    let Ok(text) = dump_text(alloc, rows.as_slice(), position) else {
-        return Err(RunFault::Stream(Fault::Memory));
-    };
-    if out.write_all(text.as_bytes()).is_err() || out.flush().is_err() {
-        return Err(RunFault::CannotWrite);
+    match dump_text(alloc, rows.as_slice(), position) {
+        Ok(lines) => Ok(Applied { lines, refused }),
+        Err(_) => Err(RunFault::Stream(Fault::Memory)),
     }
-    Ok(())
 }
 
-/// Applies the sessions of a capture text. What stands is printed behind a refusal too.
+/// Applies the sessions of a file, and writes the lines that are printed.
 fn apply<R: Read + Drop, W: Write>(
     alloc: Global,
     file: Option<R>,
     out: &mut W,
 ) -> Result<(), RunFault> {
     let text = read_text(alloc, file)?;
-    let sessions = match read_capture(alloc, text.as_slice()) {
-        Ok(sessions) => sessions,
-        Err(CaptureFault::NotHexadecimal(line)) => return Err(RunFault::NotHexadecimal(line)),
-        Err(CaptureFault::Memory) => return Err(RunFault::Stream(Fault::Memory)),
-    };
-    let mut subscriber = Subscriber::new(alloc, MAX_FRAME);
-    let followed = follow(&mut subscriber, sessions.as_slice());
-    print_rows(alloc, &mut subscriber, out)?;
-    match followed {
-        Ok(()) => Ok(()),
-        Err(fault) => Err(RunFault::Stream(fault)),
+    let applied = apply_text(alloc, text.as_slice())?;
+    if out.write_all(applied.lines.as_bytes()).is_err() || out.flush().is_err() {
+        return Err(RunFault::CannotWrite);
+    }
+    match applied.refused {
+        None => Ok(()),
+        Some(fault) => Err(RunFault::Stream(fault)),
     }
 }
 

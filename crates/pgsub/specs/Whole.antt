@@ -1,0 +1,29 @@
+-- What is printed of sessions that are followed to their end.
+use Rattle.std.specs.Prelude.{◌≡◌, ℕ, List, Ok}
+use Rattle.std.specs.FinMap as map
+use Rattle.pgorder.specs.declared.Version.TheVariants.{One}
+use Rattle.pgstore.specs.Dump.{dump}
+use Rattle.pgstore.specs.Stored.{Stored}
+use Rattle.pgsub_core.specs.declared.session.Session.{Session}
+use Rattle.pgsub_core.specs.History.{Transaction, IsHistory}
+use Rattle.pgsub_core.specs.Safe.{IsSafe}
+use Rattle.pgsub_core.specs.Sessions.{AreSessions, reached_all}
+use Rattle.pgsub_core.specs.Stream.{Sent}
+use Rattle.pgsub.specs.Capture.{sessions_of}
+use Rattle.pgsub.specs.DumpText.{dump_of}
+use Rattle.pgsub.specs.PlainFollow.{all_bytes_of, progress_of}
+
+abbrev pub nothing_stored : Stored
+nothing_stored = record { tables = map.empty; position = 0 }
+
+-- of whatever history a well-formed server sends these sessions, the rows of its transactions up to the position, which is
+-- the greatest end of a commit that is complete
+abbrev pub IsWhole : List Session → Stored → Type 0
+IsWhole sessions stored =
+    (history : List Transaction) (all_complete : List (List Sent)) → IsHistory history → AreSessions One history (progress_of nothing_stored) (all_bytes_of sessions) all_complete
+    → IsSafe history stored.tables stored.position stored.position × (stored.position ≡ (reached_all (progress_of nothing_stored) all_complete).position)
+
+-- the lines of what the sessions of a capture text leave
+abbrev pub PrintsWhole : List ℕ → List ℕ → Type 0
+PrintsWhole text lines =
+    (sessions : List Session) × (stored : Stored) × (sessions_of text ≡ Ok sessions) × (lines ≡ dump_of (dump stored.tables) stored.position) × IsWhole sessions stored
