@@ -9,6 +9,8 @@ pub mod plain_store;
 pub mod plain_table;
 pub mod plain_tables;
 pub mod relations;
+#[cfg(test)]
+mod rows;
 pub mod run;
 pub mod subscriber;
 
