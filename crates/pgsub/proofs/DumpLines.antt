@@ -1,5 +1,5 @@
 -- Cells and rows in JSON, one after the other.
-use Rattle.std.proofs.Common.{◌≡◌, ℕ, ◌+◌, List, [], ◌∷◌, ◌++◌, map, take, false, Option, Some, Result, Ok, Err, IfOk, refl, sym, ap, ◌∙◌, length, ◌≤◌, String, string_bytes, take_all}
+use Rattle.std.proofs.Common.{◌≡◌, ℕ, ◌+◌, List, [], ◌∷◌, ◌++◌, map, take, false, Some, Result, Ok, Err, IfOk, refl, sym, ap, ◌∙◌, length, ◌≤◌, String, string_bytes, take_all}
 use Rattle.std.specs.declared.alloc.AllocError.{AllocError}
 use Rattle.std.specs.declared.alloc.Global.{Global}
 use Rattle.std.specs.Prelude.{slice_get}

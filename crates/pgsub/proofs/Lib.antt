@@ -8,3 +8,4 @@ pub mod PlainSteps
 pub mod PlainFrames
 pub mod PlainSessions
 pub mod Printed
+pub mod Reading

@@ -1,11 +1,10 @@
 -- The first line of a text, and what several lines say.
-use Rattle.std.proofs.Common.{◌≡◌, ℕ, ◌+◌, ◌≤◌, ◌<◌, List, [], ◌∷◌, ◌++◌, Bool, true, false, cond, not, Option, Some, None, Ok, Err, refl, subst, suc, ◌-◌, ◌∙◌, arith, take, drop, length, append_assoc}
+use Rattle.std.proofs.Common.{◌≡◌, ℕ, ◌+◌, ◌≤◌, ◌<◌, List, [], ◌∷◌, true, false, cond, not, Some, None, refl, subst, suc, ◌-◌, arith, take, drop, length}
 use Rattle.std.specs.Prelude.{◌==◌, nat_lt}
-use Rattle.std.specs.List.{position, position_or_len, prefix_len}
+use Rattle.std.specs.List.{position, position_or_len}
 use Rattle.std.proofs.lemmas.Bool.Decides.{nat_tests}
 use Rattle.std.proofs.lemmas.List.{take_rest}
-use Rattle.pgsub_core.specs.declared.session.Session.{Session}
-use Rattle.pgsub.specs.Capture.{Line, Skipped, Disconnection, Piece, NoLine, Captured, in_front, lines_of, session_of, with_line, joined, meaning_of}
+use Rattle.pgsub.specs.Capture.{in_front, lines_of}
 
 abbrev feed_at : List ℕ → ℕ
 feed_at text = position_or_len (λ byte. byte == 10) text

@@ -1,5 +1,5 @@
 -- An insert into a plain table is what the definition of a change says.
-use Rattle.std.proofs.Common.{◌≡◌, ℕ, List, Bool, true, Option, None, Some, Result, Ok, Err, IfOk, OnOk, refl, sym, ap, subst, ◌∙◌}
+use Rattle.std.proofs.Common.{◌≡◌, ℕ, List, Option, None, Some, Result, Ok, Err, IfOk, OnOk, sym, ap, subst, ◌∙◌}
 use Rattle.std.specs.Prelude.{IsTrue}
 use Rattle.std.specs.Ordering.{nat_cmp}
 use Rattle.std.specs.FinMap as map
@@ -10,8 +10,8 @@ use Rattle.pglogical.specs.declared.item.RelationDef.{RelationDef}
 use Rattle.pgtuple.specs.declared.cell.Cell.{Cell}
 use Rattle.pgrel.specs.Identity.{keyed, checked_insert}
 use Rattle.pgstore.specs.declared.op.Op.TheVariants.{Insert}
-use Rattle.pgstore.specs.Value.{Row, Rows, Table, Tables, identity_key}
-use Rattle.pgstore.specs.Apply.{apply, rows_after, found_rows, ◌>>=◌, in_store}
+use Rattle.pgstore.specs.Value.{Rows, Table, Tables, identity_key}
+use Rattle.pgstore.specs.Apply.{apply, rows_after, found_rows}
 use Rattle.pgsub.specs.Plain.{one_copy, insert_of, tables_by_oid}
 use Rattle.pgsub.proofs.PlainMaps.{insert-remove, get-numbered, numbered-removed}
 

@@ -1,12 +1,11 @@
 -- The tables that inserts leave, one after the other.
-use Rattle.std.proofs.Common.{◌≡◌, ℕ, ◌+◌, ◌<◌, List, [], ◌∷◌, ◌++◌, Ok, Some, None, Option, IfSome, refl, sym, ap, subst, ◌∙◌, Result, Err, Bool, true, false, cond, take, length, get_or, map as mapped}
+use Rattle.std.proofs.Common.{◌≡◌, ℕ, ◌+◌, ◌<◌, List, [], ◌∷◌, ◌++◌, Ok, Some, None, refl, sym, ap, subst, ◌∙◌, Result, Err, Bool, false, cond, take, length, get_or}
 use Rattle.std.specs.FinMap as map
 use Rattle.std.specs.Prelude.{is_ok, is_err}
 use Rattle.std.proofs.lemmas.List.{take_more, map-append}
 use Rattle.pglogical.specs.declared.item.RelationDef.{RelationDef}
 use Rattle.pgtuple.specs.declared.cell.Cell.{Cell}
 use Rattle.pgstore.specs.Value.{Tables}
-use Rattle.pgstore.specs.Stored.{Stored}
 use Rattle.pgstore.specs.Apply.{apply, fold_changes, ◌>>=◌}
 use Rattle.pgsub_core.proofs.Changes.{fold-append}
 use Rattle.pgsub.specs.Plain.{insert_of, held, tables_after}

@@ -1,19 +1,16 @@
 -- The frames of a session, one after the other.
 use Rattle.std.proofs.Common.{◌≡◌, ℕ, ℤ, List, [], ◌∷◌, ◌++◌, false, Ok, Option, Some, None, MatchOption, refl, sym, ap, subst, ◌∙◌, append_assoc}
-use Rattle.std.specs.FinMap as map
 use Rattle.std.proofs.lemmas.Grind.{flat_map-append}
 use Rattle.std.proofs.lemmas.List.{append-nil}
 use Rattle.pglogical.specs.declared.message.Message.{Message}
 use Rattle.pglogical.specs.Reading.{message_at}
 use Rattle.pgorder.specs.States.{is_in_block}
-use Rattle.pgorder.specs.Steps.{initial_order}
 use Rattle.pgwire.specs.Payloads.{ServerMessage, XLogData, payload, payload_at, IsServerMessage}
-use Rattle.pgwire.specs.Frames.{Frame, CopyData, CopyDone, frame, frames, IsAllowed, AreFrames, IsPartial, IsDeframedAs, has_copy_done}
+use Rattle.pgwire.specs.Frames.{Frame, CopyData, CopyDone, frame, frames, IsAllowed, AreFrames, IsPartial, has_copy_done}
 use Rattle.pgwire.proofs.Messages.{payload_again}
-use Rattle.pgstore.specs.Stored.{Stored}
-use Rattle.pgsub_core.specs.Replica.{Replica, RelationCache}
+use Rattle.pgsub_core.specs.Replica.{Replica}
 use Rattle.pgsub_core.specs.ApplyState.{ApplyState, at_session}
-use Rattle.pgsub.specs.PlainSession.{Steps, state_of, replica_of}
+use Rattle.pgsub.specs.PlainSession.{Steps}
 use Rattle.pgsub.specs.PlainFollow.{FrameSteps, FramesStep, IsFollowed}
 use Rattle.pgsub.specs.PlainRest.{IsFollowedTo}
 

@@ -1,5 +1,5 @@
 -- Sessions that are followed frame by frame are followed message by message.
-use Rattle.std.proofs.Common.{◌≡◌, ◌≤◌, ℕ, ℤ, List, [], ◌∷◌, ◌++◌, Bool, false, Result, Ok, Err, inl, inr, refl, sym, ap, subst, ◌∙◌, arith, map as mapped, length, ◌<◌, ◌+◌, take, get_or}
+use Rattle.std.proofs.Common.{◌≡◌, ℕ, ℤ, List, [], ◌∷◌, ◌++◌, Bool, Ok, inl, inr, refl, sym, ap, subst, ◌∙◌, arith, length, ◌<◌, ◌+◌, take, get_or}
 use Rattle.std.specs.List.{AllByRecursion}
 use Rattle.std.specs.FinMap as map
 use Rattle.std.proofs.lemmas.List.{append-nil, map-append, take_more}
@@ -13,22 +13,22 @@ use Rattle.pglogical.proofs.Walks.{spells_read}
 use Rattle.pgorder.specs.declared.Version.TheVariants.{One}
 use Rattle.pgorder.specs.Laws.{AreMessagesFor, in_block_after}
 use Rattle.pgorder.specs.States.{is_in_block}
-use Rattle.pgorder.specs.Steps.{OrderState, order_step}
+use Rattle.pgorder.specs.Steps.{order_step}
 use Rattle.pgorder.proofs.ShapeLaws.{shaped_for}
 use Rattle.pgorder.proofs.StepLaws.{Leaves, step_leaves}
 use Rattle.pgwire.specs.Frames.{Frame, CopyData, CopyDone}
-use Rattle.pgwire.specs.Payloads.{ServerMessage, XLogData, payload, payload_at}
+use Rattle.pgwire.specs.Payloads.{XLogData, payload, payload_at}
 use Rattle.pgwire.proofs.Messages.{payload_again}
 use Rattle.pgstore.specs.Stored.{Stored}
 use Rattle.pgsub_core.specs.declared.session.Session.{Session}
 use Rattle.pgsub_core.specs.History.{Transaction, IsHistory}
 use Rattle.pgsub_core.specs.Stream.{Sent, Data, Keepalive, messages_in}
 use Rattle.pgsub_core.specs.Delivers.{Delivers}
-use Rattle.pgsub_core.specs.Safe.{IsSafe, NothingBetween}
-use Rattle.pgsub_core.specs.Replica.{Replica, RelationCache, Halt, Outcome, Running, Stopped, then_run}
+use Rattle.pgsub_core.specs.Safe.{IsSafe}
+use Rattle.pgsub_core.specs.Replica.{Replica, RelationCache, Halt, Outcome, Running, then_run}
 use Rattle.pgsub_core.specs.Reached.{Progress, reached, disconnected}
-use Rattle.pgsub_core.specs.ApplyState.{ApplyState, step, run, replica_outcome, at_session, follow_all}
-use Rattle.pgsub_core.specs.Sessions.{AreSessions, IsSession, IsWireSent, server_message, frames_of, starting_by, reached_all}
+use Rattle.pgsub_core.specs.ApplyState.{ApplyState, run, replica_outcome, at_session, follow_all}
+use Rattle.pgsub_core.specs.Sessions.{AreSessions, IsSession, IsWireSent, server_message, frames_of, reached_all}
 use Rattle.pgsub_core.specs.Outcomes.{IsAllowedOutcome}
 use Rattle.pgsub_core.proofs.AllSessions.{all_sessions_allowed, all_sessions_reached}
 use Rattle.pgsub_core.proofs.Fronts.{delivers_front}

@@ -1,5 +1,5 @@
 -- One message of a whole transaction, as the step of a subscriber.
-use Rattle.std.proofs.Common.{◌≡◌, ℕ, ℤ, List, [], ◌∷◌, ◌++◌, Bool, true, false, cond, Option, Some, None, Result, Ok, Err, OnOk, refl, sym, ap, subst, ◌∙◌, map as mapped, eqb, ◌==◌}
+use Rattle.std.proofs.Common.{◌≡◌, ℕ, ℤ, List, [], ◌∷◌, ◌++◌, Bool, true, false, cond, Option, Some, None, Result, Ok, Err, OnOk, refl, sym, ap, subst, ◌∙◌, ◌==◌}
 use Rattle.std.specs.Prelude.{unwrap_or}
 use Rattle.std.proofs.lemmas.List.{map-append}
 use Rattle.std.specs.Ordering.{nat_cmp, eq_by_cmp}
@@ -20,10 +20,9 @@ use Rattle.pgorder.specs.States.{is_in_block}
 use Rattle.pgorder.specs.Steps.{Context, Outside, InPair, InBlock, OrderState, StepResult, order_step}
 use Rattle.pgspool.specs.Labels.{LabelledItem, HeldMap, items_of, held_of}
 use Rattle.pgstore.specs.Stored.{Stored}
-use Rattle.pgsub_core.specs.Stream.{Sent, Data}
 use Rattle.pgsub_core.specs.Replica.{Replica, RelationCache, Outcome, Halt, Running, on_commit}
-use Rattle.pgsub_core.specs.ApplyState.{ApplyState, ApplyResult, step, on_message, on_event, committed}
-use Rattle.pgsub.specs.PlainSession.{labelled, held_in, state_of, replica_of, HoldsItem, Steps}
+use Rattle.pgsub_core.specs.ApplyState.{ApplyState, ApplyResult, on_message, committed}
+use Rattle.pgsub.specs.PlainSession.{labelled, state_of, replica_of, HoldsItem, Steps}
 
 same_key : (x : ℕ) → eq_by_cmp nat_cmp x x ≡ true
 same_key x = (eq_by_cmp_equiv nat_cmp_total).refl x

@@ -1,5 +1,5 @@
 -- What is printed of sessions that are followed to their end.
-use Rattle.std.proofs.Common.{◌≡◌, ℕ, List, Result, Ok, Err, OnOk, Option, None, subst}
+use Rattle.std.proofs.Common.{◌≡◌, List, Result, Ok, Err, OnOk, None, subst}
 use Rattle.std.specs.Result.{result_err}
 use Rattle.pgorder.specs.declared.Version.TheVariants.{One}
 use Rattle.pgstore.specs.Stored.{Stored}

@@ -1,5 +1,5 @@
 -- The plain store's maps as the maps of a store's value.
-use Rattle.std.specs.Prelude.{◌≡◌, ℕ, List, [], map as mapped, Result, Ok, Err, Vec}
+use Rattle.std.specs.Prelude.{ℕ, List, map as mapped, Result, Ok, Err, Vec}
 use Rattle.std.specs.declared.alloc.Global.{Global}
 use Rattle.std.specs.FinMap as map
 use Rattle.pglogical.specs.declared.item.RelationDef.{RelationDef}

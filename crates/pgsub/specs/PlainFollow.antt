@@ -1,12 +1,12 @@
 -- What the plain core does with the frames of sessions.
-use Rattle.std.specs.Prelude.{◌≡◌, ℕ, ℤ, List, [], ◌∷◌, ◌++◌, map as mapped, Ok, false}
+use Rattle.std.specs.Prelude.{◌≡◌, ℕ, ℤ, List, [], ◌∷◌, map as mapped, Ok}
 use Rattle.std.specs.List.{flat_map}
 use Rattle.pglogical.specs.declared.message.Message.{Message}
 use Rattle.pglogical.specs.Reading.{message_at}
 use Rattle.pgorder.specs.declared.Version.TheVariants.{One}
 use Rattle.pgorder.specs.States.{is_in_block}
 use Rattle.pgwire.specs.Payloads.{XLogData, payload_at}
-use Rattle.pgwire.specs.Frames.{Frame, CopyData, CopyDone, IsDeframedAs, has_copy_done}
+use Rattle.pgwire.specs.Frames.{Frame, CopyData, CopyDone, IsDeframedAs}
 use Rattle.pgstore.specs.Stored.{Stored}
 use Rattle.pgsub_core.specs.declared.session.Session.{Session}
 use Rattle.pgsub_core.specs.Stream.{Data}

@@ -10,7 +10,7 @@ use Rattle.pgorder.specs.declared.Version.TheVariants.{One}
 use Rattle.pgorder.specs.Steps.{Context, Outside, InPair, InBlock, OrderState}
 use Rattle.pgspool.specs.Labels.{LabelledItem, HeldMap}
 use Rattle.pgstore.specs.Stored.{Stored}
-use Rattle.pgsub_core.specs.Stream.{Sent, Data}
+use Rattle.pgsub_core.specs.Stream.{Data}
 use Rattle.pgsub_core.specs.Replica.{Replica, RelationCache, Running}
 use Rattle.pgsub_core.specs.ApplyState.{ApplyState, step}
 

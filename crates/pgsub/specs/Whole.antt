@@ -1,5 +1,6 @@
 -- What is printed of sessions that are followed to their end.
-use Rattle.std.specs.Prelude.{◌≡◌, ℕ, List, Ok}
+use Rattle.std.specs.Prelude.{◌≡◌, ℕ, List, Ok, Option}
+use Rattle.std.specs.Io.KnownBytes.{Appends}
 use Rattle.std.specs.FinMap as map
 use Rattle.pgorder.specs.declared.Version.TheVariants.{One}
 use Rattle.pgstore.specs.Dump.{dump}
@@ -27,3 +28,7 @@ IsWhole sessions stored =
 abbrev pub PrintsWhole : List ℕ → List ℕ → Type 0
 PrintsWhole text lines =
     (sessions : List Session) × (stored : Stored) × (sessions_of text ≡ Ok sessions) × (lines ≡ dump_of (dump stored.tables) stored.position) × IsWhole sessions stored
+
+-- these lines are appended, where what is written is known
+abbrev pub Prints : List ℕ → Option (List ℕ) → Option (List ℕ) → Type 0
+Prints text old new = (lines : List ℕ) × PrintsWhole text lines × Appends old new lines

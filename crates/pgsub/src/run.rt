@@ -1,6 +1,6 @@
 //! Runs a task over readers and writers.
-ghost use Rattle.std.specs.Prelude.{◌≤◌, ◌≡◌, IfOk, None, string_bytes};
-ghost use Rattle.pgsub.specs.Whole.{PrintsWhole};
+ghost use Rattle.std.specs.Prelude.{◌≤◌, ◌≡◌, IfOk, IfSome, OnOk, None, string_bytes};
+ghost use Rattle.pgsub.specs.Whole.{PrintsWhole, Prints};
 
 use crate::capture::{CaptureFault, read_capture};
 use crate::dump::dump_text;
@@ -41,7 +41,7 @@ pub enum RunFault {
 impl RunFault {
     /// The exit status: 1 for a refused stream and want of memory, 3 for a fault of a file.
     pub fn status(self) -> u8
-        ensures { result ≤ 3 }
+        ensures { (1 ≤ result) × (result ≤ 3) }
     {
         match self {
             RunFault::Stream(_) => 1,
@@ -51,7 +51,9 @@ impl RunFault {
 }
 
 /// The bytes of a capture text. Not more than one byte behind the limit is read.
-fn read_text<R: Read + Drop>(alloc: Global, file: Option<R>) -> Result<Vec<u8>, RunFault> {
+fn read_text<R: Read + Drop>(alloc: Global, file: Option<R>) -> Result<Vec<u8>, RunFault>
+    ensures { IfOk result (λ text. IfSome file (λ reader. IfSome (R.remaining reader) (λ bytes. text.items ≡ bytes))) }
+{
     let Some(reader) = file else {
         return Err(RunFault::CannotRead);
     };
@@ -103,7 +105,9 @@ fn apply<R: Read + Drop, W: Write>(
     alloc: Global,
     file: Option<R>,
     out: &mut W,
-) -> Result<(), RunFault> {
+) -> Result<(), RunFault>
+    ensures { OnOk result (IfSome file (λ reader. IfSome (R.remaining reader) (λ text. Prints text (W.contents out.old) (W.contents out.new)))) }
+{
     let text = read_text(alloc, file)?;
     let applied = apply_text(alloc, text.as_slice())?;
     if out.write_all(applied.lines.as_bytes()).is_err() || out.flush().is_err() {
@@ -131,6 +135,8 @@ fn report<E: Write>(fault: RunFault, path: &str, err: &mut E) -> std::io::Result
 
 /// Runs a task: `file` is a reader of the file that it names, None where that can't be opened. The answer is the exit
 /// status: 0 done, 1 refused stream or want of memory, 3 file fault; `err` then gets the line of the fault.
+///
+/// Where it is 0, all of the file was read, and what is printed are the rows and the position of what its sessions leave.
 pub fn run<R: Read + Drop, W: Write, E: Write>(
     alloc: Global,
     task: &Task,
@@ -138,7 +144,8 @@ pub fn run<R: Read + Drop, W: Write, E: Write>(
     out: &mut W,
     err: &mut E,
 ) -> u8
-    ensures { result ≤ 3 }
+    ensures status { result ≤ 3 }
+    ensures done { result ≡ 0 → IfSome file (λ reader. IfSome (R.remaining reader) (λ text. Prints text (W.contents out.old) (W.contents out.new))) }
 {
     let Task::Apply { file: path } = task;
     match apply(alloc, file, out) {

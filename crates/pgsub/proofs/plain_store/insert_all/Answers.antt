@@ -1,6 +1,5 @@
-use Rattle.std.proofs.Common.{ap, ◌≡◌, ◌∙◌, sym, Ok}
+use Rattle.std.proofs.Common.{ap, ◌∙◌, sym}
 use Rattle.pglogical.specs.declared.item.RelationDef.{RelationDef}
-use Rattle.pgtuple.specs.declared.cell.Cell.{Cell}
 use Rattle.pgstore.specs.Apply.{apply}
 use Rattle.pgsub.specs.Plain.{insert_of}
 use Rattle.pgsub.proofs.PlainFold.{fold-none, fold-next}

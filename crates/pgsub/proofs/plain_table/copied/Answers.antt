@@ -1,4 +1,4 @@
-use Rattle.std.proofs.Common.{◌++◌, ◌∷◌, [], ap, ◌∙◌, sym}
+use Rattle.std.proofs.Common.{ap, ◌∙◌, sym}
 use Rattle.std.specs.Prelude.{option_map}
 use Rattle.pgtuple.specs.Lent.{cell_value}
 use Rattle.pgsub.proofs.DumpLines.{take-next}

@@ -1,4 +1,4 @@
-use Rattle.std.proofs.Common.{refl, subst, take_all, List, ℕ}
+use Rattle.std.proofs.Common.{refl, subst, take_all, List}
 use Rattle.std.specs.FinMap as map
 use Rattle.pgsub_core.specs.declared.session.Session.{Session}
 use Rattle.pgsub.specs.PlainSession.{replica_of}

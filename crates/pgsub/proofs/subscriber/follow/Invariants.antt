@@ -1,4 +1,4 @@
-use Rattle.std.proofs.Common.{◌≡◌, ℕ, List, take}
+use Rattle.std.proofs.Common.{take}
 use Rattle.std.specs.FinMap as map
 use Rattle.pgsub_core.specs.Replica.{RelationCache}
 use Rattle.pgsub.specs.PlainSession.{replica_of}

@@ -1,7 +1,3 @@
-use Rattle.std.proofs.Common.{ap, ◌≡◌, ◌∙◌}
-use Rattle.std.specs.Prelude.{None}
-use Rattle.pgsub.specs.PlainStore.{changes_of, IsPlain}
-use Rattle.pgsub.specs.Plain.{tables_after}
 use Rattle.pgsub.proofs.PlainFold.{plain_at_first, nothing_after}
 use Rattle.pgsub.proofs.plain_store.PlainStore.new.Goals as goal
 
