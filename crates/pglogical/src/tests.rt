@@ -1,4 +1,5 @@
 use super::*;
+use pglsn::Lsn;
 use pgtuple::TupleFault;
 use std::alloc::Global;
 use std::process::Abort;
@@ -90,43 +91,37 @@ fn lengths_of_items(rt: HostRuntime) {
     assert!(rt; item_len(rt.alloc(), TRUNCATE, false) == Some(10));
 }
 
-/// The LSNs, the time and the xid of a message that ends or begins a transaction.
-fn numbers_of(alloc: Global, body: &[u8]) -> Option<(u64, u64, i64, u32)> {
-    match decode(alloc, body, false) {
-        Ok(
-            Message::Begin {
-                final_lsn,
-                commit_time,
-                xid,
-            },
-        ) => Some((final_lsn.0, 0, commit_time, xid)),
-        Ok(
-            Message::Commit {
-                commit_lsn,
-                end_lsn,
-                commit_time,
-            },
-        ) => Some((commit_lsn.0, end_lsn.0, commit_time, 0)),
-        Ok(
-            Message::StreamCommit {
-                xid,
-                commit_lsn,
-                end_lsn,
-                commit_time,
-            },
-        ) => Some((commit_lsn.0, end_lsn.0, commit_time, xid)),
-        _ => None,
-    }
-}
-
 #[test]
 fn transactions(rt: HostRuntime) {
-    assert!(rt; matches!(numbers_of(rt.alloc(), BEGIN), Some((256, 0, 0, 10))));
-    assert!(rt; matches!(numbers_of(rt.alloc(), COMMIT), Some((256, 304, 0, 0))));
     assert!(rt;
         matches!(
-            numbers_of(rt.alloc(), STREAM_COMMIT),
-            Some((768, 816, 0, 11))
+            decode(rt.alloc(), BEGIN, false),
+            Ok(Message::Begin {
+                final_lsn: Lsn(256),
+                commit_time: 0,
+                xid: 10
+            })
+        )
+    );
+    assert!(rt;
+        matches!(
+            decode(rt.alloc(), COMMIT, false),
+            Ok(Message::Commit {
+                commit_lsn: Lsn(256),
+                end_lsn: Lsn(304),
+                commit_time: 0
+            })
+        )
+    );
+    assert!(rt;
+        matches!(
+            decode(rt.alloc(), STREAM_COMMIT, false),
+            Ok(Message::StreamCommit {
+                xid: 11,
+                commit_lsn: Lsn(768),
+                end_lsn: Lsn(816),
+                commit_time: 0
+            })
         )
     );
     assert!(rt;
