@@ -3,6 +3,7 @@ use pglsn::Lsn;
 use pgtuple::TupleFault;
 use std::alloc::Global;
 use std::process::Abort;
+use std::test::Fail;
 
 const BEGIN: &[u8] = &[
     66, 0, 0, 0, 0, 0, 0, 1, 0, 0, 0, 0, 0, 0, 0, 0, 0, 0, 0, 0, 10,
@@ -60,6 +61,11 @@ const UPDATE_IN_BLOCK: &[u8] = &[
 const RELATION_IN_BLOCK: &[u8] = &[
     82, 0, 0, 0, 10, 0, 0, 64, 0, 112, 117, 98, 108, 105, 99, 0, 116, 0, 100, 0, 2, 1, 105, 100, 0,
     0, 0, 0, 23, 255, 255, 255, 255, 0, 118, 0, 0, 0, 0, 25, 255, 255, 255, 255,
+];
+
+/// `UPDATE_IN_BLOCK` as it is outside of one.
+const UPDATE_WITHOUT_OLD: &[u8] = &[
+    85, 0, 0, 64, 0, 78, 0, 2, 116, 0, 0, 0, 1, 49, 116, 0, 0, 0, 1, 108,
 ];
 
 /// The fault of a body that says no message.
@@ -399,4 +405,44 @@ fn first_faults(rt: HostRuntime) {
         9,
         Reason::NotUtf8,
     );
+}
+
+/// Reads an item, copies it, and writes the copy behind other bytes, as it is outside a block.
+fn item_goes_both_ways(
+    rt: &impl Abort,
+    alloc: Global,
+    body: &[u8],
+    in_block: bool,
+    outside: &[u8],
+) -> Result<(), DecodeFault> {
+    match decode(alloc, body, in_block)? {
+        Message::Item { item, .. } => {
+            let copy = item.borrowed().to_item(alloc)?;
+            assert!(rt; copy.borrowed().spellable());
+            assert_eq!(rt; spelled_len(&copy.borrowed()), outside.len() as u64);
+            let mut out = b"before".to_vec(alloc)?;
+            encode_item(&copy.borrowed(), &mut out)?;
+            assert_eq!(rt; &out[..6], b"before".as_slice());
+            assert_eq!(rt; &out[6..], outside);
+        }
+        _ => assert!(rt; false, "no item"),
+    }
+    Ok(())
+}
+
+#[test]
+fn items_go_both_ways(rt: HostRuntime) -> Result<(), Fail> {
+    for (body, in_block, outside) in [
+        (RELATION_T, false, RELATION_T),
+        (RELATION_IN_BLOCK, true, RELATION_T),
+        (RELATION_W, false, RELATION_W),
+        (INSERT, false, INSERT),
+        (UPDATE, false, UPDATE),
+        (UPDATE_IN_BLOCK, true, UPDATE_WITHOUT_OLD),
+        (DELETE, false, DELETE),
+        (TRUNCATE, false, TRUNCATE),
+    ] {
+        item_goes_both_ways(&rt, rt.alloc(), body, in_block, outside)?;
+    }
+    Ok(())
 }
