@@ -14,7 +14,7 @@ mod spellable;
 mod spelled;
 
 pub use decoding::{decode, decode_columns};
-pub use encoding::{encode_columns, encode_item};
+pub use encoding::{encode, encode_columns, encode_item};
 pub use fault::{DecodeFault, Reason};
 pub use item::{Column, Item, OldKind, RelationDef};
 pub use lent::ItemRef;

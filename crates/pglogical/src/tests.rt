@@ -446,3 +446,45 @@ fn items_go_both_ways(rt: HostRuntime) -> Result<(), Fail> {
     }
     Ok(())
 }
+
+/// Reads a message, and writes it behind other bytes.
+fn message_goes_both_ways(
+    rt: &impl Abort,
+    alloc: Global,
+    body: &[u8],
+    in_block: bool,
+) -> Result<(), DecodeFault> {
+    let message = decode(alloc, body, in_block)?;
+    assert!(rt; message.spellable());
+    let mut out = b"before".to_vec(alloc)?;
+    encode(&message, &mut out)?;
+    assert_eq!(rt; &out[..6], b"before".as_slice());
+    assert_eq!(rt; &out[6..], body);
+    Ok(())
+}
+
+#[test]
+fn messages_go_both_ways(rt: HostRuntime) -> Result<(), Fail> {
+    for (body, in_block) in [
+        (BEGIN, false),
+        (RELATION_T, false),
+        (INSERT, false),
+        (COMMIT, false),
+        (RELATION_W, false),
+        (UPDATE, false),
+        (DELETE, false),
+        (TRUNCATE, false),
+        (LOGICAL_MESSAGE, false),
+        (ORIGIN, false),
+        (TYPE_NAME, false),
+        (STREAM_START, false),
+        (STREAM_STOP, false),
+        (STREAM_COMMIT, false),
+        (STREAM_ABORT, false),
+        (UPDATE_IN_BLOCK, true),
+        (RELATION_IN_BLOCK, true),
+    ] {
+        message_goes_both_ways(&rt, rt.alloc(), body, in_block)?;
+    }
+    Ok(())
+}
