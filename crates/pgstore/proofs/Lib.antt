@@ -7,6 +7,7 @@ pub mod ColumnSpellings
 pub mod Definitions
 pub mod Applying
 pub mod Committed
+pub mod Stores
 mod Relations
 mod EffectRows
 mod WorkRows

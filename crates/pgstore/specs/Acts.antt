@@ -2,6 +2,7 @@
 use Rattle.std.specs.Prelude.{◌≡◌, ◌⊎◌, ◌<◌, ◌≤◌, ◌+◌, ◌-◌, nat_lt, if◌then◌else◌, not, ◌==◌, Bool, List, ℕ, length, true, false, IsTrue, IfSome, slice_get, Option, Some, None, Result, Ok}
 use Rattle.std.specs.List.{list_all}
 use Rattle.std.specs.FinMap as map
+use Rattle.sqlite.specs.Tree.{Trees}
 use Rattle.sqlite.specs.Store.{Ghosts}
 use Rattle.sqlite.specs.Held.{Held, state}
 use Rattle.pgtuple.specs.declared.cell.Cell.{Cell}
@@ -10,7 +11,8 @@ use Rattle.pgtuple.specs.Limits.{IsTuple}
 use Rattle.pglogical.specs.declared.item.RelationDef.{RelationDef}
 use Rattle.pgrel.specs.Identity.{keyed, has_unchanged, resolved}
 use Rattle.pgtables.specs.Kept as stored
-use Rattle.pgtables.specs.Kept.{tables_of, IsUnderWay}
+use Rattle.pgtables.specs.Schema.{store_schema}
+use Rattle.pgtables.specs.Kept.{tables_of, tables_in, IsUnderWay}
 use Rattle.pgstore.specs.declared.rows.StoreFault.{StoreFault}
 use Rattle.pgstore.specs.declared.rows.StoreFault.TheVariants.{Clash, TooManyCopies, Refused, Memory}
 use Rattle.pgstore.specs.Value.{Row, Rows, Tables, identity_key, most_copies}
@@ -173,3 +175,9 @@ pub record HasTaken {S : Type 0} (g : Ghosts S) (old new : Held S) (definitions 
   pub kept : stored.IsKept (state g new).now
   pub position_is : (tables_of g new).place ≡ position
   pub folds : (v : Tables) → IsStored v (tables_of g old) → (next : Tables) × (fold_changes v (change_values definitions changes) ≡ Ok next) × IsStored next (tables_of g new)
+
+-- what a crash may leave of it: the changes folded, with this position
+pub record LeavesTaken {S : Type 0} (g : Ghosts S) (old : Held S) (definitions : List RelationDef) (changes : List (ℕ × Op)) (position : List ℕ) (db : Trees) : Type 0 where
+  pub kept : stored.IsKept (record { schema = store_schema; trees = db })
+  pub position_is : (tables_in db).place ≡ position
+  pub folds : (v : Tables) → IsStored v (tables_of g old) → (next : Tables) × (fold_changes v (change_values definitions changes) ≡ Ok next) × IsStored next (tables_in db)

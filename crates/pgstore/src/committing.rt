@@ -3,10 +3,10 @@
 ghost use Rattle.std.specs.Prelude.{◌≡◌, false, IsTrue, OnOk, OnErr, IfErr};
 ghost use Rattle.std.specs.List.{AllByRecursion};
 ghost use Rattle.sqlite.specs.Held.{state};
-ghost use Rattle.sqlite.specs.State.{HasCleanDisk};
+ghost use Rattle.sqlite.specs.State.{HasCleanDisk, Survives};
 ghost use Rattle.pglogical.specs.Spelling.{IsDefinition};
 ghost use Rattle.pgtables.specs.Kept.{IfServing, IsKept};
-ghost use Rattle.pgstore.specs.Acts.{HasTaken, RefusesToFold};
+ghost use Rattle.pgstore.specs.Acts.{HasTaken, LeavesTaken, RefusesToFold};
 
 use crate::op::Op;
 use crate::rows::StoreFault;
@@ -31,6 +31,7 @@ pub(crate) fn take_all<S: Alter>(
     ensures taken { HasCleanDisk (state S.Store conn.new) → OnOk result (HasTaken S.Store conn.old conn.new definitions.now changes.now position.now) }
     ensures unchanged { IfServing S.Store conn.new (OnErr result (IsTrue (state S.Store conn.old).is_open × ((state S.Store conn.new).now ≡ (state S.Store conn.old).now))) }
     ensures fault { IfServing S.Store conn.new (IfErr result (RefusesToFold S.Store conn.old definitions.now changes.now)) }
+    ensures crash { Survives (state S.Store conn.old) (state S.Store conn.new) (LeavesTaken S.Store conn.old definitions.now changes.now position.now) }
 {
     let _settled = conn.is_autocommit();
     let mut tx = conn.transaction();

@@ -29,7 +29,8 @@ impl<'a> Model for Work<'a> {
 impl<'a> Work<'a> {
     ghost use Rattle.std.specs.Prelude.{[]};
     ghost use Rattle.pglogical.specs.Spelling.{IsDefinition};
-    ghost use Rattle.pgstore.specs.Works.{Defines, ChangesOne};
+    ghost use Rattle.std.specs.List.{AllByRecursion};
+    ghost use Rattle.pgstore.specs.Works.{Defines, ChangesOne, change_values};
 
     /// A work of no changes.
     pub fn new(alloc: Global) -> Work<'a>
@@ -64,5 +65,20 @@ impl<'a> Work<'a> {
     {
         self.changes.push((def, op))?;
         Ok(())
+    }
+
+    /// Its definitions, in the order of the calls.
+    pub(crate) fn definitions(&self) -> &[RelationDef]
+        ensures definitions { result.now ≡ self.now.definitions }
+        ensures spellable { AllByRecursion IsDefinition result.now }
+    {
+        self.definitions.as_slice()
+    }
+
+    /// Its changes, each with the number of its definition.
+    pub(crate) fn entries(&self) -> &[(usize, Op<'a>)]
+        ensures { change_values self.now.definitions result.now ≡ self.now.changes }
+    {
+        self.changes.as_slice()
     }
 }

@@ -1,0 +1,108 @@
+-- What a store contains, when it is made and when a commit is taken.
+use Rattle.std.proofs.Common.{◌≡◌, ◌≤◌, ℕ, List, [], ◌∷◌, Ok, false, IsTrue, refl, sym, ap, subst, ◌∙◌, arith}
+use Rattle.std.specs.Prelude.{option_map}
+use Rattle.std.specs.Int.{w64, to_be_bytes}
+use Rattle.std.specs.Ordering.{nat_cmp}
+use Rattle.std.specs.Cmp.Lexicographic.{slice_cmp}
+use Rattle.std.specs.FinMap as map
+use Rattle.std.specs.FinMap.{get-empty}
+use Rattle.sqlite.specs.Effect.{Database}
+use Rattle.sqlite.specs.Store.{Ghosts}
+use Rattle.sqlite.specs.View.{doubt}
+use Rattle.sqlite.specs.Held.{Held, state}
+use Rattle.sqlite.specs.State.{HasCleanDisk}
+use Rattle.pglogical.specs.declared.item.RelationDef.{RelationDef}
+use Rattle.pgtables.specs.Kept as stored
+use Rattle.pgtables.specs.Kept.{IfServing, tables_of, tables_in}
+use Rattle.pgstore.specs.declared.op.Op.{Op}
+use Rattle.pgstore.specs.declared.rows.StoreFault.{StoreFault}
+use Rattle.pgstore.specs.Value.{Table}
+use Rattle.pgstore.specs.Works.{change_values}
+use Rattle.pgstore.specs.Apply.{Change, fold_changes}
+use Rattle.pgstore.specs.Stored.{IsFault}
+use Rattle.pgstore.specs.Spelled.{IsStored, spelled_definition, spelled_row, row_in}
+use Rattle.pgstore.specs.Acts.{HasTaken, RefusesToFold}
+use Rattle.pgstore.specs.StoreValue.{StoreValue, IsStore, HasMade, Serves, Holds, Takes, Stays, RefusesWork, nothing_stored}
+use Rattle.pgstore.proofs.KeepsForm.{none_keeps}
+
+-- ---- a new store
+
+no_value : IsStored map.empty stored.no_tables
+no_value = record {
+  spelled = record {
+    defined = λ oid. get-empty nat_cmp oid ∙ sym (ap (option_map (λ (t : Table). spelled_definition t.definition)) (get-empty nat_cmp oid));
+    rows = λ oid place. get-empty (slice_cmp nat_cmp) (oid ∷ place) ∙ sym (ap (λ o. option_map spelled_row (row_in o place)) (get-empty nat_cmp oid));
+    keyed = get-empty (slice_cmp nat_cmp) [];
+  };
+  form = none_keeps;
+  spellable = λ oid table there. absurd (let none = sym (get-empty nat_cmp oid) ∙ there in cc);
+}
+
+module _ {S : Type 0} (g : Ghosts S) (conn : Held S) (made : HasCleanDisk (state g conn) → HasMade g conn) where
+  first_stored : HasCleanDisk (state g conn) → IsStored map.empty (tables_of g conn)
+  first_stored clean = subst (IsStored map.empty) (sym (made clean).none) no_value
+
+  pub first_store : (state g conn).in_transaction ≡ false → IsStore g conn 0
+  first_store settled = record {
+    settled = settled;
+    kept = λ clean still. (made clean).kept;
+    same = λ clean still. ap (λ (t : stored.Tables). t.place) (made clean).none;
+    stored = λ clean still. (map.empty, first_stored clean);
+  }
+
+  pub first_holds : HasCleanDisk (state g conn) → Serves g (record { conn = conn; position = 0 }) × Holds g (record { conn = conn; position = 0 }) nothing_stored
+  first_holds clean = (record { honest = clean; is_open = (made clean).is_open }, record { stored = first_stored clean; position = refl })
+
+-- ---- a commit
+
+module _ {S : Type 0} (g : Ghosts S) (old new : Held S) (position : ℕ) (doubts : doubt (state g old).is_clean ≤ doubt (state g new).is_clean) where
+  -- nothing changed
+  module _ (same : IfServing g new (IsTrue (state g old).is_open × ((state g new).now ≡ (state g old).now))) where
+    pub stays_store : IsStore g old position → (state g new).in_transaction ≡ false → IsStore g new position
+    stays_store was settled = record {
+      settled = settled;
+      kept = λ clean still. let it = same clean still in subst stored.IsKept (sym it.1) (was.kept (omega arith) it.0);
+      same = λ clean still. let it = same clean still in ap (λ (d : Database). (tables_in d.trees).place) it.1 ∙ was.same (omega arith) it.0;
+      stored = λ clean still.
+          let it = same clean still in
+          let v = was.stored (omega arith) it.0 in
+          (v.0, subst (λ (d : Database). IsStored v.0 (tables_in d.trees)) (sym it.1) v.1);
+    }
+
+    pub stays : Serves g (record { conn = new; position = position }) → Stays g (record { conn = old; position = position }) (record { conn = new; position = position })
+    stays now =
+        let it = same now.honest now.is_open in
+        record {
+          served = record { honest = (let clean = now.honest in omega arith); is_open = it.0 };
+          same = λ v h. record { stored = subst (λ (d : Database). IsStored v.tables (tables_in d.trees)) (sym it.1) h.stored; position = h.position };
+        }
+
+  -- the changes were folded
+  module _ (definitions : List RelationDef) (entries : List (ℕ × Op)) (end : ℕ) (bytes : List ℕ) (spells : bytes ≡ to_be_bytes w64 end) (taken : HasCleanDisk (state g new) → HasTaken g old new definitions entries bytes) where
+    pub taken_store : IsStore g old position → (state g new).in_transaction ≡ false → IsStore g new end
+    taken_store was settled = record {
+      settled = settled;
+      kept = λ clean still. (taken clean).kept;
+      same = λ clean still. (taken clean).position_is ∙ spells;
+      stored = λ clean still.
+          let it = taken clean in
+          let v = was.stored (omega arith) it.was_open in
+          let f = it.folds v.0 v.1 in
+          (f.0, f.2);
+    }
+
+    pub takes : (changes : List Change) → change_values definitions entries ≡ changes → HasCleanDisk (state g new) → Takes g (record { conn = old; position = position }) (record { conn = new; position = end }) changes end
+    takes changes is clean =
+        let it = taken clean in
+        record {
+          served = record { honest = omega arith; is_open = it.was_open };
+          serves = record { honest = clean; is_open = it.is_open };
+          folds = λ v h.
+              let f = it.folds v.tables h.stored in
+              (f.0, subst (λ cs. fold_changes v.tables cs ≡ Ok f.0) is f.1, record { stored = f.2; position = refl });
+        }
+
+-- the fault of a work
+pub refuses_work : {S : Type 0} (g : Ghosts S) (old : Held S) (position : ℕ) (definitions : List RelationDef) (entries : List (ℕ × Op)) (changes : List Change) (e : StoreFault) → change_values definitions entries ≡ changes
+    → RefusesToFold g old definitions entries e → RefusesWork g (record { conn = old; position = position }) changes e
+refuses_work g old position definitions entries changes e is h v s = subst (λ cs. IsFault e (fold_changes v.tables cs)) is (h v.tables s.stored)

@@ -1,0 +1,72 @@
+-- What a caller sees of a store, and what holds of each.
+use Rattle.std.specs.Prelude.{◌≡◌, ℕ, false, List, IsTrue, Ok, refl}
+use Rattle.std.specs.Coded.{Coded, code_by, coded×, coded_ℕ}
+use Rattle.std.specs.Int.{w64, to_be_bytes}
+use Rattle.std.specs.FinMap as map
+use Rattle.sqlite.specs.Tree.{Trees}
+use Rattle.sqlite.specs.Store.{Ghosts}
+use Rattle.sqlite.specs.Held.{Held, held_code, state}
+use Rattle.sqlite.specs.State.{HasCleanDisk}
+use Rattle.pgtables.specs.Kept as stored
+use Rattle.pgtables.specs.Kept.{IfServing, IsKept, tables_of}
+use Rattle.pgstore.specs.declared.rows.StoreFault.{StoreFault}
+use Rattle.pgstore.specs.Value.{Tables}
+use Rattle.pgstore.specs.Apply.{Change, fold_changes}
+use Rattle.pgstore.specs.Stored.{Stored, IsFault}
+use Rattle.pgstore.specs.Spelled.{IsStored}
+
+-- its connection, and its position
+pub record StoreValue (S : Type 0) : Type 0 where
+  pub conn : Held S
+  pub position : ℕ
+
+abbrev pub store_code : {S : Type 0} → Coded S → Coded (StoreValue S)
+store_code {S} store = code_by (Held S × ℕ) (coded× (held_code store) coded_ℕ) (λ s. (s.conn, s.position)) (λ p. record { conn = p.0; position = p.1 }) (λ _. refl)
+
+-- no tables, at 0/0
+abbrev pub nothing_stored : Stored
+nothing_stored = record { tables = map.empty; position = 0 }
+
+module _ {S : Type 0} (g : Ghosts S) where
+  -- the disk has returned what was written, so far
+  abbrev pub IsHonest : StoreValue S → Type 0
+  IsHonest s = HasCleanDisk (state g s.conn)
+
+  -- it has, and no failure of the disk has shut the store
+  pub record Serves (s : StoreValue S) : Type 0 where
+    pub honest : IsHonest s
+    pub is_open : IsTrue (state g s.conn).is_open
+
+  -- these are the tables and the position of the store
+  pub record Holds (s : StoreValue S) (v : Stored) : Type 0 where
+    pub stored : IsStored v.tables (tables_of g s.conn)
+    pub position : v.position ≡ s.position
+
+  -- what holds of each store
+  pub record IsStore (conn : Held S) (position : ℕ) : Type 0 where
+    pub settled : (state g conn).in_transaction ≡ false
+    pub kept : IfServing g conn (IsKept (state g conn).now)
+    -- the position that is kept is the one that is stored
+    pub same : IfServing g conn ((tables_of g conn).place ≡ to_be_bytes w64 position)
+    pub stored : IfServing g conn ((v : Tables) × IsStored v (tables_of g conn))
+
+  -- the tables were made, empty, with position 0/0
+  pub record HasMade (conn : Held S) : Type 0 where
+    pub is_open : IsTrue (state g conn).is_open
+    pub kept : IsKept (state g conn).now
+    pub none : tables_of g conn ≡ stored.no_tables
+
+  -- the changes were folded over the tables, with this position
+  pub record Takes (old new : StoreValue S) (changes : List Change) (end : ℕ) : Type 0 where
+    pub served : Serves old
+    pub serves : Serves new
+    pub folds : (v : Stored) → Holds old v → (next : Tables) × (fold_changes v.tables changes ≡ Ok next) × Holds new (record { tables = next; position = end })
+
+  -- nothing changed
+  pub record Stays (old new : StoreValue S) : Type 0 where
+    pub served : Serves old
+    pub same : (v : Stored) → Holds old v → Holds new v
+
+  -- this is the fault of the changes over the tables, or the store's own
+  abbrev pub RefusesWork : StoreValue S → List Change → StoreFault → Type 0
+  RefusesWork old changes fault = (v : Stored) → Holds old v → IsFault fault (fold_changes v.tables changes)

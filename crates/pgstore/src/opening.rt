@@ -1,0 +1,27 @@
+//! The tables of a new store.
+
+ghost use Rattle.std.specs.Prelude.{◌≡◌, false, OnOk, IfErr};
+ghost use Rattle.sqlite.specs.Held.{state};
+ghost use Rattle.sqlite.specs.State.{HasCleanDisk};
+ghost use Rattle.pgtables.specs.Schema.{no_schema};
+ghost use Rattle.pgtables.specs.Kept.{IfServing};
+ghost use Rattle.pgstore.specs.Acts.{IsOwnFault};
+ghost use Rattle.pgstore.specs.StoreValue.{HasMade};
+
+use crate::rows::StoreFault;
+use pgtables::create_tables;
+use sqlite::{Alter, Connection};
+
+/// Makes the tables where there are none yet, empty and with position 0/0, in one SQL transaction.
+pub(crate) fn make_tables<S: Alter>(conn: &mut Connection<S>) -> Result<(), StoreFault>
+    requires settled { (state S.Store conn.old).in_transaction ≡ false }
+    requires bare { IfServing S.Store conn.old ((state S.Store conn.old).now.schema ≡ no_schema) }
+    ensures settled { (state S.Store conn.new).in_transaction ≡ false }
+    ensures made { HasCleanDisk (state S.Store conn.new) → OnOk result (HasMade S.Store conn.new) }
+    ensures fault { IfErr result IsOwnFault }
+{
+    let mut tx = conn.transaction();
+    create_tables(&mut tx)?;
+    tx.commit()?;
+    Ok(())
+}
