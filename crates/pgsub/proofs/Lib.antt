@@ -1,4 +1,3 @@
-pub mod Lines
 pub mod DumpLines
 pub mod PlainMaps
 pub mod PlainApply

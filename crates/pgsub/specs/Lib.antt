@@ -1,5 +1,3 @@
-pub mod Capture
-pub mod Refused
 pub mod DumpText
 pub mod Plain
 pub mod PlainStore

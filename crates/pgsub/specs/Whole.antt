@@ -10,7 +10,7 @@ use Rattle.pgsub_core.specs.History.{Transaction, IsHistory}
 use Rattle.pgsub_core.specs.Safe.{IsSafe}
 use Rattle.pgsub_core.specs.Sessions.{AreSessions, reached_all}
 use Rattle.pgsub_core.specs.Stream.{Sent}
-use Rattle.pgsub.specs.Capture.{sessions_of}
+use Rattle.pgcapture.specs.Capture.{sessions_of}
 use Rattle.pgsub.specs.DumpText.{dump_of}
 use Rattle.pgsub.specs.PlainFollow.{all_bytes_of, progress_of}
 

@@ -1,7 +1,6 @@
 //! The program: applies recorded sessions of a server, and prints the rows that they leave.
 #![tactic(auto)]
 
-pub mod capture;
 pub mod dump;
 pub mod fault_text;
 pub mod plain_session;

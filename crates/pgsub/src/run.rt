@@ -2,10 +2,10 @@
 ghost use Rattle.std.specs.Prelude.{◌≤◌, ◌≡◌, IfOk, IfSome, OnOk, None, string_bytes};
 ghost use Rattle.pgsub.specs.Whole.{PrintsWhole, Prints};
 
-use crate::capture::{CaptureFault, read_capture};
 use crate::dump::dump_text;
 use crate::fault_text::FaultText;
 use crate::subscriber::{Subscriber, follow};
+use pgcapture::{CaptureFault, read_capture};
 use pgsub_core::Fault;
 use std::alloc::Global;
 use std::io::{ErrorKind, Read, Write};

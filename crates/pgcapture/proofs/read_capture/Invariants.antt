@@ -1,6 +1,6 @@
 use Rattle.std.proofs.Common.{◌≡◌, ◌+◌, ◌≤◌, length}
-use Rattle.pgsub.specs.Capture.{captured_from, lines_of, joined, sessions_of}
-use Rattle.pgsub.proofs.capture.read_capture.Given as goal
+use Rattle.pgcapture.specs.Capture.{captured_from, lines_of, joined, sessions_of}
+use Rattle.pgcapture.proofs.read_capture.Given as goal
 
 abbrev pub invariant-loop-pieces : goal.invariant-loop-pieces
 invariant-loop-pieces l =

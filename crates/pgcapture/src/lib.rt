@@ -1,8 +1,10 @@
 //! Capture texts: recorded sessions, a piece of bytes a line in hexadecimal.
+#![tactic(auto)]
+
 ghost use Rattle.std.specs.Prelude.{◌≡◌, ◌<◌, ◌++◌, ◌∷◌, ◌⊎◌, [], ◌==◌, length, IfOk, IfErr, Ok, IfSome, OnOk, option_copied};
 ghost use Rattle.std.specs.List.{position};
-ghost use Rattle.pgsub.specs.Capture.{NoLine, Captured, lines_of, lines_behind, meaning_of, with_line, joined, sessions_of, session_of};
-ghost use Rattle.pgsub.specs.Refused.{IsRefused};
+ghost use Rattle.pgcapture.specs.Capture.{NoLine, Captured, lines_of, lines_behind, meaning_of, with_line, joined, sessions_of, session_of};
+ghost use Rattle.pgcapture.specs.Refused.{IsRefused};
 
 use hex::FromHexError;
 use pgsub_core::Session;
@@ -22,7 +24,7 @@ pub enum CaptureFault {
 
 impl<T: Drop> From<AllocFailed<T>> for CaptureFault {
     ghost use Rattle.std.specs.Prelude.{◌≡◌};
-    ghost use Rattle.pgsub.specs.declared.capture.CaptureFault.TheVariants.{Memory};
+    ghost use Rattle.pgcapture.specs.declared.CaptureFault.TheVariants.{Memory};
 
     ghost from_gives = { λ _ fault. fault ≡ Memory };
 

@@ -4,7 +4,7 @@ use Rattle.std.specs.Prelude.{◌==◌, nat_lt}
 use Rattle.std.specs.List.{position, position_or_len}
 use Rattle.std.proofs.lemmas.Bool.Decides.{nat_tests}
 use Rattle.std.proofs.lemmas.List.{take_rest}
-use Rattle.pgsub.specs.Capture.{in_front, lines_of}
+use Rattle.pgcapture.specs.Capture.{in_front, lines_of}
 
 abbrev feed_at : List ℕ → ℕ
 feed_at text = position_or_len (λ byte. byte == 10) text

@@ -1,8 +1,8 @@
 -- When a capture text is refused.
 use Rattle.std.specs.Prelude.{◌≡◌, List, Result, Err, ℕ}
 use Rattle.pgsub_core.specs.declared.session.Session.{Session}
-use Rattle.pgsub.specs.declared.capture.CaptureFault.{CaptureFault}
-use Rattle.pgsub.specs.declared.capture.CaptureFault.TheVariants.{NotHexadecimal, Memory}
+use Rattle.pgcapture.specs.declared.CaptureFault.{CaptureFault}
+use Rattle.pgcapture.specs.declared.CaptureFault.TheVariants.{NotHexadecimal, Memory}
 
 -- a refused line is the first that is none; want of memory is no line's
 abbrev pub IsRefused : CaptureFault → Result (List Session) ℕ → Type 0

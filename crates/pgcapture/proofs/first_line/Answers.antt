@@ -1,6 +1,6 @@
 use Rattle.std.proofs.Common.{sym, ◌∙◌}
-use Rattle.pgsub.proofs.Lines.{lines-None, lines-Some}
-use Rattle.pgsub.proofs.capture.first_line.Goals as goal
+use Rattle.pgcapture.proofs.Lines.{lines-None, lines-Some}
+use Rattle.pgcapture.proofs.first_line.Goals as goal
 
 pub returns-in-None-clause-lines : goal.returns-in-None-clause-lines
 returns-in-None-clause-lines c = lines-None c.args.text.now (sym c.line_end.ensures ∙ c.in-None.is)

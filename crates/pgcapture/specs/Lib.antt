@@ -1,0 +1,2 @@
+pub mod Capture
+pub mod Refused
