@@ -6,12 +6,15 @@ use Rattle.std.specs.Ordering.{nat_cmp}
 use Rattle.std.specs.Cmp.Lexicographic.{slice_cmp}
 use Rattle.std.specs.FinMap as map
 use Rattle.std.specs.FinMap.{get-empty}
+use Rattle.sqlite.specs.Tree.{Trees}
 use Rattle.sqlite.specs.Effect.{Database}
 use Rattle.sqlite.specs.Store.{Ghosts}
 use Rattle.sqlite.specs.View.{doubt}
 use Rattle.sqlite.specs.Held.{Held, state}
-use Rattle.sqlite.specs.State.{HasCleanDisk}
+use Rattle.sqlite.specs.State.{HasCleanDisk, Survives}
+use Rattle.sqlite.proofs.StateLemmas.{survives_weaker}
 use Rattle.pglogical.specs.declared.item.RelationDef.{RelationDef}
+use Rattle.pgtables.specs.Schema.{store_schema}
 use Rattle.pgtables.specs.Kept as stored
 use Rattle.pgtables.specs.Kept.{IfServing, tables_of, tables_in}
 use Rattle.pgstore.specs.declared.op.Op.{Op}
@@ -19,11 +22,40 @@ use Rattle.pgstore.specs.declared.rows.StoreFault.{StoreFault}
 use Rattle.pgstore.specs.Value.{Table}
 use Rattle.pgstore.specs.Works.{change_values}
 use Rattle.pgstore.specs.Apply.{Change, fold_changes}
-use Rattle.pgstore.specs.Stored.{IsFault}
+use Rattle.pgstore.specs.Stored.{Stored, IsFault}
 use Rattle.pgstore.specs.Spelled.{IsStored, spelled_definition, spelled_row, row_in}
-use Rattle.pgstore.specs.Acts.{HasTaken, RefusesToFold}
-use Rattle.pgstore.specs.StoreValue.{StoreValue, IsStore, HasMade, Serves, Holds, Takes, Stays, RefusesWork, nothing_stored}
+use Rattle.pgstore.specs.Acts.{HasTaken, LeavesTaken, RefusesToFold}
+use Rattle.pgstore.specs.StoreValue.{StoreValue, IsStore, HasMade, AreOf, Serves, Holds, Contains, Takes, Stays, RefusesWork, LeavesWork, nothing_stored}
 use Rattle.pgstore.proofs.KeepsForm.{none_keeps}
+
+-- ---- a crash between calls
+
+-- while a store is open, a crash leaves the last commit and nothing else
+abbrev pub IsSettled : {S : Type 0} → Ghosts S → Type 0
+IsSettled {S} g = (s : S) (db : Trees) → IsTrue (g.view s).is_open → g.recovers s db → db ≡ (g.view s).committed
+
+module _ {S : Type 0} (g : Ghosts S) (law : IsSettled g) (conn : Held S) (even : IsTrue (state g conn).is_open → (state g conn).now ≡ (state g conn).committed) where
+  crash_leaves : IfServing g conn ((db : Trees) → (state g conn).may_leave db → db ≡ (state g conn).now.trees)
+  crash_leaves clean still db may = law conn.store db still may ∙ sym (ap (λ (d : Database). d.trees) (even still))
+
+-- what a store contains is left
+pub contains : {S : Type 0} (g : Ghosts S) (conn : Held S) (position : ℕ) → IsStore g conn position → Serves g (record { conn = conn; position = position }) → (v : Stored) × Contains g (record { conn = conn; position = position }) v
+contains g conn position is now =
+    let v = is.stored now.honest now.is_open in
+    let kept = is.kept now.honest now.is_open in (
+      record { tables = v.0; position = position },
+      record {
+        holds = record { stored = v.1; position = refl };
+        left = λ db may.
+            let same = is.crash now.honest now.is_open db may in
+            let whole : ◌≡◌ {A = Database} (state g conn).now (record { schema = store_schema; trees = db }) = λ i. record { schema = kept.schema i; trees = sym same i } in
+            record {
+              kept = subst stored.IsKept whole kept;
+              stored = subst (λ t. IsStored v.0 (tables_in t)) (sym same) v.1;
+              position = ap (λ t. (tables_in t).place) same ∙ is.same now.honest now.is_open;
+            };
+      },
+    )
 
 -- ---- a new store
 
@@ -42,12 +74,13 @@ module _ {S : Type 0} (g : Ghosts S) (conn : Held S) (made : HasCleanDisk (state
   first_stored : HasCleanDisk (state g conn) → IsStored map.empty (tables_of g conn)
   first_stored clean = subst (IsStored map.empty) (sym (made clean).none) no_value
 
-  pub first_store : (state g conn).in_transaction ≡ false → IsStore g conn 0
-  first_store settled = record {
+  pub first_store : IsSettled g → (IsTrue (state g conn).is_open → (state g conn).now ≡ (state g conn).committed) → (state g conn).in_transaction ≡ false → IsStore g conn 0
+  first_store law even settled = record {
     settled = settled;
     kept = λ clean still. (made clean).kept;
     same = λ clean still. ap (λ (t : stored.Tables). t.place) (made clean).none;
     stored = λ clean still. (map.empty, first_stored clean);
+    crash = crash_leaves g law conn even;
   }
 
   pub first_holds : HasCleanDisk (state g conn) → Serves g (record { conn = conn; position = 0 }) × Holds g (record { conn = conn; position = 0 }) nothing_stored
@@ -58,8 +91,8 @@ module _ {S : Type 0} (g : Ghosts S) (conn : Held S) (made : HasCleanDisk (state
 module _ {S : Type 0} (g : Ghosts S) (old new : Held S) (position : ℕ) (doubts : doubt (state g old).is_clean ≤ doubt (state g new).is_clean) where
   -- nothing changed
   module _ (same : IfServing g new (IsTrue (state g old).is_open × ((state g new).now ≡ (state g old).now))) where
-    pub stays_store : IsStore g old position → (state g new).in_transaction ≡ false → IsStore g new position
-    stays_store was settled = record {
+    pub stays_store : IsStore g old position → IsSettled g → (IsTrue (state g new).is_open → (state g new).now ≡ (state g new).committed) → (state g new).in_transaction ≡ false → IsStore g new position
+    stays_store was law even settled = record {
       settled = settled;
       kept = λ clean still. let it = same clean still in subst stored.IsKept (sym it.1) (was.kept (omega arith) it.0);
       same = λ clean still. let it = same clean still in ap (λ (d : Database). (tables_in d.trees).place) it.1 ∙ was.same (omega arith) it.0;
@@ -67,6 +100,7 @@ module _ {S : Type 0} (g : Ghosts S) (old new : Held S) (position : ℕ) (doubts
           let it = same clean still in
           let v = was.stored (omega arith) it.0 in
           (v.0, subst (λ (d : Database). IsStored v.0 (tables_in d.trees)) (sym it.1) v.1);
+      crash = crash_leaves g law new even;
     }
 
     pub stays : Serves g (record { conn = new; position = position }) → Stays g (record { conn = old; position = position }) (record { conn = new; position = position })
@@ -79,8 +113,8 @@ module _ {S : Type 0} (g : Ghosts S) (old new : Held S) (position : ℕ) (doubts
 
   -- the changes were folded
   module _ (definitions : List RelationDef) (entries : List (ℕ × Op)) (end : ℕ) (bytes : List ℕ) (spells : bytes ≡ to_be_bytes w64 end) (taken : HasCleanDisk (state g new) → HasTaken g old new definitions entries bytes) where
-    pub taken_store : IsStore g old position → (state g new).in_transaction ≡ false → IsStore g new end
-    taken_store was settled = record {
+    pub taken_store : IsStore g old position → IsSettled g → (IsTrue (state g new).is_open → (state g new).now ≡ (state g new).committed) → (state g new).in_transaction ≡ false → IsStore g new end
+    taken_store was law even settled = record {
       settled = settled;
       kept = λ clean still. (taken clean).kept;
       same = λ clean still. (taken clean).position_is ∙ spells;
@@ -89,6 +123,7 @@ module _ {S : Type 0} (g : Ghosts S) (old new : Held S) (position : ℕ) (doubts
           let v = was.stored (omega arith) it.was_open in
           let f = it.folds v.0 v.1 in
           (f.0, f.2);
+      crash = crash_leaves g law new even;
     }
 
     pub takes : (changes : List Change) → change_values definitions entries ≡ changes → HasCleanDisk (state g new) → Takes g (record { conn = old; position = position }) (record { conn = new; position = end }) changes end
@@ -106,3 +141,14 @@ module _ {S : Type 0} (g : Ghosts S) (old new : Held S) (position : ℕ) (doubts
 pub refuses_work : {S : Type 0} (g : Ghosts S) (old : Held S) (position : ℕ) (definitions : List RelationDef) (entries : List (ℕ × Op)) (changes : List Change) (e : StoreFault) → change_values definitions entries ≡ changes
     → RefusesToFold g old definitions entries e → RefusesWork g (record { conn = old; position = position }) changes e
 refuses_work g old position definitions entries changes e is h v s = subst (λ cs. IsFault e (fold_changes v.tables cs)) is (h v.tables s.stored)
+
+-- what a crash inside a commit may leave
+module _ {S : Type 0} (g : Ghosts S) (old new : Held S) (position : ℕ) (definitions : List RelationDef) (entries : List (ℕ × Op)) (end : ℕ) (bytes : List ℕ) (spells : bytes ≡ to_be_bytes w64 end)
+    (changes : List Change) (is : change_values definitions entries ≡ changes) where
+  leaves_work : (db : Trees) → LeavesTaken g old definitions entries bytes db → LeavesWork g (record { conn = old; position = position }) changes end db
+  leaves_work db h v s =
+      let f = h.folds v.tables s.stored in
+      (f.0, subst (λ cs. fold_changes v.tables cs ≡ Ok f.0) is f.1, record { kept = h.kept; stored = f.2; position = h.position_is ∙ spells })
+
+  pub survives_work : Survives (state g old) (state g new) (LeavesTaken g old definitions entries bytes) → Survives (state g old) (state g new) (LeavesWork g (record { conn = old; position = position }) changes end)
+  survives_work s = survives_weaker (state g old) (state g new) _ _ (λ _ db h. leaves_work db h) s

@@ -1,8 +1,11 @@
--- What the effect of changes keeps true of a store's tables.
+-- What the effect of changes keeps true of a store's tables, and what holds of a store in memory.
 use Rattle.std.specs.Prelude.{◌≡◌, List, Ok}
 use Rattle.std.specs.FinMap as map
+use Rattle.sqlite_trees.specs.declared.memory.MemStore.{MemStore}
+use Rattle.sqlite.specs.Steps.{over_memory}
 use Rattle.pgstore.specs.Value.{Tables, AreTables}
 use Rattle.pgstore.specs.Apply.{Change, apply, fold_changes}
+use Rattle.pgstore.specs.StoreValue.{StoreValue, Serves}
 
 -- the tables of a new store are of the form
 abbrev pub NoTablesAreTables : Type 0
@@ -15,3 +18,7 @@ ChangeKeepsTables = (tables next : Tables) (change : Change) → AreTables table
 -- and those behind a list of changes
 abbrev pub ChangesKeepTables : Type 0
 ChangesKeepTables = (changes : List Change) (tables next : Tables) → AreTables tables → fold_changes tables changes ≡ Ok next → AreTables next
+
+-- a store in memory always serves
+abbrev pub StoresInMemoryServe : Type 0
+StoresInMemoryServe = (s : StoreValue MemStore) → Serves over_memory s

@@ -7,8 +7,9 @@ use Rattle.sqlite.specs.Tree.{Trees}
 use Rattle.sqlite.specs.Store.{Ghosts}
 use Rattle.sqlite.specs.Held.{Held, held_code, state}
 use Rattle.sqlite.specs.State.{HasCleanDisk}
+use Rattle.pgtables.specs.Schema.{store_schema}
 use Rattle.pgtables.specs.Kept as stored
-use Rattle.pgtables.specs.Kept.{IfServing, IsKept, tables_of}
+use Rattle.pgtables.specs.Kept.{IfServing, IsKept, tables_in, tables_of}
 use Rattle.pgstore.specs.declared.rows.StoreFault.{StoreFault}
 use Rattle.pgstore.specs.Value.{Tables}
 use Rattle.pgstore.specs.Apply.{Change, fold_changes}
@@ -22,6 +23,12 @@ pub record StoreValue (S : Type 0) : Type 0 where
 
 abbrev pub store_code : {S : Type 0} → Coded S → Coded (StoreValue S)
 store_code {S} store = code_by (Held S × ℕ) (coded× (held_code store) coded_ℕ) (λ s. (s.conn, s.position)) (λ p. record { conn = p.0; position = p.1 }) (λ _. refl)
+
+-- trees that have these tables and this position
+pub record AreOf (v : Stored) (db : Trees) : Type 0 where
+  pub kept : IsKept (record { schema = store_schema; trees = db })
+  pub stored : IsStored v.tables (tables_in db)
+  pub position : (tables_in db).place ≡ to_be_bytes w64 v.position
 
 -- no tables, at 0/0
 abbrev pub nothing_stored : Stored
@@ -42,6 +49,11 @@ module _ {S : Type 0} (g : Ghosts S) where
     pub stored : IsStored v.tables (tables_of g s.conn)
     pub position : v.position ≡ s.position
 
+  -- they are what the store contains, and whatever a crash may leave of it contains the same
+  pub record Contains (s : StoreValue S) (v : Stored) : Type 0 where
+    pub holds : Holds s v
+    pub left : (db : Trees) → (state g s.conn).may_leave db → AreOf v db
+
   -- what holds of each store
   pub record IsStore (conn : Held S) (position : ℕ) : Type 0 where
     pub settled : (state g conn).in_transaction ≡ false
@@ -49,6 +61,8 @@ module _ {S : Type 0} (g : Ghosts S) where
     -- the position that is kept is the one that is stored
     pub same : IfServing g conn ((tables_of g conn).place ≡ to_be_bytes w64 position)
     pub stored : IfServing g conn ((v : Tables) × IsStored v (tables_of g conn))
+    -- between calls a crash leaves what is stored
+    pub crash : IfServing g conn ((db : Trees) → (state g conn).may_leave db → db ≡ (state g conn).now.trees)
 
   -- the tables were made, empty, with position 0/0
   pub record HasMade (conn : Held S) : Type 0 where
@@ -70,3 +84,7 @@ module _ {S : Type 0} (g : Ghosts S) where
   -- this is the fault of the changes over the tables, or the store's own
   abbrev pub RefusesWork : StoreValue S → List Change → StoreFault → Type 0
   RefusesWork old changes fault = (v : Stored) → Holds old v → IsFault fault (fold_changes v.tables changes)
+
+  -- what a crash may leave of a commit: the changes folded, with this position
+  abbrev pub LeavesWork : StoreValue S → List Change → ℕ → Trees → Type 0
+  LeavesWork old changes end db = (v : Stored) → Holds old v → (next : Tables) × (fold_changes v.tables changes ≡ Ok next) × AreOf (record { tables = next; position = end }) db

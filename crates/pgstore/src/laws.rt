@@ -1,6 +1,7 @@
-//! What the effect of changes keeps true, as the contract of a function that does nothing.
+//! What the effect of changes keeps true, and what holds of a store in memory, each as the contract of a function that
+//! does nothing.
 
-ghost use Rattle.pgstore.specs.Laws.{NoTablesAreTables, ChangeKeepsTables, ChangesKeepTables};
+ghost use Rattle.pgstore.specs.Laws.{NoTablesAreTables, ChangeKeepsTables, ChangesKeepTables, StoresInMemoryServe};
 
 /// Each row of a store's tables has its definition's width and all of its cells, and stands under the spelling of its
 /// identity; a row of a keyed table stands there once, a row of a bag 1 to 2147483647 times. A new store has no tables,
@@ -11,4 +12,11 @@ pub fn changes_keep_tables()
     ensures new { NoTablesAreTables }
     ensures one { ChangeKeepsTables }
     ensures several { ChangesKeepTables }
+{}
+
+/// A store in memory has an honest disk and is never shut.
+///
+/// PostgreSQL documentation, Logical Replication.
+pub fn stores_in_memory_serve()
+    ensures { StoresInMemoryServe }
 {}
