@@ -8,6 +8,8 @@ pub mod Definitions
 pub mod Applying
 pub mod Committed
 pub mod Stores
+pub mod DumpNested
+pub mod DumpShown
 mod Relations
 mod EffectRows
 mod WorkRows
