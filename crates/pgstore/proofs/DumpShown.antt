@@ -1,5 +1,5 @@
 -- The rows that are read from the dump of the tables are the dump of the value.
-use Rattle.std.proofs.Common.{◌≡◌, ℕ, ◌+◌, ◌<◌, pos, List, [], ◌∷◌, ◌++◌, map, length, take, get_or, Option, Some, None, refl, sym, ap, subst, ◌∙◌, inl, inr}
+use Rattle.std.proofs.Common.{◌≡◌, ℕ, ◌+◌, ◌<◌, pos, List, [], ◌∷◌, ◌++◌, map, length, take, get_or, Option, Some, None, Result, Ok, Err, IfOk, Vec, Global, refl, sym, ap, subst, ◌∙◌, inl, inr}
 use Rattle.std.specs.Prelude.{option_map, unwrap_or}
 use Rattle.std.specs.List.{flat_map, AllZip}
 use Rattle.std.specs.Ordering.{nat_cmp}
@@ -10,11 +10,18 @@ use Rattle.std.proofs.lemmas.List.{take_more}
 use Rattle.sqlite.specs.declared.types.Value.{Value}
 use Rattle.sqlite.specs.declared.types.Value.TheVariants.{Int, Text, Blob}
 use Rattle.sqlite.specs.Order as sql
+use Rattle.sqlite.specs.Store.{Ghosts}
+use Rattle.sqlite.specs.Held.{Held, state}
+use Rattle.sqlite.specs.State.{HasCleanDisk}
 use Rattle.pgtuple.specs.Cells.{tuple_spelling}
 use Rattle.pgtuple.specs.Limits.{IsTuple}
 use Rattle.pgtables.specs.Kept as stored
+use Rattle.pgtables.specs.Kept.{tables_of}
 use Rattle.pgtables.specs.DumpOrder.{dump_of, shown_at, no_definition}
 use Rattle.pgstore.specs.declared.rows.DumpRow.{DumpRow}
+use Rattle.pgstore.specs.declared.rows.StoreFault.{StoreFault}
+use Rattle.pgstore.specs.Stored.{Stored}
+use Rattle.pgstore.specs.StoreValue.{Holds}
 use Rattle.pgstore.specs.Value.{Row, Table, Tables}
 use Rattle.pgstore.specs.Spelled.{IsStored, AreTupleRows, spelled_definition, spelled_row}
 use Rattle.pgstore.specs.Dump.{dump, dump_row, table_dump, shown_namespace}
@@ -88,3 +95,10 @@ read_more shown rows i x r within is so_far one = subst (λ l. AllZip IsReadFrom
     joined [] (s ∷ rs) h = absurd h
     joined (y ∷ xs) [] h = absurd h
     joined (y ∷ xs) (s ∷ rs) h = (h.0, joined xs rs h.1)
+
+-- the rows of a store
+pub shows_store : {S : Type 0} (g : Ghosts S) (old new : Held S) (position : ℕ) (result : Result (Vec DumpRow Global) StoreFault)
+    → (HasCleanDisk (state g new) → IfOk result (λ rows. (v : Tables) → IsStored v (tables_of g old) → rows.items ≡ dump v))
+    → HasCleanDisk (state g new) → IfOk result (λ rows. (v : Stored) → Holds g (record { conn = old; position = position }) v → rows.items ≡ dump v.tables)
+shows_store g old new position (Ok rows) h clean = λ v s. h clean v.tables s.stored
+shows_store g old new position (Err e) h clean = tt
