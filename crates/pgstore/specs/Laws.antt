@@ -2,10 +2,14 @@
 use Rattle.std.specs.Prelude.{◌≡◌, List, Ok}
 use Rattle.std.specs.FinMap as map
 use Rattle.sqlite_trees.specs.declared.memory.MemStore.{MemStore}
+use Rattle.sqlite_store.specs.declared.store.FileStore.{FileStore}
 use Rattle.sqlite.specs.Steps.{over_memory}
+use Rattle.sqlite.specs.Files.{over_files}
+use Rattle.pgmemory.specs.declared.disk.MemoryDisk.{MemoryDisk}
+use Rattle.pgmemory.specs.contracts.disk.MemoryDiskDisk.TheImpl as memory_disk
 use Rattle.pgstore.specs.Value.{Tables, AreTables}
 use Rattle.pgstore.specs.Apply.{Change, apply, fold_changes}
-use Rattle.pgstore.specs.StoreValue.{StoreValue, Serves}
+use Rattle.pgstore.specs.StoreValue.{StoreValue, IsHonest, Serves}
 
 -- the tables of a new store are of the form
 abbrev pub NoTablesAreTables : Type 0
@@ -22,3 +26,7 @@ ChangesKeepTables = (changes : List Change) (tables next : Tables) → AreTables
 -- a store in memory always serves
 abbrev pub StoresInMemoryServe : Type 0
 StoresInMemoryServe = (s : StoreValue MemStore) → Serves over_memory s
+
+-- one on disks in memory is honest
+abbrev pub StoresOnMemoryDisksAreHonest : Type 0
+StoresOnMemoryDisksAreHonest = (s : StoreValue (FileStore MemoryDisk memory_disk.ghosts)) → IsHonest over_files s

@@ -1,7 +1,7 @@
 //! What the effect of changes keeps true, and what holds of a store in memory, each as the contract of a function that
 //! does nothing.
 
-ghost use Rattle.pgstore.specs.Laws.{NoTablesAreTables, ChangeKeepsTables, ChangesKeepTables, StoresInMemoryServe};
+ghost use Rattle.pgstore.specs.Laws.{NoTablesAreTables, ChangeKeepsTables, ChangesKeepTables, StoresInMemoryServe, StoresOnMemoryDisksAreHonest};
 
 /// Each row of a store's tables has its definition's width and all of its cells, and stands under the spelling of its
 /// identity; a row of a keyed table stands there once, a row of a bag 1 to 2147483647 times. A new store has no tables,
@@ -19,4 +19,11 @@ pub fn changes_keep_tables()
 /// PostgreSQL documentation, Logical Replication.
 pub fn stores_in_memory_serve()
     ensures { StoresInMemoryServe }
+{}
+
+/// A store on disks in memory has an honest disk in every state.
+///
+/// PostgreSQL documentation, Logical Replication.
+pub fn stores_on_memory_disks_are_honest()
+    ensures { StoresOnMemoryDisksAreHonest }
 {}

@@ -1,0 +1,3 @@
+pub mod Content
+pub mod Connected
+pub mod Refused

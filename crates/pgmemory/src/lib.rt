@@ -1,0 +1,15 @@
+//! A database that lives as long as its process: two disks in memory, and the SQL connection over them.
+//!
+//! A disk that may crash has to keep what was last synced beside what was written since. These disks end with their
+//! process, so each write stands at once, and a sync has nothing to do.
+#![tactic(auto)]
+
+pub mod disk;
+pub mod laws;
+pub mod opening;
+
+pub use disk::MemoryDisk;
+pub use opening::open;
+
+#[cfg(test)]
+mod tests;
