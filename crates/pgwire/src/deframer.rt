@@ -246,6 +246,18 @@ mod tests {
         check(&rt, b"c\0\0\0\x04\x78", b"c", Some(WireFault::AfterDone))
     }
 
+    // Run it with each allocation failing in turn: the payloads grow in many steps, and a refused one is fed again.
+    #[test]
+    fn refused_memory_changes_nothing(rt: HostRuntime) -> Result<(), AllocError> {
+        let mut bytes = [7u8; 113];
+        bytes[..5].copy_from_slice(&[b'd', 0, 0, 0, 43]);
+        bytes[44..49].copy_from_slice(&[b'd', 0, 0, 0, 68]);
+        let mut frames = [7u8; 107];
+        frames[..2].copy_from_slice(&[b'd', 39]);
+        frames[41..43].copy_from_slice(&[b'd', 64]);
+        check(&rt, &bytes, &frames, None)
+    }
+
     #[test]
     fn takes_no_more_than_a_frame(rt: HostRuntime) {
         let mut deframer = Deframer::new(rt.alloc(), 64);
