@@ -1,16 +1,16 @@
 -- The definition that a relation has, and the rows that a change finds under it.
-use Rattle.std.proofs.Common.{◌≡◌, ℕ, List, [], ◌∷◌, Bool, true, false, not, Option, Some, None, Result, Ok, Err, refl, sym, ap, subst, ◌∙◌, inl, inr, true≢false, eq-eqb}
+use Rattle.std.proofs.Common.{◌≡◌, ℕ, List, [], ◌∷◌, Bool, true, false, Option, Some, None, Result, Ok, Err, refl, sym, ap, subst, ◌∙◌, inl, inr, true≢false, eq-eqb}
 use Rattle.std.specs.Prelude.{option_map, ◌==◌, ◌||◌, ◌&&◌, if◌then◌else◌, IsSome, ◌≢◌}
-use Rattle.std.specs.List.{list_all, AllByRecursion}
+use Rattle.std.specs.List.{AllByRecursion}
 use Rattle.std.specs.Ordering.{nat_cmp}
 use Rattle.std.specs.Cmp.Lexicographic.{slice_cmp, nat_list_cmp_total, pointwise}
 use Rattle.std.specs.FinMap as map
 use Rattle.std.specs.FinMap.{get-empty, len-empty, empty_of_len, same_map, nat_cmp-IsAntisymmetric, slice_cmp-IsAntisymmetric}
-use Rattle.std.proofs.lemmas.Bool.{cases_Bool, and_parts, not-true, eqb-true}
+use Rattle.std.proofs.lemmas.Bool.{cases_Bool, eqb-true}
 use Rattle.pgtuple.specs.Limits.{IsTuple}
 use Rattle.pglogical.specs.declared.item.Column.{Column}
 use Rattle.pglogical.specs.declared.item.RelationDef.{RelationDef}
-use Rattle.pglogical.specs.Spelling.{IsText, IsDefinition, columns_spelling}
+use Rattle.pglogical.specs.Spelling.{IsText, IsColumn, AreColumns, IsDefinition, columns_spelling}
 use Rattle.pgrel.specs.Identity.{shape, same_shape, same_column}
 use Rattle.pgrel.proofs.Shapes.{shapes_decide}
 use Rattle.pgtables.specs.Kept as stored
@@ -20,7 +20,6 @@ use Rattle.pgstore.specs.declared.rows.StoreFault.TheVariants.{SchemaChanged}
 use Rattle.pgstore.specs.Value.{Row, Rows, Table, Tables}
 use Rattle.pgstore.specs.Apply.{found_rows}
 use Rattle.pgstore.specs.Spelled.{IsStored, IsChanging, AreTupleRows, spelled_definition, spelled_row, row_in}
-use Rattle.pgstore.specs.Acts.{is_text}
 use Rattle.pgstore.proofs.SpelledRows.{definition_put, definition_stands}
 use Rattle.pgstore.proofs.KeepsForm.{found, same_some, same_ok}
 use Rattle.pgstore.proofs.ColumnSpellings.{columns_shape, one_shape}
@@ -39,15 +38,9 @@ shape_as a b def e = bools_alike (same_shape a def) (same_shape b def)
 pub own_shape : (def : RelationDef) → same_shape def def ≡ true
 own_shape def = (shapes_decide def def).1 refl
 
-text_of : (bytes : List ℕ) → is_text bytes ≡ true → IsText bytes
-text_of [] h = tt
-text_of (b ∷ bytes) h =
-    let both = and_parts (not (b == 0)) (is_text bytes) h in
-    ((λ zero. true≢false (sym (eq-eqb b 0 zero) ∙ not-true (b == 0) both.0)), text_of bytes both.1)
-
-pub names_of : (columns : List Column) → list_all (λ (c : Column). is_text c.name) columns ≡ true → AllByRecursion (λ (c : Column). IsText c.name) columns
+names_of : (columns : List Column) → AllByRecursion IsColumn columns → AllByRecursion (λ (c : Column). IsText c.name) columns
 names_of [] h = tt
-names_of (c ∷ columns) h = let both = and_parts (is_text c.name) (list_all (λ (c : Column). is_text c.name) columns) h in (text_of c.name both.0, names_of columns both.1)
+names_of (c ∷ columns) h = (h.0.0.plain, names_of columns h.1)
 
 -- ---- the rows that are found
 
@@ -148,10 +141,10 @@ module _ (v : Tables) (def : RelationDef) (t : stored.Tables) (h : IsStored v t)
       sym ((shapes_decide old def).1 (one_shape old def is definition (sym (ap (λ (d : stored.Definition). d.letter) e)) (sym (ap (λ (d : stored.Definition). d.columns) e)))))
 
 -- the shape of columns that were read
-pub read_shape : (columns : List Column) (old def : RelationDef) (namespace name : List ℕ) → IsDefinition old → list_all (λ (c : Column). is_text c.name) columns ≡ true → columns_spelling columns ≡ columns_spelling old.columns → old.letter ≡ def.letter
+pub read_shape : (columns : List Column) (old def : RelationDef) (namespace name : List ℕ) → IsDefinition old → AreColumns columns → columns_spelling columns ≡ columns_spelling old.columns → old.letter ≡ def.letter
     → same_shape (record { oid = def.oid; namespace = namespace; name = name; letter = def.letter; columns = columns }) def ≡ same_shape old def
-read_shape columns old def namespace name is names spelled letter =
-    shape_as (record { oid = def.oid; namespace = namespace; name = name; letter = def.letter; columns = columns }) old def (λ i. (sym letter i, columns_shape columns old.columns (names_of columns names) is.names spelled i))
+read_shape columns old def namespace name is are spelled letter =
+    shape_as (record { oid = def.oid; namespace = namespace; name = name; letter = def.letter; columns = columns }) old def (λ i. (sym letter i, columns_shape columns old.columns (names_of columns are.1) is.names spelled i))
 
 pub other_letter : (old def : RelationDef) → old.letter ≢ def.letter → false ≡ same_shape old def
 other_letter old def apart = elim (cases_Bool (old.letter == def.letter)) [

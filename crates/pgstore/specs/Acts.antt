@@ -1,6 +1,5 @@
 -- What is done to the rows of one relation inside a transaction, in terms of the store's value.
-use Rattle.std.specs.Prelude.{◌≡◌, ◌⊎◌, ◌<◌, ◌≤◌, ◌+◌, ◌-◌, nat_lt, if◌then◌else◌, not, ◌==◌, Bool, List, ℕ, length, true, false, IsTrue, IfSome, slice_get, Option, Some, None, Result, Ok}
-use Rattle.std.specs.List.{list_all}
+use Rattle.std.specs.Prelude.{◌≡◌, ◌⊎◌, ◌<◌, ◌≤◌, ◌+◌, ◌-◌, nat_lt, if◌then◌else◌, Bool, List, ℕ, length, true, false, IsTrue, IfSome, slice_get, Option, Some, None, Result, Ok}
 use Rattle.std.specs.FinMap as map
 use Rattle.sqlite.specs.Tree.{Trees}
 use Rattle.sqlite.specs.Store.{Ghosts}
@@ -114,10 +113,6 @@ Gives g old new def =
 
 abbrev pub RefusesToGive : {S : Type 0} → Ghosts S → Held S → RelationDef → StoreFault → Type 0
 RefusesToGive g old def e = (v : Tables) (op : Op) → IsStored v (tables_of g old) → IsFault e (found_rows (map.get v def.oid) def op)
-
--- bytes without a zero byte
-abbrev pub is_text : List ℕ → Bool
-is_text bytes = list_all (λ b. not (b == 0)) bytes
 
 -- the rows that stand under the stored definition can stand under this one
 abbrev pub ShapeHolds : {S : Type 0} → Ghosts S → Held S → Held S → stored.Definition → RelationDef → Type 0

@@ -2,20 +2,20 @@
 //!
 //! PostgreSQL documentation, Logical Replication Message Formats, Relation.
 
-ghost use Rattle.std.specs.Prelude.{◌≡◌, ◌≤◌, ◌++◌, true, length, OnOk, IfOk, IfErr};
-ghost use Rattle.std.specs.List.{flat_map, list_all};
+ghost use Rattle.std.specs.Prelude.{◌≡◌, ◌≤◌, ◌++◌, List, true, length, OnOk, IfOk, IfErr};
+ghost use Rattle.std.specs.List.{flat_map};
 ghost use Rattle.sqlite.specs.Held.{state};
 ghost use Rattle.sqlite.specs.State.{HasCleanDisk};
 ghost use Rattle.pglogical.specs.declared.item.RelationDef.{RelationDef};
-ghost use Rattle.pglogical.specs.Spelling.{column_spelling, columns_spelling, IsDefinition};
+ghost use Rattle.pglogical.specs.Spelling.{column_spelling, columns_spelling, AreColumns, IsDefinition};
 ghost use Rattle.pgrel.specs.Identity.{same_shape};
 ghost use Rattle.pgtables.specs.Kept.{IfServing, IsUnderWay, Goes, Makes, with_definition};
 ghost use Rattle.pgstore.specs.Spelled.{spelled_definition};
 ghost use Rattle.pglogical.specs.declared.item.Column.{Column};
-ghost use Rattle.pgstore.specs.Acts.{IsOwnFault, is_text, ShapeHolds, RefusesShape, Gives, RefusesToGive};
+ghost use Rattle.pgstore.specs.Acts.{IsOwnFault, ShapeHolds, RefusesShape, Gives, RefusesToGive};
 
 use crate::rows::StoreFault;
-use pglogical::{Column, RelationDef, decode_columns};
+use pglogical::{Column, DecodeFault, Reason, RelationDef, decode_columns};
 use pgrel::same_shape;
 use pgtables::{StoredDefinition, find_definition, has_rows, put_definition};
 use pgtuple::{Seq, Text};
@@ -55,7 +55,8 @@ fn spell_columns(alloc: Global, columns: &[Column]) -> Result<Vec<u8>, AllocErro
 
 /// Whether a definition is stored with these columns, word for word.
 fn is_stored(stored: &StoredDefinition, def: &RelationDef, columns: &[u8]) -> bool
-    ensures { result ≡ true → columns.now ≡ columns_spelling def.now.columns → stored.now ≡ spelled_definition def.now }
+    ensures same { result ≡ true → columns.now ≡ columns_spelling def.now.columns → stored.now ≡ spelled_definition def.now }
+    ensures found { columns.now ≡ columns_spelling def.now.columns → stored.now ≡ spelled_definition def.now → result ≡ true }
 {
     stored.namespace() == def.namespace.as_str()
         && stored.name() == def.name.as_str()
@@ -63,39 +64,21 @@ fn is_stored(stored: &StoredDefinition, def: &RelationDef, columns: &[u8]) -> bo
         && stored.columns() == columns
 }
 
-/// Whether no name of the columns has a zero byte in it.
-fn have_names(columns: &[Column]) -> bool
-    ensures { result ≡ list_all (λ (c : Column). is_text c.name) columns.now }
-{
-    columns
-        .iter()
-        .all(|column| is_text(column.name.as_str().as_bytes()))
-}
-
-fn is_text(bytes: &[u8]) -> bool
-    ensures { result ≡ is_text bytes.now }
-{
-    bytes.iter().all(|b| *b != 0)
-}
-
-/// The columns that the bytes spell. Bytes that no definition is stored as are refused.
+/// The columns that the bytes spell. Bytes that spell no columns are refused, others for want of memory alone.
 fn read_columns(alloc: Global, bytes: &[u8]) -> Result<Seq<Column>, StoreFault>
-    ensures ok { IfOk result (λ columns. list_all (λ (c : Column). is_text c.name) columns ≡ true) }
+    ensures ok { IfOk result AreColumns }
     ensures spelled { IfOk result (λ columns. columns_spelling columns ≡ bytes.now) }
     ensures err { IfErr result IsOwnFault }
+    ensures memory { (columns : List Column) → AreColumns columns → bytes.now ≡ columns_spelling columns → IfErr result (λ fault. fault ≡ StoreFault.Memory) }
 {
-    let columns = match decode_columns(alloc, bytes) {
-        Ok(columns) => columns,
-        Err(_) => return Err(StoreFault::Refused),
-    };
-    if columns.as_slice().len() > 1600 || !have_names(columns.as_slice()) {
-        return Err(StoreFault::Refused);
+    match decode_columns(alloc, bytes) {
+        Ok(columns) => Ok(columns),
+        Err(DecodeFault {
+            reason: Reason::Memory,
+            ..
+        }) => Err(StoreFault::Memory),
+        Err(_) => Err(StoreFault::Refused),
     }
-    let spelled = spell_columns(alloc, columns.as_slice())?;
-    if spelled.as_slice() != bytes {
-        return Err(StoreFault::Refused);
-    }
-    Ok(columns)
 }
 
 /// Whether the stored definition has the shape of this one: its replica identity, and its columns' key flags and names.

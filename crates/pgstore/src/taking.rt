@@ -40,7 +40,8 @@ fn apply_change<S: Alter>(
 
 /// Whether this number was the last.
 fn is_last(last: Option<usize>, number: usize) -> bool
-    ensures { result ≡ true → last ≡ Some number }
+    ensures given { result ≡ true → last ≡ Some number }
+    ensures found { last ≡ Some number → result ≡ true }
 {
     match last {
         Some(before) => before == number,

@@ -16,7 +16,7 @@ returns-in_err-apply_change-in-Some-clause-fault g c clean =
     let at : slice_get c.args.definitions.now c.args.entry.now.0 ≡ Some c.in-Some.def.now = sym c.definition_at.ensures ∙ ap option_copied c.in-Some.is in
     rw (p.1, p.2) (λ v h last.
     subst (IsFault _) (sym (ap (λ o. fold_changes v (defined_by o c.args.entry.now.1)) at ∙ fold_one v (record { definition = c.in-Some.def.now; op = c.args.entry.now.1 })))
-    (c.in_err-apply_change-in-Some.ensures.fault clean v h (λ t. was_given c.args.definitions.now c.args.last c.args.entry.now.0 c.in-Some.def.now v at last (c.is_last.ensures t))))
+    (c.in_err-apply_change-in-Some.ensures.fault clean v h (λ t. was_given c.args.definitions.now c.args.last c.args.entry.now.0 c.in-Some.def.now v at last (c.is_last.ensures.given t))))
 
 pub returns-in_ok-apply_change-in-Some-clause-made : goal.returns-in_ok-apply_change-in-Some-clause-made
 returns-in_ok-apply_change-in-Some-clause-made g c clean still =
@@ -25,7 +25,7 @@ returns-in_ok-apply_change-in-Some-clause-made g c clean still =
       one.0,
       λ v h last.
           let a = one.1 v h (all_got IsDefinition c.args.definitions.now c.args.entry.now.0 c.in-Some.def.now c.requires.definitions at)
-          (λ t. was_given c.args.definitions.now c.args.last c.args.entry.now.0 c.in-Some.def.now v at last (c.is_last.ensures t)) in (
+          (λ t. was_given c.args.definitions.now c.args.last c.args.entry.now.0 c.in-Some.def.now v at last (c.is_last.ensures.given t)) in (
             a.0,
             ap (λ o. fold_changes v (defined_by o c.args.entry.now.1)) at ∙ fold_one v (record { definition = c.in-Some.def.now; op = c.args.entry.now.1 }) ∙ a.1,
             a.2,
