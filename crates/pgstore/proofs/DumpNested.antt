@@ -13,9 +13,9 @@ use Rattle.std.specs.FinMap.Entries.{below_all, same_entries}
 use Rattle.std.proofs.lemmas.Bool.{cases_Bool}
 use Rattle.std.proofs.lemmas.Cmp.{tied_itself}
 use Rattle.pgtables.specs.Kept as stored
-use Rattle.pgtables.specs.DumpOrder.{AreNamed, oid_of}
+use Rattle.pgtables.specs.DumpOrder.{AreNamed}
 use Rattle.pgtables.proofs.Maps.{equal, cases_Option}
-use Rattle.pgstore.specs.Value.{Row, Rows, Table, Tables}
+use Rattle.pgstore.specs.Value.{Row, Table, Tables}
 use Rattle.pgstore.specs.Spelled.{IsSpelled, spelled_definition, spelled_row, row_in}
 
 abbrev R : List ℕ → List ℕ → Ordering
