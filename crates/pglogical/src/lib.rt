@@ -17,7 +17,7 @@ pub use decoding::{decode, decode_columns};
 pub use encoding::{encode, encode_columns, encode_item};
 pub use fault::{DecodeFault, Reason};
 pub use item::{Column, Item, OldKind, RelationDef};
-pub use lent::ItemRef;
+pub use lent::{ItemRef, MessageRef};
 pub use message::Message;
 pub use spelled::spelled_len;
 
