@@ -22,4 +22,8 @@ pub use message::Message;
 pub use spelled::spelled_len;
 
 #[cfg(test)]
+mod message_tests;
+#[cfg(test)]
 mod tests;
+#[cfg(test)]
+mod vectors;
