@@ -4,7 +4,9 @@ pub mod PlainApply
 pub mod PlainFold
 pub mod PlainItems
 pub mod PlainSteps
+pub mod PlainFaults
 pub mod PlainFrames
 pub mod PlainSessions
+pub mod PlainRefusals
 pub mod Printed
 pub mod Reading

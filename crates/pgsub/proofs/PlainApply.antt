@@ -1,5 +1,5 @@
 -- An insert into a plain table is what the definition of a change says.
-use Rattle.std.proofs.Common.{◌≡◌, ℕ, List, Option, None, Some, Result, Ok, Err, IfOk, OnOk, sym, ap, subst, ◌∙◌}
+use Rattle.std.proofs.Common.{◌≡◌, ℕ, List, Option, None, Some, Result, Ok, Err, IfOk, IfErr, OnOk, sym, ap, subst, ◌∙◌}
 use Rattle.std.specs.Prelude.{IsTrue}
 use Rattle.std.specs.Ordering.{nat_cmp}
 use Rattle.std.specs.FinMap as map
@@ -53,6 +53,11 @@ module _ (old new : BTreeMap ℕ Table) (now : Tables) (def : RelationDef) (seen
       → IfOk r (λ t. (t.definition ≡ def) × ((operation : Op) → found_rows (Some table) def operation ≡ Ok t.rows)) → IfOk r (λ t. IsTakenFor now def (tables_by_oid new.entries) t)
   taken_under found is table some (Ok t) h = (h.0, gone, λ operation. rw (stood found is ∙ some) (h.1 operation))
   taken_under found is table some (Err fault) h = tt
+
+  pub refused_under : (found : Option Table) → found ≡ get_by (nat_cmp def.oid) old → (table : Table) → found ≡ Some table → (r : Result Table StoreFault)
+      → IfErr r (λ fault. (operation : Op) → found_rows (Some table) def operation ≡ Err fault) → IfErr r (λ fault. (operation : Op) → found_rows (map.get now def.oid) def operation ≡ Err fault)
+  refused_under found is table some (Ok t) h = tt
+  refused_under found is table some (Err fault) h = λ operation. rw (stood found is ∙ some) (h operation)
 
 pub then_ok : (r : Result (Unit {0}) StoreFault) (P Q : Type 0) → OnOk r P → (P → Q) → OnOk r Q
 then_ok (Ok u) P Q h go = go h

@@ -1,15 +1,17 @@
 -- The tables that inserts leave, one after the other.
-use Rattle.std.proofs.Common.{◌≡◌, ℕ, ◌+◌, ◌<◌, List, [], ◌∷◌, ◌++◌, Ok, Some, None, refl, sym, ap, subst, ◌∙◌, Result, Err, Bool, false, cond, take, length, get_or}
+use Rattle.std.proofs.Common.{◌≡◌, ℕ, ◌+◌, ◌<◌, List, [], ◌∷◌, ◌++◌, Ok, Some, None, refl, sym, ap, subst, ◌∙◌, Result, Err, Bool, true, false, cond, take, length, get_or}
 use Rattle.std.specs.FinMap as map
-use Rattle.std.specs.Prelude.{is_ok, is_err}
+use Rattle.std.specs.Prelude.{is_ok, is_err, IsTrue, ◌&&◌}
 use Rattle.std.proofs.lemmas.List.{take_more, map-append}
 use Rattle.pglogical.specs.declared.item.RelationDef.{RelationDef}
 use Rattle.pgtuple.specs.declared.cell.Cell.{Cell}
+use Rattle.pgrel.specs.Identity.{keyed}
 use Rattle.pgstore.specs.Value.{Tables}
 use Rattle.pgstore.specs.Apply.{apply, fold_changes, ◌>>=◌}
 use Rattle.pgsub_core.proofs.Changes.{fold-append}
 use Rattle.pgsub.specs.Plain.{insert_of, held, tables_after}
 use Rattle.pgsub.specs.PlainStore.{changes_of, IsPlain}
+use Rattle.pgsub.specs.PlainTaken.{all_keyed}
 use Rattle.pgsub.specs.declared.plain_store.TakenInsert.{TakenInsert}
 
 pub fold-none : (tables : Tables) → fold_changes tables [] ≡ Ok tables
@@ -20,7 +22,7 @@ fold-one : (tables new : Tables) (def : RelationDef) (row : List Cell) → apply
 unfolding fold_changes
 fold-one tables new def row e = rw e
 
-changes-append : (a b : List TakenInsert) → changes_of (a ++ b) ≡ changes_of a ++ changes_of b
+pub changes-append : (a b : List TakenInsert) → changes_of (a ++ b) ≡ changes_of a ++ changes_of b
 changes-append a b = map-append (λ (i : TakenInsert). insert_of i.definition i.row) a b
 
 fold-then : (a b : List TakenInsert) (tables mid new : Tables) → fold_changes tables (changes_of a) ≡ Ok mid → fold_changes mid (changes_of b) ≡ Ok new → fold_changes tables (changes_of (a ++ b)) ≡ Ok new
@@ -35,7 +37,7 @@ fold-next tables mid new inserts i item so lt is e =
 
 pub plain_at_first : IsPlain [] None
 unfolding fold_changes
-plain_at_first = record { defined = refl; at_hand = tt }
+plain_at_first = record { defined = refl; keyed = refl; at_hand = tt }
 
 pub nothing_after : tables_after [] ≡ map.empty
 unfolding fold_changes
@@ -47,11 +49,23 @@ logged log inserts tables new so more =
     let whole = fold-then log inserts map.empty tables new so more in
     (whole, ap held whole)
 
+pub and_true : (a b : Bool) → IsTrue a → IsTrue b → IsTrue (a && b)
+and_true true b p q = q
+and_true false b p q = absurd (cc)
+
+of_and : (a b : Bool) → IsTrue (a && b) → IsTrue a × IsTrue b
+of_and true b h = (refl, h)
+of_and false b h = absurd (cc)
+
+pub keyed_then : (a b : List TakenInsert) → IsTrue (all_keyed (changes_of a)) → IsTrue (all_keyed (changes_of b)) → IsTrue (all_keyed (changes_of (a ++ b)))
+keyed_then [] b p q = q
+keyed_then (x ∷ a) b p q = let both = of_and (keyed x.definition) (all_keyed (changes_of a)) p in and_true (keyed x.definition) (all_keyed (changes_of (a ++ b))) both.0 (keyed_then a b both.1 q)
+
 pub plain_then : (log inserts : List TakenInsert) (tables new : Tables) → fold_changes map.empty (changes_of log) ≡ Ok tables → fold_changes tables (changes_of inserts) ≡ Ok new
-    → IsPlain (log ++ inserts) (Some new)
-plain_then log inserts tables new so more =
+    → IsTrue (all_keyed (changes_of (log ++ inserts))) → IsPlain (log ++ inserts) (Some new)
+plain_then log inserts tables new so more keys =
     let e = logged log inserts tables new so more in
-    record { defined = e.0 ∙ ap Ok (sym e.1); at_hand = sym e.1 }
+    record { defined = e.0 ∙ ap Ok (sym e.1); keyed = keys; at_hand = sym e.1 }
 
 -- a commit that was taken: what the store keeps, and what it is seen as
 pub record IsTaken (log inserts all : List TakenInsert) (old new : Tables) : Type 0 where
@@ -59,13 +73,15 @@ pub record IsTaken (log inserts all : List TakenInsert) (old new : Tables) : Typ
   pub folds : fold_changes old (changes_of inserts) ≡ Ok (tables_after (changes_of all))
 
 pub taken : (log inserts all slice : List TakenInsert) (old found new : Tables) → fold_changes map.empty (changes_of log) ≡ Ok (tables_after (changes_of log)) → tables_after (changes_of log) ≡ old → found ≡ old
-    → slice ≡ inserts → all ≡ log ++ inserts → fold_changes found (changes_of slice) ≡ Ok new → IsTaken log inserts all old new
-taken log inserts all slice old found new defined seen same is whole folds =
+    → slice ≡ inserts → all ≡ log ++ inserts → fold_changes found (changes_of slice) ≡ Ok new
+    → IsTrue (all_keyed (changes_of log)) → IsTrue (all_keyed (changes_of slice)) → IsTaken log inserts all old new
+taken log inserts all slice old found new defined seen same is whole folds keys more_keys =
     let so : fold_changes map.empty (changes_of log) ≡ Ok old = defined ∙ ap Ok seen in
     let more : fold_changes old (changes_of inserts) ≡ Ok new =
     ap (λ t. fold_changes t (changes_of inserts)) (sym same) ∙ ap (λ (is : List TakenInsert). fold_changes found (changes_of is)) (sym is) ∙ folds in
     record {
-      kept = subst (λ (xs : List TakenInsert). IsPlain xs (Some new)) (sym whole) (plain_then log inserts old new so more);
+      kept = subst (λ (xs : List TakenInsert). IsPlain xs (Some new)) (sym whole)
+          (plain_then log inserts old new so more (keyed_then log inserts keys (subst (λ (xs : List TakenInsert). IsTrue (all_keyed (changes_of xs))) is more_keys)));
       folds = more ∙ ap Ok (sym (ap (λ (xs : List TakenInsert). tables_after (changes_of xs)) whole ∙ (logged log inserts old new so more).1));
     }
 

@@ -37,11 +37,11 @@ use Rattle.pgsub_core.proofs.Steps.{order_of}
 use Rattle.pgsub.specs.PlainSession.{Steps, replica_of}
 use Rattle.pgsub.specs.PlainFollow.{FrameSteps, FramesStep, IsFollowed, AreFollowed, bytes_of, all_bytes_of, progress_of}
 
-reads : (in_block : Bool) (m : Message) → IsWireMessage m → IsMessageFor in_block m → message_at in_block (message_spelling m) ≡ Ok m
+pub reads : (in_block : Bool) (m : Message) → IsWireMessage m → IsMessageFor in_block m → message_at in_block (message_spelling m) ≡ Ok m
 reads in_block m wire here = message_reads in_block (message_spelling m) ∙ spells_read (message_layout in_block) 0 (message_spelling m) m (message_spells in_block m wire here)
 
 -- behind a message that is applied, the next one stands inside a block exactly if this says so
-block_behind : (clock : ℤ) (old new : ApplyState) (m : Message) → Steps old m new → is_in_block new.order.context ≡ in_block_after (is_in_block old.order.context) m
+pub block_behind : (clock : ℤ) (old new : ApplyState) (m : Message) → Steps old m new → is_in_block new.order.context ≡ in_block_after (is_in_block old.order.context) m
 block_behind clock old new m steps =
     let ordered = order_of One old new m (order_step One old.order m) (steps 0 0 clock) in
     let leaves : Leaves (in_block_after (is_in_block old.order.context) m) (order_step One old.order m) = step_leaves old.order.open_xids One old.order.context m in

@@ -27,7 +27,7 @@ use Rattle.pgsub.specs.PlainSession.{labelled, state_of, replica_of, HoldsItem, 
 same_key : (x : ℕ) → eq_by_cmp nat_cmp x x ≡ true
 same_key x = (eq_by_cmp_equiv nat_cmp_total).refl x
 
-held_one : (xid : ℕ) (held : List LabelledItem) → held_of (map.insert map.empty xid held) xid ≡ held
+pub held_one : (xid : ℕ) (held : List LabelledItem) → held_of (map.insert map.empty xid held) xid ≡ held
 held_one xid held = ap (λ o. unwrap_or o []) (get-insert nat_cmp_total map.empty xid held xid ∙ ap (λ b. cond b (Some held) (map.get (map.empty {X = List LabelledItem} {R = nat_cmp}) xid)) (same_key xid))
 
 insert_again : (m : HeldMap) (xid : ℕ) (a b : List LabelledItem) → map.insert (map.insert m xid a) xid b ≡ map.insert m xid b
@@ -52,7 +52,7 @@ remove_one xid held = same_map nat_cmp_total nat_cmp-IsAntisymmetric _ _ (λ q.
     none true = refl
     none false = refl
 
-items-labelled : (xid : ℕ) (items : List Item) → items_of (labelled xid items) ≡ items
+pub items-labelled : (xid : ℕ) (items : List Item) → items_of (labelled xid items) ≡ items
 items-labelled xid [] = refl
 items-labelled xid (i ∷ items) = ap (λ rest. i ∷ rest) (items-labelled xid items)
 

@@ -4,4 +4,7 @@ pub mod PlainStore
 pub mod PlainSession
 pub mod PlainFollow
 pub mod PlainRest
+pub mod PlainTaken
+pub mod PlainStops
+pub mod PlainRefused
 pub mod Whole

@@ -46,3 +46,6 @@ behind_changes done (Err missing) = Err missing
 -- the item of a message is held behind the others
 abbrev pub HoldsItem : Message → List Item → List Item → Type 0
 HoldsItem m old new = (xid : Option ℕ) × (i : Item) × (m ≡ message.Item xid i) × (new ≡ old ++ i ∷ [])
+
+abbrev pub IsNoItem : Message → Type 0
+IsNoItem m = (xid : Option ℕ) (i : Item) → m ≡ message.Item xid i → ⊥

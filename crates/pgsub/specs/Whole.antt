@@ -1,4 +1,4 @@
--- What is printed of sessions that are followed to their end.
+-- What is printed of sessions that are followed to their end, or up to a refusal.
 use Rattle.std.specs.Prelude.{◌≡◌, ℕ, List, Ok, Option}
 use Rattle.std.specs.Io.KnownBytes.{Appends}
 use Rattle.std.specs.FinMap as map
@@ -12,7 +12,9 @@ use Rattle.pgsub_core.specs.Sessions.{AreSessions, reached_all}
 use Rattle.pgsub_core.specs.Stream.{Sent}
 use Rattle.pgcapture.specs.Capture.{sessions_of}
 use Rattle.pgsub.specs.DumpText.{dump_of}
+use Rattle.pgsub_core.specs.declared.fault.Fault.{Fault}
 use Rattle.pgsub.specs.PlainFollow.{all_bytes_of, progress_of}
+use Rattle.pgsub.specs.PlainRefused.{IsRefusedSafely}
 
 abbrev pub nothing_stored : Stored
 nothing_stored = record { tables = map.empty; position = 0 }
@@ -28,6 +30,17 @@ IsWhole sessions stored =
 abbrev pub PrintsWhole : List ℕ → List ℕ → Type 0
 PrintsWhole text lines =
     (sessions : List Session) × (stored : Stored) × (sessions_of text ≡ Ok sessions) × (lines ≡ dump_of (dump stored.tables) stored.position) × IsWhole sessions stored
+
+-- of whatever history a well-formed server sends these sessions, what is left where they are refused with this fault
+abbrev pub IsRefusedFrom : List Session → Stored → Fault → Type 0
+IsRefusedFrom sessions stored f =
+    (history : List Transaction) (all_complete : List (List Sent)) → IsHistory history → AreSessions One history (progress_of nothing_stored) (all_bytes_of sessions) all_complete
+    → IsRefusedSafely history (all_bytes_of sessions) all_complete nothing_stored stored f
+
+-- the lines of what the sessions of a capture text leave where they are refused
+abbrev pub PrintsRefused : List ℕ → List ℕ → Fault → Type 0
+PrintsRefused text lines f =
+    (sessions : List Session) × (stored : Stored) × (sessions_of text ≡ Ok sessions) × (lines ≡ dump_of (dump stored.tables) stored.position) × IsRefusedFrom sessions stored f
 
 -- these lines are appended, where what is written is known
 abbrev pub Prints : List ℕ → Option (List ℕ) → Option (List ℕ) → Type 0

@@ -1,5 +1,5 @@
 //! One session of the plain core: whole transactions of Relations and Inserts, message by message.
-ghost use Rattle.std.specs.Prelude.{◌≡◌, List, [], ◌∷◌, OnOk, IfOk, Ok, Some, false, IsTrue};
+ghost use Rattle.std.specs.Prelude.{◌≡◌, ◌≢◌, ◌⊎◌, ◌++◌, List, [], ◌∷◌, OnOk, OnErr, IfOk, IfErr, Ok, Err, Some, None, false, IsTrue, ℕ};
 ghost use Rattle.pglogical.specs.declared.item.Item.{Item};
 ghost use Rattle.std.specs.FinMap as map;
 ghost use Rattle.pglogical.specs.declared.message.Message.{Message};
@@ -10,7 +10,9 @@ ghost use Rattle.pgorder.specs.Steps.{initial_order};
 ghost use Rattle.pgsub_core.specs.Described.{described_from};
 ghost use Rattle.pgsub_core.specs.Replica.{cached, all_cached, on_commit, Running};
 ghost use Rattle.pgsub.specs.PlainStore.{changes_of};
-ghost use Rattle.pgsub.specs.PlainSession.{state_of, replica_of, known_to, behind_changes, HoldsItem, Steps};
+ghost use Rattle.pgsub.specs.PlainSession.{state_of, replica_of, known_to, behind_changes, HoldsItem, IsNoItem, Steps};
+ghost use Rattle.pgsub.specs.PlainTaken.{is_text, all_text, takes, takes_item, not_taken, AllTaken};
+ghost use Rattle.pgsub.specs.PlainStops.{IsCommitRefusal, IsMessageRefusal, IsBodyRefusal};
 
 use crate::plain_store::{PlainStore, TakenInsert};
 use crate::relations::Relations;
@@ -20,7 +22,7 @@ use pgorder::{Order, OrderFault, Version};
 use pgrel::RelFault;
 use pgstore::StoreFault;
 use pgsub_core::Fault;
-use pgtuple::{CellRef, TupleRef};
+use pgtuple::Cell;
 use std::alloc::Global;
 use std::mem;
 
@@ -35,46 +37,70 @@ pub struct PlainSession {
 }
 
 /// The fault of a message or a cell that the plain core doesn't take.
-fn not_taken() -> Fault {
+fn not_taken() -> Fault
+    ensures { result ≡ not_taken }
+{
     Fault::Decode(DecodeFault {
         place: 0,
         reason: Reason::UnknownMessage,
     })
 }
 
+fn is_text_cell(cell: &Cell) -> bool
+    ensures { result ≡ is_text cell.now }
+{
+    match cell {
+        Cell::Text(_) => true,
+        Cell::Null | Cell::Unchanged | Cell::Binary(_) => false,
+    }
+}
+
 /// Whether all cells are text.
-fn is_text(row: &TupleRef<'_>) -> bool {
-    for place in 0..row.width() {
-        if !matches!(row.get(place), Some(CellRef::Text(_))) {
+fn is_text(cells: &[Cell]) -> bool
+    ensures { result ≡ all_text cells.now }
+{
+    for cell in cells {
+        if !is_text_cell(cell) {
             return false;
         }
     }
     true
 }
 
-/// Whether the plain core takes the message: Begin, Commit, Relation, and Insert of text alone.
+/// Whether the plain core takes the item: a Relation, or an Insert of text alone.
+fn is_taken_item(item: &Item) -> bool
+    ensures { result ≡ takes_item item.now }
+{
+    match item {
+        Item::Relation(_) => true,
+        Item::Insert { row, .. } => is_text(row.as_slice()),
+        Item::Update { .. } | Item::Delete { .. } | Item::Truncate { .. } => false,
+    }
+}
+
+/// Whether the plain core takes the message: Begin, Commit, or an item that it takes.
 fn is_taken(message: &Message) -> bool
-    ensures { IsTrue result → IsMessageFor false message.now }
+    ensures { result ≡ takes message.now }
 {
     match message {
         Message::Begin { .. } | Message::Commit { .. } => true,
-        Message::Item { xid: None, item } => match item {
-            Item::Relation(_) => true,
-            Item::Insert { row, .. } => is_text(&row.borrowed()),
-            _ => false,
-        },
+        Message::Item { xid: None, item } => is_taken_item(item),
         _ => false,
     }
 }
 
-fn order_fault(fault: OrderFault) -> Fault {
+fn order_fault(fault: OrderFault) -> Fault
+    ensures { ((fault ≡ OrderFault.Memory) × (result ≡ Fault.Memory)) ⊎ ((fault ≢ OrderFault.Memory) × (result ≡ Fault.Order fault)) }
+{
     match fault {
         OrderFault::Memory => Fault::Memory,
         fault => Fault::Order(fault),
     }
 }
 
-fn store_fault(fault: StoreFault) -> Fault {
+fn store_fault(fault: StoreFault) -> Fault
+    ensures { ((fault ≡ StoreFault.Memory) × (result ≡ Fault.Memory)) ⊎ ((fault ≢ StoreFault.Memory) × (result ≡ Fault.Store fault)) }
+{
     match fault {
         StoreFault::Memory => Fault::Memory,
         fault => Fault::Store(fault),
@@ -88,7 +114,8 @@ fn described(
     oid: u32,
     row: pgtuple::Tuple,
 ) -> Result<TakenInsert, Fault>
-    ensures { IfOk result (λ insert. (map.get relations.now oid ≡ Some insert.definition) × (insert.row ≡ row)) }
+    ensures ok { IfOk result (λ insert. (map.get relations.now oid ≡ Some insert.definition) × (insert.row ≡ row)) }
+    ensures refused { IfErr result (λ fault. (fault ≡ Fault.Memory) ⊎ ((fault ≡ Fault.Relation (RelFault.UnknownRelation oid)) × (map.get relations.now oid ≡ None))) }
 {
     let Some(definition) = relations.get(oid) else {
         return Err(Fault::Relation(RelFault::UnknownRelation(oid)));
@@ -106,8 +133,10 @@ fn describe_item(
     inserts: &mut Vec<TakenInsert>,
     item: Item,
 ) -> Result<(), Fault>
+    requires { IsTrue (takes_item item) }
     ensures changes { OnOk result ((items : List Item) → behind_changes (changes_of inserts.new.items) (described_from (known_to relations.new) items) ≡ behind_changes (changes_of inserts.old.items) (described_from (known_to relations.old) (item ∷ items))) }
     ensures cached { OnOk result (relations.new ≡ cached item relations.old) }
+    ensures refused { IfErr result (λ fault. (fault ≡ Fault.Memory) ⊎ ((oid : ℕ) × (fault ≡ Fault.Relation (RelFault.UnknownRelation oid)) × ((items : List Item) → behind_changes (changes_of inserts.old.items) (described_from (known_to relations.old) (item ∷ items)) ≡ Err oid))) }
 {
     match item {
         Item::Relation(definition) => match relations.set(definition) {
@@ -121,7 +150,7 @@ fn describe_item(
                 Err(_) => Err(Fault::Memory),
             }
         }
-        _ => Err(not_taken()),
+        Item::Update { .. } | Item::Delete { .. } | Item::Truncate { .. } => Err(not_taken()),
     }
 }
 
@@ -131,8 +160,10 @@ fn describe(
     relations: &mut Relations,
     items: Vec<Item>,
 ) -> Result<Vec<TakenInsert>, Fault>
+    requires { AllTaken items.items }
     ensures changes { IfOk result (λ inserts. described_from (known_to relations.old) items.items ≡ Ok (changes_of inserts.items)) }
     ensures cached { OnOk result (relations.new ≡ all_cached relations.old items.items) }
+    ensures refused { IfErr result (λ fault. (fault ≡ Fault.Memory) ⊎ ((oid : ℕ) × (fault ≡ Fault.Relation (RelFault.UnknownRelation oid)) × (described_from (known_to relations.old) items.items ≡ Err oid))) }
 {
     let mut inserts = Vec::new(alloc);
     for item in items {
@@ -143,21 +174,22 @@ fn describe(
 
 /// Goes over one item of a repeat, of which the Relations alone count.
 fn cache_item(relations: &mut Relations, item: Item) -> Result<(), Fault>
-    ensures { OnOk result (relations.new ≡ cached item relations.old) }
+    ensures ok { OnOk result (relations.new ≡ cached item relations.old) }
+    ensures memory { IfErr result (λ fault. fault ≡ Fault.Memory) }
 {
     match item {
         Item::Relation(definition) => match relations.set(definition) {
             Ok(()) => Ok(()),
             Err(_) => Err(Fault::Memory),
         },
-        Item::Insert { .. } => Ok(()),
-        _ => Err(not_taken()),
+        _ => Ok(()),
     }
 }
 
 /// Goes through the items of a repeat, in order.
 fn cache_relations(relations: &mut Relations, items: Vec<Item>) -> Result<(), Fault>
-    ensures { OnOk result (relations.new ≡ all_cached relations.old items.items) }
+    ensures ok { OnOk result (relations.new ≡ all_cached relations.old items.items) }
+    ensures memory { IfErr result (λ fault. fault ≡ Fault.Memory) }
 {
     for item in items {
         cache_item(relations, item)?;
@@ -173,18 +205,25 @@ fn commit(
     items: Vec<Item>,
     end: Lsn,
 ) -> Result<(), Fault>
-    ensures { OnOk result (on_commit (replica_of store.old relations.old) end items.items ≡ Running (replica_of store.new relations.new)) }
+    requires { AllTaken items.items }
+    ensures ok { OnOk result (on_commit (replica_of store.old relations.old) end items.items ≡ Running (replica_of store.new relations.new)) }
+    ensures refused { IfErr result (IsCommitRefusal (replica_of store.old relations.old) end items.items) }
+    ensures kept { OnErr result (store.new ≡ store.old) }
 {
     if end <= store.position() {
         return cache_relations(relations, items);
     }
     let inserts = describe(alloc, relations, items)?;
-    store.take(end, inserts).map_err(store_fault)
+    match store.take(end, inserts) {
+        Ok(()) => Ok(()),
+        Err(fault) => Err(store_fault(fault)),
+    }
 }
 
 /// Holds the item of a message until the commit of its transaction.
 fn hold(items: &mut Vec<Item>, message: Message) -> Result<(), Fault>
-    ensures { OnOk result (HoldsItem message items.old.items items.new.items) }
+    ensures ok { OnOk result (HoldsItem message items.old.items items.new.items) }
+    ensures refused { IfErr result (λ fault. (fault ≡ Fault.Memory) ⊎ ((fault ≡ not_taken) × IsNoItem message)) }
 {
     let Message::Item { item, .. } = message else {
         return Err(not_taken());
@@ -213,8 +252,13 @@ impl PlainSession {
     pub fn take(&mut self, store: &mut PlainStore, message: Message) -> Result<(), Fault>
         requires version { self.old.order.version ≡ Version.One }
         requires outside { is_in_block self.old.order.state.context ≡ false }
+        requires taken { AllTaken self.old.items.items }
         ensures steps { OnOk result (Steps (state_of self.old.order.state self.old.items.items self.old.relations store.old) message (state_of self.new.order.state self.new.items.items self.new.relations store.new)) }
         ensures version { OnOk result (self.new.order.version ≡ Version.One) }
+        ensures outside { OnOk result (is_in_block self.new.order.state.context ≡ false) }
+        ensures taken { OnOk result (AllTaken self.new.items.items) }
+        ensures refused { IfErr result (IsMessageRefusal (state_of self.old.order.state self.old.items.items self.old.relations store.old) message) }
+        ensures kept { OnErr result (store.new ≡ store.old) }
     {
         if !is_taken(&message) {
             return Err(not_taken());
@@ -243,13 +287,16 @@ impl PlainSession {
         store: &mut PlainStore,
         body: &[u8],
     ) -> Result<(), Fault>
-        requires { self.old.order.version ≡ Version.One }
+        requires version { self.old.order.version ≡ Version.One }
+        requires outside { is_in_block self.old.order.state.context ≡ false }
+        requires taken { AllTaken self.old.items.items }
         ensures steps { OnOk result ((m : Message) × (message_at (is_in_block self.old.order.state.context) body.now ≡ Ok m) × Steps (state_of self.old.order.state self.old.items.items self.old.relations store.old) m (state_of self.new.order.state self.new.items.items self.new.relations store.new)) }
         ensures version { OnOk result (self.new.order.version ≡ Version.One) }
+        ensures outside { OnOk result (is_in_block self.new.order.state.context ≡ false) }
+        ensures taken { OnOk result (AllTaken self.new.items.items) }
+        ensures refused { IfErr result (IsBodyRefusal (state_of self.old.order.state self.old.items.items self.old.relations store.old) body.now) }
+        ensures kept { OnErr result (store.new ≡ store.old) }
     {
-        if self.order.in_block() {
-            return Err(not_taken());
-        }
         match pglogical::decode(alloc, body, false) {
             Ok(message) => self.take(store, message),
             Err(

@@ -1,9 +1,11 @@
 //! The plain store: the tables that the inserts so far leave, and the position up to which they stand.
-ghost use Rattle.std.specs.Prelude.{◌≡◌, ◌≢◌, ◌<◌, OnOk, OnErr, IfOk, IfErr, Ok, Err};
+ghost use Rattle.std.specs.Prelude.{◌≡◌, ◌<◌, OnOk, OnErr, IfOk, IfErr, Ok, IsTrue};
 ghost use Rattle.std.specs.FinMap as map;
 ghost use Rattle.pgstore.specs.Apply.{fold_changes};
 ghost use Rattle.pgstore.specs.Dump.{dump};
 ghost use Rattle.pgsub.specs.PlainStore.{changes_of};
+ghost use Rattle.pgsub.specs.PlainTaken.{all_keyed};
+ghost use Rattle.pgsub.specs.PlainStops.{IsRefusal};
 
 use crate::plain_table::copied;
 use crate::plain_tables::PlainTables;
@@ -53,7 +55,9 @@ fn insert_all(
     tables: &mut PlainTables,
     inserts: &[TakenInsert],
 ) -> Result<(), StoreFault>
-    ensures { OnOk result (fold_changes tables.old (changes_of inserts.now) ≡ Ok tables.new) }
+    ensures ok { OnOk result (fold_changes tables.old (changes_of inserts.now) ≡ Ok tables.new) }
+    ensures keyed { OnOk result (IsTrue (all_keyed (changes_of inserts.now))) }
+    ensures refused { IfErr result (λ fault. IsRefusal (fold_changes tables.old (changes_of inserts.now)) (all_keyed (changes_of inserts.now)) fault) }
 {
     for insert in inserts {
         let Ok(definition) = insert.definition.copy(alloc) else {
@@ -88,6 +92,7 @@ impl PlainStore {
     /// The tables, made anew where there are none at hand.
     fn take_tables(&mut self) -> Result<PlainTables, StoreFault>
         ensures ok { IfOk result (λ tables. tables ≡ self.old.tables) }
+        ensures memory { IfErr result (λ fault. fault ≡ StoreFault.Memory) }
         ensures same { self.new ≡ self.old }
     {
         if let Some(tables) = self.tables.take() {
@@ -102,6 +107,7 @@ impl PlainStore {
     pub fn take(&mut self, end: Lsn, mut inserts: Vec<TakenInsert>) -> Result<(), StoreFault>
         requires { self.old.position < end }
         ensures ok { OnOk result ((fold_changes self.old.tables (changes_of inserts.items) ≡ Ok self.new.tables) × (self.new.position ≡ end)) }
+        ensures refused { IfErr result (λ fault. IsRefusal (fold_changes self.old.tables (changes_of inserts.items)) (all_keyed (changes_of inserts.items)) fault) }
         ensures err { OnErr result (self.new ≡ self.old) }
     {
         let mut tables = self.take_tables()?;
@@ -117,6 +123,7 @@ impl PlainStore {
     /// The rows, by OID and then by the bytes of their keys.
     pub fn rows(&mut self) -> Result<Vec<DumpRow>, StoreFault>
         ensures rows { IfOk result (λ rows. rows.items ≡ dump self.old.tables) }
+        ensures memory { IfErr result (λ fault. fault ≡ StoreFault.Memory) }
         ensures same { self.new ≡ self.old }
     {
         let tables = self.take_tables()?;

@@ -1,5 +1,5 @@
 //! The plain store's tables: keyed tables in memory, by OID.
-ghost use Rattle.std.specs.Prelude.{◌≡◌, ◌≢◌, OnOk, IfOk, IfErr, Ok, Err, IsTrue};
+ghost use Rattle.std.specs.Prelude.{◌≡◌, OnOk, IfOk, IfErr, Ok, Err, IsTrue};
 ghost use Rattle.std.specs.FinMap as map;
 ghost use Rattle.pgstore.specs.declared.op.Op.{Op};
 ghost use Rattle.pgrel.specs.Identity.{keyed, checked_insert};
@@ -8,6 +8,7 @@ ghost use Rattle.pgstore.specs.Apply.{store_fault, found_rows, in_store, apply};
 ghost use Rattle.pgstore.specs.Dump.{dump};
 ghost use Rattle.pgtuple.specs.Cells.{tuple_spelling};
 ghost use Rattle.pgsub.specs.Plain.{insert_of};
+ghost use Rattle.pgsub.specs.PlainStops.{IsRefusal};
 
 use crate::plain_table::PlainTable;
 use pglogical::RelationDef;
@@ -58,7 +59,7 @@ fn insert_key(
     row: &TupleRef<'_>,
 ) -> Result<Vec<u8>, StoreFault>
     ensures ok { IfOk result (λ key. (checked_insert definition.now row.now ≡ Ok tt) × IsTrue (keyed definition.now) × (key.items ≡ identity_key definition.now row.now)) }
-    ensures fault { IfErr result (λ fault. fault ≢ StoreFault.Memory → IsTrue (keyed definition.now) → in_store (checked_insert definition.now row.now) ≡ Err fault) }
+    ensures refused { IfErr result (λ fault. IsRefusal (in_store (checked_insert definition.now row.now)) (keyed definition.now) fault) }
 {
     if let Err(fault) = check_insert(definition, row) {
         return Err(store_fault(fault));
@@ -95,7 +96,8 @@ impl PlainTables {
     /// Takes out the table of a definition's OID, under that definition; one that isn't there is empty. Rows that stand
     /// under a definition of another shape are refused.
     fn take_table(&mut self, definition: RelationDef) -> Result<PlainTable, StoreFault>
-        ensures { IfOk result (λ table. (table.definition ≡ definition) × (self.new ≡ map.remove self.old definition.oid) × ((operation : Op) → found_rows (map.get self.old definition.oid) definition operation ≡ Ok table.rows)) }
+        ensures ok { IfOk result (λ table. (table.definition ≡ definition) × (self.new ≡ map.remove self.old definition.oid) × ((operation : Op) → found_rows (map.get self.old definition.oid) definition operation ≡ Ok table.rows)) }
+        ensures refused { IfErr result (λ fault. (operation : Op) → found_rows (map.get self.old definition.oid) definition operation ≡ Err fault) }
     {
         let Some(table) = self.tables.remove(&definition.oid) else {
             return Ok(PlainTable::new(self.alloc, definition));
@@ -105,7 +107,8 @@ impl PlainTables {
 
     /// Puts a table at its OID.
     fn put_table(&mut self, table: PlainTable) -> Result<(), StoreFault>
-        ensures { OnOk result (self.new ≡ map.insert self.old table.definition.oid table) }
+        ensures ok { OnOk result (self.new ≡ map.insert self.old table.definition.oid table) }
+        ensures memory { IfErr result (λ fault. fault ≡ StoreFault.Memory) }
     {
         match self.tables.insert(table.definition().oid, table) {
             Ok(_) => Ok(()),
@@ -115,7 +118,9 @@ impl PlainTables {
 
     /// Inserts a row under its definition. After a refusal the tables are of no more use.
     pub fn insert(&mut self, definition: RelationDef, row: Tuple) -> Result<(), StoreFault>
-        ensures { OnOk result (apply self.old (insert_of definition row) ≡ Ok self.new) }
+        ensures ok { OnOk result (apply self.old (insert_of definition row) ≡ Ok self.new) }
+        ensures keyed { OnOk result (IsTrue (keyed definition)) }
+        ensures refused { IfErr result (λ fault. IsRefusal (apply self.old (insert_of definition row)) (keyed definition) fault) }
     {
         let mut table = self.take_table(definition)?;
         let key = insert_key(self.alloc, table.definition(), &row.borrowed())?;

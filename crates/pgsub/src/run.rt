@@ -1,6 +1,7 @@
 //! Runs a task over readers and writers.
-ghost use Rattle.std.specs.Prelude.{◌≤◌, ◌≡◌, IfOk, IfSome, OnOk, None, string_bytes};
-ghost use Rattle.pgsub.specs.Whole.{PrintsWhole, Prints};
+ghost use Rattle.std.specs.Prelude.{◌≤◌, ◌≡◌, ◌⊎◌, IfOk, IfErr, IfSome, OnOk, None, Err, ℕ, string_bytes};
+ghost use Rattle.pgsub.specs.Capture.{sessions_of};
+ghost use Rattle.pgsub.specs.Whole.{PrintsWhole, PrintsRefused, Prints};
 
 use crate::dump::dump_text;
 use crate::fault_text::FaultText;
@@ -78,9 +79,12 @@ pub struct Applied {
 /// Applies the sessions of a capture text. What stands is printed behind a refusal too.
 ///
 /// Where nothing is refused, the lines are those of the rows and the position that all sessions leave: for whatever history
-/// a well-formed server sent them of, the rows of its transactions up to the position.
+/// a well-formed server sent them of, the rows of its transactions up to the position. Behind a refusal they are the rows of
+/// that history up to the position too, and the fault is that of what comes next.
 pub fn apply_text(alloc: Global, text: &[u8]) -> Result<Applied, RunFault>
-    ensures { IfOk result (λ applied. applied.refused ≡ None → PrintsWhole text.now (string_bytes applied.lines)) }
+    ensures whole { IfOk result (λ applied. applied.refused ≡ None → PrintsWhole text.now (string_bytes applied.lines)) }
+    ensures refused { IfOk result (λ applied. IfSome applied.refused (PrintsRefused text.now (string_bytes applied.lines))) }
+    ensures fault { IfErr result (λ fault. (fault ≡ RunFault.Stream Fault.Memory) ⊎ ((line : ℕ) × (fault ≡ RunFault.NotHexadecimal line) × (sessions_of text.now ≡ Err line))) }
 {
     let sessions = match read_capture(alloc, text) {
         Ok(sessions) => sessions,

@@ -1,5 +1,5 @@
 //! The plain core: a subscriber to whole transactions of Relations and Inserts, with its rows in memory.
-ghost use Rattle.std.specs.Prelude.{◌≡◌, ◌++◌, List, ℕ, [], OnOk, IfOk, IfSome, MatchOption, false};
+ghost use Rattle.std.specs.Prelude.{◌≡◌, ◌++◌, List, ℕ, [], OnOk, OnErr, IfOk, IfErr, IfSome, MatchOption, false};
 ghost use Rattle.std.specs.List.{flat_map};
 ghost use Rattle.pgorder.specs.declared.Version.TheVariants.{One};
 ghost use Rattle.pgwire.specs.Frames.{CopyData, IsAllowed, IsPartial, frame};
@@ -11,7 +11,11 @@ ghost use Rattle.pgsub_core.specs.Replica.{RelationCache};
 ghost use Rattle.pgstore.specs.Dump.{dump};
 ghost use Rattle.std.specs.FinMap as map;
 ghost use Rattle.pgsub.specs.PlainSession.{state_of, replica_of};
+ghost use Rattle.pgorder.specs.States.{is_in_block};
 ghost use Rattle.pgsub.specs.PlainFollow.{FrameSteps, IsFollowed, AreFollowed, all_bytes_of, progress_of};
+ghost use Rattle.pgsub.specs.PlainTaken.{AllTaken};
+ghost use Rattle.pgsub.specs.PlainStops.{IsFrontRefusal, IsPayloadRefusal, IsFollowedUntil, AreFollowedUntil};
+ghost use Rattle.pgsub.specs.PlainRefused.{IsRefusedSafely};
 
 use crate::plain_session::PlainSession;
 use crate::plain_store::PlainStore;
@@ -44,7 +48,8 @@ impl Model for Subscriber {
 
 /// The payload of the first frame and the bytes behind it, or None where less than a frame stands.
 fn next_payload(bytes: &[u8], max_frame: u32) -> Result<Option<(&[u8], &[u8])>, Fault>
-    ensures { IfOk result (λ found. MatchOption found (IsPartial max_frame bytes.now) (λ parts. IsAllowed max_frame (CopyData parts.0.now) × (bytes.now ≡ frame (CopyData parts.0.now) ++ parts.1.now))) }
+    ensures found { IfOk result (λ found. MatchOption found (IsPartial max_frame bytes.now) (λ parts. IsAllowed max_frame (CopyData parts.0.now) × (bytes.now ≡ frame (CopyData parts.0.now) ++ parts.1.now))) }
+    ensures refused { IfErr result (IsFrontRefusal max_frame bytes.now) }
 {
     if bytes.first() == Some(&b'c') {
         return Err(Fault::Wire(WireFault::UnknownFrame(b'c')));
@@ -64,9 +69,15 @@ fn take_payload(
     store: &mut PlainStore,
     payload: &[u8],
 ) -> Result<(), Fault>
-    requires { session.old.order.version ≡ One }
+    requires version { session.old.order.version ≡ One }
+    requires outside { is_in_block session.old.order.state.context ≡ false }
+    requires taken { AllTaken session.old.items.items }
     ensures steps { OnOk result (FrameSteps (state_of session.old.order.state session.old.items.items session.old.relations store.old) (CopyData payload.now) (state_of session.new.order.state session.new.items.items session.new.relations store.new)) }
     ensures version { OnOk result (session.new.order.version ≡ One) }
+    ensures outside { OnOk result (is_in_block session.new.order.state.context ≡ false) }
+    ensures taken { OnOk result (AllTaken session.new.items.items) }
+    ensures refused { IfErr result (IsPayloadRefusal (state_of session.old.order.state session.old.items.items session.old.relations store.old) payload.now) }
+    ensures kept { OnErr result (store.new ≡ store.old) }
 {
     let body = match decode_server(payload) {
         Ok(ServerMsg::Data { body, .. }) => body,
@@ -96,7 +107,8 @@ fn follow_bytes(
     store: &mut PlainStore,
     bytes: &[u8],
 ) -> Result<(), Fault>
-    ensures { OnOk result ((relations : RelationCache) × IsFollowed (replica_of store.old map.empty) bytes.now (replica_of store.new relations)) }
+    ensures ok { OnOk result ((relations : RelationCache) × IsFollowed (replica_of store.old map.empty) bytes.now (replica_of store.new relations)) }
+    ensures refused { IfErr result (IsFollowedUntil (replica_of store.old map.empty) bytes.now store.new) }
 {
     let mut session = PlainSession::new(alloc);
     let mut rest = bytes;
@@ -128,6 +140,7 @@ impl Subscriber {
     /// The rows, by OID and then by the bytes of their keys.
     pub fn rows(&mut self) -> Result<Vec<DumpRow>, Fault>
         ensures rows { IfOk result (λ rows. rows.items ≡ dump self.old.tables) }
+        ensures memory { IfErr result (λ fault. fault ≡ Fault.Memory) }
         ensures same { self.new ≡ self.old }
     {
         match self.store.rows() {
@@ -139,7 +152,8 @@ impl Subscriber {
 
     /// Follows one session.
     fn follow_session(&mut self, session: &Session) -> Result<(), Fault>
-        ensures { OnOk result ((relations : RelationCache) × IsFollowed (replica_of self.old map.empty) (flat_map (λ (piece : List ℕ). piece) session.now.pieces) (replica_of self.new relations)) }
+        ensures ok { OnOk result ((relations : RelationCache) × IsFollowed (replica_of self.old map.empty) (flat_map (λ (piece : List ℕ). piece) session.now.pieces) (replica_of self.new relations)) }
+        ensures refused { IfErr result (IsFollowedUntil (replica_of self.old map.empty) (flat_map (λ (piece : List ℕ). piece) session.now.pieces) self.new) }
     {
         let Ok(bytes) = joined(self.alloc, session.pieces.as_slice()) else {
             return Err(Fault::Memory);
@@ -164,6 +178,12 @@ pub fn follow(subscriber: &mut Subscriber, sessions: &[Session]) -> Result<(), F
         → AreSessions One history (progress_of subscriber.old) (all_bytes_of sessions.now) all_complete
         → IsSafe history subscriber.new.tables subscriber.new.position subscriber.new.position
         × (subscriber.new.position ≡ (reached_all (progress_of subscriber.old) all_complete).position)) }
+    ensures refused { IfErr result (λ fault. (history : List Transaction) (all_complete : List (List Sent)) → IsHistory history
+        → IsSafe history subscriber.old.tables subscriber.old.position subscriber.old.position
+        → AreSessions One history (progress_of subscriber.old) (all_bytes_of sessions.now) all_complete
+        → IsRefusedSafely history (all_bytes_of sessions.now) all_complete subscriber.old subscriber.new fault) }
+    ensures applied { OnOk result ((relations : RelationCache) × AreFollowed (replica_of subscriber.old map.empty) (all_bytes_of sessions.now) (replica_of subscriber.new relations)) }
+    ensures stopped { IfErr result (AreFollowedUntil (replica_of subscriber.old map.empty) (all_bytes_of sessions.now) subscriber.new) }
 {
     for session in sessions {
         subscriber.follow_session(session)?;

@@ -18,5 +18,5 @@ returns-in-Ok-clause-changes c = λ (items : List Item).
 pub returns-in-Ok-push-clause-changes : goal.returns-in-Ok-push-clause-changes
 returns-in-Ok-push-clause-changes c = λ (items : List Item).
     ap (λ (inserts : List TakenInsert). behind_changes (changes_of inserts) (described_from (known_to c.args.relations.now) items)) c.in-Ok-push.ensures.items
-    ∙ sym (described-insert c.args.relations.now c.args.inserts.now.items c.in_ok-insert-in-Insert.insert c.in-Insert.oid c.in-Insert.row items c.in_ok-insert-in-Insert.ensures.0 c.in_ok-insert-in-Insert.ensures.1)
+    ∙ sym (described-insert c.args.relations.now c.args.inserts.now.items c.in_ok-insert-in-Insert.insert c.in-Insert.oid c.in-Insert.row items c.in_ok-insert-in-Insert.ensures.ok.0 c.in_ok-insert-in-Insert.ensures.ok.1)
     ∙ ap (λ (i : Item). behind_changes (changes_of c.args.inserts.now.items) (described_from (known_to c.args.relations.now) (i ∷ items))) (sym c.in-Insert.is)
