@@ -1,6 +1,6 @@
 //! Runs a task over readers and writers.
 ghost use Rattle.std.specs.Prelude.{◌≤◌, ◌≡◌, ◌⊎◌, IfOk, IfErr, IfSome, OnOk, None, Err, ℕ, string_bytes};
-ghost use Rattle.pgsub.specs.Capture.{sessions_of};
+ghost use Rattle.pgcapture.specs.Capture.{sessions_of};
 ghost use Rattle.pgsub.specs.Whole.{PrintsWhole, PrintsRefused, Prints};
 
 use crate::dump::dump_text;

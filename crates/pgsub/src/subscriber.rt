@@ -172,6 +172,10 @@ impl Subscriber {
 /// Whole transactions, end to end: where it answers Ok to sessions that a well-formed server sends of its history, cut
 /// anywhere, the rows are those of all transactions up to the position, and the position is that of the latest commit
 /// that is complete in them.
+///
+/// Where it refuses, the rows are still those of all transactions up to the position, which is that of the latest commit
+/// in front of the refusal, and the fault is that of what comes next: of something that this core doesn't take yet, or the
+/// one that the history itself gives there. Or memory has run out.
 pub fn follow(subscriber: &mut Subscriber, sessions: &[Session]) -> Result<(), Fault>
     ensures whole { OnOk result ((history : List Transaction) (all_complete : List (List Sent)) → IsHistory history
         → IsSafe history subscriber.old.tables subscriber.old.position subscriber.old.position
