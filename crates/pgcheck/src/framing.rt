@@ -1,5 +1,10 @@
 //! A session's bytes as frames, in several cuts.
 
+ghost use Rattle.std.specs.Prelude.{◌≡◌, ◌≢◌, ◌++◌, ℕ, List, [], None, IfOk, OnOk};
+ghost use Rattle.std.specs.List.{flat_map};
+ghost use Rattle.pgwire.specs.Lent.{frame_value};
+ghost use Rattle.pgcheck.specs.Framed.{frame_of, IsReadAs, HasReleased, HasTaken, IsReady};
+
 use pgtuple::Bytes;
 use pgwire::{Deframer, Frame, WireFault};
 use std::alloc::{AllocError, Global};
@@ -40,8 +45,32 @@ struct FrameReader {
     reading: Reading,
 }
 
+/// A fault of the frames. Want of memory is none.
+fn framing_fault(fault: WireFault) -> Result<WireFault, AllocError>
+    ensures { IfOk result (λ other. (other ≡ fault) × (fault ≢ WireFault.Memory)) }
+{
+    if fault == WireFault::Memory {
+        return Err(AllocError);
+    }
+    Ok(fault)
+}
+
+/// A copy of a lent frame.
+fn copied(alloc: Global, frame: Frame<'_>) -> Result<Released, AllocError>
+    ensures { IfOk result (λ released. frame_of released ≡ frame_value frame.entry) }
+{
+    match frame {
+        Frame::Data(payload) => Ok(Released::Data(Bytes::from_vec(Vec::from_slice(
+            alloc, payload,
+        )?))),
+        Frame::Done => Ok(Released::Done),
+    }
+}
+
 impl FrameReader {
-    fn new(alloc: Global) -> FrameReader {
+    fn new(alloc: Global) -> FrameReader
+        ensures { HasTaken MAX_FRAME [] result }
+    {
         FrameReader {
             alloc,
             deframer: Deframer::new(alloc, MAX_FRAME),
@@ -53,35 +82,33 @@ impl FrameReader {
     }
 
     /// Releases the frame that stands whole.
-    fn release(&mut self) -> Result<(), AllocError> {
-        let released = match self.deframer.whole() {
-            None => return Ok(()),
-            Some(Frame::Data(payload)) => {
-                Released::Data(Bytes::from_vec(Vec::from_slice(self.alloc, payload)?))
-            }
-            Some(Frame::Done) => Released::Done,
+    fn release(&mut self) -> Result<(), AllocError>
+        ensures released { OnOk result (HasReleased self.old self.new) }
+        ensures fault { OnOk result (self.new.reading.fault ≡ self.old.reading.fault) }
+    {
+        let Some(frame) = self.deframer.whole() else {
+            return Ok(());
         };
+        let released = copied(self.alloc, frame)?;
         self.reading.released.push(released)?;
         self.deframer.release();
         Ok(())
     }
 
     /// Takes the frames that the piece completes. A fault ends the frames.
-    fn take(&mut self, piece: &[u8]) -> Result<(), AllocError> {
+    fn take(&mut self, piece: &[u8]) -> Result<(), AllocError>
+        requires { IsReady self.old }
+        ensures { OnOk result ((max : ℕ) (before : List ℕ) → HasTaken max before self.old → HasTaken max (before ++ piece.now) self.new) }
+    {
         if self.reading.fault.is_some() {
             return Ok(());
         }
         let mut rest = piece;
-        // each turn takes a byte at least
-        for _ in 0..piece.len() {
-            if rest.is_empty() {
-                break;
-            }
+        while !rest.is_empty() {
             match self.deframer.feed(rest) {
-                Ok(count) => rest = rest.get(count..).unwrap_or(&[]),
-                Err(WireFault::Memory) => return Err(AllocError),
+                Ok(count) => rest = &rest[count..],
                 Err(fault) => {
-                    self.reading.fault = Some(fault);
+                    self.reading.fault = Some(framing_fault(fault)?);
                     return Ok(());
                 }
             }
@@ -92,7 +119,9 @@ impl FrameReader {
 }
 
 /// A session's bytes, its pieces in one.
-pub fn joined(alloc: Global, pieces: &[Bytes]) -> Result<Vec<u8>, AllocError> {
+pub fn joined(alloc: Global, pieces: &[Bytes]) -> Result<Vec<u8>, AllocError>
+    ensures { IfOk result (λ bytes. bytes.items ≡ flat_map (λ (piece : List ℕ). piece) pieces.now) }
+{
     let mut bytes = Vec::new(alloc);
     for piece in pieces {
         bytes.extend_from_slice(piece.as_slice())?;
@@ -101,7 +130,9 @@ pub fn joined(alloc: Global, pieces: &[Bytes]) -> Result<Vec<u8>, AllocError> {
 }
 
 /// The frames of a session's pieces.
-pub fn frames_of_pieces(alloc: Global, pieces: &[Bytes]) -> Result<Reading, AllocError> {
+pub fn frames_of_pieces(alloc: Global, pieces: &[Bytes]) -> Result<Reading, AllocError>
+    ensures { IfOk result (IsReadAs MAX_FRAME (flat_map (λ (piece : List ℕ). piece) pieces.now)) }
+{
     let mut reader = FrameReader::new(alloc);
     for piece in pieces {
         reader.take(piece.as_slice())?;
@@ -110,10 +141,15 @@ pub fn frames_of_pieces(alloc: Global, pieces: &[Bytes]) -> Result<Reading, Allo
 }
 
 /// The frames of bytes that come in pieces of so many bytes.
-pub fn frames_of_chunks(alloc: Global, bytes: &[u8], len: usize) -> Result<Reading, AllocError> {
+pub fn frames_of_chunks(alloc: Global, bytes: &[u8], len: usize) -> Result<Reading, AllocError>
+    ensures { IfOk result (IsReadAs MAX_FRAME bytes.now) }
+{
     let mut reader = FrameReader::new(alloc);
-    for piece in bytes.chunks(len.max(1)) {
+    let mut rest = bytes;
+    while !rest.is_empty() {
+        let (piece, behind) = rest.split_at(len.max(1).min(rest.len()));
         reader.take(piece)?;
+        rest = behind;
     }
     Ok(reader.reading)
 }

@@ -1,0 +1,42 @@
+-- What a session's bytes come to as frames.
+use Rattle.std.specs.Prelude.{◌≡◌, ◌⊎◌, ℕ, List, [], ◌∷◌, map, ◌++◌, Option, None, MatchOption}
+use Rattle.pgwire.specs.declared.fault.WireFault.{WireFault}
+use Rattle.pgwire.specs.Frames.{Frame, CopyData, CopyDone, IsDeframedAs, HasFramingFault}
+use Rattle.pgwire.specs.Deframed.{Deframed, Stands, Waits, after_release}
+use Rattle.pgwire.specs.Calls.{Call, Leads}
+use Rattle.pgcheck.specs.declared.framing.Released.{Released}
+use Rattle.pgcheck.specs.declared.framing.Released.TheVariants as released
+use Rattle.pgcheck.specs.declared.framing.Reading.{Reading}
+use Rattle.pgcheck.specs.declared.framing.FrameReader.{FrameReader}
+
+abbrev pub frame_of : Released → Frame
+frame_of (released.Data bytes) = CopyData bytes
+frame_of released.Done = CopyDone
+
+abbrev pub frames_in : Reading → List Frame
+frames_in reading = map frame_of reading.released.items
+
+-- The bytes are these frames and then less than a whole one; or this is their fault.
+abbrev pub IsReadAs : ℕ → List ℕ → Reading → Type 0
+IsReadAs max bytes reading = MatchOption reading.fault ((rest : List ℕ) × IsDeframedAs max bytes (frames_in reading) rest) (λ fault. HasFramingFault max bytes fault)
+
+-- The frame that stands whole is among those that were released; or none stands, and nothing is new.
+abbrev pub HasReleased : FrameReader → FrameReader → Type 0
+HasReleased old new =
+    ((f : Frame) × Stands old.deframer f × (new.deframer ≡ after_release old.deframer f) × (frames_in new.reading ≡ frames_in old.reading ++ f ∷ []))
+    ⊎ (Waits old.deframer × (new.deframer ≡ old.deframer) × (frames_in new.reading ≡ frames_in old.reading))
+
+-- The deframer took these bytes, released these frames, and waits for more.
+pub record IsUnderWay (max : ℕ) (taken : List ℕ) (fs : List Frame) (d : Deframed) : Type 0 where
+  pub calls : List Call
+  pub leads : Leads max calls taken fs d
+  pub waits : Waits d
+  pub sound : d.fault ≡ None
+
+-- A reader took these bytes.
+abbrev pub HasTaken : ℕ → List ℕ → FrameReader → Type 0
+HasTaken max taken reader = MatchOption reader.reading.fault (IsUnderWay max taken (frames_in reader.reading) reader.deframer) (λ fault. HasFramingFault max taken fault)
+
+-- A reader may take a piece.
+abbrev pub IsReady : FrameReader → Type 0
+IsReady reader = MatchOption reader.reading.fault (Waits reader.deframer × (reader.deframer.fault ≡ None)) (λ fault. Unit {0})
