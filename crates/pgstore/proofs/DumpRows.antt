@@ -58,6 +58,12 @@ catalog : dump (map.insert map.empty 16386 (record { definition = record f { nam
 unfolding tuple_spelling
 catalog = simp listed
 
+-- as is one that was sent so
+catalog_sent : dump (map.insert map.empty 16386 (record { definition = record f { namespace = codes "pg_catalog" }; rows = rows_x 2 }))
+    ≡ record { oid = 16386; namespace = codes "pg_catalog"; name = 102 ∷ []; cells = x; copies = 2 } ∷ []
+unfolding tuple_spelling
+catalog_sent = simp listed
+
 -- OIDs are unsigned numbers: the greatest one comes last
 by_oid : dump (map.insert (map.insert map.empty 4294967295 (record { definition = f; rows = rows_x 1 })) 16384 (table_t rows_1))
     ≡ record { oid = 16384; namespace = 112 ∷ []; name = 116 ∷ []; cells = text 49 ∷ text 97 ∷ []; copies = 1 }

@@ -3,7 +3,7 @@
 use Rattle.std.proofs.Common.{◌≡◌, ◌∷◌, [], Some, None, Ok, Err, refl}
 use Rattle.std.specs.FinMap as map
 use Rattle.pgtuple.specs.Cells.{tuple_spelling}
-use Rattle.pgtuple.specs.declared.cell.Cell.TheVariants.{Null, Unchanged}
+use Rattle.pgtuple.specs.declared.cell.Cell.TheVariants.{Null, Unchanged, Binary}
 use Rattle.pglogical.specs.declared.item.OldKind.TheVariants.{Key, Full}
 use Rattle.pgstore.specs.declared.op.Op.TheVariants as op
 use Rattle.pgstore.specs.declared.rows.StoreFault.TheVariants as fault
@@ -69,6 +69,12 @@ updated_to_itself : rows_after f (op.Update (Some (Full, x)) x) (rows_x 1) ≡ O
 unfolding rows_after tuple_spelling
 updated_to_itself = simp lookups
 
+-- one copy of several moves to another row
+one_of_two_updated : rows_after f (op.Update (Some (Full, x)) y) (rows_x 2)
+    ≡ Ok (map.insert (map.insert (rows_x 2) (tuple_spelling x) (record { cells = x; copies = 1 })) (tuple_spelling y) (record { cells = y; copies = 1 }))
+unfolding rows_after tuple_spelling
+one_of_two_updated = simp lookups
+
 -- ---- keyed tables
 
 inserted : rows_after t (op.Insert (text 49 ∷ text 97 ∷ [])) map.empty ≡ Ok rows_1
@@ -91,6 +97,21 @@ update_clash = simp lookups
 deleted_by_key : rows_after t (op.Delete Key (text 49 ∷ Null ∷ [])) rows_1 ≡ Ok (map.remove rows_1 (place 49))
 unfolding rows_after tuple_spelling
 deleted_by_key = simp lookups
+
+-- cells outside the key of an old key tuple aren't looked at
+deleted_by_key_alone : rows_after t (op.Delete Key (text 49 ∷ text 120 ∷ [])) rows_1 ≡ Ok (map.remove rows_1 (place 49))
+unfolding rows_after tuple_spelling
+deleted_by_key_alone = simp lookups
+
+none_deleted : rows_after t (op.Delete Key (text 57 ∷ Null ∷ [])) rows_1 ≡ Ok rows_1
+unfolding rows_after tuple_spelling
+none_deleted = simp lookups
+
+-- a text and bytes are two keys
+bytes_beside_text : rows_after t (op.Insert (Binary (49 ∷ []) ∷ text 98 ∷ [])) rows_1
+    ≡ Ok (map.insert rows_1 (tuple_spelling (Binary (49 ∷ []) ∷ [])) (record { cells = Binary (49 ∷ []) ∷ text 98 ∷ []; copies = 1 }))
+unfolding rows_after tuple_spelling
+bytes_beside_text = simp lookups
 
 key_not_sent : rows_after t (op.Delete Key (Unchanged ∷ Null ∷ [])) map.empty ≡ Err fault.UnknownIdentity
 unfolding rows_after

@@ -3,12 +3,15 @@
 use Rattle.std.proofs.Common.{◌≡◌, ◌∷◌, [], None, Ok, Err, refl}
 use Rattle.std.specs.FinMap as map
 use Rattle.pgtuple.specs.Cells.{tuple_spelling}
+use Rattle.pgtuple.specs.declared.cell.Cell.TheVariants.{Null}
 use Rattle.pglogical.specs.declared.item.RelationDef.{RelationDef}
+use Rattle.pglogical.specs.declared.item.OldKind.TheVariants.{Key}
 use Rattle.pgstore.specs.declared.op.Op.{Op}
 use Rattle.pgstore.specs.declared.op.Op.TheVariants as op
 use Rattle.pgstore.specs.declared.rows.StoreFault.TheVariants as fault
 use Rattle.pgstore.specs.Value.{Tables}
 use Rattle.pgstore.specs.Apply.{Change, apply, fold_changes, rows_after}
+use Rattle.pgstore.specs.Works.{work_value}
 use Rattle.pgstore.proofs.Relations.{text, t, t3, renamed, w, place, rows_1, table_t, tables_1, lookups}
 
 abbrev change : RelationDef → Op → Change
@@ -28,6 +31,22 @@ shape_changed = simp lookups
 shape_before_width : apply tables_1 (change t3 (op.Insert [])) ≡ Err fault.SchemaChanged
 unfolding apply tuple_spelling
 shape_before_width = simp lookups
+
+update_under_another_shape : apply tables_1 (change t3 (op.Update None (text 49 ∷ text 98 ∷ text 99 ∷ []))) ≡ Err fault.SchemaChanged
+unfolding apply tuple_spelling
+update_under_another_shape = simp lookups
+
+delete_under_another_shape : apply tables_1 (change t3 (op.Delete Key (text 49 ∷ Null ∷ Null ∷ []))) ≡ Err fault.SchemaChanged
+unfolding apply tuple_spelling
+delete_under_another_shape = simp lookups
+
+truncate_under_another_shape : apply tables_1 (change t3 op.Truncate) ≡ Err fault.SchemaChanged
+unfolding apply tuple_spelling
+truncate_under_another_shape = simp lookups
+
+-- a definition that no change has does nothing
+definition_alone : (work_value (t ∷ t3 ∷ []) ((0, op.Truncate) ∷ [])).changes ≡ change t op.Truncate ∷ []
+definition_alone = refl
 
 -- a table without rows takes any shape
 empty_takes_any_shape : apply (map.insert map.empty 16384 (table_t map.empty)) (change t3 (op.Insert (text 50 ∷ text 98 ∷ text 99 ∷ [])))
