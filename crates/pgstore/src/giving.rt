@@ -73,10 +73,12 @@ fn read_columns(alloc: Global, bytes: &[u8]) -> Result<Seq<Column>, StoreFault>
 {
     match decode_columns(alloc, bytes) {
         Ok(columns) => Ok(columns),
-        Err(DecodeFault {
-            reason: Reason::Memory,
-            ..
-        }) => Err(StoreFault::Memory),
+        Err(
+            DecodeFault {
+                reason: Reason::Memory,
+                ..
+            },
+        ) => Err(StoreFault::Memory),
         Err(_) => Err(StoreFault::Refused),
     }
 }
