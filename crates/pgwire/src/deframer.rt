@@ -145,6 +145,7 @@ fn next(
 #[cfg(test)]
 mod tests {
     use super::*;
+    use crate::decode_server;
     use std::alloc::AllocError;
     use std::process::Abort;
 
@@ -221,6 +222,49 @@ mod tests {
         check(&rt, b"d\0\0\0\x06hidxyz", b"d\x02hi", None)?;
         check(&rt, b"d\0\0\0\x06hid\0\0\0\x44xyz", b"d\x02hi", None)?;
         check(&rt, b"d\0\0\0\x04c\0\0\0\x04", b"d\0c", None)
+    }
+
+    // The fault of the payload of a frame that is fed in pieces of `step` bytes. A piece that was refused for want of memory is fed
+    // again.
+    fn payload_fault(
+        rt: &(impl Abort + AllocGlobal),
+        frame: &[u8],
+        step: usize,
+    ) -> Option<WireFault> {
+        let mut deframer = Deframer::new(rt.alloc(), 64);
+        for piece in frame.chunks(step.max(1)) {
+            let mut taken = deframer.feed(piece);
+            if taken == Err(WireFault::Memory) {
+                taken = deframer.feed(piece);
+            }
+            assert!(rt; taken == Ok(piece.len()));
+        }
+        let Some(Frame::Data(payload)) = deframer.whole() else {
+            return None;
+        };
+        match decode_server(payload) {
+            Ok(_) => None,
+            Err(fault) => Some(fault),
+        }
+    }
+
+    #[test]
+    fn payload_faults_in_any_cuts(rt: HostRuntime) {
+        for (frame, fault) in [
+            (&b"d\0\0\0\x04"[..], WireFault::Short),
+            (b"d\0\0\0\x05x", WireFault::UnknownServerMessage(120)),
+            (b"d\0\0\0\x1cw01234567012345670123456", WireFault::Short),
+            (b"d\0\0\0\x15k0123456701234567", WireFault::Short),
+            (b"d\0\0\0\x16k0123456701234567\x02", WireFault::BadReplyByte),
+            (b"d\0\0\0\x17k0123456701234567\x02\0", WireFault::Trailing),
+        ] {
+            for step in [1usize, 5, 1000] {
+                assert!(rt;
+                    payload_fault(&rt, frame, step) == Some(fault),
+                    "{frame:?} by {step}"
+                );
+            }
+        }
     }
 
     #[test]
