@@ -15,3 +15,6 @@ pub use find::{find_definition, find_row, has_rows};
 pub use put::{delete_row, delete_rows, put_definition, put_position, put_row};
 pub use rows::{StoredDefinition, StoredRow};
 pub use schema::create_tables;
+
+#[cfg(test)]
+mod tests;
