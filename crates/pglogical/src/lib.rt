@@ -1,4 +1,6 @@
-//! Logical messages.
+//! Logical messages: the fourteen of protocol versions 1 and 2, read from their bytes and written as them.
+//!
+//! PostgreSQL documentation, Logical Replication Message Formats.
 #![tactic(auto)]
 
 mod copying;
