@@ -3,14 +3,11 @@ ghost use Rattle.std.specs.Prelude.{◌≡◌, [], ◌∷◌, ◌++◌, length};
 ghost use Rattle.std.specs.FinMap as map;
 
 use crate::spool::Spool;
-use crate::spools::{SpoolFault, Spools};
+use crate::spools::{OVERHEAD, SpoolFault, Spools};
 use indexmap::IndexMap;
 use pglogical::{ItemRef, spelled_len};
 use std::alloc::Global;
 use std::marker::Model;
-
-/// What an item costs beside its spelling: the bytes of its label and its place.
-const OVERHEAD: u64 = 8;
 
 /// Spools that keep each transaction's items decoded, in a list.
 #[derive(Debug, Drop)]
