@@ -49,9 +49,8 @@ pub followed-none : (max : ℕ) (start : ApplyState) (bytes : List ℕ) → IsFo
 followed-none max start bytes = record { fs = []; parts = refl; each = tt; goes_on = refl; steps = refl }
 
 -- where less than a frame is left, all frames were taken
-pub followed-all : (max : ℕ) (old : Replica) (bytes rest : List ℕ) (state : ApplyState) → IsFollowedTo max (at_session old) bytes rest state → IsPartial max rest → IsFollowed old bytes state.replica
+pub followed-all : (max : ℕ) (old : Replica) (bytes rest : List ℕ) (state : ApplyState) → IsFollowedTo max (at_session old) bytes rest state → IsPartial max rest → IsFollowed max old bytes state.replica
 followed-all max old bytes rest state so partial = record {
-  max = max;
   fs = so.fs;
   rest = rest;
   deframed = record { whole = so.parts; each = so.each; partial = partial; last = λ done. let goes = so.goes_on in absurd (cc) };

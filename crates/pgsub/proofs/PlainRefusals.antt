@@ -140,25 +140,25 @@ no_fault max wire_fault.BadReplyByte h = absurd h
 no_fault max wire_fault.Memory h = absurd h
 
 -- one session, up to the refusal
-pub record IsStoppedIn (history : List Transaction) (bytes : List ℕ) (complete : List Sent) (old : Replica) (new : Stored) (f : Fault) : Type 0 where
+pub record IsStoppedIn (limit : ℕ) (history : List Transaction) (bytes : List ℕ) (complete : List Sent) (old : Replica) (new : Stored) (f : Fault) : Type 0 where
   pub front : List Sent
   pub later : List Sent
   pub parts : complete ≡ front ++ later
   pub relations : RelationCache
   pub runs : replica_outcome (run One (at_session old) front) ≡ Running (replica_of new relations)
   pub safe : IsSafe history new.tables new.position new.position
-  pub why : (sessions : List (List ℕ)) (all_complete : List (List Sent)) → IsFaultOf history (bytes ∷ sessions) (front ∷ []) (complete ∷ all_complete) new.position f
+  pub why : (sessions : List (List ℕ)) (all_complete : List (List Sent)) → IsFaultOf limit history (bytes ∷ sessions) (front ∷ []) (complete ∷ all_complete) new.position f
 
-module _ (history : List Transaction) (is : IsHistory history) (c s : ℕ) (bytes : List ℕ) (complete : List Sent) (old : Replica) (new : Stored) (f : Fault) (le : s ≤ c)
-    (nothing : NothingBetween history old.position c) (safe : IsSafe history old.tables old.position old.confirmed) (session : IsSession One history s bytes complete) (until : IsFollowedUntil old bytes new f) where
+module _ (limit : ℕ) (history : List Transaction) (is : IsHistory history) (c s : ℕ) (bytes : List ℕ) (complete : List Sent) (old : Replica) (new : Stored) (f : Fault) (le : s ≤ c)
+    (nothing : NothingBetween history old.position c) (safe : IsSafe history old.tables old.position old.confirmed) (session : IsSession One history s bytes complete) (until : IsFollowedUntil limit old bytes new f) where
   all_fit : AllByRecursion IsWireSent complete × AllByRecursion IsWireSent session.later
   all_fit = fits_split complete session.later (subst (AllByRecursion IsWireSent) session.parts session.fits)
 
-  none : (rest : List ℕ) (more : List Frame) → AreFrames until.max more → frames more ++ rest ≡ session.rest → (more ≡ []) ⊎ (more ≡ CopyDone ∷ [])
-  none rest more each e = none_behind until.max session.later session.done rest session.rest session.behind all_fit.1 session.at_end (session_front One history s bytes complete session) session.short more each e
+  none : (rest : List ℕ) (more : List Frame) → AreFrames limit more → frames more ++ rest ≡ session.rest → (more ≡ []) ⊎ (more ≡ CopyDone ∷ [])
+  none rest more each e = none_behind limit session.later session.done rest session.rest session.behind all_fit.1 session.at_end (session_front One history s bytes complete session) session.short more each e
 
   in_front : Within complete until.applied.fs until.rest session.rest
-  in_front = front_of until.max complete until.applied.fs until.rest session.rest all_fit.0 until.applied.each until.applied.goes_on (none until.rest) (sym until.applied.parts ∙ session.stands)
+  in_front = front_of limit complete until.applied.fs until.rest session.rest all_fit.0 until.applied.each until.applied.goes_on (none until.rest) (sym until.applied.parts ∙ session.stands)
 
   abbrev front : List Sent
   front = in_front.front
@@ -182,33 +182,33 @@ module _ (history : List Transaction) (is : IsHistory history) (c s : ℕ) (byte
   whole = until.applied.parts ∙ ap (λ fs. frames fs ++ until.rest) in_front.same
 
   -- a header behind the frames that were taken breaks no rule but the limit
-  only_too_large : (later : List Sent) (k : WireFault) → AllByRecursion IsWireSent later → until.rest ≡ frames (frames_of later) ++ session.rest → IsFramingFault until.max false until.rest k → k ≡ wire_fault.TooLarge
+  only_too_large : (later : List Sent) (k : WireFault) → AllByRecursion IsWireSent later → until.rest ≡ frames (frames_of later) ++ session.rest → IsFramingFault limit false until.rest k → k ≡ wire_fault.TooLarge
   only_too_large (m ∷ others) k fits left breaks =
-      (fault_of_front until.max longest (frame_for m) until.rest [] (frames (frames_of others) ++ session.rest) k (is_allowed m fits.0) breaks
+      (fault_of_front limit longest (frame_for m) until.rest [] (frames (frames_of others) ++ session.rest) k (is_allowed m fits.0) breaks
       (append-nil until.rest ∙ left ∙ append_assoc (frame (frame_for m)) (frames (frames_of others)) session.rest)).0
-  only_too_large [] k fits left breaks = in_part session.later session.done all_fit.1 session.at_end (session_front One history s bytes complete session) (subst (λ bs. IsFramingFault until.max false bs k) left breaks)
+  only_too_large [] k fits left breaks = in_part session.later session.done all_fit.1 session.at_end (session_front One history s bytes complete session) (subst (λ bs. IsFramingFault limit false bs k) left breaks)
     where
       in_part : (later : List Sent) (done : List Frame) → AllByRecursion IsWireSent later → (done ≡ []) ⊎ (done ≡ CopyDone ∷ []) → session.rest ++ session.behind ≡ frames (frames_of later ++ done)
-          → IsFramingFault until.max false session.rest k → k ≡ wire_fault.TooLarge
-      in_part (m ∷ later) done fits' last e breaks' = (fault_of_front until.max longest (frame_for m) session.rest session.behind (frames (frames_of later ++ done)) k (is_allowed m fits'.0) breaks' e).0
+          → IsFramingFault limit false session.rest k → k ≡ wire_fault.TooLarge
+      in_part (m ∷ later) done fits' last e breaks' = (fault_of_front limit longest (frame_for m) session.rest session.behind (frames (frames_of later ++ done)) k (is_allowed m fits'.0) breaks' e).0
       in_part [] done fits' last e breaks' =
           elim last [
-            | inl absent ↦ no_fault until.max k (subst (λ bs. IsFramingFault until.max false bs k) (nothing_stands session.rest session.behind (e ∙ ap frames absent)) breaks')
-            | inr copy_done ↦ (fault_of_front until.max longest CopyDone session.rest session.behind [] k tt breaks' (e ∙ ap frames copy_done)).0
+            | inl absent ↦ no_fault limit k (subst (λ bs. IsFramingFault limit false bs k) (nothing_stands session.rest session.behind (e ∙ ap frames absent)) breaks')
+            | inr copy_done ↦ (fault_of_front limit longest CopyDone session.rest session.behind [] k tt breaks' (e ∙ ap frames copy_done)).0
           ]
 
   -- the next frame that stands whole is the next message's
-  next_frame : (later : List Sent) (p behind : List ℕ) → AllByRecursion IsWireSent later → until.rest ≡ frames (frames_of later) ++ session.rest → IsAllowed until.max (CopyData p) → until.rest ≡ frame (CopyData p) ++ behind
+  next_frame : (later : List Sent) (p behind : List ℕ) → AllByRecursion IsWireSent later → until.rest ≡ frames (frames_of later) ++ session.rest → IsAllowed limit (CopyData p) → until.rest ≡ frame (CopyData p) ++ behind
       → (m : Sent) × (others : List Sent) × (later ≡ m ∷ others) × (p ≡ payload (server_message m)) × IsWireSent m
   next_frame [] p behind fits left may stands =
       elim (none behind (CopyData p ∷ []) (may, tt) (ap (λ xs. xs ++ behind) (append-nil (frame (CopyData p))) ∙ sym stands ∙ left)) [ inl e ↦ absurd (cc) | inr e ↦ absurd (cc) ]
   next_frame (m ∷ others) p behind fits left may stands =
-      let one = one_frame until.max longest (CopyData p) (frame_for m) behind (frames (frames_of others) ++ session.rest) may (is_allowed m fits.0) (sym stands ∙ left ∙ append_assoc (frame (frame_for m)) (frames (frames_of others)) session.rest) in
+      let one = one_frame limit longest (CopyData p) (frame_for m) behind (frames (frames_of others) ++ session.rest) may (is_allowed m fits.0) (sym stands ∙ left ∙ append_assoc (frame (frame_for m)) (frames (frames_of others)) session.rest) in
       (m, others, refl, copy_data p (payload (server_message m)) one.0, fits.0)
 
   module _ (sessions : List (List ℕ)) (all_complete : List (List Sent)) where
     abbrev Why : Type 0
-    Why = IsFaultOf history (bytes ∷ sessions) (front ∷ []) (complete ∷ all_complete) new.position f
+    Why = IsFaultOf limit history (bytes ∷ sessions) (front ∷ []) (complete ∷ all_complete) new.position f
 
     -- the next message has a fault of its own
     step_stopped : (m : Sent) (others : List Sent) (stopped : ApplyState) (why : Halt) → complete ≡ front ++ m ∷ others → step One until.state m ≡ Stopped stopped why
@@ -245,17 +245,17 @@ module _ (history : List Transaction) (is : IsHistory history) (c s : ℕ) (byte
     next_stopped (Keepalive end clock asks) others p parts fits same refusal =
         KeepaliveNext (keepalive_refused until.state end clock asks p f fits same refusal) (end, clock, asks, (others, parts))
 
-    rest_stopped : (f ≡ fault.Memory) ⊎ IsRestRefusal until.max until.state until.rest f → Why
+    rest_stopped : (f ≡ fault.Memory) ⊎ IsRestRefusal limit until.state until.rest f → Why
     rest_stopped (inl memory) = OutOfMemory memory
     rest_stopped (inr (inl (inl done))) = CopyDoneNext done.2 (done.0, whole ∙ ap (λ bs. frames (frames_of front) ++ bs) done.1)
     rest_stopped (inr (inl (inr framing))) =
         let large = only_too_large in_front.later framing.0 fits_front.1 in_front.left framing.2 in
-        TooLargeNext (framing.1 ∙ ap fault.Wire large) until.max (until.rest, whole, subst (IsFramingFault until.max false until.rest) large framing.2)
+        TooLargeNext (framing.1 ∙ ap fault.Wire large) (until.rest, whole, subst (IsFramingFault limit false until.rest) large framing.2)
     rest_stopped (inr (inr frame_stops)) =
         let next = next_frame in_front.later frame_stops.0 frame_stops.1 fits_front.1 in_front.left frame_stops.2 frame_stops.3 in
         next_stopped next.0 next.1 frame_stops.0 (in_front.parts ∙ ap (λ ms. front ++ ms) next.2) next.4 next.3 frame_stops.4
 
-  pub session_stopped : IsStoppedIn history bytes complete old new f
+  pub session_stopped : IsStoppedIn limit history bytes complete old new f
   session_stopped = record {
     front = front;
     later = in_front.later;
@@ -267,38 +267,38 @@ module _ (history : List Transaction) (is : IsHistory history) (c s : ℕ) (byte
   }
 
 -- a whole session in front
-behind_one : (history : List Transaction) (bytes : List ℕ) (sessions : List (List ℕ)) (x y complete : List Sent) (ys all_complete : List (List Sent)) (position : ℕ) (f : Fault) → x ≡ complete
-    → IsFaultOf history sessions (y ∷ ys) all_complete position f → IsFaultOf history (bytes ∷ sessions) (x ∷ y ∷ ys) (complete ∷ all_complete) position f
-behind_one history bytes sessions x y complete ys all_complete position f e why =
+behind_one : (limit : ℕ) (history : List Transaction) (bytes : List ℕ) (sessions : List (List ℕ)) (x y complete : List Sent) (ys all_complete : List (List Sent)) (position : ℕ) (f : Fault) → x ≡ complete
+    → IsFaultOf limit history sessions (y ∷ ys) all_complete position f → IsFaultOf limit history (bytes ∷ sessions) (x ∷ y ∷ ys) (complete ∷ all_complete) position f
+behind_one limit history bytes sessions x y complete ys all_complete position f e why =
     elim why [
       | OutOfMemory is ↦ OutOfMemory is
       | CopyDoneNext is next ↦ CopyDoneNext is next
       | KeepaliveNext is next ↦ KeepaliveNext is (next.0, next.1, next.2, (e, next.3))
-      | TooLargeNext is max next ↦ TooLargeNext is max next
+      | TooLargeNext is next ↦ TooLargeNext is next
       | UntakenNext is next ↦ UntakenNext is (next.0, next.1, next.2, next.3, (e, next.4), next.5)
       | BagNext is next ↦ BagNext is (next.0, (e, next.1), next.2, next.3, next.4)
       | FaultNext k is next ↦ FaultNext k is (next.0, (e, next.1), next.2, next.3, next.4)
     ]
 
 -- what was handled has a session, the last of which is a front
-pub record IsStopped (history : List Transaction) (sessions : List (List ℕ)) (all_complete : List (List Sent)) (p : Progress) (new : Stored) (f : Fault) : Type 0 where
+pub record IsStopped (limit : ℕ) (history : List Transaction) (sessions : List (List ℕ)) (all_complete : List (List Sent)) (p : Progress) (new : Stored) (f : Fault) : Type 0 where
   pub first : List Sent
   pub others : List (List Sent)
   pub front : IsHandled (first ∷ others) all_complete
   pub safe : IsSafe history new.tables new.position new.position
   pub reaches : new.position ≡ (reached_all p (first ∷ others)).position
-  pub why : IsFaultOf history sessions (first ∷ others) all_complete new.position f
+  pub why : IsFaultOf limit history sessions (first ∷ others) all_complete new.position f
 
-module _ (history : List Transaction) (is : IsHistory history) where
+module _ (limit : ℕ) (history : List Transaction) (is : IsHistory history) where
   sessions_stopped : (sessions : List (List ℕ)) (all_complete : List (List Sent)) (p : Progress) (old : Replica) (new : Stored) (f : Fault)
       → p.confirmed ≡ old.confirmed → IsSafe history old.tables old.position old.confirmed → GoesOn history p old
-      → AreSessions One history p sessions all_complete → AreFollowedUntil old sessions new f → IsStopped history sessions all_complete p new f
+      → AreSessions One history p sessions all_complete → AreFollowedUntil limit old sessions new f → IsStopped limit history sessions all_complete p new f
   sessions_stopped [] all_complete p old new f same safe on are until = absurd until
   sessions_stopped (bytes ∷ sessions) [] p old new f same safe on are until = absurd are
   sessions_stopped (bytes ∷ sessions) (complete ∷ all_complete) p old new f same safe on are (inl until) =
       let s = are.0.0 in
       let session = are.0.2 in
-      let stops = session_stopped history is p.confirmed s bytes complete old new f are.0.1 on.nothing safe session until in
+      let stops = session_stopped limit history is p.confirmed s bytes complete old new f are.0.1 on.nothing safe session until in
       let delivered = front_delivered One history s bytes complete stops.front stops.later session stops.parts in
       let there = session_reached One history old (replica_of new stops.relations) s stops.front safe.below delivered stops.runs in
       record {
@@ -315,7 +315,7 @@ module _ (history : List Transaction) (is : IsHistory history) where
       let session = are.0.2 in
       let ms = commits_and_keepalives [] complete in
       let delivered : Delivers One history s complete = front_delivered One history s bytes complete complete [] session (sym (append-nil complete)) in
-      let ran = session_followed history s bytes complete old mid session later.1 in
+      let ran = session_followed limit history s bytes complete old mid session later.1 in
       let safe' : IsSafe history mid.tables mid.position mid.confirmed = subst (IsAllowedOutcome history) ran (delivered_allowed One history old s p.confirmed complete is are.0.1 on.nothing delivered safe) in
       let there = session_reached One history old mid s complete safe.below delivered ran in
       let rest = sessions_stopped sessions all_complete (reached (disconnected p) [] complete) mid new f
@@ -327,42 +327,41 @@ module _ (history : List Transaction) (is : IsHistory history) where
         front = (refl, rest.front);
         safe = rest.safe;
         reaches = rest.reaches;
-        why = behind_one history bytes sessions complete rest.first complete rest.others all_complete new.position f refl rest.why;
+        why = behind_one limit history bytes sessions complete rest.first complete rest.others all_complete new.position f refl rest.why;
       }
 
-pub refused_sessions : (old new : Stored) (sessions : List (List ℕ)) (f : Fault) → AreFollowedUntil (replica_of old map.empty) sessions new f
+pub refused_sessions : (limit : ℕ) (old new : Stored) (sessions : List (List ℕ)) (f : Fault) → AreFollowedUntil limit (replica_of old map.empty) sessions new f
     → (history : List Transaction) (all_complete : List (List Sent)) → IsHistory history → IsSafe history old.tables old.position old.position
-    → AreSessions One history (progress_of old) sessions all_complete → IsRefusedSafely history sessions all_complete old new f
-refused_sessions old new sessions f until history all_complete is safe are =
-    let stops = sessions_stopped history is sessions all_complete (progress_of old) (replica_of old map.empty) new f refl safe (record { same = refl; nothing = safe.stored }) are until in
+    → AreSessions One history (progress_of old) sessions all_complete → IsRefusedSafely limit history sessions all_complete old new f
+refused_sessions limit old new sessions f until history all_complete is safe are =
+    let stops = sessions_stopped limit history is sessions all_complete (progress_of old) (replica_of old map.empty) new f refl safe (record { same = refl; nothing = safe.stored }) are until in
     record { handled = stops.first ∷ stops.others; front = stops.front; safe = stops.safe; reaches = stops.reaches; why = stops.why }
 
 -- a session in front of which others were followed
-pub followed_until : (done later : List (List ℕ)) (bytes : List ℕ) (old mid : Replica) (new : Stored) (f : Fault) → AreFollowed old done mid → IsFollowedUntil mid bytes new f
-    → AreFollowedUntil old (done ++ bytes ∷ later) new f
-followed_until [] later bytes old mid new f e until = inl (subst (λ (r : Replica). IsFollowedUntil r bytes new f) (sym e) until)
-followed_until (b ∷ done) later bytes old mid new f h until = inr (h.0, h.1, followed_until done later bytes h.0 mid new f h.2 until)
+pub followed_until : (limit : ℕ) (done later : List (List ℕ)) (bytes : List ℕ) (old mid : Replica) (new : Stored) (f : Fault) → AreFollowed limit old done mid → IsFollowedUntil limit mid bytes new f
+    → AreFollowedUntil limit old (done ++ bytes ∷ later) new f
+followed_until limit [] later bytes old mid new f e until = inl (subst (λ (r : Replica). IsFollowedUntil limit r bytes new f) (sym e) until)
+followed_until limit (b ∷ done) later bytes old mid new f h until = inr (h.0, h.1, followed_until limit done later bytes h.0 mid new f h.2 until)
 
 -- a session starts with no relation known
-until_anew : (stored : Stored) (a b : RelationCache) (bytes : List ℕ) (new : Stored) (f : Fault) → IsFollowedUntil (replica_of stored a) bytes new f → IsFollowedUntil (replica_of stored b) bytes new f
-until_anew stored a b bytes new f so = record { max = so.max; rest = so.rest; state = so.state; relations = so.relations; applied = so.applied; leaves = so.leaves; why = so.why }
+until_anew : (limit : ℕ) (stored : Stored) (a b : RelationCache) (bytes : List ℕ) (new : Stored) (f : Fault) → IsFollowedUntil limit (replica_of stored a) bytes new f → IsFollowedUntil limit (replica_of stored b) bytes new f
+until_anew limit stored a b bytes new f so = record { rest = so.rest; state = so.state; relations = so.relations; applied = so.applied; leaves = so.leaves; why = so.why }
 
-pub stopped_here : (sessions : List Session) (i : ℕ) (session : Session) (old : Replica) (mid new : Stored) (a b : RelationCache) (f : Fault) → i < length sessions → session ≡ get_or sessions i session
-    → AreFollowed old (all_bytes_of (take i sessions)) (replica_of mid a) → IsFollowedUntil (replica_of mid b) (bytes_of session) new f → AreFollowedUntil old (all_bytes_of sessions) new f
-stopped_here sessions i session old mid new a b f lt is so until =
+pub stopped_here : (limit : ℕ) (sessions : List Session) (i : ℕ) (session : Session) (old : Replica) (mid new : Stored) (a b : RelationCache) (f : Fault) → i < length sessions → session ≡ get_or sessions i session
+    → AreFollowed limit old (all_bytes_of (take i sessions)) (replica_of mid a) → IsFollowedUntil limit (replica_of mid b) (bytes_of session) new f → AreFollowedUntil limit old (all_bytes_of sessions) new f
+stopped_here limit sessions i session old mid new a b f lt is so until =
     let all : all_bytes_of sessions ≡ all_bytes_of (take i sessions) ++ bytes_of session ∷ all_bytes_of (drop (i + 1) sessions) =
     ap all_bytes_of (split_here sessions i session lt is) ∙ map-append bytes_of (take i sessions) (session ∷ drop (i + 1) sessions) in
-    subst (λ (bytes : List (List ℕ)). AreFollowedUntil old bytes new f) (sym all)
-    (followed_until (all_bytes_of (take i sessions)) (all_bytes_of (drop (i + 1) sessions)) (bytes_of session) old (replica_of mid a) new f so (until_anew mid b a (bytes_of session) new f until))
+    subst (λ (bytes : List (List ℕ)). AreFollowedUntil limit old bytes new f) (sym all)
+    (followed_until limit (all_bytes_of (take i sessions)) (all_bytes_of (drop (i + 1) sessions)) (bytes_of session) old (replica_of mid a) new f so (until_anew limit mid b a (bytes_of session) new f until))
 
 -- memory ran out before the first frame
-pub not_begun : (stored new : Stored) (bytes : List ℕ) → stored ≡ new → IsFollowedUntil (replica_of stored map.empty) bytes new fault.Memory
-not_begun stored new bytes same = record {
-  max = 0;
+pub not_begun : (limit : ℕ) (stored new : Stored) (bytes : List ℕ) → stored ≡ new → IsFollowedUntil limit (replica_of stored map.empty) bytes new fault.Memory
+not_begun limit stored new bytes same = record {
   rest = bytes;
   state = at_session (replica_of stored map.empty);
   relations = map.empty;
-  applied = followed-none 0 (at_session (replica_of stored map.empty)) bytes;
+  applied = followed-none limit (at_session (replica_of stored map.empty)) bytes;
   leaves = ap (λ (s : Stored). replica_of s map.empty) same;
   why = inl refl;
 }

@@ -77,49 +77,49 @@ no_done : (fs : List Frame) (old new : ApplyState) → FramesStep old (fs ++ Cop
 no_done [] old new h = absurd h.1
 no_done (f ∷ fs) old new h = no_done fs h.0 new h.2
 
-pub session_followed : (history : List Transaction) (s : ℕ) (bytes : List ℕ) (complete : List Sent) (old new : Replica) → IsSession One history s bytes complete → IsFollowed old bytes new
+pub session_followed : (max : ℕ) (history : List Transaction) (s : ℕ) (bytes : List ℕ) (complete : List Sent) (old new : Replica) → IsSession One history s bytes complete → IsFollowed max old bytes new
     → replica_outcome (run One (at_session old) complete) ≡ Running new
-session_followed history s bytes complete old new session so =
+session_followed max history s bytes complete old new session so =
     let front : Delivers One history s complete = delivers_front One history s complete session.later (subst (Delivers One history s) session.parts session.delivered) in
     let fits = fits_split complete session.later (subst (AllByRecursion IsWireSent) session.parts session.fits) in
-    let frames = session_frames One history s so.max bytes complete so.fs so.rest session so.deframed in
+    let frames = session_frames One history s max bytes complete so.fs so.rest session so.deframed in
     let steps : FramesStep (at_session old) (frames_of complete) so.state = elim frames.last [
       | inl none ↦ subst (λ (fs : List Frame). FramesStep (at_session old) fs so.state) (frames.same ∙ ap (λ (d : List Frame). frames_of complete ++ d) none ∙ append-nil (frames_of complete)) so.steps
       | inr done ↦ no_done (frames_of complete) (at_session old) so.state (subst (λ (fs : List Frame). FramesStep (at_session old) fs so.state) (frames.same ∙ ap (λ (d : List Frame). frames_of complete ++ d) done) so.steps)
     ] in
     ap replica_outcome (framed_run complete (at_session old) so.state fits.0 (shaped_for One (messages_in complete) front.shaped) steps) ∙ ap Running so.leaves
 
-pub sessions_followed : (history : List Transaction) (p : Progress) (sessions : List (List ℕ)) (all_complete : List (List Sent)) (old new : Replica) → AreSessions One history p sessions all_complete
-    → AreFollowed old sessions new → follow_all One old all_complete ≡ Running new
-sessions_followed history p [] [] old new are so = ap Running so
-sessions_followed history p [] (complete ∷ all_complete) old new are so = absurd are
-sessions_followed history p (bytes ∷ sessions) [] old new are so = absurd are
-sessions_followed history p (bytes ∷ sessions) (complete ∷ all_complete) old new are so =
-    ap (λ (o : Outcome Replica Halt). then_run o (λ next. follow_all One next all_complete)) (session_followed history are.0.0 bytes complete old so.0 are.0.2 so.1)
-    ∙ sessions_followed history (reached (disconnected p) [] complete) sessions all_complete so.0 new are.1 so.2
+pub sessions_followed : (max : ℕ) (history : List Transaction) (p : Progress) (sessions : List (List ℕ)) (all_complete : List (List Sent)) (old new : Replica) → AreSessions One history p sessions all_complete
+    → AreFollowed max old sessions new → follow_all One old all_complete ≡ Running new
+sessions_followed max history p [] [] old new are so = ap Running so
+sessions_followed max history p [] (complete ∷ all_complete) old new are so = absurd are
+sessions_followed max history p (bytes ∷ sessions) [] old new are so = absurd are
+sessions_followed max history p (bytes ∷ sessions) (complete ∷ all_complete) old new are so =
+    ap (λ (o : Outcome Replica Halt). then_run o (λ next. follow_all One next all_complete)) (session_followed max history are.0.0 bytes complete old so.0 are.0.2 so.1)
+    ∙ sessions_followed max history (reached (disconnected p) [] complete) sessions all_complete so.0 new are.1 so.2
 
 -- one session more
-pub followed_more : (sessions : List (List ℕ)) (bytes : List ℕ) (old mid new : Replica) → AreFollowed old sessions mid → IsFollowed mid bytes new → AreFollowed old (sessions ++ bytes ∷ []) new
-followed_more [] bytes old mid new e so = subst (λ (r : Replica). AreFollowed r (bytes ∷ []) new) (sym e) (new, so, refl)
-followed_more (b ∷ sessions) bytes old mid new h so = (h.0, h.1, followed_more sessions bytes h.0 mid new h.2 so)
+pub followed_more : (max : ℕ) (sessions : List (List ℕ)) (bytes : List ℕ) (old mid new : Replica) → AreFollowed max old sessions mid → IsFollowed max mid bytes new → AreFollowed max old (sessions ++ bytes ∷ []) new
+followed_more max [] bytes old mid new e so = subst (λ (r : Replica). AreFollowed max r (bytes ∷ []) new) (sym e) (new, so, refl)
+followed_more max (b ∷ sessions) bytes old mid new h so = (h.0, h.1, followed_more max sessions bytes h.0 mid new h.2 so)
 
 -- a session starts with no relation known
-pub followed_anew : (stored : Stored) (a b : RelationCache) (bytes : List ℕ) (new : Replica) → IsFollowed (replica_of stored a) bytes new → IsFollowed (replica_of stored b) bytes new
-followed_anew stored a b bytes new so = record { max = so.max; fs = so.fs; rest = so.rest; deframed = so.deframed; state = so.state; steps = so.steps; leaves = so.leaves }
+pub followed_anew : (max : ℕ) (stored : Stored) (a b : RelationCache) (bytes : List ℕ) (new : Replica) → IsFollowed max (replica_of stored a) bytes new → IsFollowed max (replica_of stored b) bytes new
+followed_anew max stored a b bytes new so = record { fs = so.fs; rest = so.rest; deframed = so.deframed; state = so.state; steps = so.steps; leaves = so.leaves }
 
-pub followed_next : (sessions : List Session) (i : ℕ) (session : Session) → i < length sessions → session ≡ get_or sessions i session → (old mid new : Replica)
-    → AreFollowed old (all_bytes_of (take i sessions)) mid → IsFollowed mid (bytes_of session) new → AreFollowed old (all_bytes_of (take (i + 1) sessions)) new
-followed_next sessions i session lt is old mid new so one =
+pub followed_next : (max : ℕ) (sessions : List Session) (i : ℕ) (session : Session) → i < length sessions → session ≡ get_or sessions i session → (old mid new : Replica)
+    → AreFollowed max old (all_bytes_of (take i sessions)) mid → IsFollowed max mid (bytes_of session) new → AreFollowed max old (all_bytes_of (take (i + 1) sessions)) new
+followed_next max sessions i session lt is old mid new so one =
     let more : all_bytes_of (take (i + 1) sessions) ≡ all_bytes_of (take i sessions) ++ bytes_of session ∷ [] =
     ap all_bytes_of (take_more sessions i session lt ∙ ap (λ (x : Session). take i sessions ++ x ∷ []) (sym is)) ∙ map-append bytes_of (take i sessions) (session ∷ []) in
-    subst (λ (all : List (List ℕ)). AreFollowed old all new) (sym more) (followed_more (all_bytes_of (take i sessions)) (bytes_of session) old mid new so one)
+    subst (λ (all : List (List ℕ)). AreFollowed max old all new) (sym more) (followed_more max (all_bytes_of (take i sessions)) (bytes_of session) old mid new so one)
 
-pub whole_sessions : (old new : Stored) (relations : RelationCache) (sessions : List (List ℕ)) → AreFollowed (replica_of old map.empty) sessions (replica_of new relations)
+pub whole_sessions : (limit : ℕ) (old new : Stored) (relations : RelationCache) (sessions : List (List ℕ)) → AreFollowed limit (replica_of old map.empty) sessions (replica_of new relations)
     → (history : List Transaction) (all_complete : List (List Sent)) → IsHistory history → IsSafe history old.tables old.position old.position
     → AreSessions One history (progress_of old) sessions all_complete
     → IsSafe history new.tables new.position new.position × (new.position ≡ (reached_all (progress_of old) all_complete).position)
-whole_sessions old new relations sessions so history all_complete is safe are =
-    let ran = sessions_followed history (progress_of old) sessions all_complete (replica_of old map.empty) (replica_of new relations) are so in
+whole_sessions limit old new relations sessions so history all_complete is safe are =
+    let ran = sessions_followed limit history (progress_of old) sessions all_complete (replica_of old map.empty) (replica_of new relations) are so in
     let allowed = all_sessions_allowed One history sessions all_complete (progress_of old) old.position (replica_of old map.empty) is refl refl safe (omega arith) safe.stored are in
     let reached_it = all_sessions_reached One history sessions all_complete (progress_of old) old.position (replica_of old map.empty) (replica_of new relations) is refl refl safe (omega arith) safe.stored are ran in
     (subst (IsAllowedOutcome history) ran allowed, reached_it.0)

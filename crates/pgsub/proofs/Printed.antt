@@ -1,5 +1,5 @@
 -- What is printed of sessions that are followed to their end.
-use Rattle.std.proofs.Common.{◌≡◌, List, Result, Ok, Err, OnOk, IfErr, IfSome, None, subst}
+use Rattle.std.proofs.Common.{◌≡◌, ℕ, List, Result, Ok, Err, OnOk, IfErr, IfSome, None, subst}
 use Rattle.std.specs.Result.{result_err}
 use Rattle.pgorder.specs.declared.Version.TheVariants.{One}
 use Rattle.pgstore.specs.Stored.{Stored}
@@ -30,15 +30,16 @@ whole_from sessions followed start stored same none h =
     subst (λ (s : Stored). FollowsFrom s sessions stored) none (subst (λ (f : List Session). FollowsFrom start f stored) same h) in
     λ history all_complete is are. from_nothing history all_complete is (start_safe history is) are
 
-abbrev pub StopsFrom : Stored → List Session → Stored → Fault → Type 0
-StopsFrom start sessions stored f =
+abbrev pub StopsFrom : ℕ → Stored → List Session → Stored → Fault → Type 0
+StopsFrom max start sessions stored f =
     (history : List Transaction) (all_complete : List (List Sent)) → IsHistory history → IsSafe history start.tables start.position start.position
-    → AreSessions One history (progress_of start) (all_bytes_of sessions) all_complete → IsRefusedSafely history (all_bytes_of sessions) all_complete start stored f
+    → AreSessions One history (progress_of start) (all_bytes_of sessions) all_complete → IsRefusedSafely max history (all_bytes_of sessions) all_complete start stored f
 
-pub refused_from : (sessions followed : List Session) (start stored : Stored) (f : Fault) → followed ≡ sessions → start ≡ nothing_stored → StopsFrom start followed stored f → IsRefusedFrom sessions stored f
-refused_from sessions followed start stored f same none h =
-    let from_nothing : StopsFrom nothing_stored sessions stored f =
-    subst (λ (s : Stored). StopsFrom s sessions stored f) none (subst (λ (x : List Session). StopsFrom start x stored f) same h) in
+pub refused_from : (limit max : ℕ) (sessions followed : List Session) (start stored : Stored) (f : Fault) → limit ≡ max → followed ≡ sessions → start ≡ nothing_stored → StopsFrom limit start followed stored f
+    → IsRefusedFrom max sessions stored f
+refused_from limit max sessions followed start stored f same_limit same none h =
+    let from_nothing : StopsFrom max nothing_stored sessions stored f =
+    subst (λ (n : ℕ). StopsFrom n nothing_stored sessions stored f) same_limit (subst (λ (s : Stored). StopsFrom limit s sessions stored f) none (subst (λ (x : List Session). StopsFrom limit start x stored f) same h)) in
     λ history all_complete is are. from_nothing history all_complete is (start_safe history is) are
 
 -- what holds of the fault that is kept of a refusal

@@ -7,4 +7,5 @@ pub mod PlainRest
 pub mod PlainTaken
 pub mod PlainStops
 pub mod PlainRefused
+pub mod PlainSubscriber
 pub mod Whole

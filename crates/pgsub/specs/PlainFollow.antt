@@ -26,9 +26,8 @@ abbrev pub FramesStep : ApplyState → List Frame → ApplyState → Type 0
 FramesStep old [] new = old ≡ new
 FramesStep old (f ∷ fs) new = (mid : ApplyState) × FrameSteps old f mid × FramesStep mid fs new
 
--- the frames of a session's bytes are applied, from a disconnection on
-pub record IsFollowed (old : Replica) (bytes : List ℕ) (new : Replica) : Type 0 where
-  pub max : ℕ
+-- The frames of a session's bytes are applied, from a disconnection on. No payload is longer than max.
+pub record IsFollowed (max : ℕ) (old : Replica) (bytes : List ℕ) (new : Replica) : Type 0 where
   pub fs : List Frame
   pub rest : List ℕ
   pub deframed : IsDeframedAs max bytes fs rest
@@ -37,9 +36,9 @@ pub record IsFollowed (old : Replica) (bytes : List ℕ) (new : Replica) : Type 
   pub leaves : state.replica ≡ new
 
 -- one session after the other
-abbrev pub AreFollowed : Replica → List (List ℕ) → Replica → Type 0
-AreFollowed old [] new = old ≡ new
-AreFollowed old (bytes ∷ sessions) new = (mid : Replica) × IsFollowed old bytes mid × AreFollowed mid sessions new
+abbrev pub AreFollowed : ℕ → Replica → List (List ℕ) → Replica → Type 0
+AreFollowed max old [] new = old ≡ new
+AreFollowed max old (bytes ∷ sessions) new = (mid : Replica) × IsFollowed max old bytes mid × AreFollowed max mid sessions new
 
 -- a session's bytes, its pieces in one
 abbrev pub bytes_of : Session → List ℕ

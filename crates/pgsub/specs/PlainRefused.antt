@@ -39,23 +39,23 @@ IsCommitBehind handled all_complete position = (m : Sent) × IsNextBehind handle
 abbrev pub IsFaultBehind : List Transaction → List (List Sent) → List (List Sent) → ℕ → StoreFault → Type 0
 IsFaultBehind history handled all_complete position k = (m : Sent) × IsNextBehind handled m all_complete × (end : ℕ) × (commit_end m ≡ Some end) × RefusesNext history position end k
 
--- Which faults there can be behind what was handled. The plain core takes no CopyDone and no keepalive, no payload that is too long, no
+-- Which faults there can be behind what was handled. The plain core takes no CopyDone and no keepalive, no payload longer than max, no
 -- message and no cell of another kind, and no table without a key. Beyond that it is the store alone that refuses: the next commit,
 -- with the fault that the history gives there. No message is out of order, and each change is described.
-pub data IsFaultOf (history : List Transaction) (sessions : List (List ℕ)) (handled all_complete : List (List Sent)) (position : ℕ) (f : Fault) : Type 0 where
-  OutOfMemory : (is : f ≡ fault.Memory) → IsFaultOf history sessions handled all_complete position f
-  CopyDoneNext : (is : f ≡ fault.Wire (wire_fault.UnknownFrame 99)) (next : IsCopyDoneBehind handled sessions) → IsFaultOf history sessions handled all_complete position f
-  KeepaliveNext : (is : f ≡ fault.Wire (wire_fault.UnknownServerMessage 107)) (next : IsKeepaliveBehind handled all_complete) → IsFaultOf history sessions handled all_complete position f
-  TooLargeNext : (is : f ≡ fault.Wire wire_fault.TooLarge) (max : ℕ) (next : IsTooLargeBehind max handled sessions) → IsFaultOf history sessions handled all_complete position f
-  UntakenNext : (is : f ≡ not_taken) (next : IsUntakenBehind handled all_complete) → IsFaultOf history sessions handled all_complete position f
-  BagNext : (is : f ≡ fault.Store store.NoIdentity) (next : IsCommitBehind handled all_complete position) → IsFaultOf history sessions handled all_complete position f
-  FaultNext : (k : StoreFault) (is : f ≡ fault.Store k) (next : IsFaultBehind history handled all_complete position k) → IsFaultOf history sessions handled all_complete position f
+pub data IsFaultOf (max : ℕ) (history : List Transaction) (sessions : List (List ℕ)) (handled all_complete : List (List Sent)) (position : ℕ) (f : Fault) : Type 0 where
+  OutOfMemory : (is : f ≡ fault.Memory) → IsFaultOf max history sessions handled all_complete position f
+  CopyDoneNext : (is : f ≡ fault.Wire (wire_fault.UnknownFrame 99)) (next : IsCopyDoneBehind handled sessions) → IsFaultOf max history sessions handled all_complete position f
+  KeepaliveNext : (is : f ≡ fault.Wire (wire_fault.UnknownServerMessage 107)) (next : IsKeepaliveBehind handled all_complete) → IsFaultOf max history sessions handled all_complete position f
+  TooLargeNext : (is : f ≡ fault.Wire wire_fault.TooLarge) (next : IsTooLargeBehind max handled sessions) → IsFaultOf max history sessions handled all_complete position f
+  UntakenNext : (is : f ≡ not_taken) (next : IsUntakenBehind handled all_complete) → IsFaultOf max history sessions handled all_complete position f
+  BagNext : (is : f ≡ fault.Store store.NoIdentity) (next : IsCommitBehind handled all_complete position) → IsFaultOf max history sessions handled all_complete position f
+  FaultNext : (k : StoreFault) (is : f ≡ fault.Store k) (next : IsFaultBehind history handled all_complete position k) → IsFaultOf max history sessions handled all_complete position f
 
 -- What a refusal leaves: the history's rows up to the position, which is the greatest end of a commit among the messages that were
 -- handled, of whole sessions and a front of one. The fault is that of what comes next, or want of memory.
-pub record IsRefusedSafely (history : List Transaction) (sessions : List (List ℕ)) (all_complete : List (List Sent)) (old new : Stored) (f : Fault) : Type 0 where
+pub record IsRefusedSafely (max : ℕ) (history : List Transaction) (sessions : List (List ℕ)) (all_complete : List (List Sent)) (old new : Stored) (f : Fault) : Type 0 where
   pub handled : List (List Sent)
   pub front : IsHandled handled all_complete
   pub safe : IsSafe history new.tables new.position new.position
   pub reaches : new.position ≡ (reached_all (progress_of old) handled).position
-  pub why : IsFaultOf history sessions handled all_complete new.position f
+  pub why : IsFaultOf max history sessions handled all_complete new.position f

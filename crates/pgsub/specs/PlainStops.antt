@@ -86,8 +86,7 @@ IsRestRefusal max state rest f =
 
 -- A session's frames are applied up to a place from which on the bytes are refused, or before which memory ran out. What stands is
 -- what was applied.
-pub record IsFollowedUntil (old : Replica) (bytes : List ℕ) (new : Stored) (f : Fault) : Type 0 where
-  pub max : ℕ
+pub record IsFollowedUntil (max : ℕ) (old : Replica) (bytes : List ℕ) (new : Stored) (f : Fault) : Type 0 where
   pub rest : List ℕ
   pub state : ApplyState
   pub relations : RelationCache
@@ -96,6 +95,7 @@ pub record IsFollowedUntil (old : Replica) (bytes : List ℕ) (new : Stored) (f 
   pub why : (f ≡ fault.Memory) ⊎ IsRestRefusal max state rest f
 
 -- sessions are followed to their end, and then one up to a place
-abbrev pub AreFollowedUntil : Replica → List (List ℕ) → Stored → Fault → Type 0
-AreFollowedUntil old [] new f = ⊥
-AreFollowedUntil old (bytes ∷ sessions) new f = IsFollowedUntil old bytes new f ⊎ ((mid : Replica) × IsFollowed old bytes mid × AreFollowedUntil mid sessions new f)
+abbrev pub AreFollowedUntil : ℕ → Replica → List (List ℕ) → Stored → Fault → Type 0
+AreFollowedUntil max old [] new f = ⊥
+AreFollowedUntil max old (bytes ∷ sessions) new f =
+    IsFollowedUntil max old bytes new f ⊎ ((mid : Replica) × IsFollowed max old bytes mid × AreFollowedUntil max mid sessions new f)

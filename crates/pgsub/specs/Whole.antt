@@ -31,16 +31,17 @@ abbrev pub PrintsWhole : List ℕ → List ℕ → Type 0
 PrintsWhole text lines =
     (sessions : List Session) × (stored : Stored) × (sessions_of text ≡ Ok sessions) × (lines ≡ dump_of (dump stored.tables) stored.position) × IsWhole sessions stored
 
--- of whatever history a well-formed server sends these sessions, what is left where they are refused with this fault
-abbrev pub IsRefusedFrom : List Session → Stored → Fault → Type 0
-IsRefusedFrom sessions stored f =
+-- of whatever history a well-formed server sends these sessions, what is left where they are refused with this fault by who takes no
+-- payload longer than max
+abbrev pub IsRefusedFrom : ℕ → List Session → Stored → Fault → Type 0
+IsRefusedFrom max sessions stored f =
     (history : List Transaction) (all_complete : List (List Sent)) → IsHistory history → AreSessions One history (progress_of nothing_stored) (all_bytes_of sessions) all_complete
-    → IsRefusedSafely history (all_bytes_of sessions) all_complete nothing_stored stored f
+    → IsRefusedSafely max history (all_bytes_of sessions) all_complete nothing_stored stored f
 
 -- the lines of what the sessions of a capture text leave where they are refused
-abbrev pub PrintsRefused : List ℕ → List ℕ → Fault → Type 0
-PrintsRefused text lines f =
-    (sessions : List Session) × (stored : Stored) × (sessions_of text ≡ Ok sessions) × (lines ≡ dump_of (dump stored.tables) stored.position) × IsRefusedFrom sessions stored f
+abbrev pub PrintsRefused : ℕ → List ℕ → List ℕ → Fault → Type 0
+PrintsRefused max text lines f =
+    (sessions : List Session) × (stored : Stored) × (sessions_of text ≡ Ok sessions) × (lines ≡ dump_of (dump stored.tables) stored.position) × IsRefusedFrom max sessions stored f
 
 -- these lines are appended, where what is written is known
 abbrev pub Prints : List ℕ → Option (List ℕ) → Option (List ℕ) → Type 0

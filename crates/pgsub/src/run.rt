@@ -83,7 +83,7 @@ pub struct Applied {
 /// that history up to the position too, and the fault is that of what comes next.
 pub fn apply_text(alloc: Global, text: &[u8]) -> Result<Applied, RunFault>
     ensures whole { IfOk result (λ applied. applied.refused ≡ None → PrintsWhole text.now (string_bytes applied.lines)) }
-    ensures refused { IfOk result (λ applied. IfSome applied.refused (PrintsRefused text.now (string_bytes applied.lines))) }
+    ensures refused { IfOk result (λ applied. IfSome applied.refused (PrintsRefused MAX_FRAME text.now (string_bytes applied.lines))) }
     ensures fault { IfErr result (λ fault. (fault ≡ RunFault.Stream Fault.Memory) ⊎ ((line : ℕ) × (fault ≡ RunFault.NotHexadecimal line) × (sessions_of text.now ≡ Err line))) }
 {
     let sessions = match read_capture(alloc, text) {

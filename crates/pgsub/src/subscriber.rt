@@ -27,7 +27,7 @@ use pgwire::{Frame, ServerMsg, WireFault, decode_server, front};
 use std::alloc::{AllocError, Global};
 use std::marker::Model;
 
-/// A subscriber, seen as its rows and the position up to which they stand.
+/// A subscriber, seen as the longest payload that it takes, its rows and the position up to which they stand.
 #[derive(Drop)]
 pub struct Subscriber {
     alloc: Global,
@@ -36,14 +36,13 @@ pub struct Subscriber {
 }
 
 impl Model for Subscriber {
-    ghost use Rattle.pgstore.specs.Stored.{Stored};
-    ghost use Rattle.pgstore.specs.Codes.{stored_code};
+    ghost use Rattle.pgsub.specs.PlainSubscriber.{PlainSubscriber, subscriber_code};
 
-    ghost Value = { Stored };
+    ghost Value = { PlainSubscriber };
 
-    ghost coded = { stored_code };
+    ghost coded = { subscriber_code };
 
-    ghost view = { λ s. s.store };
+    ghost view = { λ s. record { max_frame = s.max_frame; stored = s.store } };
 }
 
 /// The payload of the first frame and the bytes behind it, or None where less than a frame stands.
@@ -107,8 +106,8 @@ fn follow_bytes(
     store: &mut PlainStore,
     bytes: &[u8],
 ) -> Result<(), Fault>
-    ensures ok { OnOk result ((relations : RelationCache) × IsFollowed (replica_of store.old map.empty) bytes.now (replica_of store.new relations)) }
-    ensures refused { IfErr result (IsFollowedUntil (replica_of store.old map.empty) bytes.now store.new) }
+    ensures ok { OnOk result ((relations : RelationCache) × IsFollowed max_frame (replica_of store.old map.empty) bytes.now (replica_of store.new relations)) }
+    ensures refused { IfErr result (IsFollowedUntil max_frame (replica_of store.old map.empty) bytes.now store.new) }
 {
     let mut session = PlainSession::new(alloc);
     let mut rest = bytes;
@@ -122,7 +121,7 @@ fn follow_bytes(
 impl Subscriber {
     /// A subscriber with no rows, at position 0/0. It refuses a payload longer than `max_frame` bytes.
     pub fn new(alloc: Global, max_frame: u32) -> Subscriber
-        ensures { result ≡ record { tables = map.empty; position = 0 } }
+        ensures { result ≡ record { max_frame = max_frame; stored = record { tables = map.empty; position = 0 } } }
     {
         Subscriber {
             alloc,
@@ -132,14 +131,14 @@ impl Subscriber {
     }
 
     pub fn position(&self) -> Lsn
-        ensures { result ≡ self.now.position }
+        ensures { result ≡ self.now.stored.position }
     {
         self.store.position()
     }
 
     /// The rows, by OID and then by the bytes of their keys.
     pub fn rows(&mut self) -> Result<Vec<DumpRow>, Fault>
-        ensures rows { IfOk result (λ rows. rows.items ≡ dump self.old.tables) }
+        ensures rows { IfOk result (λ rows. rows.items ≡ dump self.old.stored.tables) }
         ensures memory { IfErr result (λ fault. fault ≡ Fault.Memory) }
         ensures same { self.new ≡ self.old }
     {
@@ -152,8 +151,9 @@ impl Subscriber {
 
     /// Follows one session.
     fn follow_session(&mut self, session: &Session) -> Result<(), Fault>
-        ensures ok { OnOk result ((relations : RelationCache) × IsFollowed (replica_of self.old map.empty) (flat_map (λ (piece : List ℕ). piece) session.now.pieces) (replica_of self.new relations)) }
-        ensures refused { IfErr result (IsFollowedUntil (replica_of self.old map.empty) (flat_map (λ (piece : List ℕ). piece) session.now.pieces) self.new) }
+        ensures ok { OnOk result ((relations : RelationCache) × IsFollowed self.old.max_frame (replica_of self.old.stored map.empty) (flat_map (λ (piece : List ℕ). piece) session.now.pieces) (replica_of self.new.stored relations)) }
+        ensures refused { IfErr result (IsFollowedUntil self.old.max_frame (replica_of self.old.stored map.empty) (flat_map (λ (piece : List ℕ). piece) session.now.pieces) self.new.stored) }
+        ensures limit { self.new.max_frame ≡ self.old.max_frame }
     {
         let Ok(bytes) = joined(self.alloc, session.pieces.as_slice()) else {
             return Err(Fault::Memory);
@@ -178,16 +178,17 @@ impl Subscriber {
 /// one that the history itself gives there. Or memory has run out.
 pub fn follow(subscriber: &mut Subscriber, sessions: &[Session]) -> Result<(), Fault>
     ensures whole { OnOk result ((history : List Transaction) (all_complete : List (List Sent)) → IsHistory history
-        → IsSafe history subscriber.old.tables subscriber.old.position subscriber.old.position
-        → AreSessions One history (progress_of subscriber.old) (all_bytes_of sessions.now) all_complete
-        → IsSafe history subscriber.new.tables subscriber.new.position subscriber.new.position
-        × (subscriber.new.position ≡ (reached_all (progress_of subscriber.old) all_complete).position)) }
+        → IsSafe history subscriber.old.stored.tables subscriber.old.stored.position subscriber.old.stored.position
+        → AreSessions One history (progress_of subscriber.old.stored) (all_bytes_of sessions.now) all_complete
+        → IsSafe history subscriber.new.stored.tables subscriber.new.stored.position subscriber.new.stored.position
+        × (subscriber.new.stored.position ≡ (reached_all (progress_of subscriber.old.stored) all_complete).position)) }
     ensures refused { IfErr result (λ fault. (history : List Transaction) (all_complete : List (List Sent)) → IsHistory history
-        → IsSafe history subscriber.old.tables subscriber.old.position subscriber.old.position
-        → AreSessions One history (progress_of subscriber.old) (all_bytes_of sessions.now) all_complete
-        → IsRefusedSafely history (all_bytes_of sessions.now) all_complete subscriber.old subscriber.new fault) }
-    ensures applied { OnOk result ((relations : RelationCache) × AreFollowed (replica_of subscriber.old map.empty) (all_bytes_of sessions.now) (replica_of subscriber.new relations)) }
-    ensures stopped { IfErr result (AreFollowedUntil (replica_of subscriber.old map.empty) (all_bytes_of sessions.now) subscriber.new) }
+        → IsSafe history subscriber.old.stored.tables subscriber.old.stored.position subscriber.old.stored.position
+        → AreSessions One history (progress_of subscriber.old.stored) (all_bytes_of sessions.now) all_complete
+        → IsRefusedSafely subscriber.old.max_frame history (all_bytes_of sessions.now) all_complete subscriber.old.stored subscriber.new.stored fault) }
+    ensures applied { OnOk result ((relations : RelationCache) × AreFollowed subscriber.old.max_frame (replica_of subscriber.old.stored map.empty) (all_bytes_of sessions.now) (replica_of subscriber.new.stored relations)) }
+    ensures stopped { IfErr result (AreFollowedUntil subscriber.old.max_frame (replica_of subscriber.old.stored map.empty) (all_bytes_of sessions.now) subscriber.new.stored) }
+    ensures limit { subscriber.new.max_frame ≡ subscriber.old.max_frame }
 {
     for session in sessions {
         subscriber.follow_session(session)?;

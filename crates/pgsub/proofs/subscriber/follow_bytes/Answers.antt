@@ -24,9 +24,8 @@ returns-clause-ok c =
 pub returns-in_err-payload-clause-refused : goal.returns-in_err-payload-clause-refused
 returns-in_err-payload-clause-refused c =
     let l = c.loop-session in
-    on_residual c.from_residual.result c.in_err-payload.field-0.0 (IsFollowedUntil (replica_of c.args.store.now map.empty) c.args.bytes.now l.store) c.from_residual.ensures.1
+    on_residual c.from_residual.result c.in_err-payload.field-0.0 (IsFollowedUntil c.args.max_frame (replica_of c.args.store.now map.empty) c.args.bytes.now l.store) c.from_residual.ensures.1
     (record {
-      max = c.args.max_frame;
       rest = l.rest.now;
       state = state_of l.session.order.state l.session.items.items l.session.relations l.store;
       relations = l.session.relations;
@@ -39,10 +38,9 @@ pub returns-in_err-take_payload-clause-refused : goal.returns-in_err-take_payloa
 returns-in_err-take_payload-clause-refused c =
     let l = c.loop-session in
     let parts = match_some c.in_ok-payload.field-0 (c.in-Some.payload, c.in-Some.behind) _ _ c.in_ok-payload.ensures.found c.in-Some.is in
-    on_residual c.from_residual-in_err-take_payload.result c.in_err-take_payload.field-0.0 (IsFollowedUntil (replica_of c.args.store.now map.empty) c.args.bytes.now c.take_payload.new.store)
+    on_residual c.from_residual-in_err-take_payload.result c.in_err-take_payload.field-0.0 (IsFollowedUntil c.args.max_frame (replica_of c.args.store.now map.empty) c.args.bytes.now c.take_payload.new.store)
     c.from_residual-in_err-take_payload.ensures.1
     (record {
-      max = c.args.max_frame;
       rest = l.rest.now;
       state = state_of l.session.order.state l.session.items.items l.session.relations l.store;
       relations = l.session.relations;
