@@ -11,7 +11,7 @@ use sqlite::{Alter, Connection, Error, Transaction};
 use std::process::Abort;
 use std::test::Fail;
 
-/// The greatest OID, above all that fit a signed 32-bit number.
+// The greatest OID, above all that fit a signed 32-bit number.
 const GREATEST: u32 = u32::MAX;
 
 // Rows of two relations, one of them put twice.
@@ -62,6 +62,7 @@ fn expect_definition<S: Alter>(
     rt: &impl Abort,
     tx: &mut Transaction<'_, S>,
     oid: u32,
+    namespace: &str,
     name: &str,
     letter: u32,
 ) -> Result<(), Fail>
@@ -70,9 +71,9 @@ fn expect_definition<S: Alter>(
     ensures under_way { OnOk result (IfServing S.Store tx.new.conn.now (IsUnderWay S.Store tx.new.conn.now)) }
 {
     let found = find_definition(tx, oid)?.ok_or("a definition")?;
+    assert_eq!(rt; found.namespace(), namespace);
     assert_eq!(rt; found.name(), name);
     assert_eq!(rt; found.letter(), letter);
-    assert!(rt; found.namespace() == "public" || found.namespace() == "new");
     assert!(rt; found.columns().starts_with(b"columns of "));
     assert!(rt; find_definition(tx, 1)?.is_none());
     Ok(())
@@ -107,18 +108,11 @@ fn delete_one<S: Alter>(rt: &impl Abort, tx: &mut Transaction<'_, S>) -> Result<
 }
 
 // Then all rows of the last relation are, and those of the first stay.
-fn delete_some<S: Alter>(
-    rt: &impl Abort,
-    tx: &mut Transaction<'_, S>,
-    keep_all: bool,
-) -> Result<(), Fail>
+fn delete_some<S: Alter>(rt: &impl Abort, tx: &mut Transaction<'_, S>) -> Result<(), Fail>
     requires { IfServing S.Store tx.old.conn.now (IsUnderWay S.Store tx.old.conn.now) }
     ensures same_reference { tx.new.conn.ghost_name ≡ tx.old.conn.ghost_name }
     ensures under_way { OnOk result (IfServing S.Store tx.new.conn.now (IsUnderWay S.Store tx.new.conn.now)) }
 {
-    if keep_all {
-        return expect_rows(rt, tx, true, true);
-    }
     delete_one(rt, tx)?;
     delete_rows(tx, GREATEST)?;
     expect_rows(rt, tx, true, false)
@@ -131,28 +125,27 @@ fn define_and_put<S: Alter>(rt: &impl Abort, tx: &mut Transaction<'_, S>) -> Res
 {
     expect_rows(rt, tx, false, false)?;
     define_both(tx)?;
-    expect_definition(rt, tx, 16384, "t", 100)?;
-    expect_definition(rt, tx, GREATEST, "v", 110)?;
+    expect_definition(rt, tx, 16384, "public", "t", 100)?;
+    expect_definition(rt, tx, GREATEST, "new", "v", 110)?;
     put_some(tx)
 }
 
-fn change<S: Alter>(
-    rt: &impl Abort,
-    tx: &mut Transaction<'_, S>,
-    keep_all: bool,
-) -> Result<(), Fail>
+fn change<S: Alter>(rt: &impl Abort, tx: &mut Transaction<'_, S>, deletes: bool) -> Result<(), Fail>
     requires { IfServing S.Store tx.old.conn.now (IsUnderWay S.Store tx.old.conn.now) }
     ensures same_reference { tx.new.conn.ghost_name ≡ tx.old.conn.ghost_name }
     ensures under_way { OnOk result (IfServing S.Store tx.new.conn.now (IsUnderWay S.Store tx.new.conn.now)) }
 {
     define_and_put(rt, tx)?;
-    delete_some(rt, tx, keep_all)?;
+    expect_rows(rt, tx, true, true)?;
+    if deletes {
+        delete_some(rt, tx)?;
+    }
     put_position(tx, &[0, 0, 0, 0, 0, 0, 1, 2])?;
     Ok(())
 }
 
-// All of a store's life in one transaction, which is committed.
-fn fill<S: Alter>(rt: &impl Abort, conn: &mut Connection<S>, keep_all: bool) -> Result<(), Fail>
+// All of a store's life in one transaction, which is committed, with deletions or without.
+fn fill<S: Alter>(rt: &impl Abort, conn: &mut Connection<S>, deletes: bool) -> Result<(), Fail>
     requires settled { (state S.Store conn.old).in_transaction ≡ false }
     requires bare { IfServing S.Store conn.old ((state S.Store conn.old).now.schema ≡ no_schema) }
     ensures settled { (state S.Store conn.new).in_transaction ≡ false }
@@ -160,7 +153,7 @@ fn fill<S: Alter>(rt: &impl Abort, conn: &mut Connection<S>, keep_all: bool) -> 
 {
     let mut tx = conn.transaction();
     create_tables(&mut tx)?;
-    change(rt, &mut tx, keep_all)?;
+    change(rt, &mut tx, deletes)?;
     tx.commit()?;
     Ok(())
 }
@@ -196,7 +189,7 @@ fn position<S: Alter>(conn: &mut Connection<S>) -> Result<Vec<u8>, Error> {
 #[test]
 fn rows_are_dumped_by_oid_and_identity(rt: HostRuntime) -> Result<(), Fail> {
     let mut conn = Connection::open_in_memory(rt.alloc())?;
-    fill(&rt, &mut conn, true)?;
+    fill(&rt, &mut conn, false)?;
     expect_dump(
         &rt,
         &mut conn,
@@ -214,6 +207,6 @@ fn rows_are_dumped_by_oid_and_identity(rt: HostRuntime) -> Result<(), Fail> {
 #[test]
 fn what_is_deleted_is_gone(rt: HostRuntime) -> Result<(), Fail> {
     let mut conn = Connection::open_in_memory(rt.alloc())?;
-    fill(&rt, &mut conn, false)?;
+    fill(&rt, &mut conn, true)?;
     expect_dump(&rt, &mut conn, &[(16384, "t", "first", 1)])
 }
