@@ -1,7 +1,8 @@
 -- One change, and one more.
-use Rattle.std.proofs.Common.{◌≡◌, ℕ, List, [], ◌∷◌, ◌++◌, cond, Option, Some, None, Result, Ok, Err, refl, sym, ap, subst, ◌∙◌, inl, inr}
-use Rattle.std.specs.Prelude.{slice_get, IfSome, ◌||◌, ◌==◌, if◌then◌else◌}
+use Rattle.std.proofs.Common.{◌≡◌, ℕ, List, [], ◌∷◌, ◌++◌, false, true, cond, Option, Some, None, Result, Ok, Err, refl, sym, ap, subst, ◌∙◌, inl, inr}
+use Rattle.std.specs.Prelude.{slice_get, ◌||◌, ◌==◌, if◌then◌else◌}
 use Rattle.std.specs.Ordering.{nat_cmp, eq_by_cmp}
+use Rattle.std.specs.Cmp.{unsigned_Decides}
 use Rattle.std.specs.FinMap as map
 use Rattle.std.proofs.lemmas.Bool.{cases_Bool}
 use Rattle.pglogical.specs.declared.item.RelationDef.{RelationDef}
@@ -15,7 +16,7 @@ use Rattle.pgstore.specs.Apply.{Change, ◌>>=◌, found_rows, rows_after, apply
 use Rattle.pgstore.specs.Stored.{IsFault}
 use Rattle.pgstore.specs.Spelled.{IsStored, IsChanging, IsSpellable, AreSpellable, spelled_definition, with_rows}
 use Rattle.pgstore.specs.Works.{change_value, change_values}
-use Rattle.pgstore.specs.Acts.{MakesOf, IsGiven, LastGiven, FoldsOn, Steps, RefusesToStep, RefusesToFold}
+use Rattle.pgstore.specs.Acts.{MakesOf, IsGiven, AreGiven, none_given, FoldsOn, Steps, RefusesToStep, RefusesToFold}
 use Rattle.pgstore.proofs.Working.{values_pushed, values_append}
 use Rattle.pgtables.proofs.Inside.{goes_then}
 use Rattle.sqlite.specs.Store.{Ghosts}
@@ -23,7 +24,7 @@ use Rattle.sqlite.specs.Held.{Held, state}
 use Rattle.sqlite.specs.State.{HasCleanDisk}
 use Rattle.std.proofs.Common.{IsTrue, arith, length, take, zero, suc, ◌≤◌}
 use Rattle.pgstore.proofs.SpelledRows.{table_at, own_table}
-use Rattle.pgstore.proofs.KeepsForm.{apply_keeps, same_some}
+use Rattle.pgstore.proofs.KeepsForm.{apply_keeps, same_some, same_ok, same_number, went_on}
 use Rattle.pgstore.proofs.Deciding.{fault_first}
 use Rattle.pgstore.proofs.Definitions.{own_shape, given_before}
 
@@ -98,16 +99,39 @@ unfolding fold_changes
 fold_append [] b v = refl
 fold_append (c ∷ a) b v = then_all (apply v c) _ _ _ (fold_append a b)
 
--- the definition at this number was given last
-pub last_given : (definitions : List RelationDef) (number : ℕ) (def : RelationDef) (v : Tables) → slice_get definitions number ≡ Some def → IsGiven v def → LastGiven definitions (Some number) v
-last_given definitions number def v at given = subst (λ o. IfSome o (IsGiven v)) (sym at) given
+-- a change of one relation leaves the others as they were
+others_stay : (v next : Tables) (def : RelationDef) (op : Op) → apply v (change_of def op) ≡ Ok next → (oid : ℕ) → (def.oid == oid) ≡ false → map.get next oid ≡ map.get v oid
+unfolding apply
+others_stay v next def op e oid other =
+    let s = went_on (found_rows (map.get v def.oid) def op) _ next e in
+    let r = went_on (rows_after def op s.0) _ next s.2 in
+    let apart : eq_by_cmp nat_cmp oid def.oid ≡ false = elim (cases_Bool (eq_by_cmp nat_cmp oid def.oid)) [
+      | inl same ↦ absurd (let own : (def.oid == oid) ≡ true = (unsigned_Decides def.oid oid).1 (sym (same_number oid def.oid same)) in cc)
+      | inr is ↦ is
+    ] in
+    ap (λ m. map.get m oid) (sym (same_ok r.2)) ∙ table_at v def r.0 oid ∙ ap (λ b. cond b (Some (record { definition = def; rows = r.0 })) (map.get v oid)) apart
 
-pub was_given : (definitions : List RelationDef) (last : Option ℕ) (number : ℕ) (def : RelationDef) (v : Tables) → slice_get definitions number ≡ Some def → LastGiven definitions last v → last ≡ Some number → IsGiven v def
-was_given definitions last number def v at h is = subst (λ o. IfSome o (IsGiven v)) at (subst (λ l. LastGiven definitions l v) is h)
+module _ (definitions : List RelationDef) (given : ℕ → Option ℕ) (number : ℕ) (def : RelationDef) (v : Tables) (at : slice_get definitions number ≡ Some def) (h : AreGiven definitions given v) where
+  -- the definition at this number was given last for its OID
+  pub was_given : given def.oid ≡ Some number → IsGiven v def
+  was_given is = let g = h def.oid number is in let same : g.0 ≡ def = same_some (sym g.1 ∙ at) in subst (IsGiven v) same g.3
 
-module _ {S : Type 0} (g : Ghosts S) (a b c : Held S) (definitions : List RelationDef) (entries : List (ℕ × Op)) (last next : Option ℕ) (e : ℕ × Op) where
+  -- behind a change of its relation it was, and those of the other OIDs stay
+  pub given_then : (next : Tables) (op : Op) (after : ℕ → Option ℕ) → apply v (change_of def op) ≡ Ok next → IsGiven next def
+      → ((oid : ℕ) → after oid ≡ cond (def.oid == oid) (Some number) (given oid)) → AreGiven definitions after next
+  given_then next op after made own says oid k is = elim (cases_Bool (def.oid == oid)) [
+    | inl same ↦
+        let one : number ≡ k = same_some (sym (says oid ∙ ap (λ b. cond b (Some number) (given oid)) same) ∙ is) in
+        (def, ap (slice_get definitions) (sym one) ∙ at, (unsigned_Decides def.oid oid).0 same, own)
+    | inr other ↦
+        let g = h oid k (sym (says oid ∙ ap (λ b. cond b (Some number) (given oid)) other) ∙ is) in
+        let stays : map.get next g.0.oid ≡ map.get v g.0.oid = others_stay v next def op made g.0.oid (ap (λ o. def.oid == o) g.2 ∙ other) in
+        (g.0, g.1, g.2, (g.3.0, stays ∙ g.3.1))
+  ]
+
+module _ {S : Type 0} (g : Ghosts S) (a b c : Held S) (definitions : List RelationDef) (entries : List (ℕ × Op)) (given after : ℕ → Option ℕ) (e : ℕ × Op) where
   -- one change more
-  pub folds_then : FoldsOn g a b definitions entries last → stored.IfServing g c (Steps g b c definitions last e next) → stored.Goes g b c → FoldsOn g a c definitions (entries ++ e ∷ []) next
+  pub folds_then : FoldsOn g a b definitions entries given → stored.IfServing g c (Steps g b c definitions given e after) → stored.Goes g b c → FoldsOn g a c definitions (entries ++ e ∷ []) after
   folds_then one step goes = record {
     goes = goes_then g a b c one.goes goes.keeps goes.survives;
     made = λ clean still.
@@ -127,7 +151,7 @@ module _ {S : Type 0} (g : Ghosts S) (a b c : Held S) (definitions : List Relati
   }
 
   -- a change that is refused, and whatever follows it
-  pub refuses_then : (fault : StoreFault) (more : List (ℕ × Op)) → FoldsOn g a b definitions entries last → RefusesToStep g b definitions last e fault → HasCleanDisk (state g b) → IsTrue (state g b).is_open
+  pub refuses_then : (fault : StoreFault) (more : List (ℕ × Op)) → FoldsOn g a b definitions entries given → RefusesToStep g b definitions given e fault → HasCleanDisk (state g b) → IsTrue (state g b).is_open
       → RefusesToFold g a definitions ((entries ++ e ∷ []) ++ more) fault
   refuses_then fault more one refuses clean still v h =
       let before = (one.made clean still).1 v h in
@@ -143,10 +167,13 @@ goes_none g a = record {
   survives = record { clean = omega arith; shield = λ h. h; counts = omega arith; limit = refl; closes = λ clean h. inl h; crash = λ clean db h. inl h };
 }
 
-pub forget_last : {S : Type 0} (g : Ghosts S) (a b : Held S) (definitions : List RelationDef) (entries : List (ℕ × Op)) (last : Option ℕ) → FoldsOn g a b definitions entries last → FoldsOn g a b definitions entries None
-forget_last g a b definitions entries last h = record {
+pub nothing_given : (definitions : List RelationDef) (given : ℕ → Option ℕ) (v : Tables) → ((oid : ℕ) → given oid ≡ None) → AreGiven definitions given v
+nothing_given definitions given v none oid number is = absurd (let no = sym (none oid) ∙ is in cc)
+
+pub forget_given : {S : Type 0} (g : Ghosts S) (a b : Held S) (definitions : List RelationDef) (entries : List (ℕ × Op)) (given : ℕ → Option ℕ) → FoldsOn g a b definitions entries given → FoldsOn g a b definitions entries none_given
+forget_given g a b definitions entries given h = record {
   goes = h.goes;
-  made = λ clean still. let it = h.made clean still in (it.0, λ v s. let f = it.1 v s in (f.0, f.1, f.2, tt));
+  made = λ clean still. let it = h.made clean still in (it.0, λ v s. let f = it.1 v s in (f.0, f.1, f.2, nothing_given definitions none_given f.0 (λ _. refl)));
 }
 
 pub take_whole : {A : Type 0} (n : ℕ) (xs : List A) → length xs ≤ n → take n xs ≡ xs

@@ -1,5 +1,5 @@
 -- A transaction that is committed, or rolled back.
-use Rattle.std.proofs.Common.{◌≡◌, ℕ, List, true, false, None, IsTrue, sym, ap, subst, ◌∙◌, arith}
+use Rattle.std.proofs.Common.{◌≡◌, ℕ, List, true, false, IsTrue, sym, ap, subst, ◌∙◌, arith}
 use Rattle.sqlite.specs.Tree.{Trees}
 use Rattle.sqlite.specs.Effect.{Database}
 use Rattle.sqlite.specs.Store.{Ghosts}
@@ -15,14 +15,14 @@ use Rattle.pgstore.specs.declared.op.Op.{Op}
 use Rattle.pgstore.specs.declared.rows.StoreFault.{StoreFault}
 use Rattle.pgstore.specs.Value.{Tables}
 use Rattle.pgstore.specs.Spelled.{IsStored}
-use Rattle.pgstore.specs.Acts.{FoldsOn, HasTaken, LeavesTaken, RefusesToFold}
+use Rattle.pgstore.specs.Acts.{FoldsOn, none_given, HasTaken, LeavesTaken, RefusesToFold}
 
 -- the position isn't part of the value
 placed : (v : Tables) (t : stored.Tables) (place : List ℕ) → IsStored v t → IsStored v (with_place place t)
 placed v t place h = record { spelled = record { defined = h.spelled.defined; rows = h.spelled.rows; keyed = h.spelled.keyed }; form = h.form; spellable = h.spellable }
 
 module _ {S : Type 0} (g : Ghosts S) (old begun mid last new : Held S) (definitions : List RelationDef) (changes : List (ℕ × Op)) (position : List ℕ)
-    (is : begun ≡ record old { in_transaction = true }) (folds : FoldsOn g begun mid definitions changes None) (put : Makes g (with_place position) mid last) where
+    (is : begun ≡ record old { in_transaction = true }) (folds : FoldsOn g begun mid definitions changes none_given) (put : Makes g (with_place position) mid last) where
   pub has_taken : HasCleanDisk (state g mid) → Shows (state g last) (state g new) (state g last).now (state g last).now false → HasTaken g old new definitions changes position
   has_taken clean shows =
       let first = folds.made clean put.was_open in
@@ -51,7 +51,7 @@ module _ {S : Type 0} (g : Ghosts S) (old begun mid new : Held S) (is : begun �
       (survives_then (state g begun) (state g mid) (state g new) _ _ P (λ _ db none. absurd none) (λ _ db none. absurd none) one two))
 
 module _ {S : Type 0} (g : Ghosts S) (old begun mid last new : Held S) (definitions : List RelationDef) (changes : List (ℕ × Op)) (position : List ℕ)
-    (is : begun ≡ record old { in_transaction = true }) (folds : FoldsOn g begun mid definitions changes None) where
+    (is : begun ≡ record old { in_transaction = true }) (folds : FoldsOn g begun mid definitions changes none_given) where
   leaves_taken : HasCleanDisk (state g mid) → Makes g (with_place position) mid last → (db : Trees) → db ≡ (state g last).now.trees → LeavesTaken g old definitions changes position db
   leaves_taken clean put db same =
       let first = folds.made clean put.was_open in

@@ -1,5 +1,5 @@
 -- What is done to the rows of one relation inside a transaction, in terms of the store's value.
-use Rattle.std.specs.Prelude.{◌≡◌, ◌⊎◌, ◌<◌, ◌≤◌, ◌+◌, ◌-◌, nat_lt, if◌then◌else◌, Bool, List, ℕ, length, true, false, IsTrue, IfSome, slice_get, Option, Some, None, Result, Ok}
+use Rattle.std.specs.Prelude.{◌≡◌, ◌⊎◌, ◌<◌, ◌≤◌, ◌+◌, ◌-◌, nat_lt, if◌then◌else◌, Bool, List, ℕ, length, true, false, IsTrue, slice_get, Option, Some, None, Result, Ok}
 use Rattle.std.specs.FinMap as map
 use Rattle.sqlite.specs.Tree.{Trees}
 use Rattle.sqlite.specs.Store.{Ghosts}
@@ -134,29 +134,32 @@ RefusesOne g old def given op e = (v : Tables) → IsStored v (tables_of g old) 
 
 -- ---- several changes
 
--- the definition that the last change gave still stands
-abbrev pub LastGiven : List RelationDef → Option ℕ → Tables → Type 0
-LastGiven definitions None v = Unit {0}
-LastGiven definitions (Some k) v = IfSome (slice_get definitions k) (IsGiven v)
+-- the definition that was given last for each OID, by its number, still stands
+abbrev pub AreGiven : List RelationDef → (ℕ → Option ℕ) → Tables → Type 0
+AreGiven definitions given v = (oid number : ℕ) → given oid ≡ Some number → (def : RelationDef) × (slice_get definitions number ≡ Some def) × (def.oid ≡ oid) × IsGiven v def
 
-abbrev pub Folds : {S : Type 0} → Ghosts S → Held S → Held S → List RelationDef → List (ℕ × Op) → Option ℕ → Type 0
-Folds g old new definitions changes last =
+-- no definition was given
+abbrev pub none_given : ℕ → Option ℕ
+none_given oid = None
+
+abbrev pub Folds : {S : Type 0} → Ghosts S → Held S → Held S → List RelationDef → List (ℕ × Op) → (ℕ → Option ℕ) → Type 0
+Folds g old new definitions changes given =
     GoesOpen g old new × ((v : Tables) → IsStored v (tables_of g old)
-    → (next : Tables) × (fold_changes v (change_values definitions changes) ≡ Ok next) × IsStored next (tables_of g new) × LastGiven definitions last next)
+    → (next : Tables) × (fold_changes v (change_values definitions changes) ≡ Ok next) × IsStored next (tables_of g new) × AreGiven definitions given next)
 
 -- one change of several
-abbrev pub Steps : {S : Type 0} → Ghosts S → Held S → Held S → List RelationDef → Option ℕ → ℕ × Op → Option ℕ → Type 0
-Steps g old new definitions last entry next_last =
-    GoesOpen g old new × ((v : Tables) → IsStored v (tables_of g old) → LastGiven definitions last v
-    → (next : Tables) × (fold_changes v (change_value definitions entry) ≡ Ok next) × IsStored next (tables_of g new) × LastGiven definitions next_last next)
+abbrev pub Steps : {S : Type 0} → Ghosts S → Held S → Held S → List RelationDef → (ℕ → Option ℕ) → ℕ × Op → (ℕ → Option ℕ) → Type 0
+Steps g old new definitions given entry next_given =
+    GoesOpen g old new × ((v : Tables) → IsStored v (tables_of g old) → AreGiven definitions given v
+    → (next : Tables) × (fold_changes v (change_value definitions entry) ≡ Ok next) × IsStored next (tables_of g new) × AreGiven definitions next_given next)
 
-abbrev pub RefusesToStep : {S : Type 0} → Ghosts S → Held S → List RelationDef → Option ℕ → ℕ × Op → StoreFault → Type 0
-RefusesToStep g old definitions last entry e = (v : Tables) → IsStored v (tables_of g old) → LastGiven definitions last v → IsFault e (fold_changes v (change_value definitions entry))
+abbrev pub RefusesToStep : {S : Type 0} → Ghosts S → Held S → List RelationDef → (ℕ → Option ℕ) → ℕ × Op → StoreFault → Type 0
+RefusesToStep g old definitions given entry e = (v : Tables) → IsStored v (tables_of g old) → AreGiven definitions given v → IsFault e (fold_changes v (change_value definitions entry))
 
 -- what a loop over the changes keeps
-pub record FoldsOn {S : Type 0} (g : Ghosts S) (old new : Held S) (definitions : List RelationDef) (changes : List (ℕ × Op)) (last : Option ℕ) : Type 0 where
+pub record FoldsOn {S : Type 0} (g : Ghosts S) (old new : Held S) (definitions : List RelationDef) (changes : List (ℕ × Op)) (given : ℕ → Option ℕ) : Type 0 where
   pub goes : stored.Goes g old new
-  pub made : stored.IfServing g new (Folds g old new definitions changes last)
+  pub made : stored.IfServing g new (Folds g old new definitions changes given)
 
 abbrev pub RefusesToFold : {S : Type 0} → Ghosts S → Held S → List RelationDef → List (ℕ × Op) → StoreFault → Type 0
 RefusesToFold g old definitions changes e = (v : Tables) → IsStored v (tables_of g old) → IsFault e (fold_changes v (change_values definitions changes))

@@ -1,22 +1,24 @@
 //! The changes of a commit inside a transaction.
 
-ghost use Rattle.std.specs.Prelude.{◌≡◌, true, Some, None, option_copied, slice_get, OnOk, IfOk, IfErr};
+ghost use Rattle.std.specs.Prelude.{◌≡◌, true, Some, nat_eq, option_copied, slice_get, OnOk, IfErr};
 ghost use Rattle.std.specs.List.{AllByRecursion};
+ghost use Rattle.indexmap.specs.IndexMap.{get};
 ghost use Rattle.sqlite.specs.Held.{state};
 ghost use Rattle.sqlite.specs.State.{HasCleanDisk};
 ghost use Rattle.pglogical.specs.Spelling.{IsDefinition};
 ghost use Rattle.pgtables.specs.Kept.{IfServing, IsUnderWay, Goes};
-ghost use Rattle.pgstore.specs.Acts.{AppliesOne, RefusesOne, Steps, RefusesToStep, FoldsOn, RefusesToFold};
+ghost use Rattle.pgstore.specs.Acts.{AppliesOne, RefusesOne, Steps, RefusesToStep, FoldsOn, RefusesToFold, none_given};
 
 use crate::changing::change_rows;
 use crate::giving::give_definition;
 use crate::op::Op;
 use crate::rows::StoreFault;
+use indexmap::IndexMap;
 use pglogical::RelationDef;
 use sqlite::{Alter, Transaction};
 use std::alloc::Global;
 
-/// One change. The definition isn't given again where it was the last one that was.
+/// One change. The definition isn't given again where it was the last one of its OID that was.
 fn apply_change<S: Alter>(
     tx: &mut Transaction<'_, S>,
     alloc: Global,
@@ -56,27 +58,28 @@ fn definition_at(definitions: &[RelationDef], number: usize) -> Option<&Relation
     definitions.get(number)
 }
 
-/// One change of several, and the number of the definition that was given last behind it.
+/// One change of several, where `given` has the number of the definition that was given last for each OID.
 fn apply_numbered<S: Alter>(
     tx: &mut Transaction<'_, S>,
     alloc: Global,
     definitions: &[RelationDef],
-    last: Option<usize>,
+    given: &mut IndexMap<u32, usize>,
     entry: &(usize, Op<'_>),
-) -> Result<Option<usize>, StoreFault>
+) -> Result<(), StoreFault>
     requires serving { IfServing S.Store tx.old.conn.now (IsUnderWay S.Store tx.old.conn.now) }
     requires definitions { AllByRecursion IsDefinition definitions.now }
     ensures same_reference { tx.new.conn.ghost_name ≡ tx.old.conn.ghost_name }
-    ensures made { IfOk result (λ next. IfServing S.Store tx.new.conn.now (Steps S.Store tx.old.conn.now tx.new.conn.now definitions.now last entry.now next)) }
-    ensures fault { HasCleanDisk (state S.Store tx.new.conn.now) → IfErr result (RefusesToStep S.Store tx.old.conn.now definitions.now last entry.now) }
+    ensures made { OnOk result (IfServing S.Store tx.new.conn.now (Steps S.Store tx.old.conn.now tx.new.conn.now definitions.now (get nat_eq given.old) entry.now (get nat_eq given.new))) }
+    ensures fault { HasCleanDisk (state S.Store tx.new.conn.now) → IfErr result (RefusesToStep S.Store tx.old.conn.now definitions.now (get nat_eq given.old) entry.now) }
     ensures goes { Goes S.Store tx.old.conn.now tx.new.conn.now }
 {
     match definition_at(definitions, entry.0) {
         Some(def) => {
+            let last = given.insert(def.oid, entry.0)?;
             apply_change(tx, alloc, def, is_last(last, entry.0), &entry.1)?;
-            Ok(Some(entry.0))
+            Ok(())
         }
-        None => Ok(last),
+        None => Ok(()),
     }
 }
 
@@ -90,13 +93,13 @@ pub(crate) fn take_changes<S: Alter>(
     requires serving { IfServing S.Store tx.old.conn.now (IsUnderWay S.Store tx.old.conn.now) }
     requires definitions { AllByRecursion IsDefinition definitions.now }
     ensures same_reference { tx.new.conn.ghost_name ≡ tx.old.conn.ghost_name }
-    ensures made { OnOk result (FoldsOn S.Store tx.old.conn.now tx.new.conn.now definitions.now changes.now None) }
+    ensures made { OnOk result (FoldsOn S.Store tx.old.conn.now tx.new.conn.now definitions.now changes.now none_given) }
     ensures fault { IfServing S.Store tx.new.conn.now (IfErr result (RefusesToFold S.Store tx.old.conn.now definitions.now changes.now)) }
     ensures goes { Goes S.Store tx.old.conn.now tx.new.conn.now }
 {
-    let mut last = None;
+    let mut given = IndexMap::new(alloc);
     for entry in changes {
-        last = apply_numbered(tx, alloc, definitions, last, entry)?;
+        apply_numbered(tx, alloc, definitions, &mut given, entry)?;
     }
     Ok(())
 }
