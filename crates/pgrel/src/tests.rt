@@ -11,19 +11,65 @@ fn text(alloc: Global, text: &str) -> Result<Text, AllocError> {
     Ok(Text::from_string(String::from_str(alloc, text)?))
 }
 
-/// A relation of the schema public; each column is its key flag, its name and its type's OID.
-fn relation(
-    alloc: Global,
+/// Columns: of each its key flag, its name and its type's OID.
+type Columns = &'static [(bool, &'static str, u32)];
+
+/// A relation of the schema public.
+#[derive(Clone, Copy)]
+struct Table {
     oid: u32,
-    name: &str,
+    name: &'static str,
     letter: u8,
-    columns: &[(bool, &str, u32)],
-) -> Result<RelationDef, AllocError>
-    ensures { IfOk result (λ def. def.oid ≡ oid) }
+    columns: Columns,
+}
+
+/// Replica identity DEFAULT, with the primary key id.
+const T: Table = Table {
+    oid: 16384,
+    name: "t",
+    letter: b'd',
+    columns: &[(true, "id", 23), (false, "v", 25)],
+};
+
+/// The table t with a third column.
+const T3: Table = Table {
+    oid: 16384,
+    name: "t",
+    letter: b'd',
+    columns: &[(true, "id", 23), (false, "v", 25), (false, "z", 25)],
+};
+
+/// Replica identity FULL.
+const F: Table = Table {
+    oid: 16386,
+    name: "f",
+    letter: b'f',
+    columns: &[(true, "v", 25)],
+};
+
+/// Replica identity NOTHING.
+const N: Table = Table {
+    oid: 16387,
+    name: "n",
+    letter: b'n',
+    columns: &[(false, "v", 25)],
+};
+
+/// Replica identity USING INDEX, over the first and the last column.
+const BY_INDEX: Table = Table {
+    oid: 16388,
+    name: "i",
+    letter: b'i',
+    columns: &[(true, "a", 23), (false, "b", 25), (true, "c", 25)],
+};
+
+/// What a Relation message says of the table.
+fn relation(alloc: Global, table: &Table) -> Result<RelationDef, AllocError>
+    ensures { IfOk result (λ def. def.oid ≡ table.now.oid) }
 {
-    let mut all = Vec::new(alloc);
-    for &(key, name, type_oid) in columns {
-        all.push(Column {
+    let mut columns = Vec::new(alloc);
+    for &(key, name, type_oid) in table.columns {
+        columns.push(Column {
             key,
             name: text(alloc, name)?,
             type_oid,
@@ -31,55 +77,12 @@ fn relation(
         })?;
     }
     Ok(RelationDef {
-        oid,
+        oid: table.oid,
         namespace: text(alloc, "public")?,
-        name: text(alloc, name)?,
-        letter,
-        columns: Seq::from_vec(all),
+        name: text(alloc, table.name)?,
+        letter: table.letter,
+        columns: Seq::from_vec(columns),
     })
-}
-
-/// Replica identity DEFAULT, with the primary key id.
-fn t(alloc: Global) -> Result<RelationDef, AllocError> {
-    relation(
-        alloc,
-        16384,
-        "t",
-        b'd',
-        &[(true, "id", 23), (false, "v", 25)],
-    )
-}
-
-/// The table t with a third column.
-fn t3(alloc: Global) -> Result<RelationDef, AllocError> {
-    relation(
-        alloc,
-        16384,
-        "t",
-        b'd',
-        &[(true, "id", 23), (false, "v", 25), (false, "z", 25)],
-    )
-}
-
-/// Replica identity FULL.
-fn f(alloc: Global) -> Result<RelationDef, AllocError> {
-    relation(alloc, 16386, "f", b'f', &[(true, "v", 25)])
-}
-
-/// Replica identity NOTHING.
-fn n(alloc: Global) -> Result<RelationDef, AllocError> {
-    relation(alloc, 16387, "n", b'n', &[(false, "v", 25)])
-}
-
-/// Replica identity USING INDEX, over the first and the last column.
-fn by_index(alloc: Global) -> Result<RelationDef, AllocError> {
-    relation(
-        alloc,
-        16388,
-        "i",
-        b'i',
-        &[(true, "a", 23), (false, "b", 25), (true, "c", 25)],
-    )
 }
 
 fn row(alloc: Global, cells: &[CellRef<'_>]) -> Result<Tuple, Fail> {
@@ -126,6 +129,17 @@ fn refuses(answer: Result<Tuple, RelFault>, fault: RelFault) -> Result<bool, Rel
     }
 }
 
+/// Whether the call answered these cells, or this fault. Want of memory goes on as an error.
+fn answers(
+    answer: Result<Tuple, RelFault>,
+    wanted: Result<&[CellRef<'_>], RelFault>,
+) -> Result<bool, RelFault> {
+    match wanted {
+        Ok(cells) => gives(answer, cells),
+        Err(fault) => refuses(answer, fault),
+    }
+}
+
 /// The identity that an update without an old tuple searches.
 fn of_new(
     alloc: Global,
@@ -161,36 +175,99 @@ fn of_delete(
     Ok(search_identity(alloc, def, Some((kind, old.borrowed())), None))
 }
 
+/// The cells of a tuple.
+type Cells = &'static [CellRef<'static>];
+
+/// The tuples of an update or a delete.
+#[derive(Clone, Copy)]
+enum Sent {
+    New(Cells),
+    OldAndNew(OldKind, Cells, Cells),
+    Old(OldKind, Cells),
+}
+
+/// The identity that the change searches.
+fn searched(alloc: Global, table: &Table, sent: Sent) -> Result<Result<Tuple, RelFault>, Fail> {
+    let def = relation(alloc, table)?;
+    match sent {
+        Sent::New(new) => of_new(alloc, &def, new),
+        Sent::OldAndNew(kind, old, new) => of_old(alloc, &def, kind, old, new),
+        Sent::Old(kind, old) => of_delete(alloc, &def, kind, old),
+    }
+}
+
+/// A change of a table, and the identity that it searches or why there is none.
+type Search = (Table, Sent, Result<Cells, RelFault>);
+
+/// Stops unless each change searches its identity.
+fn finds_all(rt: &impl Abort, alloc: Global, searches: &[Search]) -> Result<(), Fail> {
+    for (place, (table, sent, wanted)) in searches.iter().enumerate() {
+        let answer = searched(alloc, table, *sent)?;
+        assert!(rt; answers(answer, *wanted)?, "search {place}");
+    }
+    Ok(())
+}
+
+/// Whether a table with this letter and these columns is keyed.
+fn is_keyed(alloc: Global, letter: u8, columns: Columns) -> Result<bool, AllocError> {
+    let table = Table {
+        oid: 1,
+        name: "u",
+        letter,
+        columns,
+    };
+    Ok(keyed(&relation(alloc, &table)?))
+}
+
 #[test]
 fn keyed_tables_and_bags(rt: HostRuntime) -> Result<(), Fail> {
-    let alloc = rt.alloc();
-    assert!(rt; keyed(&t(alloc)?));
-    assert!(rt; keyed(&by_index(alloc)?));
-    assert!(rt; !keyed(&f(alloc)?));
-    assert!(rt; !keyed(&n(alloc)?));
-    assert!(rt; !keyed(&relation(alloc, 1, "u", b'd', &[(false, "v", 25)])?));
-    assert!(rt; !keyed(&relation(alloc, 1, "u", b'i', &[(false, "v", 25)])?));
-    assert!(rt; !keyed(&relation(alloc, 1, "u", b'd', &[])?));
-    assert!(rt; !keyed(&relation(alloc, 1, "u", b'n', &[(true, "v", 25)])?));
+    let tables: &[(u8, Columns, bool)] = &[
+        (b'd', T.columns, true),
+        (b'i', BY_INDEX.columns, true),
+        (b'f', F.columns, false),
+        (b'n', N.columns, false),
+        (b'd', N.columns, false),
+        (b'i', N.columns, false),
+        (b'd', &[], false),
+        (b'n', F.columns, false),
+    ];
+    for (place, &(letter, columns, found)) in tables.iter().enumerate() {
+        assert_eq!(rt;
+            is_keyed(rt.alloc(), letter, columns)?,
+            found,
+            "table {place}"
+        );
+    }
     Ok(())
+}
+
+/// Whether the table t and one with this letter and these columns have one shape, asked from both sides.
+fn has_shape_of_t(alloc: Global, letter: u8, columns: Columns) -> Result<(bool, bool), AllocError> {
+    let table = Table {
+        oid: 7,
+        name: "other",
+        letter,
+        columns,
+    };
+    let t = relation(alloc, &T)?;
+    let other = relation(alloc, &table)?;
+    Ok((same_shape(&t, &other), same_shape(&other, &t)))
 }
 
 #[test]
 fn shapes(rt: HostRuntime) -> Result<(), Fail> {
-    let alloc = rt.alloc();
-    let t = t(alloc)?;
-    assert!(rt; same_shape(&t, &t));
-    assert!(rt; !same_shape(&t, &t3(alloc)?));
-    assert!(rt; !same_shape(&t3(alloc)?, &t));
-    for (letter, columns, same) in [
-        (b'd', [(true, "id", 20), (false, "v", 1043)], true),
-        (b'i', [(true, "id", 23), (false, "v", 25)], false),
-        (b'd', [(true, "id", 23), (true, "v", 25)], false),
-        (b'd', [(true, "id", 23), (false, "w", 25)], false),
-        (b'd', [(false, "v", 25), (true, "id", 23)], false),
-    ] {
-        let other = relation(alloc, 7, "other", letter, columns.as_slice())?;
-        assert_eq!(rt; same_shape(&t, &other), same);
+    let tables: &[(u8, Columns, bool)] = &[
+        (b'd', T.columns, true),
+        (b'd', T3.columns, false),
+        (b'd', &[(true, "id", 20), (false, "v", 1043)], true),
+        (b'i', &[(true, "id", 23), (false, "v", 25)], false),
+        (b'd', &[(true, "id", 23), (true, "v", 25)], false),
+        (b'd', &[(true, "id", 23), (false, "w", 25)], false),
+        (b'd', &[(false, "v", 25), (true, "id", 23)], false),
+    ];
+    for (place, &(letter, columns, same)) in tables.iter().enumerate() {
+        let found = has_shape_of_t(rt.alloc(), letter, columns)?;
+        assert_eq!(rt; found, (same, same), "table {place}");
     }
     Ok(())
 }
@@ -211,90 +288,120 @@ const UNSENT: CellRef<'static> = CellRef::Unchanged;
 
 #[test]
 fn searched_in_a_keyed_table(rt: HostRuntime) -> Result<(), Fail> {
-    let alloc = rt.alloc();
-    let t = t(alloc)?;
-    let old = of_old(alloc, &t, OldKind::Key, &[ONE, NULL], &[TWO, UNSENT])?;
-    assert!(rt; gives(old, &[ONE])?);
-    let new = of_new(alloc, &t, &[TWO, UNSENT])?;
-    assert!(rt; gives(new, &[TWO])?);
-    let deleted = of_delete(alloc, &t, OldKind::Full, &[TWO, X])?;
-    assert!(rt; gives(deleted, &[TWO])?);
-    let null = of_delete(alloc, &t, OldKind::Key, &[NULL, NULL])?;
-    assert!(rt; gives(null, &[NULL])?);
-    let ends = of_delete(alloc, &by_index(alloc)?, OldKind::Key, &[ONE, NULL, BYTES])?;
-    assert!(rt; gives(ends, &[ONE, BYTES])?);
-    Ok(())
+    let searches: &[Search] = &[
+        (
+            T,
+            Sent::OldAndNew(OldKind::Key, &[ONE, NULL], &[TWO, UNSENT]),
+            Ok(&[ONE]),
+        ),
+        (T, Sent::New(&[TWO, UNSENT]), Ok(&[TWO])),
+        (T, Sent::Old(OldKind::Full, &[TWO, X]), Ok(&[TWO])),
+        (T, Sent::Old(OldKind::Key, &[NULL, NULL]), Ok(&[NULL])),
+        (
+            BY_INDEX,
+            Sent::Old(OldKind::Key, &[ONE, NULL, BYTES]),
+            Ok(&[ONE, BYTES]),
+        ),
+    ];
+    finds_all(&rt, rt.alloc(), searches)
 }
 
 #[test]
 fn refused_in_a_keyed_table(rt: HostRuntime) -> Result<(), Fail> {
-    let alloc = rt.alloc();
-    let t = t(alloc)?;
-    let old = of_old(alloc, &t, OldKind::Key, &[UNSENT], &[ONE, X])?;
-    assert!(rt; refuses(old, RelFault::Width)?);
-    let new = of_old(alloc, &t, OldKind::Key, &[UNSENT, NULL], &[ONE])?;
-    assert!(rt; refuses(new, RelFault::Width)?);
-    let unsent = of_old(alloc, &t, OldKind::Key, &[UNSENT, NULL], &[ONE, X])?;
-    assert!(rt; refuses(unsent, RelFault::UnknownIdentity)?);
-    let unsent = of_new(alloc, &t, &[UNSENT, X])?;
-    assert!(rt; refuses(unsent, RelFault::UnknownIdentity)?);
-    Ok(())
+    let searches: &[Search] = &[
+        (
+            T,
+            Sent::OldAndNew(OldKind::Key, &[UNSENT], &[ONE, X]),
+            Err(RelFault::Width),
+        ),
+        (
+            T,
+            Sent::OldAndNew(OldKind::Key, &[UNSENT, NULL], &[ONE]),
+            Err(RelFault::Width),
+        ),
+        (
+            T,
+            Sent::OldAndNew(OldKind::Key, &[UNSENT, NULL], &[ONE, X]),
+            Err(RelFault::UnknownIdentity),
+        ),
+        (T, Sent::New(&[UNSENT, X]), Err(RelFault::UnknownIdentity)),
+    ];
+    finds_all(&rt, rt.alloc(), searches)
 }
 
 #[test]
 fn searched_in_a_bag(rt: HostRuntime) -> Result<(), Fail> {
-    let alloc = rt.alloc();
-    let f = f(alloc)?;
-    let n = n(alloc)?;
-    let whole = of_old(alloc, &f, OldKind::Full, &[X], &[Y])?;
-    assert!(rt; gives(whole, &[X])?);
-    assert!(rt; refuses(of_new(alloc, &f, &[X])?, RelFault::NoIdentity)?);
-    let by_key = of_old(alloc, &f, OldKind::Key, &[X], &[Y])?;
-    assert!(rt; refuses(by_key, RelFault::NoIdentity)?);
-    let unsent = of_delete(alloc, &f, OldKind::Full, &[UNSENT])?;
-    assert!(rt; refuses(unsent, RelFault::UnknownIdentity)?);
-    assert!(rt; refuses(of_new(alloc, &n, &[X])?, RelFault::NoIdentity)?);
-    let nothing = of_delete(alloc, &n, OldKind::Full, &[X])?;
-    assert!(rt; refuses(nothing, RelFault::NoIdentity)?);
-    assert!(rt; refuses(of_new(alloc, &n, &[X, Y])?, RelFault::Width)?);
-    Ok(())
+    let searches: &[Search] = &[
+        (F, Sent::OldAndNew(OldKind::Full, &[X], &[Y]), Ok(&[X])),
+        (F, Sent::New(&[X]), Err(RelFault::NoIdentity)),
+        (
+            F,
+            Sent::OldAndNew(OldKind::Key, &[X], &[Y]),
+            Err(RelFault::NoIdentity),
+        ),
+        (
+            F,
+            Sent::Old(OldKind::Full, &[UNSENT]),
+            Err(RelFault::UnknownIdentity),
+        ),
+        (N, Sent::New(&[X]), Err(RelFault::NoIdentity)),
+        (N, Sent::Old(OldKind::Full, &[X]), Err(RelFault::NoIdentity)),
+        (N, Sent::New(&[X, Y]), Err(RelFault::Width)),
+    ];
+    finds_all(&rt, rt.alloc(), searches)
 }
+
+/// The identity of a row of the table.
+fn identity_of(
+    alloc: Global,
+    table: &Table,
+    cells: Cells,
+) -> Result<Result<Tuple, RelFault>, Fail> {
+    let def = relation(alloc, table)?;
+    let row = row(alloc, cells)?;
+    Ok(row_identity(alloc, &def, &row.borrowed()))
+}
+
+/// Replica identity DEFAULT, without a key.
+const UNFLAGGED: Table = Table {
+    oid: 1,
+    name: "u",
+    letter: b'd',
+    columns: &[(false, "v", 25), (false, "w", 25)],
+};
 
 #[test]
 fn identities_of_rows(rt: HostRuntime) -> Result<(), Fail> {
-    let alloc = rt.alloc();
-    let t = t(alloc)?;
-    let kept = row(alloc, &[UNSENT, X])?;
-    let unsent = row(alloc, &[UNSENT])?;
-    assert!(rt; gives(row_identity(alloc, &t, &kept.borrowed()), &[UNSENT])?);
-    assert!(rt;
-        gives(
-            row_identity(alloc, &f(alloc)?, &unsent.borrowed()),
-            &[UNSENT]
-        )?
-    );
-    let unflagged = relation(alloc, 1, "u", b'd', &[(false, "v", 25), (false, "w", 25)])?;
-    assert!(rt;
-        gives(
-            row_identity(alloc, &unflagged, &kept.borrowed()),
-            &[UNSENT, X]
-        )?
-    );
-    assert!(rt; refuses(row_identity(alloc, &t, &unsent.borrowed()), RelFault::Width)?);
+    let rows: &[(Table, Cells, Result<Cells, RelFault>)] = &[
+        (T, &[UNSENT, X], Ok(&[UNSENT])),
+        (F, &[UNSENT], Ok(&[UNSENT])),
+        (UNFLAGGED, &[UNSENT, X], Ok(&[UNSENT, X])),
+        (T, &[UNSENT], Err(RelFault::Width)),
+    ];
+    for (place, (table, cells, wanted)) in rows.iter().enumerate() {
+        let answer = identity_of(rt.alloc(), table, *cells)?;
+        assert!(rt; answers(answer, *wanted)?, "row {place}");
+    }
     Ok(())
+}
+
+/// Whether a row may be inserted into the table t.
+fn inserted(alloc: Global, cells: Cells) -> Result<Result<(), RelFault>, Fail> {
+    let def = relation(alloc, &T)?;
+    let row = row(alloc, cells)?;
+    Ok(check_insert(&def, &row.borrowed()))
 }
 
 #[test]
 fn inserted_rows(rt: HostRuntime) -> Result<(), Fail> {
-    let alloc = rt.alloc();
-    let t = t(alloc)?;
-    let whole = row(alloc, &[ONE, NULL])?;
-    assert_eq!(rt; check_insert(&t, &whole.borrowed()), Ok(()));
-    let unsent = row(alloc, &[ONE, UNSENT])?;
-    let refused = check_insert(&t, &unsent.borrowed());
-    assert_eq!(rt; refused, Err(RelFault::UnchangedInInsert));
-    let narrow = row(alloc, &[UNSENT])?;
-    assert_eq!(rt; check_insert(&t, &narrow.borrowed()), Err(RelFault::Width));
+    let rows: &[(Cells, Result<(), RelFault>)] = &[
+        (&[ONE, NULL], Ok(())),
+        (&[ONE, UNSENT], Err(RelFault::UnchangedInInsert)),
+        (&[UNSENT], Err(RelFault::Width)),
+    ];
+    for (place, (cells, wanted)) in rows.iter().enumerate() {
+        assert_eq!(rt; inserted(rt.alloc(), *cells)?, *wanted, "row {place}");
+    }
     Ok(())
 }
 
@@ -302,8 +409,8 @@ fn inserted_rows(rt: HostRuntime) -> Result<(), Fail> {
 fn resolved(
     rt: &impl Abort,
     alloc: Global,
-    new: &[CellRef<'_>],
-    old: &[CellRef<'_>],
+    new: Cells,
+    old: Cells,
 ) -> Result<Result<Tuple, RelFault>, Fail> {
     let new = row(alloc, new)?;
     let old = row(alloc, old)?;
@@ -313,18 +420,21 @@ fn resolved(
 
 #[test]
 fn unsent_cells_are_the_old_rows(rt: HostRuntime) -> Result<(), Fail> {
-    let alloc = rt.alloc();
-    let kept = resolved(&rt, alloc, &[ONE, Y, UNSENT], &[ONE, X, BYTES])?;
-    assert!(rt; gives(kept, &[ONE, Y, BYTES])?);
-    let null = resolved(&rt, alloc, &[NULL], &[BYTES])?;
-    assert!(rt; gives(null, &[NULL])?);
-    let all = resolved(&rt, alloc, &[UNSENT, UNSENT], &[NULL, X])?;
-    assert!(rt; gives(all, &[NULL, X])?);
+    let rows: &[(Cells, Cells, Cells)] = &[
+        (&[ONE, Y, UNSENT], &[ONE, X, BYTES], &[ONE, Y, BYTES]),
+        (&[NULL], &[BYTES], &[NULL]),
+        (&[UNSENT, UNSENT], &[NULL, X], &[NULL, X]),
+    ];
+    for (place, &(new, old, whole)) in rows.iter().enumerate() {
+        let answer = resolved(&rt, rt.alloc(), new, old)?;
+        assert!(rt; gives(answer, whole)?, "row {place}");
+    }
     Ok(())
 }
 
-/// Puts a definition that can be spelled.
-fn put(rt: &impl Abort, book: &mut Book, def: RelationDef) -> Result<(), RelFault> {
+/// Puts the table's definition, which can be spelled.
+fn put(rt: &impl Abort, alloc: Global, book: &mut Book, table: &Table) -> Result<(), RelFault> {
+    let def = relation(alloc, table)?;
     assert!(rt; def.spellable());
     book.set(def)
 }
@@ -334,34 +444,33 @@ fn columns(book: &Book, oid: u32) -> Result<usize, RelFault> {
     Ok(book.get(oid)?.columns.len())
 }
 
+/// Stops unless the last definition of this OID has so many columns, or none is known.
+fn has_columns(rt: &impl Abort, book: &Book, oid: u32, wanted: Option<usize>) {
+    assert_eq!(rt;
+        columns(book, oid),
+        wanted.ok_or(RelFault::UnknownRelation(oid))
+    );
+}
+
 #[test]
 fn book_is_a_map(rt: HostRuntime) -> Result<(), Fail> {
     let alloc = rt.alloc();
     let mut book = Book::new(alloc);
-    assert_eq!(rt;
-        columns(&book, 16384),
-        Err(RelFault::UnknownRelation(16384))
-    );
-    put(&rt, &mut book, t(alloc)?)?;
-    put(&rt, &mut book, f(alloc)?)?;
-    assert_eq!(rt; columns(&book, 16384), Ok(2));
-    assert_eq!(rt; columns(&book, 16386), Ok(1));
-    assert_eq!(rt; columns(&book, 0), Err(RelFault::UnknownRelation(0)));
-    put(&rt, &mut book, t3(alloc)?)?;
-    assert_eq!(rt; columns(&book, 16384), Ok(3));
-    assert_eq!(rt; columns(&book, 16386), Ok(1));
+    has_columns(&rt, &book, 16384, None);
+    put(&rt, alloc, &mut book, &T)?;
+    put(&rt, alloc, &mut book, &F)?;
+    has_columns(&rt, &book, 16384, Some(2));
+    has_columns(&rt, &book, 16386, Some(1));
+    has_columns(&rt, &book, 0, None);
+    put(&rt, alloc, &mut book, &T3)?;
+    has_columns(&rt, &book, 16384, Some(3));
+    has_columns(&rt, &book, 16386, Some(1));
     assert_eq!(rt; book.get(16386)?.name.as_str(), "f");
     book.clear();
-    assert_eq!(rt;
-        columns(&book, 16384),
-        Err(RelFault::UnknownRelation(16384))
-    );
-    assert_eq!(rt;
-        columns(&book, 16386),
-        Err(RelFault::UnknownRelation(16386))
-    );
-    put(&rt, &mut book, t(alloc)?)?;
-    assert_eq!(rt; columns(&book, 16384), Ok(2));
+    has_columns(&rt, &book, 16384, None);
+    has_columns(&rt, &book, 16386, None);
+    put(&rt, alloc, &mut book, &T)?;
+    has_columns(&rt, &book, 16384, Some(2));
     Ok(())
 }
 
@@ -370,11 +479,17 @@ fn many_relations(rt: HostRuntime) -> Result<(), Fail> {
     let alloc = rt.alloc();
     let mut book = Book::new(alloc);
     for oid in 0..300 {
-        put(&rt, &mut book, relation(alloc, oid, "r", b'n', &[])?)?;
+        let table = Table {
+            oid,
+            name: "r",
+            letter: b'n',
+            columns: &[],
+        };
+        put(&rt, alloc, &mut book, &table)?;
     }
     for oid in 0..300 {
-        assert_eq!(rt; columns(&book, oid), Ok(0));
+        has_columns(&rt, &book, oid, Some(0));
     }
-    assert_eq!(rt; columns(&book, 300), Err(RelFault::UnknownRelation(300)));
+    has_columns(&rt, &book, 300, None);
     Ok(())
 }
