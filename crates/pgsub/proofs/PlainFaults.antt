@@ -1,7 +1,6 @@
 -- Why the plain core refuses changes, commits and messages.
 use Rattle.std.proofs.Common.{◌≡◌, ◌≢◌, ◌<◌, ◌⊎◌, inl, inr, ℕ, ℤ, ◌+◌, List, [], ◌∷◌, ◌++◌, Bool, true, false, cond, ◌&&◌, arith, Option, Some, None, Result, Ok, Err, IfErr, OnOk, OnErr, refl, sym, ap, subst, ◌∙◌, ◌==◌, length, take, drop, get_or}
 use Rattle.std.specs.Prelude.{IsTrue, IsSome, IsErrAnd, nat_lt}
-use Rattle.std.specs.List.{AllByRecursion}
 use Rattle.std.specs.FinMap as map
 use Rattle.std.proofs.lemmas.Bool.Decides.{nat_tests}
 use Rattle.std.proofs.lemmas.List.{at_drop_more, take-append-drop, take_more}
@@ -16,7 +15,7 @@ use Rattle.pgorder.specs.declared.OrderFault.{OrderFault}
 use Rattle.pgorder.specs.declared.OrderFault.TheVariants as order_fault
 use Rattle.pgorder.specs.declared.Version.{Version}
 use Rattle.pgorder.specs.declared.Version.TheVariants.{One}
-use Rattle.pgorder.specs.OpenXids.{OpenXids, is_open}
+use Rattle.pgorder.specs.OpenXids.{OpenXids}
 use Rattle.pgorder.proofs.StepLaws.{Leaves, step_leaves}
 use Rattle.pgorder.specs.Laws.{in_block_after}
 use Rattle.pgorder.specs.States.{is_in_block}
@@ -35,13 +34,13 @@ use Rattle.pgsub_core.specs.declared.fault.Fault.{Fault}
 use Rattle.pgsub_core.specs.declared.fault.Fault.TheVariants as fault
 use Rattle.pgrel.specs.declared.fault.RelFault.TheVariants as rel
 use Rattle.pgsub_core.specs.Described.{described_from}
-use Rattle.pgsub_core.specs.Replica.{Replica, RelationCache, Halt, UnknownRelation, StoreRefuses, OutOfOrder, Outcome, Running, Stopped, on_commit}
-use Rattle.pgsub_core.specs.ApplyState.{ApplyState, ApplyResult, on_message, committed}
+use Rattle.pgsub_core.specs.Replica.{Replica, RelationCache, UnknownRelation, StoreRefuses, OutOfOrder, Stopped, on_commit}
+use Rattle.pgsub_core.specs.ApplyState.{ApplyState, on_message, committed}
 use Rattle.pgtuple.specs.declared.cell.Cell.{Cell}
 use Rattle.pgsub.specs.Plain.{insert_of}
 use Rattle.pgsub.specs.PlainStore.{changes_of}
 use Rattle.pgsub.specs.PlainSession.{known_to, behind_changes, labelled, state_of, replica_of, IsNoItem}
-use Rattle.pgsub.specs.PlainTaken.{is_text, all_text, takes, takes_item, not_taken, AllTaken, all_keyed}
+use Rattle.pgsub.specs.PlainTaken.{is_text, all_text, takes, takes_item, AllTaken, all_keyed}
 use Rattle.pgsub.specs.PlainStops.{IsRefusal, GoesIntoBag, IsCommitRefusal, IsMessageRefusal}
 use Rattle.pgsub.specs.declared.plain_store.TakenInsert.{TakenInsert}
 use Rattle.pgsub.proofs.PlainFold.{changes-append, and_true, keyed_then}

@@ -1,11 +1,9 @@
 -- Sessions of a history that are followed up to a refusal.
-use Rattle.std.proofs.Common.{◌≡◌, ◌≤◌, ◌<◌, ◌++◌, ◌⊎◌, inl, inr, ℕ, ℤ, List, [], ◌∷◌, Bool, true, false, Some, Result, Ok, Err, refl, sym, ap, subst, ◌∙◌, append_assoc, append-nil, max, arith, length, take, drop, get_or, ◌+◌}
+use Rattle.std.proofs.Common.{◌≡◌, ◌≤◌, ◌<◌, ◌++◌, ◌⊎◌, inl, inr, ℕ, ℤ, List, [], ◌∷◌, Bool, true, false, Ok, refl, sym, ap, subst, ◌∙◌, append_assoc, append-nil, max, arith, length, take, drop, get_or, ◌+◌}
 use Rattle.std.proofs.lemmas.List.{map-append}
 use Rattle.std.specs.List.{AllByRecursion}
 use Rattle.std.specs.FinMap as map
-use Rattle.pglogical.specs.declared.fault.DecodeFault.{DecodeFault}
 use Rattle.pglogical.specs.declared.message.Message.{Message}
-use Rattle.pglogical.specs.declared.message.Message.TheVariants as message
 use Rattle.pglogical.specs.Reading.{message_at}
 use Rattle.pglogical.specs.Spelling.{message_spelling, IsMessageFor}
 use Rattle.pgorder.proofs.ShapeLaws.{shaped_for}
@@ -13,12 +11,9 @@ use Rattle.pgorder.specs.declared.Version.TheVariants.{One}
 use Rattle.pgorder.specs.Laws.{AreMessagesFor}
 use Rattle.pgorder.specs.States.{is_in_block}
 use Rattle.pgorder.specs.Steps.{OrderState}
-use Rattle.pgstore.specs.declared.rows.StoreFault.{StoreFault}
-use Rattle.pgstore.specs.declared.rows.StoreFault.TheVariants as store
 use Rattle.pgstore.specs.Stored.{Stored}
 use Rattle.pgwire.specs.Frames.{Frame, CopyData, CopyDone, frame, frames, IsAllowed, AreFrames, IsFramingFault, has_copy_done}
-use Rattle.pgwire.specs.Payloads.{ServerMessage, XLogData, payload, payload_at}
-use Rattle.pgwire.specs.Payloads as wire
+use Rattle.pgwire.specs.Payloads.{XLogData, payload, payload_at}
 use Rattle.pgwire.specs.declared.fault.WireFault.{WireFault}
 use Rattle.pgwire.specs.declared.fault.WireFault.TheVariants as wire_fault
 use Rattle.pgwire.proofs.Messages.{payload_again}
@@ -30,11 +25,11 @@ use Rattle.pgsub_core.specs.History.{Transaction, IsHistory}
 use Rattle.pgsub_core.specs.Stream.{Sent, Data, Keepalive, messages_in, commits_and_keepalives}
 use Rattle.pgsub_core.specs.Delivers.{Delivers}
 use Rattle.pgsub_core.specs.Safe.{IsSafe, NothingBetween, RefusesNext}
-use Rattle.pgsub_core.specs.Replica.{Replica, RelationCache, Halt, UnknownRelation, StoreRefuses, OutOfOrder, Outcome, Running, Stopped, then_run}
+use Rattle.pgsub_core.specs.Replica.{Replica, RelationCache, Halt, UnknownRelation, StoreRefuses, OutOfOrder, Running, Stopped, then_run}
 use Rattle.pgsub_core.specs.Reached.{Progress, reached, disconnected, position_after, quiet_end}
 use Rattle.pgsub_core.specs.ApplyState.{ApplyState, step, run, replica_outcome, at_session}
 use Rattle.pgsub_core.specs.Sessions.{AreSessions, IsSession, IsWireSent, server_message, frames_of, reached_all}
-use Rattle.pgsub_core.specs.Handled.{IsHandled, IsNextBehind, commit_end}
+use Rattle.pgsub_core.specs.Handled.{IsHandled, commit_end}
 use Rattle.pgsub_core.specs.Outcomes.{IsAllowedOutcome}
 use Rattle.pgsub_core.specs.Taking.{fault_of}
 use Rattle.pgsub_core.proofs.AllSessions.{GoesOn, goes_with}
@@ -44,10 +39,9 @@ use Rattle.pgsub_core.proofs.SessionFrames.{frame_for, longest, is_allowed, none
 use Rattle.pgsub_core.proofs.Steps.{running, goes_through, run-append}
 use Rattle.pgsub_core.proofs.Stops.{StopsOne, step_stops}
 use Rattle.pgsub_core.proofs.StoppedSessions.{Within}
-use Rattle.pgsub.specs.PlainSession.{Steps, replica_of}
-use Rattle.pgsub.specs.PlainFollow.{FramesStep, IsFollowed, AreFollowed, bytes_of, all_bytes_of, progress_of}
-use Rattle.pgsub.specs.PlainTaken.{takes, not_taken}
-use Rattle.pgsub.specs.PlainStops.{IsMessageRefusal, IsBodyRefusal, IsPayloadRefusal, IsFrontRefusal, IsRestRefusal, IsFollowedUntil, AreFollowedUntil}
+use Rattle.pgsub.specs.PlainSession.{replica_of}
+use Rattle.pgsub.specs.PlainFollow.{FramesStep, AreFollowed, bytes_of, all_bytes_of, progress_of}
+use Rattle.pgsub.specs.PlainStops.{IsMessageRefusal, IsBodyRefusal, IsPayloadRefusal, IsRestRefusal, IsFollowedUntil, AreFollowedUntil}
 use Rattle.pgsub.specs.PlainRefused.{IsFaultOf, OutOfMemory, CopyDoneNext, KeepaliveNext, TooLargeNext, UntakenNext, BagNext, FaultNext, IsRefusedSafely}
 use Rattle.pgsub.proofs.PlainFaults.{split_here}
 use Rattle.pgsub.proofs.PlainFrames.{followed-none}

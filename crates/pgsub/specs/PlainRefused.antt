@@ -1,5 +1,5 @@
 -- What stands where the sessions of a history are refused, and which fault it can be.
-use Rattle.std.specs.Prelude.{◌≡◌, ◌<◌, ◌++◌, ℕ, ℤ, List, [], ◌∷◌, Bool, false, Option, Some}
+use Rattle.std.specs.Prelude.{◌≡◌, ◌<◌, ◌++◌, ℕ, ℤ, List, [], ◌∷◌, Bool, false, Some}
 use Rattle.pglogical.specs.declared.message.Message.{Message}
 use Rattle.pgstore.specs.declared.rows.StoreFault.{StoreFault}
 use Rattle.pgstore.specs.declared.rows.StoreFault.TheVariants as store

@@ -1,5 +1,5 @@
 -- Why the plain core stops: by a change, a message, a frame or the bytes behind the frames that it took.
-use Rattle.std.specs.Prelude.{◌≡◌, ◌<◌, ◌⊎◌, ◌++◌, ℕ, ℤ, List, [], ◌∷◌, Bool, false, Some, Result, Ok, Err}
+use Rattle.std.specs.Prelude.{◌≡◌, ◌<◌, ◌⊎◌, ◌++◌, ℕ, ℤ, List, [], ◌∷◌, Bool, false, Result, Ok, Err}
 use Rattle.pglogical.specs.declared.fault.DecodeFault.{DecodeFault}
 use Rattle.pglogical.specs.declared.item.Item.{Item}
 use Rattle.pglogical.specs.declared.message.Message.{Message}

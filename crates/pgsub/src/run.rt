@@ -1,7 +1,7 @@
 //! Runs a task over readers and writers.
 ghost use Rattle.std.specs.Prelude.{◌≤◌, ◌≡◌, ◌⊎◌, IfOk, IfErr, IfSome, OnOk, None, Err, ℕ, string_bytes};
 ghost use Rattle.pgcapture.specs.Capture.{sessions_of};
-ghost use Rattle.pgsub.specs.Whole.{PrintsWhole, PrintsRefused, Prints};
+ghost use Rattle.pgsub.specs.Whole.{PrintsWhole, PrintsRefused, Prints, PrintsUntil, IsReadFault, status_of};
 
 use crate::dump::dump_text;
 use crate::fault_text::FaultText;
@@ -42,7 +42,8 @@ pub enum RunFault {
 impl RunFault {
     /// The exit status: 1 for a refused stream and want of memory, 3 for a fault of a file.
     pub fn status(self) -> u8
-        ensures { (1 ≤ result) × (result ≤ 3) }
+        ensures range { (1 ≤ result) × (result ≤ 3) }
+        ensures status { result ≡ status_of self }
     {
         match self {
             RunFault::Stream(_) => 1,
@@ -53,7 +54,8 @@ impl RunFault {
 
 /// The bytes of a capture text. Not more than one byte behind the limit is read.
 fn read_text<R: Read + Drop>(alloc: Global, file: Option<R>) -> Result<Vec<u8>, RunFault>
-    ensures { IfOk result (λ text. IfSome file (λ reader. IfSome (R.remaining reader) (λ bytes. text.items ≡ bytes))) }
+    ensures text { IfOk result (λ text. IfSome file (λ reader. IfSome (R.remaining reader) (λ bytes. text.items ≡ bytes))) }
+    ensures refused { IfErr result IsReadFault }
 {
     let Some(reader) = file else {
         return Err(RunFault::CannotRead);
@@ -110,7 +112,8 @@ fn apply<R: Read + Drop, W: Write>(
     file: Option<R>,
     out: &mut W,
 ) -> Result<(), RunFault>
-    ensures { OnOk result (IfSome file (λ reader. IfSome (R.remaining reader) (λ text. Prints text (W.contents out.old) (W.contents out.new)))) }
+    ensures done { OnOk result (IfSome file (λ reader. IfSome (R.remaining reader) (λ text. Prints text (W.contents out.old) (W.contents out.new)))) }
+    ensures refused { IfErr result (λ fault. IfSome file (λ reader. IfSome (R.remaining reader) (λ text. PrintsUntil MAX_FRAME text (W.contents out.old) (W.contents out.new) fault))) }
 {
     let text = read_text(alloc, file)?;
     let applied = apply_text(alloc, text.as_slice())?;
@@ -140,7 +143,8 @@ fn report<E: Write>(fault: RunFault, path: &str, err: &mut E) -> std::io::Result
 /// Runs a task: `file` is a reader of the file that it names, None where that can't be opened. The answer is the exit
 /// status: 0 done, 1 refused stream or want of memory, 3 file fault; `err` then gets the line of the fault.
 ///
-/// Where it is 0, all of the file was read, and what is printed are the rows and the position of what its sessions leave.
+/// Where it is 0, all of the file was read, and what is printed are the rows and the position of what its sessions leave. Where it
+/// isn't, there is a fault with this status, and behind a refused stream what stands was printed.
 pub fn run<R: Read + Drop, W: Write, E: Write>(
     alloc: Global,
     task: &Task,
@@ -149,6 +153,7 @@ pub fn run<R: Read + Drop, W: Write, E: Write>(
     err: &mut E,
 ) -> u8
     ensures status { result ≤ 3 }
+    ensures stopped { 1 ≤ result → (fault : RunFault) × (result ≡ status_of fault) × IfSome file (λ reader. IfSome (R.remaining reader) (λ text. PrintsUntil MAX_FRAME text (W.contents out.old) (W.contents out.new) fault)) }
     ensures done { result ≡ 0 → IfSome file (λ reader. IfSome (R.remaining reader) (λ text. Prints text (W.contents out.old) (W.contents out.new))) }
 {
     let Task::Apply { file: path } = task;
