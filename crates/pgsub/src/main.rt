@@ -14,16 +14,25 @@ pub mod run;
 pub mod subscriber;
 
 use run::{Task, run};
+use std::alloc::AllocError;
+use std::env;
 use std::fs::File;
+use std::io::ErrorKind;
 use std::process::ExitCode;
-use std::{env, io};
+
+/// The status where memory has run out.
+const NO_MEMORY: u8 = 1;
 
 /// The status of a command that isn't one.
 const USAGE: u8 = 2;
 
-/// The task that the words of the command line ask for: `apply FILE`.
-fn task_of(rt: &HostRuntime) -> io::Result<Option<Task>> {
-    let mut words = env::args(rt)?;
+/// The task that the words of the command line ask for: `apply FILE`. Words that aren't UTF-8 ask for none.
+fn task_of(rt: &HostRuntime) -> Result<Option<Task>, AllocError> {
+    let mut words = match env::args(rt) {
+        Ok(words) => words,
+        Err(error) if error.kind() == ErrorKind::OutOfMemory => return Err(AllocError),
+        Err(_) => return Ok(None),
+    };
     let _program = words.next();
     let (Some(command), Some(file), None) = (words.next(), words.next(), words.next()) else {
         return Ok(None);
@@ -34,13 +43,21 @@ fn task_of(rt: &HostRuntime) -> io::Result<Option<Task>> {
     Ok(Some(Task::Apply { file }))
 }
 
-fn main(rt: HostRuntime) -> io::Result<ExitCode> {
-    let Some(task) = task_of(&rt)? else {
-        eprintln!(rt; "usage: pgsub apply FILE")?;
-        return Ok(ExitCode::from(USAGE));
+// where standard error can't be written, the status alone tells
+fn main(rt: HostRuntime) -> ExitCode {
+    let task = match task_of(&rt) {
+        Ok(Some(task)) => task,
+        Ok(None) => {
+            let _ = eprintln!(rt; "usage: pgsub apply FILE");
+            return ExitCode::from(USAGE);
+        }
+        Err(AllocError) => {
+            let _ = eprintln!(rt; "pgsub: memory");
+            return ExitCode::from(NO_MEMORY);
+        }
     };
     let Task::Apply { file: path } = &task;
     let file = File::open(&rt, path.as_str()).ok();
     let status = run(rt.alloc(), &task, file, &mut rt.stdout(), &mut rt.stderr());
-    Ok(ExitCode::from(status))
+    ExitCode::from(status)
 }
