@@ -1,8 +1,10 @@
 #!/usr/bin/env bash
-# Runs the tests of crates with each request for memory refused in turn: run.sh CRATE... They are proved and built first; then each test
-# runs once for each request that it makes, with this one refused in place of the C library's answer. It prints a line for each test: its
-# requests, and how often it passed all the same, stopped with its own error or assertion, and crashed. A crash makes the status 1, and so
-# does a test named refused_memory_changes_nothing that doesn't pass each time. RT names the toolchain, if not rt.
+# Runs the tests of crates with each request for memory refused in turn, and so a program's stored run: run.sh CRATE... They are proved and
+# built first; then each runs once for each request that it makes, with this one refused in place of the C library's answer. It prints a
+# line for each: its requests, and how often it passed all the same, stopped, and crashed. A test stops with its own error or assertion. A
+# program passes with what is stored, and stops where it says that memory has run out, with status 1, and prints nothing else, or what is
+# stored, or that no commit was taken. Whatever else it answers is counted as a crash. A crash makes the status 1, and so does a test named
+# refused_memory_changes_nothing that doesn't pass each time. RT names the toolchain, if not rt.
 set -eu
 here="$(cd "$(dirname "$0")" && pwd)"
 top="$(cd "$here/../.." && pwd)"
@@ -12,37 +14,87 @@ gcc -O1 -fno-builtin -shared -fPIC -o "$work/refuse.so" "$here/refuse.c"
 ulimit -c 0
 bad=0
 
-# run_refusing N PROGRAM TEST: the test with request N refused, none for 0
+# run_refusing N COMMAND..: the command with request N refused, none for 0
 run_refusing() {
-    REFUSE="$1" REFUSE_COUNT="$work/count" LD_PRELOAD="$work/refuse.so" "$2" "$3" > "$work/said" 2>&1
+    REFUSE="$1" REFUSE_COUNT="$work/count" LD_PRELOAD="$work/refuse.so" "${@:2}" > "$work/out" 2> "$work/err"
 }
 
-# refuse_each CRATE PROGRAM TEST
+# how a test ended, by its status
+end_of_test() {
+    if [ "$1" -eq 0 ]; then
+        echo passed
+    elif cat "$work/out" "$work/err" | grep -q "its result gives status\|^test stopped at"; then
+        echo stopped
+    else
+        echo crashed
+    fi
+}
+
+# nothing, all that is stored, or that no commit was taken
+prints_what_stands() {
+    [ ! -s "$work/out" ] || cmp -s "$work/out" "$stored" || [ "$(cat "$work/out")" = "position 0/0" ]
+}
+
+# how a program's stored run ended, by its status
+end_of_program() {
+    if [ "$1" -eq "$wanted" ] && cmp -s "$work/out" "$stored"; then
+        echo passed
+    elif [ "$1" -eq 1 ] && grep -qi "memory" "$work/err" && prints_what_stands; then
+        echo stopped
+    else
+        echo crashed
+    fi
+}
+
+# refuse_each NAME END COMMAND..: END says how a run of the command ended
 refuse_each() {
-    local all n passed=0 stopped=0 crashed=0
-    run_refusing 0 "$2" "$3" || { cat "$work/said"; return 1; }
+    local name="$1" end="$2" all n status ended passed=0 stopped=0 crashed=0
+    shift 2
+    run_refusing 0 "$@" || { cat "$work/out" "$work/err"; return 1; }
     all="$(cat "$work/count")"
     for ((n = 1; n <= all; n++)); do
-        if run_refusing "$n" "$2" "$3" 2> "$work/shell"; then
-            passed=$((passed + 1))
-        elif grep -q "its result gives status\|^test stopped at" "$work/said"; then
-            stopped=$((stopped + 1))
-        else
-            crashed=$((crashed + 1))
-            echo "$1 $3: crashed with request $n refused"
-            cat "$work/said"
-        fi
+        status=0
+        run_refusing "$n" "$@" 2> "$work/shell" || status=$?
+        ended="$("$end" "$status")"
+        case "$ended" in
+            passed) passed=$((passed + 1)) ;;
+            stopped) stopped=$((stopped + 1)) ;;
+            *)
+                crashed=$((crashed + 1))
+                echo "$name: status $status with request $n refused"
+                cat "$work/out" "$work/err"
+                ;;
+        esac
     done
-    echo "$1 $3: $all requests, $passed passed, $stopped stopped, $crashed crashed"
+    echo "$name: $all requests, $passed passed, $stopped stopped, $crashed crashed"
     [ "$crashed" -eq 0 ] || bad=1
-    case "$3" in *refused_memory_changes_nothing) [ "$passed" -eq "$all" ] || bad=1 ;; esac
+    case "$name" in *refused_memory_changes_nothing) [ "$passed" -eq "$all" ] || bad=1 ;; esac
+}
+
+# refuse_tests CRATE
+refuse_tests() {
+    local program="$top/crates/$1/out/${1}_tests" name
+    (cd "$top/crates/$1" && "${RT:-rt}" test) > "$work/log" 2>&1 || { tail "$work/log"; exit 1; }
+    for name in $("$program" --list | sed -n 's/: test$//p'); do
+        refuse_each "$1 $name" end_of_test "$program" "$name"
+    done
+}
+
+# refuse_program CRATE: its stored run, in a copy of its data
+refuse_program() {
+    local folder="$top/crates/$1" words=()
+    mapfile -t words < "$folder/args"
+    stored="$folder/stdout"
+    wanted="$(cat "$folder/status" 2> "$work/shell" || echo 0)"
+    # here it finds no file, but it is built
+    rm -f "$folder/out/$1"
+    (cd "$folder" && "${RT:-rt}" run -- "${words[@]}") > "$work/log" 2>&1 || [ -x "$folder/out/$1" ] || { tail "$work/log"; exit 1; }
+    cd "$folder/data"
+    refuse_each "$1 ${words[*]}" end_of_program "$folder/out/$1" "${words[@]}"
 }
 
 for crate in "$@"; do
-    program="$top/crates/$crate/out/${crate}_tests"
-    (cd "$top/crates/$crate" && "${RT:-rt}" test) > "$work/log" 2>&1 || { tail "$work/log"; exit 1; }
-    for name in $("$program" --list | sed -n 's/: test$//p'); do
-        refuse_each "$crate" "$program" "$name"
-    done
+    refuse_tests "$crate"
+    [ ! -f "$top/crates/$crate/args" ] || refuse_program "$crate"
 done
 exit "$bad"
