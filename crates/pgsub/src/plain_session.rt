@@ -235,6 +235,7 @@ fn hold(items: &mut Vec<Item>, message: Message) -> Result<(), Fault>
 }
 
 impl PlainSession {
+    /// A session from which nothing came.
     pub fn new(alloc: Global) -> PlainSession
         ensures order { result.order ≡ record { version = Version.One; state = initial_order } }
         ensures relations { result.relations ≡ map.empty }

@@ -19,7 +19,9 @@ use std::marker::Model;
 /// An insert with the definition under which its row stands.
 #[derive(Drop)]
 pub struct TakenInsert {
+    /// The relation's definition at its commit.
     pub definition: RelationDef,
+    /// The row, one cell a column.
     pub row: Tuple,
 }
 
@@ -72,6 +74,7 @@ fn insert_all(
 }
 
 impl PlainStore {
+    /// No rows, at position 0/0.
     pub fn new(alloc: Global) -> PlainStore
         ensures { result ≡ record { tables = map.empty; position = 0 } }
     {
@@ -83,6 +86,7 @@ impl PlainStore {
         }
     }
 
+    /// The end LSN of the last commit that was taken, 0/0 before the first.
     pub fn position(&self) -> Lsn
         ensures { result ≡ self.now.position }
     {

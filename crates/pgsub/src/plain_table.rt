@@ -55,6 +55,7 @@ impl Model for PlainTable {
 }
 
 impl PlainTable {
+    /// A table without rows.
     pub fn new(alloc: Global, definition: RelationDef) -> PlainTable
         ensures { result ≡ record { definition = definition; rows = map.empty } }
     {
@@ -65,6 +66,7 @@ impl PlainTable {
         }
     }
 
+    /// The definition under which the rows stand.
     pub fn definition(&self) -> &RelationDef
         ensures { result.now ≡ self.now.definition }
     {

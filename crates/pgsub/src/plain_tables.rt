@@ -84,6 +84,7 @@ fn spelled(alloc: Global, tuple: &TupleRef<'_>) -> Result<Vec<u8>, StoreFault>
 }
 
 impl PlainTables {
+    /// No tables.
     pub fn new(alloc: Global) -> PlainTables
         ensures { result ≡ map.empty }
     {

@@ -27,6 +27,7 @@ impl Model for Relations {
 }
 
 impl Relations {
+    /// No relation is known.
     pub fn new(alloc: Global) -> Relations
         ensures { result ≡ map.empty }
     {
@@ -35,6 +36,7 @@ impl Relations {
         }
     }
 
+    /// Takes what a Relation message says of its OID. A refusal is want of memory.
     pub fn set(&mut self, definition: RelationDef) -> Result<(), AllocError>
         ensures { OnOk result (self.new ≡ map.insert self.old definition.oid definition) }
     {
@@ -42,6 +44,7 @@ impl Relations {
         Ok(())
     }
 
+    /// What is known of this OID.
     pub fn get(&self, oid: u32) -> Option<&RelationDef>
         ensures { option_copied result ≡ map.get self.now oid }
     {

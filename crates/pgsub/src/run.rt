@@ -74,7 +74,9 @@ fn read_text<R: Read + Drop>(alloc: Global, file: Option<R>) -> Result<Vec<u8>, 
 /// What a capture text leads to: the lines that are printed, and why following stopped.
 #[derive(Drop)]
 pub struct Applied {
+    /// A line for each row that stands, and the line of the position.
     pub lines: String,
+    /// The fault of what was refused, if anything was.
     pub refused: Option<Fault>,
 }
 

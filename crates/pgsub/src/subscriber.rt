@@ -130,6 +130,7 @@ impl Subscriber {
         }
     }
 
+    /// The position up to which the rows stand.
     pub fn position(&self) -> Lsn
         ensures { result ≡ self.now.stored.position }
     {

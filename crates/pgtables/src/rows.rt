@@ -31,12 +31,14 @@ impl StoredRow {
         Ok(StoredRow { body, copies })
     }
 
+    /// The spelling of the row's tuple.
     pub fn body(&self) -> &[u8]
         ensures { result.now ≡ self.now.body }
     {
         self.body.as_slice()
     }
 
+    /// How often the row stands.
     pub fn copies(&self) -> u32
         ensures { result ≡ self.now.copies }
     {
@@ -82,24 +84,28 @@ impl StoredDefinition {
         })
     }
 
+    /// The namespace as it was sent, empty for `pg_catalog`.
     pub fn namespace(&self) -> &str
         ensures { result.now ≡ self.now.namespace }
     {
         self.namespace.as_str()
     }
 
+    /// The relation's name.
     pub fn name(&self) -> &str
         ensures { result.now ≡ self.now.name }
     {
         self.name.as_str()
     }
 
+    /// The replica identity as its letter: `d`, `n`, `f` or `i`.
     pub fn letter(&self) -> u32
         ensures { result ≡ self.now.letter }
     {
         self.letter
     }
 
+    /// The spelling of the columns.
     pub fn columns(&self) -> &[u8]
         ensures { result.now ≡ self.now.columns }
     {

@@ -18,30 +18,35 @@ impl<T> Model for Seq<T> {
 }
 
 impl<T> Seq<T> {
+    /// The values of a vector, which isn't copied.
     pub fn from_vec(items: Vec<T>) -> Self
         ensures { result ≡ items.items }
     {
         Seq { items }
     }
 
+    /// The vector with these values.
     pub fn into_vec(self) -> Vec<T>
         ensures { result.items ≡ self }
     {
         self.items
     }
 
+    /// The values, lent.
     pub fn as_slice(&self) -> &[T]
         ensures { result.now ≡ self.now }
     {
         self.items.as_slice()
     }
 
+    /// The number of values.
     pub fn len(&self) -> usize
         ensures { result ≡ length self.now }
     {
         self.items.len()
     }
 
+    /// Whether there is no value.
     pub fn is_empty(&self) -> bool
         ensures { result ≡ (length self.now == 0) }
     {

@@ -19,18 +19,21 @@ impl Model for Text {
 }
 
 impl Text {
+    /// The text of a string, which isn't copied.
     pub fn from_string(text: String) -> Text
         ensures { result ≡ string_bytes text }
     {
         Text { text }
     }
 
+    /// The string with this text.
     pub fn into_string(self) -> String
         ensures { string_bytes result ≡ self }
     {
         self.text
     }
 
+    /// The text, lent.
     pub fn as_str(&self) -> &str
         ensures value { result.now ≡ self.now }
         ensures utf8 { is_utf8 self.now ≡ true }
@@ -45,6 +48,7 @@ impl Text {
         self.text.len()
     }
 
+    /// Whether there is no byte.
     pub fn is_empty(&self) -> bool
         ensures { result ≡ (length self.now == 0) }
     {

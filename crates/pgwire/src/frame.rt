@@ -17,7 +17,7 @@ pub enum Frame<'a> {
     Done,
 }
 
-// The letter and the length.
+/// The bytes of a frame's header: its letter and its length.
 pub const HEADER_LEN: usize = 5;
 
 // The greatest Int32.
@@ -50,7 +50,7 @@ pub fn front(bytes: &[u8], max_frame: u32) -> Result<Option<(Frame<'_>, usize)>,
     Ok(Some((Frame::Data(&bytes[HEADER_LEN..end]), end)))
 }
 
-// How many bytes of payload follow a header with this letter, `d` or `c`, and this length.
+/// How many bytes of payload follow a header with this letter, `d` or `c`, and this length.
 pub fn payload_len(tag: u8, length: u32, max_frame: u32) -> Result<usize, WireFault>
     requires { IsTag tag }
     ensures { MatchResult result

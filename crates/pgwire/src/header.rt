@@ -10,7 +10,9 @@ use byteorder::{BigEndian, ByteOrder};
 /// The first `len` bytes of a header.
 #[derive(Clone, Copy)]
 pub struct Header {
+    /// The header's bytes; those behind `len` mean nothing.
     pub bytes: [u8; 5],
+    /// How many of them have come, at most 5.
     pub len: usize,
     ghost within: { len ≤ 5 },
     ghost five: { length bytes ≡ 5 },
@@ -20,6 +22,7 @@ pub struct Header {
 impl Header {
     ghost use Rattle.pgwire.specs.Held.{come, IsHeaderWith};
 
+    /// Nothing of a header.
     pub fn new() -> Header
         ensures { result.len ≡ 0 }
     {

@@ -9,14 +9,20 @@ use crate::WireFault;
 use bytes::{BufMut, BytesMut};
 use pglsn::Lsn;
 
-/// A standby status update: up to where the WAL was written, flushed and applied (each the last byte and one), the client's clock in
-/// microseconds since 2000-01-01, and whether a reply is wanted.
+/// A standby status update. Each LSN is that of the last byte of WAL and one.
+///
+/// PostgreSQL documentation, Streaming Replication Protocol, Standby status update.
 #[derive(Clone, Copy, Debug, PartialEq, Eq)]
 pub struct Status {
+    /// Up to where the WAL was received and written.
     pub written: Lsn,
+    /// Up to where it stands on disk: the server may forget what lies below.
     pub flushed: Lsn,
+    /// Up to where it was applied.
     pub applied: Lsn,
+    /// The client's clock, in microseconds since 2000-01-01.
     pub clock: i64,
+    /// Whether the server is to reply at once.
     pub ask: bool,
 }
 
