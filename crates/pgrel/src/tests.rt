@@ -32,7 +32,7 @@ const T: Table = Table {
 };
 
 /// The table t with a third column.
-const T3: Table = Table {
+const T_WITH_Z: Table = Table {
     oid: 16384,
     name: "t",
     letter: b'd',
@@ -258,7 +258,7 @@ fn has_shape_of_t(alloc: Global, letter: u8, columns: Columns) -> Result<(bool, 
 fn shapes(rt: HostRuntime) -> Result<(), Fail> {
     let tables: &[(u8, Columns, bool)] = &[
         (b'd', T.columns, true),
-        (b'd', T3.columns, false),
+        (b'd', T_WITH_Z.columns, false),
         (b'd', &[(true, "id", 20), (false, "v", 1043)], true),
         (b'i', &[(true, "id", 23), (false, "v", 25)], false),
         (b'd', &[(true, "id", 23), (true, "v", 25)], false),
@@ -462,7 +462,7 @@ fn book_is_a_map(rt: HostRuntime) -> Result<(), Fail> {
     has_columns(&rt, &book, 16384, Some(2));
     has_columns(&rt, &book, 16386, Some(1));
     has_columns(&rt, &book, 0, None);
-    put(&rt, alloc, &mut book, &T3)?;
+    put(&rt, alloc, &mut book, &T_WITH_Z)?;
     has_columns(&rt, &book, 16384, Some(3));
     has_columns(&rt, &book, 16386, Some(1));
     assert_eq!(rt; book.get(16386)?.name.as_str(), "f");

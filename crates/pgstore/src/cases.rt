@@ -54,7 +54,7 @@ pub(crate) const RELATIONS: [Relation; 10] = [
 const T: usize = 0;
 
 /// The table t with a third column.
-const T3: usize = 1;
+const T_WITH_Z: usize = 1;
 
 /// The table t as it is, defined once more.
 const SAME: usize = 2;
@@ -183,9 +183,13 @@ pub(crate) const KEYED: &'static [Case] = &[
             T_1_2,
         ),
         (&[(T, Insert("9 c")), (T, Delete(Key, "1"))], WIDTH, T_1_2),
-        (&[(T, Insert("9 c")), (T3, Insert("10 b c"))], SHAPE, T_1_2),
-        (&[(T, Insert("9 c")), (T3, Insert(""))], SHAPE, T_1_2),
-        (&[(T, Insert("9 c")), (T3, Truncate)], SHAPE, T_1_2),
+        (
+            &[(T, Insert("9 c")), (T_WITH_Z, Insert("10 b c"))],
+            SHAPE,
+            T_1_2,
+        ),
+        (&[(T, Insert("9 c")), (T_WITH_Z, Insert(""))], SHAPE, T_1_2),
+        (&[(T, Insert("9 c")), (T_WITH_Z, Truncate)], SHAPE, T_1_2),
     ],
 ];
 
@@ -301,7 +305,7 @@ pub(crate) const TABLES: &'static [Case] = &[
             "",
         ),
         (
-            &[(T3, Insert("2 b c")), (W, Insert("2 b c"))],
+            &[(T_WITH_Z, Insert("2 b c")), (W, Insert("2 b c"))],
             OK,
             "16384 public.t 2 b c x1\n16385 pg_catalog.w 2 b c x1\n",
         ),
@@ -312,15 +316,19 @@ pub(crate) const TABLES: &'static [Case] = &[
             &[
                 (T, Insert("1 a")),
                 (T, Truncate),
-                (T3, Insert("2 b c")),
-                (T3, Truncate),
+                (T_WITH_Z, Insert("2 b c")),
+                (T_WITH_Z, Truncate),
                 (T, Insert("1 a")),
             ],
             OK,
             T_1,
         ),
         (
-            &[(T, Truncate), (T3, Insert("2 b c")), (T, Insert("1 a"))],
+            &[
+                (T, Truncate),
+                (T_WITH_Z, Insert("2 b c")),
+                (T, Insert("1 a")),
+            ],
             SHAPE,
             T_1,
         ),
@@ -339,7 +347,7 @@ pub(crate) const TABLES: &'static [Case] = &[
     &[
         (&[(T, Insert("1 a"))], OK, T_1),
         (&[], OK, T_1),
-        (&[(T3, Insert("2 b c"))], SHAPE, T_1),
+        (&[(T_WITH_Z, Insert("2 b c"))], SHAPE, T_1),
     ],
 ];
 
