@@ -1,6 +1,5 @@
 -- What is printed of sessions that are followed to their end, or up to a refusal.
-use Rattle.std.specs.Prelude.{◌≡◌, ◌⊎◌, ℕ, List, Ok, Err, Option}
-use Rattle.std.specs.Io.KnownBytes.{Keeps, Appends}
+use Rattle.std.specs.Prelude.{◌≡◌, ◌<◌, ◌⊎◌, ℕ, List, length, Ok, Err, Option, Some, IfSome}
 use Rattle.std.specs.FinMap as map
 use Rattle.pgorder.specs.declared.Version.TheVariants.{One}
 use Rattle.pgstore.specs.Dump.{dump}
@@ -46,9 +45,13 @@ abbrev pub PrintsRefused : ℕ → List ℕ → List ℕ → Fault → Type 0
 PrintsRefused max text lines f =
     (sessions : List Session) × (stored : Stored) × (sessions_of text ≡ Ok sessions) × (lines ≡ dump_of (dump stored.tables) stored.position) × IsRefusedFrom max sessions stored f
 
--- these lines are appended, where what is written is known
-abbrev pub Prints : List ℕ → Option (List ℕ) → Option (List ℕ) → Type 0
-Prints text old new = (lines : List ℕ) × PrintsWhole text lines × Appends old new lines
+-- the bytes of a file that could be opened
+abbrev pub Reads : {S : Type 0} → (S → List ℕ → Type 0) → Option S → List ℕ → Type 0
+Reads gives file text = (source : _) × (file ≡ Some source) × gives source text
+
+-- the lines of what the sessions of a capture text leave are written
+abbrev pub Prints : {T : Type 0} → (T → List ℕ → T → Type 0) → List ℕ → T → T → Type 0
+Prints takes text old new = (lines : List ℕ) × PrintsWhole text lines × takes old lines new
 
 -- the exit status that a fault of a run has
 abbrev pub status_of : RunFault → ℕ
@@ -58,15 +61,19 @@ status_of run.TooLong = 3
 status_of run.CannotRead = 3
 status_of run.CannotWrite = 3
 
--- why a text isn't read
-abbrev pub IsReadFault : RunFault → Type 0
-IsReadFault f = (f ≡ run.CannotRead) ⊎ ((f ≡ run.TooLong) ⊎ (f ≡ run.Stream fault.Memory))
+-- Why a text isn't read: the file isn't there or reading it failed, or it is longer than longest, or memory ran out.
+abbrev pub IsReadFault : {S : Type 0} → (S → List ℕ → Type 0) → (S → Type 0) → ℕ → Option S → RunFault → Type 0
+IsReadFault gives failed longest file f =
+    ((f ≡ run.CannotRead) × IfSome file failed)
+    ⊎ (((f ≡ run.TooLong) × (text : List ℕ) × Reads gives file text × (longest < length text))
+    ⊎ (f ≡ run.Stream fault.Memory))
 
--- What a run prints that stops with this fault: of a refused stream what stands, of want of memory that or nothing, and nothing of
--- what can't be read.
-abbrev pub PrintsUntil : ℕ → List ℕ → Option (List ℕ) → Option (List ℕ) → RunFault → Type 0
-PrintsUntil max text old new (run.Stream f) = ((f ≡ fault.Memory) × Keeps old new) ⊎ ((lines : List ℕ) × PrintsRefused max text lines f × Appends old new lines)
-PrintsUntil max text old new (run.NotHexadecimal line) = (sessions_of text ≡ Err line) × Keeps old new
-PrintsUntil max text old new run.TooLong = Keeps old new
-PrintsUntil max text old new run.CannotRead = Keeps old new
-PrintsUntil max text old new run.CannotWrite = Unit {0}
+-- What there is of a run that stops with this fault. Of a refused stream what stands is written, of want of memory that or nothing, and
+-- nothing of what can't be read. A fault of a file comes of a failure of that file.
+abbrev pub StopsWith : {S T : Type 0} → (S → List ℕ → Type 0) → (S → Type 0) → (T → List ℕ → T → Type 0) → (T → Type 0) → ℕ → ℕ → Option S → T → T → RunFault → Type 0
+StopsWith gives read_failed takes write_failed max longest file old new (run.Stream f) =
+    ((f ≡ fault.Memory) × (new ≡ old)) ⊎ ((text lines : List ℕ) × Reads gives file text × PrintsRefused max text lines f × takes old lines new)
+StopsWith gives read_failed takes write_failed max longest file old new (run.NotHexadecimal line) = (text : List ℕ) × Reads gives file text × (sessions_of text ≡ Err line) × (new ≡ old)
+StopsWith gives read_failed takes write_failed max longest file old new run.TooLong = (text : List ℕ) × Reads gives file text × (longest < length text) × (new ≡ old)
+StopsWith gives read_failed takes write_failed max longest file old new run.CannotRead = IfSome file read_failed × (new ≡ old)
+StopsWith gives read_failed takes write_failed max longest file old new run.CannotWrite = (text : List ℕ) × Reads gives file text × write_failed old

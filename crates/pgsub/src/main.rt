@@ -3,6 +3,7 @@
 
 pub mod dump;
 pub mod fault_text;
+pub mod files;
 pub mod plain_session;
 pub mod plain_store;
 pub mod plain_table;

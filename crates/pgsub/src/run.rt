@@ -1,21 +1,22 @@
 //! Runs a task over readers and writers.
-ghost use Rattle.std.specs.Prelude.{◌≤◌, ◌≡◌, ◌⊎◌, IfOk, IfErr, IfSome, OnOk, None, Err, ℕ, string_bytes};
+ghost use Rattle.std.specs.Prelude.{◌≤◌, ◌≡◌, ◌⊎◌, IfOk, IfErr, IfSome, OnOk, None, Err, ℕ, List, length, string_bytes};
 ghost use Rattle.pgcapture.specs.Capture.{sessions_of};
-ghost use Rattle.pgsub.specs.Whole.{PrintsWhole, PrintsRefused, Prints, PrintsUntil, IsReadFault, status_of};
+ghost use Rattle.pgsub.specs.Whole.{PrintsWhole, PrintsRefused, Reads, Prints, IsReadFault, StopsWith, status_of};
 
 use crate::dump::dump_text;
 use crate::fault_text::FaultText;
+use crate::files::{Sink, Source};
 use crate::subscriber::{Subscriber, follow};
 use pgcapture::{CaptureFault, read_capture};
 use pgsub_core::Fault;
 use std::alloc::Global;
-use std::io::{ErrorKind, Read, Write};
+use std::io::{ErrorKind, Write};
 
 /// The longest payload of a frame that is taken, in bytes.
 const MAX_FRAME: u32 = 16777216;
 
 /// The longest capture text that is taken, in bytes.
-const MAX_TEXT: usize = 67108864;
+const MAX_TEXT: u32 = 67108864;
 
 /// What the program is asked for.
 #[derive(Drop)]
@@ -52,18 +53,18 @@ impl RunFault {
     }
 }
 
-/// The bytes of a capture text. Not more than one byte behind the limit is read.
-fn read_text<R: Read + Drop>(alloc: Global, file: Option<R>) -> Result<Vec<u8>, RunFault>
-    ensures text { IfOk result (λ text. IfSome file (λ reader. IfSome (R.remaining reader) (λ bytes. text.items ≡ bytes))) }
-    ensures refused { IfErr result IsReadFault }
+/// The bytes of a capture text.
+fn read_text<S: Source>(alloc: Global, file: Option<S>) -> Result<Vec<u8>, RunFault>
+    ensures text { IfOk result (λ text. Reads S.gives file text.items × (length text.items ≤ MAX_TEXT)) }
+    ensures refused { IfErr result (IsReadFault S.gives S.failed MAX_TEXT file) }
+    ensures unopened { file ≡ None → result ≡ Err RunFault.CannotRead }
 {
-    let Some(reader) = file else {
+    let Some(source) = file else {
         return Err(RunFault::CannotRead);
     };
-    let mut text = Vec::new(alloc);
-    match reader.take(MAX_TEXT as u64 + 1).read_to_end(&mut text) {
-        Ok(_) if text.len() > MAX_TEXT => Err(RunFault::TooLong),
-        Ok(_) => Ok(text),
+    match source.read_whole(alloc, MAX_TEXT) {
+        Ok(Some(text)) => Ok(text),
+        Ok(None) => Err(RunFault::TooLong),
         Err(error) if error.kind() == ErrorKind::OutOfMemory => Err(RunFault::Stream(
             Fault::Memory,
         )),
@@ -109,17 +110,14 @@ pub fn apply_text(alloc: Global, text: &[u8]) -> Result<Applied, RunFault>
 }
 
 /// Applies the sessions of a file, and writes the lines that are printed.
-fn apply<R: Read + Drop, W: Write>(
-    alloc: Global,
-    file: Option<R>,
-    out: &mut W,
-) -> Result<(), RunFault>
-    ensures done { OnOk result (IfSome file (λ reader. IfSome (R.remaining reader) (λ text. Prints text (W.contents out.old) (W.contents out.new)))) }
-    ensures refused { IfErr result (λ fault. IfSome file (λ reader. IfSome (R.remaining reader) (λ text. PrintsUntil MAX_FRAME text (W.contents out.old) (W.contents out.new) fault))) }
+fn apply<S: Source, T: Sink>(alloc: Global, file: Option<S>, out: &mut T) -> Result<(), RunFault>
+    ensures done { OnOk result ((text : List ℕ) × Reads S.gives file text × Prints T.takes text out.old out.new) }
+    ensures refused { IfErr result (StopsWith S.gives S.failed T.takes T.failed MAX_FRAME MAX_TEXT file out.old out.new) }
+    ensures unopened { file ≡ None → (result ≡ Err RunFault.CannotRead) × (out.new ≡ out.old) }
 {
     let text = read_text(alloc, file)?;
     let applied = apply_text(alloc, text.as_slice())?;
-    if out.write_all(applied.lines.as_bytes()).is_err() || out.flush().is_err() {
+    if out.write_lines(applied.lines.as_str()).is_err() {
         return Err(RunFault::CannotWrite);
     }
     match applied.refused {
@@ -142,21 +140,23 @@ fn report<E: Write>(fault: RunFault, path: &str, err: &mut E) -> std::io::Result
     }
 }
 
-/// Runs a task: `file` is a reader of the file that it names, None where that can't be opened. The answer is the exit
+/// Runs a task: `file` is a source of the file that it names, None where that can't be opened. The answer is the exit
 /// status: 0 done, 1 refused stream or want of memory, 3 file fault; `err` then gets the line of the fault.
 ///
-/// Where it is 0, all of the file was read, and what is printed are the rows and the position of what its sessions leave. Where it
-/// isn't, there is a fault with this status, and behind a refused stream what stands was printed.
-pub fn run<R: Read + Drop, W: Write, E: Write>(
+/// Where it is 0, all of the file was read, and what was printed are the rows and the position of what its sessions leave. Where it
+/// isn't, there is a fault with this status, which the text, or a failure of reading or writing, has; behind a refused
+/// stream what stands was printed, and nothing where the text couldn't be opened or read.
+pub fn run<S: Source, T: Sink, E: Write>(
     alloc: Global,
     task: &Task,
-    file: Option<R>,
-    out: &mut W,
+    file: Option<S>,
+    out: &mut T,
     err: &mut E,
 ) -> u8
     ensures status { result ≤ 3 }
-    ensures stopped { 1 ≤ result → (fault : RunFault) × (result ≡ status_of fault) × IfSome file (λ reader. IfSome (R.remaining reader) (λ text. PrintsUntil MAX_FRAME text (W.contents out.old) (W.contents out.new) fault)) }
-    ensures done { result ≡ 0 → IfSome file (λ reader. IfSome (R.remaining reader) (λ text. Prints text (W.contents out.old) (W.contents out.new))) }
+    ensures stopped { 1 ≤ result → (fault : RunFault) × (result ≡ status_of fault) × StopsWith S.gives S.failed T.takes T.failed MAX_FRAME MAX_TEXT file out.old out.new fault }
+    ensures done { result ≡ 0 → (text : List ℕ) × Reads S.gives file text × Prints T.takes text out.old out.new }
+    ensures unopened { file ≡ None → (result ≡ 3) × (out.new ≡ out.old) }
 {
     let Task::Apply { file: path } = task;
     match apply(alloc, file, out) {
