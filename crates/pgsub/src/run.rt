@@ -157,6 +157,7 @@ pub fn run<S: Source, T: Sink, E: Write>(
     ensures stopped { 1 ≤ result → (fault : RunFault) × (result ≡ status_of fault) × StopsWith S.gives S.failed T.takes T.failed MAX_FRAME MAX_TEXT file out.old out.new fault }
     ensures done { result ≡ 0 → (text : List ℕ) × Reads S.gives file text × Prints T.takes text out.old out.new }
     ensures unopened { file ≡ None → (result ≡ 3) × (out.new ≡ out.old) }
+    ensures quiet { result ≡ 0 → err.new ≡ err.old }
 {
     let Task::Apply { file: path } = task;
     match apply(alloc, file, out) {
