@@ -14,3 +14,4 @@ mod Relations
 mod EffectRows
 mod WorkRows
 mod DumpRows
+pub mod Causes

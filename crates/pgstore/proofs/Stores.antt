@@ -25,7 +25,7 @@ use Rattle.pgstore.specs.Apply.{Change, fold_changes}
 use Rattle.pgstore.specs.Stored.{Stored, IsFault}
 use Rattle.pgstore.specs.Spelled.{IsStored, spelled_definition, spelled_row, row_in}
 use Rattle.pgstore.specs.Acts.{HasTaken, LeavesTaken, RefusesToFold}
-use Rattle.pgstore.specs.StoreValue.{StoreValue, IsStore, HasMade, AreOf, Serves, Holds, Contains, Takes, Stays, RefusesWork, LeavesWork, nothing_stored}
+use Rattle.pgstore.specs.StoreValue.{IsStore, HasMade, Serves, Holds, Contains, Takes, Stays, RefusesWork, LeavesWork, nothing_stored}
 use Rattle.pgstore.proofs.KeepsForm.{none_keeps}
 
 -- ---- a crash between calls

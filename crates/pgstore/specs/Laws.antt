@@ -1,5 +1,5 @@
 -- What the effect of changes keeps true of a store's tables, and what holds of a store in memory.
-use Rattle.std.specs.Prelude.{◌≡◌, List, Ok}
+use Rattle.std.specs.Prelude.{◌≡◌, List, Ok, Err}
 use Rattle.std.specs.FinMap as map
 use Rattle.sqlite_trees.specs.declared.memory.MemStore.{MemStore}
 use Rattle.sqlite_store.specs.declared.store.FileStore.{FileStore}
@@ -8,6 +8,8 @@ use Rattle.sqlite.specs.Files.{over_files}
 use Rattle.pgmemory.specs.declared.disk.MemoryDisk.{MemoryDisk}
 use Rattle.pgmemory.specs.contracts.disk.MemoryDiskDisk.TheImpl as memory_disk
 use Rattle.pgstore.specs.Value.{Tables, AreTables}
+use Rattle.pgstore.specs.declared.rows.StoreFault.{StoreFault}
+use Rattle.pgstore.specs.Acts.{IsOwnFault}
 use Rattle.pgstore.specs.Apply.{Change, apply, fold_changes}
 use Rattle.pgstore.specs.StoreValue.{StoreValue, IsHonest, Serves}
 
@@ -22,6 +24,10 @@ ChangeKeepsTables = (tables next : Tables) (change : Change) → AreTables table
 -- and those behind a list of changes
 abbrev pub ChangesKeepTables : Type 0
 ChangesKeepTables = (changes : List Change) (tables next : Tables) → AreTables tables → fold_changes tables changes ≡ Ok next → AreTables next
+
+-- the fault of changes is one of their checks, never the store's own or want of memory
+abbrev pub ChangesHaveCauses : Type 0
+ChangesHaveCauses = (changes : List Change) (tables : Tables) (fault : StoreFault) → fold_changes tables changes ≡ Err fault → ¬ IsOwnFault fault
 
 -- a store in memory always serves
 abbrev pub StoresInMemoryServe : Type 0

@@ -1,7 +1,7 @@
 //! What the effect of changes keeps true, and what holds of a store in memory, each as the contract of a function that
 //! does nothing.
 
-ghost use Rattle.pgstore.specs.Laws.{NoTablesAreTables, ChangeKeepsTables, ChangesKeepTables, StoresInMemoryServe, StoresOnMemoryDisksAreHonest};
+ghost use Rattle.pgstore.specs.Laws.{NoTablesAreTables, ChangeKeepsTables, ChangesKeepTables, ChangesHaveCauses, StoresInMemoryServe, StoresOnMemoryDisksAreHonest};
 
 /// Each row of a store's tables has its definition's width and all of its cells, and stands under the spelling of its
 /// identity; a row of a keyed table stands there once, a row of a bag 1 to 2147483647 times. A new store has no tables,
@@ -12,6 +12,13 @@ pub fn changes_keep_tables()
     ensures new { NoTablesAreTables }
     ensures one { ChangeKeepsTables }
     ensures several { ChangesKeepTables }
+{}
+
+/// What changes refuse is refused by one of their checks: `Refused` and `Memory` come of the SQL store alone.
+///
+/// PostgreSQL documentation, Logical Replication, Conflicts.
+pub fn changes_have_causes()
+    ensures { ChangesHaveCauses }
 {}
 
 /// A store in memory has an honest disk and is never shut.
