@@ -9,3 +9,4 @@ pub mod PlainStops
 pub mod PlainRefused
 pub mod PlainSubscriber
 pub mod Whole
+pub mod FaultTexts

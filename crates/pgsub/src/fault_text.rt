@@ -1,5 +1,10 @@
 //! The texts of faults, each with the number and the name of its kind.
 
+ghost use Rattle.std.specs.Prelude.{Some};
+ghost use Rattle.std.specs.Fmt.{DisplaysOnOk};
+ghost use Rattle.pgsub.specs.FaultTexts.{fault_text, stop_line, stop_text, wire_text, reason_text, tuple_text, order_text, relation_text, spool_text, store_text};
+
+use crate::run::RunFault;
 use pglogical::{DecodeFault, Reason};
 use pgorder::OrderFault;
 use pgrel::RelFault;
@@ -12,9 +17,11 @@ use std::fmt;
 
 /// A fault of following, as it is printed.
 #[derive(Drop)]
-pub struct FaultText(pub Fault);
+struct FaultText(Fault);
 
 impl fmt::Display for FaultText {
+    ghost output = { λ text. Some (fault_text text.0) };
+
     fn fmt<W: fmt::Write>(&self, f: &mut fmt::Formatter<W>) -> fmt::Result {
         match self.0 {
             Fault::Wire(fault) => write_wire(f, fault),
@@ -30,7 +37,47 @@ impl fmt::Display for FaultText {
     }
 }
 
-fn write_wire<W: fmt::Write>(f: &mut fmt::Formatter<W>, fault: WireFault) -> fmt::Result {
+/// The line on standard error of a run that stopped. A file that can't be read stands by its path.
+#[derive(Drop)]
+pub struct StopLine<'t> {
+    pub fault: RunFault,
+    pub path: &'t str,
+}
+
+impl fmt::Display for StopLine<'_> {
+    ghost output = { λ line. Some (stop_line line.fault line.path.now) };
+
+    fn fmt<W: fmt::Write>(&self, f: &mut fmt::Formatter<W>) -> fmt::Result {
+        let (fault, path) = (self.fault, self.path);
+        writeln!(f, "pgsub: {}", StopText { fault, path })
+    }
+}
+
+/// What stands in that line behind the program's name.
+#[derive(Drop)]
+struct StopText<'t> {
+    fault: RunFault,
+    path: &'t str,
+}
+
+impl fmt::Display for StopText<'_> {
+    ghost output = { λ text. Some (stop_text text.fault text.path.now) };
+
+    fn fmt<W: fmt::Write>(&self, f: &mut fmt::Formatter<W>) -> fmt::Result {
+        let path = self.path;
+        match self.fault {
+            RunFault::Stream(fault) => write!(f, "{}", FaultText(fault)),
+            RunFault::NotHexadecimal(line) => write!(f, "capture line {line}: not hexadecimal"),
+            RunFault::TooLong => f.write_str("capture too long"),
+            RunFault::CannotRead => write!(f, "cannot read {path}"),
+            RunFault::CannotWrite => f.write_str("cannot write"),
+        }
+    }
+}
+
+fn write_wire<W: fmt::Write>(f: &mut fmt::Formatter<W>, fault: WireFault) -> fmt::Result
+    ensures { DisplaysOnOk W.write_str_gives f.old result (Some (wire_text fault)) f.new }
+{
     match fault {
         WireFault::UnknownFrame(byte) => write!(f, "wire 1 UnknownFrame {byte}"),
         WireFault::BadLength => f.write_str("wire 2 BadLength"),
@@ -44,7 +91,9 @@ fn write_wire<W: fmt::Write>(f: &mut fmt::Formatter<W>, fault: WireFault) -> fmt
     }
 }
 
-fn write_decode<W: fmt::Write>(f: &mut fmt::Formatter<W>, fault: DecodeFault) -> fmt::Result {
+fn write_decode<W: fmt::Write>(f: &mut fmt::Formatter<W>, fault: DecodeFault) -> fmt::Result
+    ensures { DisplaysOnOk W.write_str_gives f.old result (Some (reason_text fault.reason fault.place)) f.new }
+{
     let place = fault.place;
     match fault.reason {
         Reason::UnknownMessage => write!(f, "decode 1 UnknownMessage at {place}"),
@@ -63,7 +112,9 @@ fn write_tuple<W: fmt::Write>(
     f: &mut fmt::Formatter<W>,
     fault: TupleFault,
     place: usize,
-) -> fmt::Result {
+) -> fmt::Result
+    ensures { DisplaysOnOk W.write_str_gives f.old result (Some (tuple_text fault place)) f.new }
+{
     match fault {
         TupleFault::Short(_) => write!(f, "decode 8 Tuple 1 Short at {place}"),
         TupleFault::BadKind(_) => write!(f, "decode 8 Tuple 2 BadKind at {place}"),
@@ -74,7 +125,9 @@ fn write_tuple<W: fmt::Write>(
     }
 }
 
-fn write_order<W: fmt::Write>(f: &mut fmt::Formatter<W>, fault: OrderFault) -> fmt::Result {
+fn write_order<W: fmt::Write>(f: &mut fmt::Formatter<W>, fault: OrderFault) -> fmt::Result
+    ensures { DisplaysOnOk W.write_str_gives f.old result (Some (order_text fault)) f.new }
+{
     f.write_str(match fault {
         OrderFault::OutsideTransaction => "order 1 OutsideTransaction",
         OrderFault::NestedBegin => "order 2 NestedBegin",
@@ -92,7 +145,9 @@ fn write_order<W: fmt::Write>(f: &mut fmt::Formatter<W>, fault: OrderFault) -> f
     })
 }
 
-fn write_relation<W: fmt::Write>(f: &mut fmt::Formatter<W>, fault: RelFault) -> fmt::Result {
+fn write_relation<W: fmt::Write>(f: &mut fmt::Formatter<W>, fault: RelFault) -> fmt::Result
+    ensures { DisplaysOnOk W.write_str_gives f.old result (Some (relation_text fault)) f.new }
+{
     match fault {
         RelFault::Width => f.write_str("relation 1 Width"),
         RelFault::UnknownIdentity => f.write_str("relation 2 UnknownIdentity"),
@@ -103,14 +158,18 @@ fn write_relation<W: fmt::Write>(f: &mut fmt::Formatter<W>, fault: RelFault) -> 
     }
 }
 
-fn write_spool<W: fmt::Write>(f: &mut fmt::Formatter<W>, fault: SpoolFault) -> fmt::Result {
+fn write_spool<W: fmt::Write>(f: &mut fmt::Formatter<W>, fault: SpoolFault) -> fmt::Result
+    ensures { DisplaysOnOk W.write_str_gives f.old result (Some (spool_text fault)) f.new }
+{
     f.write_str(match fault {
         SpoolFault::SpoolFull => "spool 1 SpoolFull",
         SpoolFault::Memory => "memory",
     })
 }
 
-fn write_store<W: fmt::Write>(f: &mut fmt::Formatter<W>, fault: StoreFault) -> fmt::Result {
+fn write_store<W: fmt::Write>(f: &mut fmt::Formatter<W>, fault: StoreFault) -> fmt::Result
+    ensures { DisplaysOnOk W.write_str_gives f.old result (Some (store_text fault)) f.new }
+{
     f.write_str(match fault {
         StoreFault::Clash => "store 1 Clash",
         StoreFault::NoIdentity => "store 2 NoIdentity",

@@ -6,6 +6,7 @@ ghost use Rattle.std.specs.Prelude.{◌≡◌, ◌≤◌, ◌<◌, ℕ, List, No
 ghost use Rattle.std.specs.Io.KnownBytes.{Appends};
 
 use std::alloc::Global;
+use std::fmt::Display;
 use std::io;
 use std::io::{Read, Write};
 
@@ -48,8 +49,8 @@ pub trait Sink {
     ghost failed: { Self → Type 0 };
 
     /// Writes the lines, and everything that a buffer still holds.
-    fn write_lines(&mut self, lines: &str) -> io::Result<()>
-        ensures written { OnOk result (takes self.old lines.now self.new) }
+    fn write_lines<D: Display + Drop>(&mut self, lines: D) -> io::Result<()>
+        ensures written { OnOk result (IfSome (D.output lines) (λ bytes. takes self.old bytes self.new)) }
         ensures failed { OnErr result (failed self.old) };
 }
 
@@ -58,8 +59,8 @@ impl<W: Write> Sink for W {
 
     ghost failed = { λ _. ⊤ };
 
-    fn write_lines(&mut self, lines: &str) -> io::Result<()> {
-        self.write_all(lines.as_bytes())?;
+    fn write_lines<D: Display + Drop>(&mut self, lines: D) -> io::Result<()> {
+        write!(self, "{lines}")?;
         self.flush()
     }
 }

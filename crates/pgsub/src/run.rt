@@ -1,16 +1,17 @@
 //! Runs a task over readers and writers.
 ghost use Rattle.std.specs.Prelude.{◌≤◌, ◌≡◌, ◌⊎◌, IfOk, IfErr, IfSome, OnOk, None, Err, ℕ, List, length, string_bytes};
+ghost use Rattle.pgsub.specs.FaultTexts.{Tells, path_of, stop_line};
 ghost use Rattle.pgcapture.specs.Capture.{sessions_of};
 ghost use Rattle.pgsub.specs.Whole.{PrintsWhole, PrintsRefused, Reads, Prints, IsReadFault, StopsWith, status_of};
 
 use crate::dump::dump_text;
-use crate::fault_text::FaultText;
+use crate::fault_text::StopLine;
 use crate::files::{Sink, Source};
 use crate::subscriber::{Subscriber, follow};
 use pgcapture::{CaptureFault, read_capture};
 use pgsub_core::Fault;
 use std::alloc::Global;
-use std::io::{ErrorKind, Write};
+use std::io::ErrorKind;
 
 /// The longest payload of a frame that is taken, in bytes.
 const MAX_FRAME: u32 = 16777216;
@@ -126,27 +127,14 @@ fn apply<S: Source, T: Sink>(alloc: Global, file: Option<S>, out: &mut T) -> Res
     }
 }
 
-/// Writes the line of a fault.
-fn report<E: Write>(fault: RunFault, path: &str, err: &mut E) -> std::io::Result<()> {
-    match fault {
-        RunFault::Stream(fault) => writeln!(err, "pgsub: {}", FaultText(fault)),
-        RunFault::NotHexadecimal(line) => writeln!(
-            err,
-            "pgsub: capture line {line}: not hexadecimal"
-        ),
-        RunFault::TooLong => writeln!(err, "pgsub: capture too long"),
-        RunFault::CannotRead => writeln!(err, "pgsub: cannot read {path}"),
-        RunFault::CannotWrite => writeln!(err, "pgsub: cannot write"),
-    }
-}
-
 /// Runs a task: `file` is a source of the file that it names, None where that can't be opened. The answer is the exit
 /// status: 0 done, 1 refused stream or want of memory, 3 file fault; `err` then gets the line of the fault.
 ///
 /// Where it is 0, all of the file was read, and what was printed are the rows and the position of what its sessions leave. Where it
 /// isn't, there is a fault with this status, which the text, or a failure of reading or writing, has; behind a refused
-/// stream what stands was printed, and nothing where the text couldn't be opened or read.
-pub fn run<S: Source, T: Sink, E: Write>(
+/// stream what stands was printed, and nothing where the text couldn't be opened or read. `err` got the line of that fault, or
+/// writing to it failed.
+pub fn run<S: Source, T: Sink, E: Sink>(
     alloc: Global,
     task: &Task,
     file: Option<S>,
@@ -154,7 +142,7 @@ pub fn run<S: Source, T: Sink, E: Write>(
     err: &mut E,
 ) -> u8
     ensures status { result ≤ 3 }
-    ensures stopped { 1 ≤ result → (fault : RunFault) × (result ≡ status_of fault) × StopsWith S.gives S.failed T.takes T.failed MAX_FRAME MAX_TEXT file out.old out.new fault }
+    ensures stopped { 1 ≤ result → (fault : RunFault) × (result ≡ status_of fault) × StopsWith S.gives S.failed T.takes T.failed MAX_FRAME MAX_TEXT file out.old out.new fault × Tells E.takes E.failed (stop_line fault (path_of task.now)) err.old err.new }
     ensures done { result ≡ 0 → (text : List ℕ) × Reads S.gives file text × Prints T.takes text out.old out.new }
     ensures unopened { file ≡ None → (result ≡ 3) × (out.new ≡ out.old) }
     ensures quiet { result ≡ 0 → err.new ≡ err.old }
@@ -164,7 +152,8 @@ pub fn run<S: Source, T: Sink, E: Write>(
         Ok(()) => 0,
         Err(fault) => {
             // where standard error can't be written either, the status alone tells
-            let _ = report(fault, path.as_str(), err);
+            let path = path.as_str();
+            let _ = err.write_lines(StopLine { fault, path });
             fault.status()
         }
     }
