@@ -1,11 +1,10 @@
 -- The rows that are read from the dump of the tables are the dump of the value.
-use Rattle.std.proofs.Common.{◌≡◌, ℕ, ◌+◌, ◌<◌, pos, List, [], ◌∷◌, ◌++◌, map, length, take, get_or, Some, Result, Ok, Err, IfOk, Vec, Global, refl, sym, ap, subst, ◌∙◌, inl, inr}
+use Rattle.std.proofs.Common.{◌≡◌, ℕ, pos, List, [], ◌∷◌, ◌++◌, map, Some, Result, Ok, Err, IfOk, Vec, Global, refl, sym, ap, subst, ◌∙◌, inl, inr}
 use Rattle.std.specs.Prelude.{option_map, unwrap_or}
 use Rattle.std.specs.List.{flat_map, AllZip}
 use Rattle.std.specs.Cmp.{nat_cmp_total}
 use Rattle.std.specs.Cmp.Lexicographic.{nat_list_cmp_total}
 use Rattle.std.specs.FinMap as finite
-use Rattle.std.proofs.lemmas.List.{take_more}
 use Rattle.sqlite.specs.declared.types.Value.TheVariants.{Int, Text}
 use Rattle.sqlite.specs.Order as sql
 use Rattle.sqlite.specs.Store.{Ghosts}
@@ -81,17 +80,6 @@ dump_read v t h rows read =
     all_read t (finite.entries v)
     (λ e has. let got = entry_got nat_cmp_total v e has in (h.spelled.defined e.0 ∙ ap (option_map (λ (table : Table). spelled_definition table.definition)) got, (h.spellable e.0 e.1 got).rows))
     rows (subst (λ es. AllZip IsReadFrom (map (shown t) es) rows) (entries_are v t h.spelled) read)
-
--- one row more is read
-pub read_more : (shown : List sql.Row) (rows : List DumpRow) (i : ℕ) (x : sql.Row) (r : DumpRow) → i < length shown → x ≡ get_or shown i x → AllZip IsReadFrom (take i shown) rows → IsReadFrom x r
-    → AllZip IsReadFrom (take (i + 1) shown) (rows ++ r ∷ [])
-read_more shown rows i x r within is so_far one = subst (λ l. AllZip IsReadFrom l (rows ++ r ∷ [])) (sym (take_more shown i x within)) (joined (take i shown) rows so_far)
-  where
-    joined : (xs : List sql.Row) (rs : List DumpRow) → AllZip IsReadFrom xs rs → AllZip IsReadFrom (xs ++ get_or shown i x ∷ []) (rs ++ r ∷ [])
-    joined [] [] h = (subst (λ y. IsReadFrom y r) is one, tt)
-    joined [] (s ∷ rs) h = absurd h
-    joined (y ∷ xs) [] h = absurd h
-    joined (y ∷ xs) (s ∷ rs) h = (h.0, joined xs rs h.1)
 
 -- the rows of a store
 pub shows_store : {S : Type 0} (g : Ghosts S) (old new : Held S) (position : ℕ) (result : Result (Vec DumpRow Global) StoreFault)

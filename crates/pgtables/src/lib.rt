@@ -10,7 +10,7 @@ pub mod put;
 pub mod rows;
 pub mod schema;
 
-pub use dumped::dump;
+pub use dumped::{FromDump, dump};
 pub use find::{find_definition, find_row, has_rows};
 pub use put::{delete_row, delete_rows, put_definition, put_position, put_row};
 pub use rows::{StoredDefinition, StoredRow};

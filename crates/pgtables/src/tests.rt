@@ -1,13 +1,14 @@
-ghost use Rattle.std.specs.Prelude.{◌≡◌, false, OnOk};
+ghost use Rattle.std.specs.Prelude.{◌≡◌, ⊤, false, OnOk};
 ghost use Rattle.sqlite.specs.Held.{state};
 ghost use Rattle.pgtables.specs.Schema.{no_schema};
 ghost use Rattle.pgtables.specs.Kept.{IfServing, IsKept, IsUnderWay};
 
 use crate::{
-    create_tables, delete_row, delete_rows, dump, find_definition, find_row, has_rows,
+    FromDump, create_tables, delete_row, delete_rows, dump, find_definition, find_row, has_rows,
     put_definition, put_position, put_row,
 };
-use sqlite::{Alter, Connection, Error, Transaction};
+use sqlite::{Alter, Connection, Error, Row, Transaction};
+use std::alloc::Global;
 use std::process::Abort;
 use std::test::Fail;
 
@@ -158,26 +159,44 @@ fn fill<S: Alter>(rt: &impl Abort, conn: &mut Connection<S>, deletes: bool) -> R
     Ok(())
 }
 
+// What is looked at in a row of the dump.
+#[derive(Drop)]
+struct Shown {
+    oid: u32,
+    name: String,
+    body: Vec<u8>,
+    copies: u32,
+}
+
+impl FromDump for Shown {
+    ghost is_read_from = { λ _ _. ⊤ };
+
+    fn from_dump(_alloc: Global, row: &Row) -> Result<Shown, Error> {
+        Ok(Shown {
+            oid: row.get(0)?,
+            name: row.get(2)?,
+            body: row.get(3)?,
+            copies: row.get(4)?,
+        })
+    }
+}
+
 // These are all rows, in their order: the OID, the relation's name, the body and the copies.
 fn expect_dump<S: Alter>(
-    rt: &impl Abort,
+    rt: &(impl Abort + AllocGlobal),
     conn: &mut Connection<S>,
     want: &[(u32, &str, &str, u32)],
 ) -> Result<(), Fail>
     requires settled { (state S.Store conn.old).in_transaction ≡ false }
     requires kept { IfServing S.Store conn.old (IsKept (state S.Store conn.old).now) }
 {
-    let rows = dump(conn)?;
+    let rows = dump::<S, Shown>(conn, rt.alloc())?;
     assert_eq!(rt; rows.len(), want.len());
     for (row, want) in rows.iter().zip(want) {
-        let oid: u32 = row.get(0)?;
-        let name: String = row.get(2)?;
-        let body: Vec<u8> = row.get(3)?;
-        let copies: u32 = row.get(4)?;
-        assert_eq!(rt; oid, want.0);
-        assert_eq!(rt; name.as_str(), want.1);
-        assert_eq!(rt; body.as_slice(), want.2.as_bytes());
-        assert_eq!(rt; copies, want.3);
+        assert_eq!(rt; row.oid, want.0);
+        assert_eq!(rt; row.name.as_str(), want.1);
+        assert_eq!(rt; row.body.as_slice(), want.2.as_bytes());
+        assert_eq!(rt; row.copies, want.3);
     }
     Ok(())
 }

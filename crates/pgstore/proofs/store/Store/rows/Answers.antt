@@ -1,6 +1,6 @@
 use Rattle.std.proofs.Common.{◌≡◌, IfOk, not, subst, ap, ◌∙◌}
 use Rattle.sqlite.specs.Held.{state}
-use Rattle.sqlite.specs.State.{HasCleanDisk}
+use Rattle.sqlite.specs.State.{HasCleanDisk, Survives}
 use Rattle.pgstore.specs.Stored.{Stored}
 use Rattle.pgstore.specs.Dump.{dump}
 use Rattle.pgstore.specs.StoreValue.{StoreValue, Serves, Holds, Stays}
@@ -23,3 +23,7 @@ pub returns-clause-unchanged : goal.returns-clause-unchanged
 returns-clause-unchanged g c =
     subst (λ (s : StoreValue g.row.S.Denot). Serves g.S.Store (record { conn = c.dump_rows-rows.new.conn; position = c.self.inside.position }) → Stays g.S.Store s (record { conn = c.dump_rows-rows.new.conn; position = c.self.inside.position })) c.self.view_is
     (stays g.S.Store c.self.inside.conn c.dump_rows-rows.new.conn c.self.inside.position c.dump_rows-rows.ensures.clean c.dump_rows-rows.ensures.unchanged)
+
+pub returns-clause-crash : goal.returns-clause-crash
+returns-clause-crash g c =
+    subst (λ (s : StoreValue g.row.S.Denot). Survives (state g.S.Store s.conn) (state g.S.Store c.dump_rows-rows.new.conn) (λ _. ⊥)) c.self.view_is c.dump_rows-rows.ensures.crash
