@@ -1,1 +1,4 @@
+pub mod Checking
+pub mod Saying
+pub mod Totals
 pub mod UnderWay

@@ -1,19 +1,19 @@
 -- How a reader goes on over bytes.
-use Rattle.std.proofs.Common.{◌≡◌, ◌≢◌, ◌<◌, ◌≤◌, ◌+◌, ◌-◌, ◌⊎◌, inl, inr, ℕ, List, [], ◌∷◌, ◌++◌, Bool, true, false, Option, Some, None, Result, Ok, Err, MatchOption, refl, sym, ap, subst, ◌∙◌, arith, length, take, drop, append_assoc, append-nil, ⊎_elim}
+use Rattle.std.proofs.Common.{◌≡◌, ◌≢◌, ◌≤◌, ◌+◌, ◌-◌, ℕ, List, [], ◌∷◌, ◌++◌, Bool, true, false, Option, Some, None, Ok, Err, MatchOption, refl, sym, ap, subst, ◌∙◌, arith, length, take, drop, append_assoc, append-nil, ⊎_elim}
 use Rattle.std.specs.Prelude.{is_some, ◌==◌}
 use Rattle.std.proofs.lemmas.Bool.Decides.{nat_tests}
 use Rattle.std.proofs.lemmas.List.{length-append, length-take, take_rest, take-append-drop}
 use Rattle.pgwire.specs.declared.fault.WireFault.{WireFault}
 use Rattle.pgwire.specs.declared.fault.WireFault.TheVariants.{AfterDone, UnknownFrame, BadLength, TooLarge, UnknownServerMessage, Short, Trailing, BadReplyByte, Memory}
 use Rattle.std.proofs.lemmas.Bool.{false≢true}
-use Rattle.pgwire.specs.Frames.{Frame, frame, frames, IsPartial, IsDeframedAs, HasFramingFault, IsFramingFault, has_copy_done}
+use Rattle.pgwire.specs.Frames.{Frame, frame, frames, IsPartial, IsDeframedAs, IsFramingFault, has_copy_done}
 use Rattle.pgwire.specs.Deframed.{Deframed, fresh, Stands, Waits, IsFed, after_release}
-use Rattle.pgwire.specs.Calls.{Call, Feed, Release, Leads}
+use Rattle.pgwire.specs.Calls.{Feed, Release}
 use Rattle.pgwire.proofs.Readings.{partial_is_short}
 use Rattle.pgwire.proofs.Holding.{fault-append}
-use Rattle.pgwire.proofs.Runs.{counted, first_fault}
+use Rattle.pgwire.proofs.Runs.{counted}
 use Rattle.pgcheck.specs.declared.framing.FrameReader.{FrameReader}
-use Rattle.pgcheck.specs.Framed.{IsReadAs, HasReleased, IsUnderWay, HasTaken, IsReady, frames_in}
+use Rattle.pgcheck.specs.Framed.{IsReadAs, IsFaultBehind, HasReleased, IsUnderWay, HasTaken, IsReady, frames_in}
 
 -- something is taken where less than a frame is held
 pub takes_some : (d mid : Deframed) (rest : List ℕ) (n : ℕ) → Waits d → IsFed d rest (Ok n) mid → 1 ≤ length rest → 1 ≤ n
@@ -47,13 +47,33 @@ goes_on max taken rest n old new mid between u fed same released =
 pub started : (max : ℕ) → IsUnderWay max [] [] (fresh max)
 started max = record { calls = []; leads = (refl, refl, refl); waits = record { partial = record { tag = λ some. absurd (omega arith); payload = λ long. absurd (omega arith) }; last = λ e. refl }; sound = refl }
 
-pub breaks_here : (max : ℕ) (taken rest : List ℕ) (fs : List Frame) (old new : Deframed) (x : WireFault) → IsUnderWay max taken fs old → x ≢ Memory → IsFed old rest (Err x) new → HasFramingFault max (taken ++ rest) x
-breaks_here max taken rest fs old new x u other fed = first_fault max u.calls taken rest fs old new x u.leads u.sound other fed
+breaks_of : (old new : Deframed) (piece : List ℕ) (x : WireFault) → old.fault ≡ None → x ≢ Memory → IsFed old piece (Err x) new → IsFramingFault old.max old.done (old.held ++ piece) x
+breaks_of old new piece Memory none other fed = absurd (other refl)
+breaks_of old new piece AfterDone none other fed = ⊎_elim (λ (e : old.fault ≡ Some AfterDone). let bad : None ≡ Some AfterDone = sym none ∙ e in absurd (cc)) (λ b. b.1) fed.2
+breaks_of old new piece (UnknownFrame byte) none other fed = ⊎_elim (λ (e : old.fault ≡ Some (UnknownFrame byte)). let bad : None ≡ Some (UnknownFrame byte) = sym none ∙ e in absurd (cc)) (λ b. b.1) fed.2
+breaks_of old new piece BadLength none other fed = ⊎_elim (λ (e : old.fault ≡ Some BadLength). let bad : None ≡ Some BadLength = sym none ∙ e in absurd (cc)) (λ b. b.1) fed.2
+breaks_of old new piece TooLarge none other fed = ⊎_elim (λ (e : old.fault ≡ Some TooLarge). let bad : None ≡ Some TooLarge = sym none ∙ e in absurd (cc)) (λ b. b.1) fed.2
+breaks_of old new piece (UnknownServerMessage byte) none other fed = ⊎_elim (λ (e : old.fault ≡ Some (UnknownServerMessage byte)). let bad : None ≡ Some (UnknownServerMessage byte) = sym none ∙ e in absurd (cc)) (λ b. b.1) fed.2
+breaks_of old new piece Short none other fed = ⊎_elim (λ (e : old.fault ≡ Some Short). let bad : None ≡ Some Short = sym none ∙ e in absurd (cc)) (λ b. b.1) fed.2
+breaks_of old new piece Trailing none other fed = ⊎_elim (λ (e : old.fault ≡ Some Trailing). let bad : None ≡ Some Trailing = sym none ∙ e in absurd (cc)) (λ b. b.1) fed.2
+breaks_of old new piece BadReplyByte none other fed = ⊎_elim (λ (e : old.fault ≡ Some BadReplyByte). let bad : None ≡ Some BadReplyByte = sym none ∙ e in absurd (cc)) (λ b. b.1) fed.2
+
+-- a piece that can't be taken has its fault behind the frames so far
+pub breaks_here : (max : ℕ) (taken rest : List ℕ) (fs : List Frame) (old new : Deframed) (x : WireFault) → IsUnderWay max taken fs old → x ≢ Memory → IsFed old rest (Err x) new → IsFaultBehind max (taken ++ rest) fs x
+breaks_here max taken rest fs old new x u other fed =
+    let is = counted max u.calls taken fs old u.leads in
+    let breaks = breaks_of old new rest x u.sound other fed in
+    record {
+      rest = old.held ++ rest;
+      whole = ap (λ bytes. bytes ++ rest) is.whole ∙ append_assoc (frames fs) old.held rest;
+      each = is.each;
+      breaks = subst (λ m. IsFramingFault m (has_copy_done fs) (old.held ++ rest) x) is.max_is (subst (λ b. IsFramingFault old.max b (old.held ++ rest) x) (sym is.done_is) breaks);
+    }
 
 -- more bytes change nothing behind a fault
-pub still_broken : (max : ℕ) (taken piece : List ℕ) (x : WireFault) → HasFramingFault max taken x → HasFramingFault max (taken ++ piece) x
-still_broken max taken piece x h =
-    record { fs = h.fs; rest = h.rest ++ piece; whole = ap (λ bytes. bytes ++ piece) h.whole ∙ append_assoc (frames h.fs) h.rest piece; each = h.each; breaks = go (has_copy_done h.fs) x h.breaks }
+pub still_broken : (max : ℕ) (taken piece : List ℕ) (fs : List Frame) (x : WireFault) → IsFaultBehind max taken fs x → IsFaultBehind max (taken ++ piece) fs x
+still_broken max taken piece fs x h =
+    record { rest = h.rest ++ piece; whole = ap (λ bytes. bytes ++ piece) h.whole ∙ append_assoc (frames fs) h.rest piece; each = h.each; breaks = go (has_copy_done fs) x h.breaks }
   where
     go : (done : Bool) (y : WireFault) → IsFramingFault max done h.rest y → IsFramingFault max done (h.rest ++ piece) y
     go false y b = fault-append max h.rest piece y b
@@ -72,11 +92,11 @@ by_fault None A C B D f g h = f h
 by_fault (Some x) A C B D f g h = g x h
 
 pub ready : (max : ℕ) (taken : List ℕ) (r : FrameReader) → HasTaken max taken r → IsReady r
-ready max taken r h = by_fault r.reading.fault (IsUnderWay max taken (frames_in r.reading) r.deframer) (Waits r.deframer × (r.deframer.fault ≡ None)) (λ x. HasFramingFault max taken x) (λ x. Unit {0}) (λ u. (u.waits, u.sound)) (λ x f. tt) h
+ready max taken r h = by_fault r.reading.fault (IsUnderWay max taken (frames_in r.reading) r.deframer) (Waits r.deframer × (r.deframer.fault ≡ None)) (λ x. IsFaultBehind max taken (frames_in r.reading) x) (λ x. Unit {0}) (λ u. (u.waits, u.sound)) (λ x f. tt) h
 
 pub finished : (max : ℕ) (bytes : List ℕ) (r : FrameReader) → HasTaken max bytes r → IsReadAs max bytes r.reading
 finished max bytes r h =
-    by_fault r.reading.fault (IsUnderWay max bytes (frames_in r.reading) r.deframer) ((rest : List ℕ) × IsDeframedAs max bytes (frames_in r.reading) rest) (λ x. HasFramingFault max bytes x) (λ x. HasFramingFault max bytes x) deframed (λ x f. f) h
+    by_fault r.reading.fault (IsUnderWay max bytes (frames_in r.reading) r.deframer) ((rest : List ℕ) × IsDeframedAs max bytes (frames_in r.reading) rest) (λ x. IsFaultBehind max bytes (frames_in r.reading) x) (λ x. IsFaultBehind max bytes (frames_in r.reading) x) deframed (λ x f. f) h
   where
     deframed : IsUnderWay max bytes (frames_in r.reading) r.deframer → (rest : List ℕ) × IsDeframedAs max bytes (frames_in r.reading) rest
     deframed u =
@@ -90,7 +110,7 @@ none_is (Some x) b same isnt = absurd (cc)
 pub under_way : (max : ℕ) (taken : List ℕ) (r : FrameReader) → HasTaken max taken r → r.reading.fault ≡ None → IsUnderWay max taken (frames_in r.reading) r.deframer
 under_way max taken r h none = go r.reading.fault h none
   where
-    go : (o : Option WireFault) → MatchOption o (IsUnderWay max taken (frames_in r.reading) r.deframer) (λ fault. HasFramingFault max taken fault) → o ≡ None → IsUnderWay max taken (frames_in r.reading) r.deframer
+    go : (o : Option WireFault) → MatchOption o (IsUnderWay max taken (frames_in r.reading) r.deframer) (λ fault. IsFaultBehind max taken (frames_in r.reading) fault) → o ≡ None → IsUnderWay max taken (frames_in r.reading) r.deframer
     go None u e = u
     go (Some x) f e = absurd (cc)
 

@@ -1,1 +1,5 @@
+pub mod Counted
 pub mod Framed
+pub mod Said
+pub mod Sessions
+pub mod Texts

@@ -1,5 +1,9 @@
 //! How much was checked.
 
+ghost use Rattle.std.specs.Prelude.{◌≡◌, ◌<◌, ℕ, Option, sum, slice_index, slice_set};
+ghost use Rattle.pglogical.specs.Spelling.{message_spelling, item_spelling};
+ghost use Rattle.pgcheck.specs.Counted.{letter, place, at_most, one_more, both, BeginsWith, none_counted};
+
 use pglogical::{Item, Message};
 use std::fmt;
 
@@ -45,7 +49,10 @@ const NAMES: [&str; KINDS] = [
 ];
 
 impl Kind {
-    pub fn of(message: &Message) -> Kind {
+    /// The kind of a message: the one of whose format the first byte is the message's.
+    pub fn of(message: &Message) -> Kind
+        ensures { BeginsWith (letter result) (message_spelling message.now) }
+    {
         match message {
             Message::Begin { .. } => Kind::Begin,
             Message::Commit { .. } => Kind::Commit,
@@ -60,7 +67,9 @@ impl Kind {
         }
     }
 
-    fn of_item(item: &Item) -> Kind {
+    fn of_item(item: &Item) -> Kind
+        ensures { (xid : Option ℕ) → BeginsWith (letter result) (item_spelling xid item.now) }
+    {
         match item {
             Item::Relation(_) => Kind::Relation,
             Item::Insert { .. } => Kind::Insert,
@@ -83,7 +92,10 @@ pub struct Counts {
 }
 
 impl Counts {
-    pub fn new() -> Counts {
+    /// Nothing is counted.
+    pub fn new() -> Counts
+        ensures { result ≡ none_counted }
+    {
         Counts {
             sessions: 0,
             pieces: 0,
@@ -95,14 +107,24 @@ impl Counts {
     }
 
     /// Counts a message and the bytes of its body.
-    pub fn count(&mut self, kind: Kind, body_len: usize) {
+    pub fn count(&mut self, kind: Kind, body_len: usize)
+        ensures kind { self.new.by_kind ≡ slice_set self.old.by_kind (place kind) (one_more (slice_index self.old.by_kind (place kind))) }
+        ensures bytes { self.new ≡ record self.old { by_kind = self.new.by_kind; body_bytes = both self.old.body_bytes body_len } }
+    {
         let place = kind as usize;
         self.by_kind[place] = self.by_kind[place].saturating_add(1);
         self.body_bytes = self.body_bytes.saturating_add(body_len as u64);
     }
 
     /// Adds what was counted elsewhere.
-    pub fn add(&mut self, other: &Counts) {
+    pub fn add(&mut self, other: &Counts)
+        ensures sessions { self.new.sessions ≡ both self.old.sessions other.now.sessions }
+        ensures pieces { self.new.pieces ≡ both self.old.pieces other.now.pieces }
+        ensures frames { self.new.frames ≡ both self.old.frames other.now.frames }
+        ensures keepalives { self.new.keepalives ≡ both self.old.keepalives other.now.keepalives }
+        ensures bytes { self.new.body_bytes ≡ both self.old.body_bytes other.now.body_bytes }
+        ensures kinds { (k : ℕ) → k < 14 → slice_index self.new.by_kind k ≡ both (slice_index self.old.by_kind k) (slice_index other.now.by_kind k) }
+    {
         self.sessions = self.sessions.saturating_add(other.sessions);
         self.pieces = self.pieces.saturating_add(other.pieces);
         self.frames = self.frames.saturating_add(other.frames);
@@ -114,7 +136,9 @@ impl Counts {
     }
 
     /// The logical messages of all kinds.
-    pub fn messages(&self) -> u64 {
+    pub fn messages(&self) -> u64
+        ensures { result ≡ at_most (sum self.now.by_kind) }
+    {
         let mut sum = 0u64;
         for count in &self.by_kind {
             sum = sum.saturating_add(*count);

@@ -2,6 +2,9 @@
 //! checks stand beside the proofs, over what a real server sent.
 #![tactic(auto)]
 
+ghost use Rattle.std.specs.Prelude.{IfOk, MatchOption};
+ghost use Rattle.pgcheck.specs.Texts.{IsFound, IsSoundText};
+
 mod counts;
 mod difference;
 mod framing;
@@ -10,7 +13,7 @@ mod sessions;
 use counts::Counts;
 use difference::Difference;
 use pgcapture::{CaptureFault, read_capture};
-use sessions::Checker;
+use sessions::check_session;
 use std::alloc::{AllocError, Global};
 use std::process::ExitCode;
 use std::{env, fs, io};
@@ -45,7 +48,9 @@ enum Found {
 }
 
 /// Checks the sessions of a capture text, up to the first thing that isn't as it should be.
-fn check_text(alloc: Global, text: &[u8]) -> Result<Checked, AllocError> {
+fn check_text(alloc: Global, text: &[u8]) -> Result<Checked, AllocError>
+    ensures { IfOk result (λ checked. MatchOption checked.found (IsSoundText text.now checked.counts) (λ found. IsFound text.now found)) }
+{
     let mut counts = Counts::new();
     let sessions = match read_capture(alloc, text) {
         Ok(sessions) => sessions,
@@ -56,16 +61,18 @@ fn check_text(alloc: Global, text: &[u8]) -> Result<Checked, AllocError> {
         }
     };
     for session in &sessions {
-        let mut checker = Checker::new(alloc);
-        let difference = checker.check(session.pieces.as_slice())?;
-        counts.add(&checker.counts());
-        if let Some(difference) = difference {
-            let found = Some(Found::At {
-                session: counts.sessions,
-                frames: checker.counts().frames,
-                difference,
-            });
-            return Ok(Checked { counts, found });
+        let checked = check_session(alloc, session.pieces.as_slice())?;
+        counts.add(&checked.counts);
+        match checked.difference {
+            None => {}
+            Some(difference) => {
+                let found = Some(Found::At {
+                    session: counts.sessions,
+                    frames: checked.counts.frames,
+                    difference,
+                });
+                return Ok(Checked { counts, found });
+            }
         }
     }
     Ok(Checked {

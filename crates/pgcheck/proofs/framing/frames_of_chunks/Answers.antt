@@ -1,4 +1,4 @@
-use Rattle.std.proofs.Common.{ℕ, List, ◌≡◌, subst, append-nil, sym, ◌∙◌}
+use Rattle.std.proofs.Common.{ℕ, List, subst}
 use Rattle.pgcheck.specs.Framed.{HasTaken}
 use Rattle.pgcheck.proofs.UnderWay.{finished, all_taken}
 use Rattle.pgcheck.proofs.framing.frames_of_chunks.Goals as goal

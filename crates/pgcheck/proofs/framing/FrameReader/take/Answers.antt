@@ -1,6 +1,5 @@
-use Rattle.std.proofs.Common.{◌≡◌, ◌++◌, ℕ, List, refl, sym, subst, take, ◌∙◌}
-use Rattle.pgwire.specs.Frames.{HasFramingFault}
-use Rattle.pgcheck.specs.Framed.{frames_in}
+use Rattle.std.proofs.Common.{◌++◌, refl, sym, subst, take, ◌∙◌}
+use Rattle.pgcheck.specs.Framed.{IsFaultBehind, frames_in}
 use Rattle.pgcheck.proofs.UnderWay.{none_is, under_way, breaks_here, waits_again, goes_on, same_bytes}
 use Rattle.pgcheck.proofs.framing.FrameReader.take.Goals as goal
 
@@ -9,8 +8,8 @@ returns-in-Err c = λ max before h.
     let none = none_is c.args.self.now.reading.fault c.is_some.result c.is_some.ensures c.if-is_some.false in
     let at = c.loop-rest.invariant.3 max before (under_way max before c.args.self.now h none) in
     let fault = c.in_ok-framing_fault-in-Err.ensures in
-    subst (λ x. HasFramingFault max (before ++ c.args.piece.now) x) (sym fault.0)
-    (subst (λ bytes. HasFramingFault max bytes c.in-Err.fault) at.2 (breaks_here max at.0 c.loop-rest.rest.now (frames_in c.loop-rest.self.reading) c.loop-rest.self.deframer c.feed.new.self c.in-Err.fault at.1 fault.1 c.in-Err.ensures.fed))
+    subst (λ x. IsFaultBehind max (before ++ c.args.piece.now) (frames_in c.loop-rest.self.reading) x) (sym fault.0)
+    (subst (λ bytes. IsFaultBehind max bytes (frames_in c.loop-rest.self.reading) c.in-Err.fault) at.2 (breaks_here max at.0 c.loop-rest.rest.now (frames_in c.loop-rest.self.reading) c.loop-rest.self.deframer c.feed.new.self c.in-Err.fault at.1 fault.1 c.in-Err.ensures.fed))
 
 pub loop-rest-preserved : goal.loop-rest-preserved
 loop-rest-preserved c =
