@@ -55,7 +55,7 @@ impl RunFault {
 }
 
 /// The bytes of a capture text.
-fn read_text<S: Source>(alloc: Global, file: Option<S>) -> Result<Vec<u8>, RunFault>
+fn read_text<S: Source + Drop>(alloc: Global, file: Option<S>) -> Result<Vec<u8>, RunFault>
     ensures text { IfOk result (λ text. Reads S.gives file text.items × (length text.items ≤ MAX_TEXT)) }
     ensures refused { IfErr result (IsReadFault S.gives S.failed MAX_TEXT file) }
     ensures unopened { file ≡ None → result ≡ Err RunFault.CannotRead }
@@ -111,7 +111,11 @@ pub fn apply_text(alloc: Global, text: &[u8]) -> Result<Applied, RunFault>
 }
 
 /// Applies the sessions of a file, and writes the lines that are printed.
-fn apply<S: Source, T: Sink>(alloc: Global, file: Option<S>, out: &mut T) -> Result<(), RunFault>
+fn apply<S: Source + Drop, T: Sink>(
+    alloc: Global,
+    file: Option<S>,
+    out: &mut T,
+) -> Result<(), RunFault>
     ensures done { OnOk result ((text : List ℕ) × Reads S.gives file text × Prints T.takes text out.old out.new) }
     ensures refused { IfErr result (StopsWith S.gives S.failed T.takes T.failed MAX_FRAME MAX_TEXT file out.old out.new) }
     ensures unopened { file ≡ None → (result ≡ Err RunFault.CannotRead) × (out.new ≡ out.old) }
@@ -134,7 +138,7 @@ fn apply<S: Source, T: Sink>(alloc: Global, file: Option<S>, out: &mut T) -> Res
 /// isn't, there is a fault with this status, which the text, or a failure of reading or writing, has; behind a refused
 /// stream what stands was printed, and nothing where the text couldn't be opened or read. `err` got the line of that fault, or
 /// writing to it failed.
-pub fn run<S: Source, T: Sink, E: Sink>(
+pub fn run<S: Source + Drop, T: Sink, E: Sink>(
     alloc: Global,
     task: &Task,
     file: Option<S>,
