@@ -5,6 +5,7 @@ use Rattle.pgtuple.specs.declared.cell.Cell.{Cell}
 use Rattle.pglogical.specs.declared.item.RelationDef.{RelationDef}
 use Rattle.pglogical.specs.declared.item.Column.{Column}
 use Rattle.pgrel.specs.Identity.{keyed, IsKeyed, identity, identity_full, shape, same_shape, has_unchanged, resolved}
+use Rattle.pgrel.specs.Carried.{carried}
 
 -- the test for one shape tells whether the shapes are equal
 abbrev pub SameShapeMeansEqualShapes : Type 0
@@ -48,3 +49,10 @@ ResolvedHasAllCells = (new old : List Cell) → length new ≡ length old → ha
 -- a row all of whose cells were sent stays as it is
 abbrev pub SentRowStays : Type 0
 SentRowStays = (new old : List Cell) → has_unchanged new ≡ false → resolved new old ≡ new
+
+-- a carried row has the new definition's width, and has all its cells if it had them before
+abbrev pub CarriedHasNewWidth : Type 0
+CarriedHasNewWidth = (old new : RelationDef) (cells : List Cell) → length (carried old new cells) ≡ length new.columns
+
+abbrev pub CarriedHasAllCells : Type 0
+CarriedHasAllCells = (old new : RelationDef) (cells : List Cell) → has_unchanged cells ≡ false → has_unchanged (carried old new cells) ≡ false

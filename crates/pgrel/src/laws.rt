@@ -3,6 +3,8 @@
 //! PostgreSQL documentation, ALTER TABLE, REPLICA IDENTITY.
 
 ghost use Rattle.pgrel.specs.Laws.{
+  CarriedHasNewWidth,
+  CarriedHasAllCells,
   SameShapeMeansEqualShapes,
   SameShapeMeansSameIdentity,
   KeyedMeansKeyColumns,
@@ -38,4 +40,10 @@ pub fn resolved_rows_are_whole()
     ensures width { ResolvedKeepsWidth }
     ensures whole { ResolvedHasAllCells }
     ensures sent { SentRowStays }
+{}
+
+/// A row that is carried to another definition has a cell for each of its columns, and all of them if it had all before.
+pub fn carried_rows_are_whole()
+    ensures width { CarriedHasNewWidth }
+    ensures whole { CarriedHasAllCells }
 {}
