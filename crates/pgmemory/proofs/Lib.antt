@@ -1,3 +1,4 @@
 pub mod Clean
 pub mod Unused
 mod Refusing
+mod Stopped

@@ -1,3 +1,4 @@
 pub mod Content
 pub mod Connected
 pub mod Refused
+pub mod Stopped

@@ -7,9 +7,11 @@
 pub mod disk;
 pub mod laws;
 pub mod opening;
+pub mod stopping;
 
 pub use disk::MemoryDisk;
 pub use opening::open;
+pub use stopping::stop;
 
 #[cfg(test)]
 mod tests;
