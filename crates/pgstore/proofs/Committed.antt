@@ -58,6 +58,7 @@ module _ {S : Type 0} (g : Ghosts S) (old begun mid last new : Held S) (definiti
       let tables : tables_in db ≡ with_place position (tables_of g mid) = ap tables_in same ∙ put.made in
       let whole : ◌≡◌ {A = Database} (state g last).now (record { schema = store_schema; trees = db }) = λ i. record { schema = put.under_way.kept.schema i; trees = sym same i } in
       record {
+        was_open = subst (λ h. IsTrue (state g h).is_open) is first.0.was_open;
         kept = subst stored.IsKept whole put.under_way.kept;
         position_is = ap (λ (t : stored.Tables). t.place) tables;
         folds = λ v h.

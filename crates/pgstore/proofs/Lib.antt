@@ -15,3 +15,4 @@ mod EffectRows
 mod WorkRows
 mod DumpRows
 pub mod Causes
+mod CarryRows

@@ -1,5 +1,5 @@
 -- What a store contains, when it is made and when a commit is taken.
-use Rattle.std.proofs.Common.{◌≡◌, ◌≤◌, ℕ, List, [], ◌∷◌, Ok, false, IsTrue, refl, sym, ap, subst, ◌∙◌, arith}
+use Rattle.std.proofs.Common.{◌≡◌, ◌≤◌, ◌<◌, inl, inr, ℕ, List, [], ◌∷◌, Ok, false, IsTrue, refl, sym, ap, subst, ◌∙◌, arith}
 use Rattle.std.specs.Prelude.{option_map}
 use Rattle.std.specs.Int.{w64, to_be_bytes}
 use Rattle.std.specs.Ordering.{nat_cmp}
@@ -25,7 +25,7 @@ use Rattle.pgstore.specs.Apply.{Change, fold_changes}
 use Rattle.pgstore.specs.Stored.{Stored, IsFault}
 use Rattle.pgstore.specs.Spelled.{IsStored, spelled_definition, spelled_row, row_in}
 use Rattle.pgstore.specs.Acts.{HasTaken, LeavesTaken, RefusesToFold}
-use Rattle.pgstore.specs.StoreValue.{IsStore, HasMade, Serves, Holds, Contains, Takes, Stays, RefusesWork, LeavesWork, nothing_stored}
+use Rattle.pgstore.specs.StoreValue.{AreOf, IsAtLeast, Keeps, IsStore, HasMade, Serves, Holds, Contains, Takes, Stays, RefusesWork, LeavesWork, nothing_stored}
 use Rattle.pgstore.proofs.KeepsForm.{none_keeps}
 
 -- ---- a crash between calls
@@ -57,6 +57,29 @@ contains g conn position is now =
       },
     )
 
+-- the trees that a store has, where all that it says of them holds
+trees_of : {S : Type 0} (g : Ghosts S) (conn : Held S) (v : Stored) (db : Trees) → stored.IsKept (state g conn).now → IsStored v.tables (tables_of g conn) → (tables_of g conn).place ≡ to_be_bytes w64 v.position → db ≡ (state g conn).now.trees → AreOf v db
+trees_of g conn v db kept is place same =
+    let whole : ◌≡◌ {A = Database} (state g conn).now (record { schema = store_schema; trees = db }) = λ i. record { schema = kept.schema i; trees = sym same i } in
+    record {
+      kept = subst stored.IsKept whole kept;
+      stored = subst (λ t. IsStored v.tables (tables_in t)) (sym same) is;
+      position = ap (λ t. (tables_in t).place) same ∙ place;
+    }
+
+-- these very tables are at least as far
+very : (v : Stored) (db : Trees) → AreOf v db → IsAtLeast v db
+very v db is = (v, is, omega arith, λ _. is)
+
+-- an open store keeps what it has
+open_keeps : {S : Type 0} (g : Ghosts S) (conn : Held S) (v : Stored) → IsSettled g → (IsTrue (state g conn).is_open → (state g conn).now ≡ (state g conn).committed) → IsTrue (state g conn).is_open → stored.IsKept (state g conn).now
+    → IsStored v.tables (tables_of g conn) → (tables_of g conn).place ≡ to_be_bytes w64 v.position → Keeps g (record { conn = conn; position = v.position }) v
+open_keeps g conn v law even still kept is place = record {
+  position = refl;
+  holds = λ _. record { stored = is; position = refl };
+  left = λ db may. very v db (trees_of g conn v db kept is place (law conn.store db still may ∙ sym (ap (λ (d : Database). d.trees) (even still))));
+}
+
 -- ---- a new store
 
 no_value : IsStored map.empty stored.no_tables
@@ -81,6 +104,7 @@ module _ {S : Type 0} (g : Ghosts S) (conn : Held S) (made : HasCleanDisk (state
     same = λ clean still. ap (λ (t : stored.Tables). t.place) (made clean).none;
     stored = λ clean still. (map.empty, first_stored clean);
     crash = crash_leaves g law conn even;
+    keeps = λ clean. (nothing_stored, open_keeps g conn nothing_stored law even (made clean).is_open (made clean).kept (first_stored clean) (ap (λ (t : stored.Tables). t.place) (made clean).none));
   }
 
   pub first_holds : HasCleanDisk (state g conn) → Serves g (record { conn = conn; position = 0 }) × Holds g (record { conn = conn; position = 0 }) nothing_stored
@@ -91,8 +115,23 @@ module _ {S : Type 0} (g : Ghosts S) (conn : Held S) (made : HasCleanDisk (state
 module _ {S : Type 0} (g : Ghosts S) (old new : Held S) (position : ℕ) (doubts : doubt (state g old).is_clean ≤ doubt (state g new).is_clean) where
   -- nothing changed
   module _ (same : IfServing g new (IsTrue (state g old).is_open × ((state g new).now ≡ (state g old).now))) where
-    pub stays_store : IsStore g old position → IsSettled g → (IsTrue (state g new).is_open → (state g new).now ≡ (state g new).committed) → (state g new).in_transaction ≡ false → IsStore g new position
-    stays_store was law even settled = record {
+    pub stays_keeps : IsStore g old position → ((v : Stored) → v.position ≡ position → Keeps g (record { conn = old; position = position }) v → HasCleanDisk (state g new) → (db : Trees) → (state g new).may_leave db → IsAtLeast v db)
+        → HasCleanDisk (state g new) → (v : Stored) × Keeps g (record { conn = new; position = position }) v
+    stays_keeps was left clean =
+        let k = was.keeps (omega arith) in (
+          k.0,
+          record {
+            position = k.1.position;
+            holds = λ still.
+                let it = same clean still in
+                let h = k.1.holds it.0 in
+                record { stored = subst (λ (d : Database). IsStored k.0.tables (tables_in d.trees)) (sym it.1) h.stored; position = h.position };
+            left = left k.0 k.1.position k.1 clean;
+          },
+        )
+
+    pub stays_store : IsStore g old position → ((v : Stored) → v.position ≡ position → Keeps g (record { conn = old; position = position }) v → HasCleanDisk (state g new) → (db : Trees) → (state g new).may_leave db → IsAtLeast v db) → IsSettled g → (IsTrue (state g new).is_open → (state g new).now ≡ (state g new).committed) → (state g new).in_transaction ≡ false → IsStore g new position
+    stays_store was left law even settled = record {
       settled = settled;
       kept = λ clean still. let it = same clean still in subst stored.IsKept (sym it.1) (was.kept (omega arith) it.0);
       same = λ clean still. let it = same clean still in ap (λ (d : Database). (tables_in d.trees).place) it.1 ∙ was.same (omega arith) it.0;
@@ -101,6 +140,7 @@ module _ {S : Type 0} (g : Ghosts S) (old new : Held S) (position : ℕ) (doubts
           let v = was.stored (omega arith) it.0 in
           (v.0, subst (λ (d : Database). IsStored v.0 (tables_in d.trees)) (sym it.1) v.1);
       crash = crash_leaves g law new even;
+      keeps = stays_keeps was left;
     }
 
     pub stays : Serves g (record { conn = new; position = position }) → Stays g (record { conn = old; position = position }) (record { conn = new; position = position })
@@ -124,6 +164,11 @@ module _ {S : Type 0} (g : Ghosts S) (old new : Held S) (position : ℕ) (doubts
           let f = it.folds v.0 v.1 in
           (f.0, f.2);
       crash = crash_leaves g law new even;
+      keeps = λ clean.
+          let it = taken clean in
+          let v = was.stored (omega arith) it.was_open in
+          let f = it.folds v.0 v.1 in
+          (record { tables = f.0; position = end }, open_keeps g new (record { tables = f.0; position = end }) law even it.is_open it.kept f.2 (it.position_is ∙ spells));
     }
 
     pub takes : (changes : List Change) → change_values definitions entries ≡ changes → HasCleanDisk (state g new) → Takes g (record { conn = old; position = position }) (record { conn = new; position = end }) changes end
@@ -146,9 +191,24 @@ refuses_work g old position definitions entries changes e is h v s = subst (λ c
 module _ {S : Type 0} (g : Ghosts S) (old new : Held S) (position : ℕ) (definitions : List RelationDef) (entries : List (ℕ × Op)) (end : ℕ) (bytes : List ℕ) (spells : bytes ≡ to_be_bytes w64 end)
     (changes : List Change) (is : change_values definitions entries ≡ changes) where
   leaves_work : (db : Trees) → LeavesTaken g old definitions entries bytes db → LeavesWork g (record { conn = old; position = position }) changes end db
-  leaves_work db h v s =
+  leaves_work db h = (h.was_open, λ v s.
       let f = h.folds v.tables s.stored in
-      (f.0, subst (λ cs. fold_changes v.tables cs ≡ Ok f.0) is f.1, record { kept = h.kept; stored = f.2; position = h.position_is ∙ spells })
+      (f.0, subst (λ cs. fold_changes v.tables cs ≡ Ok f.0) is f.1, record { kept = h.kept; stored = f.2; position = h.position_is ∙ spells }))
+
+  -- what a commit leaves that wasn't answered Ok is at least as far
+  pub refused_left : position < end → Survives (state g old) (state g new) (LeavesTaken g old definitions entries bytes) → (v : Stored) → v.position ≡ position → Keeps g (record { conn = old; position = position }) v
+      → HasCleanDisk (state g new) → (db : Trees) → (state g new).may_leave db → IsAtLeast v db
+  refused_left later s v at keeps clean db may = elim (s.crash clean db may) [
+    | inl before ↦ keeps.left db before
+    | inr taken ↦
+        let f = taken.folds v.tables (keeps.holds taken.was_open).stored in
+        (record { tables = f.0; position = end }, record { kept = taken.kept; stored = f.2; position = taken.position_is ∙ spells }, omega (arith, later, at), λ e. absurd (let no : ⊥ = omega (arith, later, at, e) in no))
+  ]
 
   pub survives_work : Survives (state g old) (state g new) (LeavesTaken g old definitions entries bytes) → Survives (state g old) (state g new) (LeavesWork g (record { conn = old; position = position }) changes end)
   survives_work s = survives_weaker (state g old) (state g new) _ _ (λ _ db h. leaves_work db h) s
+
+-- a call that commits nothing leaves what could be left before
+pub read_left : {S : Type 0} (g : Ghosts S) (old new : Held S) (position : ℕ) → Survives (state g old) (state g new) (λ _. ⊥) → (v : Stored) → v.position ≡ position → Keeps g (record { conn = old; position = position }) v
+    → HasCleanDisk (state g new) → (db : Trees) → (state g new).may_leave db → IsAtLeast v db
+read_left g old new position s v at keeps clean db may = elim (s.crash clean db may) [ inl before ↦ keeps.left db before | inr none ↦ absurd none ]

@@ -176,6 +176,8 @@ pub record HasTaken {S : Type 0} (g : Ghosts S) (old new : Held S) (definitions 
 
 -- what a crash may leave of it: the changes folded, with this position
 pub record LeavesTaken {S : Type 0} (g : Ghosts S) (old : Held S) (definitions : List RelationDef) (changes : List (ℕ × Op)) (position : List ℕ) (db : Trees) : Type 0 where
+  -- a store that has shut commits nothing more
+  pub was_open : IsTrue (state g old).is_open
   pub kept : stored.IsKept (record { schema = store_schema; trees = db })
   pub position_is : (tables_in db).place ≡ position
   pub folds : (v : Tables) → IsStored v (tables_of g old) → (next : Tables) × (fold_changes v (change_values definitions changes) ≡ Ok next) × IsStored next (tables_in db)

@@ -1,5 +1,5 @@
 -- What a caller sees of a store, and what holds of each.
-use Rattle.std.specs.Prelude.{◌≡◌, ℕ, false, List, IsTrue, Ok, refl}
+use Rattle.std.specs.Prelude.{◌≡◌, ◌≤◌, ℕ, false, List, IsTrue, Ok, refl}
 use Rattle.std.specs.Coded.{Coded, code_by, coded×, coded_ℕ}
 use Rattle.std.specs.Int.{w64, to_be_bytes}
 use Rattle.std.specs.FinMap as map
@@ -30,6 +30,10 @@ pub record AreOf (v : Stored) (db : Trees) : Type 0 where
   pub stored : IsStored v.tables (tables_in db)
   pub position : (tables_in db).place ≡ to_be_bytes w64 v.position
 
+-- trees at least as far as these tables: at a position that is no smaller, and with these very tables where it is the same
+abbrev pub IsAtLeast : Stored → Trees → Type 0
+IsAtLeast v db = (w : Stored) × AreOf w db × (v.position ≤ w.position) × (w.position ≡ v.position → AreOf v db)
+
 -- no tables, at 0/0
 abbrev pub nothing_stored : Stored
 nothing_stored = record { tables = map.empty; position = 0 }
@@ -54,6 +58,13 @@ module _ {S : Type 0} (g : Ghosts S) where
     pub holds : Holds s v
     pub left : (db : Trees) → (state g s.conn).may_leave db → AreOf v db
 
+  -- The tables that the store has, or had when a failure of its disk shut it. While it is open it holds them, and whatever a
+  -- crash may leave is at least as far, shut or not.
+  pub record Keeps (s : StoreValue S) (v : Stored) : Type 0 where
+    pub position : v.position ≡ s.position
+    pub holds : IsTrue (state g s.conn).is_open → Holds s v
+    pub left : (db : Trees) → (state g s.conn).may_leave db → IsAtLeast v db
+
   -- what holds of each store
   pub record IsStore (conn : Held S) (position : ℕ) : Type 0 where
     pub settled : (state g conn).in_transaction ≡ false
@@ -63,6 +74,8 @@ module _ {S : Type 0} (g : Ghosts S) where
     pub stored : IfServing g conn ((v : Tables) × IsStored v (tables_of g conn))
     -- between calls a crash leaves what is stored
     pub crash : IfServing g conn ((db : Trees) → (state g conn).may_leave db → db ≡ (state g conn).now.trees)
+    -- and of a store that has shut nothing older
+    pub keeps : HasCleanDisk (state g conn) → (v : Stored) × Keeps (record { conn = conn; position = position }) v
 
   -- the tables were made, empty, with position 0/0
   pub record HasMade (conn : Held S) : Type 0 where
@@ -87,4 +100,4 @@ module _ {S : Type 0} (g : Ghosts S) where
 
   -- what a crash may leave of a commit: the changes folded, with this position
   abbrev pub LeavesWork : StoreValue S → List Change → ℕ → Trees → Type 0
-  LeavesWork old changes end db = (v : Stored) → Holds old v → (next : Tables) × (fold_changes v.tables changes ≡ Ok next) × AreOf (record { tables = next; position = end }) db
+  LeavesWork old changes end db = IsTrue (state g old.conn).is_open × ((v : Stored) → Holds old v → (next : Tables) × (fold_changes v.tables changes ≡ Ok next) × AreOf (record { tables = next; position = end }) db)

@@ -76,6 +76,25 @@ fn add_copy<S: Alter>(
     Ok(())
 }
 
+/// A row comes whose identity stands already: one more copy of it, in a bag.
+fn add_again<S: Alter>(
+    tx: &mut Transaction<'_, S>,
+    def: &RelationDef,
+    place: &[u8],
+    body: &[u8],
+) -> Result<(), StoreFault>
+    requires { IfServing S.Store tx.old.conn.now (IsUnderWay S.Store tx.old.conn.now) }
+    ensures same_reference { tx.new.conn.ghost_name ≡ tx.old.conn.ghost_name }
+    ensures made { HasCleanDisk (state S.Store tx.new.conn.now) → OnOk result (Adds S.Store tx.old.conn.now tx.new.conn.now def.now place.now body.now) }
+    ensures fault { HasCleanDisk (state S.Store tx.new.conn.now) → IfErr result (λ fault. (cells : List Cell) → IsNewRow def.now cells place.now body.now → Refuses S.Store tx.old.conn.now def.now (with_row def.now cells) fault) }
+    ensures goes { Goes S.Store tx.old.conn.now tx.new.conn.now }
+{
+    match find_row(tx, def.oid, place)? {
+        None => Err(StoreFault::Refused),
+        Some(there) => add_copy(tx, def, place, body, &there),
+    }
+}
+
 /// A row comes, or one copy of it.
 fn add_row<S: Alter>(
     tx: &mut Transaction<'_, S>,
@@ -89,13 +108,10 @@ fn add_row<S: Alter>(
     ensures fault { HasCleanDisk (state S.Store tx.new.conn.now) → IfErr result (λ fault. (cells : List Cell) → IsNewRow def.now cells place.now body.now → Refuses S.Store tx.old.conn.now def.now (with_row def.now cells) fault) }
     ensures goes { Goes S.Store tx.old.conn.now tx.new.conn.now }
 {
-    match find_row(tx, def.oid, place)? {
-        None => {
-            put_row(tx, def.oid, place, body, 1)?;
-            Ok(())
-        }
-        Some(there) => add_copy(tx, def, place, body, &there),
+    if pgtables::add_row(tx, def.oid, place, body, 1)? {
+        return Ok(());
     }
+    add_again(tx, def, place, body)
 }
 
 /// A row stands in the place of the one that was found: that one goes, or one copy of it, and the new one comes.

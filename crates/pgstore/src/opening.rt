@@ -1,12 +1,13 @@
 //! The tables of a new store.
 
-ghost use Rattle.std.specs.Prelude.{◌≡◌, false, OnOk, IfErr};
+ghost use Rattle.std.specs.Prelude.{◌≡◌, false, IsTrue, OnOk, IfErr};
 ghost use Rattle.sqlite.specs.Held.{state};
 ghost use Rattle.sqlite.specs.State.{HasCleanDisk};
-ghost use Rattle.pgtables.specs.Schema.{no_schema};
+ghost use Rattle.pgtables.specs.Schema.{no_schema, store_schema};
 ghost use Rattle.pgtables.specs.Kept.{IfServing};
+ghost use Rattle.pgstore.specs.Stored.{Stored};
 ghost use Rattle.pgstore.specs.Acts.{IsOwnFault};
-ghost use Rattle.pgstore.specs.StoreValue.{HasMade};
+ghost use Rattle.pgstore.specs.StoreValue.{AreOf, HasMade};
 
 use crate::rows::StoreFault;
 use pgtables::create_tables;
@@ -24,4 +25,11 @@ pub(crate) fn make_tables<S: Alter>(conn: &mut Connection<S>) -> Result<(), Stor
     create_tables(&mut tx)?;
     tx.commit()?;
     Ok(())
+}
+
+/// Whatever value the trees that a connection sees have, its schema is that of a store: a catalog lists one schema.
+pub(crate) fn sees_schema<S: Alter>(conn: &Connection<S>)
+    ensures { (v : Stored) → AreOf v (state S.Store conn.now).now.trees → IsTrue (state S.Store conn.now).is_open → (state S.Store conn.now).now.schema ≡ store_schema }
+{
+    let _schema = conn.schema();
 }

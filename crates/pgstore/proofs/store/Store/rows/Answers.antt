@@ -4,14 +4,15 @@ use Rattle.sqlite.specs.State.{HasCleanDisk, Survives}
 use Rattle.pgstore.specs.Stored.{Stored}
 use Rattle.pgstore.specs.Dump.{dump}
 use Rattle.pgstore.specs.StoreValue.{StoreValue, Serves, Holds, Stays}
-use Rattle.pgstore.proofs.Stores.{stays_store, stays}
+use Rattle.pgstore.proofs.Stores.{read_left, stays_store, stays}
 use Rattle.pgstore.proofs.DumpShown.{shows_store}
 use Rattle.pgstore.proofs.store.Store.rows.Goals as goal
 
 pub invariant_of-self : goal.invariant_of-self
 invariant_of-self g c =
     let settled = c.dump_rows-rows.ensures.settled in
-    stays_store g.S.Store c.self.inside.conn c.dump_rows-rows.new.conn c.self.inside.position c.dump_rows-rows.ensures.clean c.dump_rows-rows.ensures.unchanged c.self.invariant g.met.S.Store.settled
+    stays_store g.S.Store c.self.inside.conn c.dump_rows-rows.new.conn c.self.inside.position c.dump_rows-rows.ensures.clean c.dump_rows-rows.ensures.unchanged c.self.invariant
+    (read_left g.S.Store c.self.inside.conn c.dump_rows-rows.new.conn c.self.inside.position c.dump_rows-rows.ensures.crash) g.met.S.Store.settled
     (c.is_autocommit-settled.ensures.settled (c.is_autocommit-settled.ensures.value ∙ ap not settled)) settled
 
 pub returns-clause-rows : goal.returns-clause-rows

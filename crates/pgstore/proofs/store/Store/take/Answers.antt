@@ -1,16 +1,21 @@
-use Rattle.std.proofs.Common.{◌≡◌, not, subst, ap, ◌∙◌}
+use Rattle.std.proofs.Common.{◌≡◌, ◌<◌, not, sym, subst, ap, ◌∙◌}
 use Rattle.std.specs.Int.{w64, to_be_bytes}
 use Rattle.sqlite.specs.Held.{state}
 use Rattle.sqlite.specs.State.{Survives}
 use Rattle.pgstore.specs.Works.{change_values}
 use Rattle.pgstore.specs.StoreValue.{StoreValue, Takes, LeavesWork}
-use Rattle.pgstore.proofs.Stores.{stays_store, taken_store, takes, survives_work}
+use Rattle.pgstore.proofs.Stores.{refused_left, stays_store, taken_store, takes, survives_work}
 use Rattle.pgstore.proofs.store.Store.take.Goals as goal
 
 pub invariant_of-self : goal.invariant_of-self
 invariant_of-self g c =
     let settled = c.take_all-taken.ensures.settled in
-    stays_store g.S.Store c.self.inside.conn c.take_all-taken.new.conn c.self.inside.position c.take_all-taken.ensures.crash.clean c.in_err-taken.ensures.unchanged c.self.invariant g.met.S.Store.settled
+    let spells : c.to_be_bytes.result ≡ to_be_bytes w64 c.args.end = c.to_be_bytes.ensures ∙ ap (to_be_bytes w64) c.end.view_is in
+    let changes : change_values c.definitions.result.now c.entries.result.now ≡ c.args.work.now.changes = ap (λ ds. change_values ds c.entries.result.now) c.definitions.ensures.definitions ∙ c.entries.ensures in
+    let later : c.self.inside.position < c.args.end = subst (λ (s : StoreValue g.row.S.Denot). s.position < c.args.end) (sym c.self.view_is) c.requires in
+    stays_store g.S.Store c.self.inside.conn c.take_all-taken.new.conn c.self.inside.position c.take_all-taken.ensures.crash.clean c.in_err-taken.ensures.unchanged c.self.invariant
+    (refused_left g.S.Store c.self.inside.conn c.take_all-taken.new.conn c.self.inside.position c.definitions.result.now c.entries.result.now c.args.end c.to_be_bytes.result spells c.args.work.now.changes changes later c.take_all-taken.ensures.crash)
+    g.met.S.Store.settled
     (c.is_autocommit-settled.ensures.settled (c.is_autocommit-settled.ensures.value ∙ ap not settled)) settled
 
 pub invariant_of-self-2 : goal.invariant_of-self-2
