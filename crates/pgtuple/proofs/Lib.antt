@@ -4,6 +4,7 @@ pub mod FirstFaults
 pub mod Equality
 pub mod Readers
 pub mod Loop
+pub mod SpelledReads
 pub mod Decoded
 pub mod Lengths
 pub mod Appending

@@ -26,7 +26,7 @@ goes_on front count i at c after total lt h so_far =
     let one : with_front front (cells_at (count - i) at) ≡ with_front (front ++ c ∷ []) (cells_at (count - (i + 1)) after) = rw (k, h) (regroup front c (cells_at (count - (i + 1)) after)) in
     sym one ∙ so_far
 
-ends_at : (f : TupleFault) (front : List Cell) (count i : ℕ) (at : At) (total : Read (List Cell)) → i < count → cell_at at ≡ Err f
+pub ends_at : (f : TupleFault) (front : List Cell) (count i : ℕ) (at : At) (total : Read (List Cell)) → i < count → cell_at at ≡ Err f
     → with_front front (cells_at (count - i) at) ≡ total → total ≡ Err f
 unfolding cells_at
 ends_at f front count i at total lt h so_far =

@@ -2,6 +2,8 @@ pub mod Limits
 pub mod Cells
 pub mod Lent
 pub mod Reading
+pub mod Spelled
+pub mod Forms
 pub mod Faults
 pub mod Equal
 pub mod Writing

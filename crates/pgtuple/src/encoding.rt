@@ -8,9 +8,11 @@ ghost use Rattle.std.specs.List.{flat_map};
 ghost use Rattle.pgtuple.specs.Limits.{IsCell, IsTuple};
 ghost use Rattle.pgtuple.specs.Cells.{cell_spelling, tuple_spelling};
 ghost use Rattle.pgtuple.specs.Writing.{Keeps};
+ghost use Rattle.pgtuple.specs.Forms.{form_cells, IsForm};
 
-use crate::cell::{Cell, TupleRef};
+use crate::cell::Cell;
 use crate::fault::TupleFault;
+use crate::lent::{Form, TupleRef};
 use std::alloc::AllocError;
 
 /// The kind of a cell, the number of its bytes, and the bytes.
@@ -61,6 +63,18 @@ fn push_tuple(out: &mut Vec<u8>, cells: &[Cell]) -> Result<(), AllocError>
     Ok(())
 }
 
+/// The cells of someone's, or the bytes that spell them.
+fn push_form(out: &mut Vec<u8>, form: &Form<'_>) -> Result<(), AllocError>
+    requires { IsForm form.now }
+    ensures ok { OnOk result (out.new.items ≡ out.old.items ++ tuple_spelling (form_cells form.now)) }
+    ensures err { OnErr result (Keeps out.old.items out.new.items) }
+{
+    match *form {
+        Form::Owned(cells) => push_tuple(out, cells),
+        Form::Spelled(bytes) => out.extend_from_slice(bytes),
+    }
+}
+
 /// Appends the one spelling of the tuple.
 pub fn encode(tuple: &TupleRef<'_>, out: &mut Vec<u8>) -> Result<(), TupleFault>
     ensures ok { OnOk result (out.new.items ≡ out.old.items ++ tuple_spelling tuple.now) }
@@ -68,7 +82,7 @@ pub fn encode(tuple: &TupleRef<'_>, out: &mut Vec<u8>) -> Result<(), TupleFault>
     ensures only_memory { IfErr result (λ f. f ≡ TupleFault.Memory) }
 {
     let before = out.len();
-    match push_tuple(out, tuple.cells()) {
+    match push_form(out, &tuple.form()) {
         Ok(()) => Ok(()),
         Err(_) => {
             out.truncate(before);

@@ -7,15 +7,18 @@ pub mod decoding;
 pub mod encoding;
 pub mod fault;
 pub mod laws;
+pub mod lent;
 mod reader;
 pub mod seq;
+mod spelled;
 pub mod text;
 
 pub use bytes::Bytes;
-pub use cell::{Cell, CellRef, Tuple, TupleRef};
-pub use decoding::decode;
+pub use cell::{Cell, Tuple};
+pub use decoding::{decode, decode_ref};
 pub use encoding::encode;
 pub use fault::TupleFault;
+pub use lent::{CellRef, Cells, TupleRef};
 pub use seq::Seq;
 pub use text::Text;
 

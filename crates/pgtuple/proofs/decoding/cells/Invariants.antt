@@ -1,7 +1,8 @@
-use Rattle.std.proofs.Common.{◌≡◌, ◌-◌}
+use Rattle.std.proofs.Common.{◌≡◌, ◌-◌, List}
+use Rattle.pgtuple.specs.declared.cell.Cell.{Cell}
 use Rattle.pgtuple.specs.Reading.{cells_at}
 use Rattle.pgtuple.proofs.Loop.{with_front}
 use Rattle.pgtuple.proofs.decoding.cells.Given as goal
 
 abbrev pub invariant-loop : goal.invariant-loop
-invariant-loop l = with_front l.cells.items (cells_at (l.count - l.counter) l.reader) ≡ cells_at l.count l.fn.reader
+invariant-loop l = (front : List Cell) × (with_front front (cells_at (l.count - l.counter) l.reader) ≡ cells_at l.count l.fn.reader)
