@@ -1,0 +1,18 @@
+-- The item that is lent, by its parts.
+-- PostgreSQL documentation, Logical Replication Message Formats, Relation, Insert, Update, Delete, Truncate.
+use Rattle.pglogical.specs.declared.item.RelationDef.{RelationDef}
+use Rattle.pglogical.specs.declared.item.Item.{Item}
+use Rattle.pglogical.specs.declared.item.Item.TheVariants as owned
+use Rattle.pglogical.specs.declared.parts.DefRef.{DefRef}
+use Rattle.pglogical.specs.declared.parts.ItemParts.{ItemParts}
+use Rattle.pglogical.specs.declared.parts.ItemParts.TheVariants as lent
+
+abbrev pub def_value : DefRef → RelationDef
+def_value d = record { oid = d.oid; namespace = d.namespace.now; name = d.name.now; letter = d.letter; columns = d.columns }
+
+abbrev pub item_value : ItemParts → Item
+item_value (lent.Relation def) = owned.Relation (def_value def)
+item_value (lent.Insert oid row) = owned.Insert oid row
+item_value (lent.Update oid prior row) = owned.Update oid prior row
+item_value (lent.Delete oid kind row) = owned.Delete oid kind row
+item_value (lent.Truncate options oids) = owned.Truncate options oids
