@@ -1,12 +1,13 @@
 ghost use Rattle.std.specs.Prelude.{◌≡◌, ◌≢◌, IfOk, IfErr, IsOk, OnErr, Err, IsTrue};
 ghost use Rattle.pglogical.specs.Spelling.{IsMessageFor};
+ghost use Rattle.pglogical.specs.Lent.{message_value};
 ghost use Rattle.pgorder.specs.Steps.{Outside, initial_order, order_step, in_version_2, step_inner, step_item, step_begin, step_commit, step_stream_start, step_stream_stop, step_stream_commit, step_stream_abort};
 ghost use Rattle.pgorder.specs.Laws.{AnswersByShape};
 ghost use Rattle.pgorder.specs.States.{StreamOrder, is_in_block, Answers, IsFirstSegment};
 
 use crate::open::OpenXids;
 use crate::{Event, OrderFault, Version};
-use pglogical::Message;
+use pglogical::MessageRef;
 use pglsn::Lsn;
 use std::alloc::Global;
 use std::marker::Model;
@@ -68,53 +69,53 @@ impl Order {
 
     /// Takes the next message, or says why it can't stand here. Only the first segment of a streamed transaction
     /// takes memory.
-    pub fn step(&mut self, message: &Message) -> Result<Event, OrderFault>
-        requires { IsMessageFor (is_in_block self.old.state.context) message.now }
+    pub fn step(&mut self, message: &MessageRef<'_>) -> Result<Event, OrderFault>
+        requires { IsMessageFor (is_in_block self.old.state.context) (message_value message.now) }
 
         // Behind any messages that leave this state: exactly where the shape goes on, with the message's event, and
         // else with the first fault that holds.
-        ensures shape { AnswersByShape self.old.version self.old.state message.now result }
+        ensures shape { AnswersByShape self.old.version self.old.state (message_value message.now) result }
 
-        ensures taken { IfOk result (λ event. order_step self.old.version self.old.state message.now ≡ Ok (self.new.state, event)) }
+        ensures taken { IfOk result (λ event. order_step self.old.version self.old.state (message_value message.now) ≡ Ok (self.new.state, event)) }
         ensures version { self.new.version ≡ self.old.version }
 
         // The fault is that of the message, or memory ran out where the message would be taken.
-        ensures fault { IfErr result (λ fault. fault ≢ OrderFault.Memory → order_step self.old.version self.old.state message.now ≡ Err fault) }
-        ensures memory { result ≡ Err OrderFault.Memory → IsFirstSegment message.now × IsOk (order_step self.old.version self.old.state message.now) }
+        ensures fault { IfErr result (λ fault. fault ≢ OrderFault.Memory → order_step self.old.version self.old.state (message_value message.now) ≡ Err fault) }
+        ensures memory { result ≡ Err OrderFault.Memory → IsFirstSegment (message_value message.now) × IsOk (order_step self.old.version self.old.state (message_value message.now)) }
         ensures unchanged { OnErr result (self.new ≡ self.old) }
     {
         self.answer(message)
     }
 
-    fn answer(&mut self, message: &Message) -> Result<Event, OrderFault>
-        ensures taken { IfOk result (λ event. order_step self.old.version self.old.state message.now ≡ Ok (self.new.state, event)) }
+    fn answer(&mut self, message: &MessageRef<'_>) -> Result<Event, OrderFault>
+        ensures taken { IfOk result (λ event. order_step self.old.version self.old.state (message_value message.now) ≡ Ok (self.new.state, event)) }
         ensures version { self.new.version ≡ self.old.version }
-        ensures fault { IfErr result (λ fault. fault ≢ OrderFault.Memory → order_step self.old.version self.old.state message.now ≡ Err fault) }
-        ensures memory { result ≡ Err OrderFault.Memory → IsFirstSegment message.now × IsOk (order_step self.old.version self.old.state message.now) }
+        ensures fault { IfErr result (λ fault. fault ≢ OrderFault.Memory → order_step self.old.version self.old.state (message_value message.now) ≡ Err fault) }
+        ensures memory { result ≡ Err OrderFault.Memory → IsFirstSegment (message_value message.now) × IsOk (order_step self.old.version self.old.state (message_value message.now)) }
         ensures unchanged { OnErr result (self.new ≡ self.old) }
     {
         match message {
-            Message::Begin { final_lsn, xid, .. } => self.begin(*final_lsn, *xid),
-            Message::Commit {
+            MessageRef::Begin { final_lsn, xid, .. } => self.begin(*final_lsn, *xid),
+            MessageRef::Commit {
                 commit_lsn,
                 end_lsn,
                 ..
             } => self.commit(*commit_lsn, *end_lsn),
-            Message::Origin { .. } => self.inner(),
-            Message::TypeName { .. } => self.inner(),
-            Message::Logical { .. } => Ok(Event::Ignore),
-            Message::Item { xid, .. } => self.item(*xid),
-            Message::StreamStart { xid, first_segment } => {
+            MessageRef::Origin { .. } => self.inner(),
+            MessageRef::TypeName { .. } => self.inner(),
+            MessageRef::Logical { .. } => Ok(Event::Ignore),
+            MessageRef::Item { xid, .. } => self.item(*xid),
+            MessageRef::StreamStart { xid, first_segment } => {
                 self.stream_start(*xid, *first_segment)
             }
-            Message::StreamStop => self.stream_stop(),
-            Message::StreamCommit {
+            MessageRef::StreamStop => self.stream_stop(),
+            MessageRef::StreamCommit {
                 xid,
                 commit_lsn,
                 end_lsn,
                 ..
             } => { self.stream_commit(*xid, *commit_lsn, *end_lsn) }
-            Message::StreamAbort { xid, subxid } => self.stream_abort(*xid, *subxid),
+            MessageRef::StreamAbort { xid, subxid } => self.stream_abort(*xid, *subxid),
         }
     }
 
