@@ -238,7 +238,7 @@ impl Checker {
     {
         let in_block = self.order.in_block();
         self.counts.count(Kind::of(message), body.len());
-        match self.order.step(message) {
+        match self.order.step(&message.borrowed()) {
             Ok(_) => spelling_difference(self.alloc, message, body, in_block),
             Err(fault) => Ok(Some(Difference::Order(order_fault(fault)?))),
         }
