@@ -264,7 +264,7 @@ impl PlainSession {
         if !is_taken(&message) {
             return Err(not_taken());
         }
-        if let Err(fault) = self.order.step(&message) {
+        if let Err(fault) = self.order.step(&message.borrowed()) {
             return Err(order_fault(fault));
         }
         match &message {
