@@ -1,14 +1,14 @@
 -- Carried rows are within a tuple's limits.
-use Rattle.std.proofs.Common.{◌≡◌, ◌≤◌, List, [], ◌∷◌, ℕ, zero, suc, length, take, length-take, map, refl, ap, arith}
+use Rattle.std.proofs.Common.{◌≡◌, ◌≤◌, List, [], ◌∷◌, ℕ, zero, suc, length, take, length-take, refl, ap, arith}
 use Rattle.std.proofs.lemmas.Bool.{or_parts}
-use Rattle.std.specs.Prelude.{Option, Some, None, slice_get, unwrap_or, Bool, true, false, ◌||◌}
+use Rattle.std.specs.Prelude.{Option, Some, None, slice_get, unwrap_or, false, ◌||◌}
 use Rattle.std.specs.List.{AllByRecursion, position_from}
 use Rattle.pgtuple.specs.declared.cell.Cell.{Cell}
 use Rattle.pgtuple.specs.declared.cell.Cell.TheVariants.{Null}
 use Rattle.pgtuple.specs.Limits.{IsCell, IsTuple}
 use Rattle.pglogical.specs.declared.item.Column.{Column}
 use Rattle.pgrel.specs.Identity.{is_unchanged, has_unchanged}
-use Rattle.pgrel.specs.Carried.{cell_or_null, named_cell, carried_cells, has_name}
+use Rattle.pgrel.specs.Carried.{cell_or_null, carried_cells, has_name}
 
 cell_is : (cells : List Cell) (k : ℕ) → AllByRecursion IsCell cells → IsCell (unwrap_or (slice_get cells k) Null)
 cell_is [] k h = tt

@@ -59,11 +59,7 @@ fn place_of(name: &str, columns: &[Column]) -> Option<usize>
 }
 
 /// A copy of the cell at this place, or null where there is none.
-fn cell_or_null(
-    alloc: Global,
-    place: Option<usize>,
-    row: &TupleRef<'_>,
-) -> Result<Cell, RelFault>
+fn cell_or_null(alloc: Global, place: Option<usize>, row: &TupleRef<'_>) -> Result<Cell, RelFault>
     ensures ok { IfOk result (λ cell. cell ≡ cell_or_null place row.now) }
     ensures memory { IfErr result (λ fault. fault ≡ RelFault.Memory) }
 {

@@ -3,13 +3,15 @@
 //! PostgreSQL documentation, ALTER TABLE, REPLICA IDENTITY; Logical Replication Message Formats, Relation, Insert, Update,
 //! Delete.
 
-ghost use Rattle.std.specs.Prelude.{◌≡◌, ◌⊎◌, ◌++◌, length, slice_get, IsSome, IfOk, IfErr, OnOk};
+ghost use Rattle.std.specs.Prelude.{◌≡◌, ◌⊎◌, ◌++◌, length, slice_get, IsSome, IfOk, IfErr, OnOk, option_map};
 ghost use Rattle.std.specs.Option.{option_to_list};
-ghost use Rattle.pgrel.specs.Steps.{key_cell};
+ghost use Rattle.pgrel.specs.Steps.{key_cell, sent_cell};
+ghost use Rattle.pgtuple.specs.Lent.{cell_value};
 ghost use Rattle.std.specs.Cmp.Lexicographic.{pointwise};
 ghost use Rattle.std.specs.List.{list_any};
 ghost use Rattle.pglogical.specs.declared.item.Column.{Column};
 ghost use Rattle.pgrel.specs.Identity.{
+  is_unchanged,
   keyed,
   key_cells,
   identity,
@@ -97,11 +99,22 @@ fn has_width(def: &RelationDef, row: &TupleRef<'_>) -> bool
     row.width() == def.columns.as_slice().len()
 }
 
+fn is_unchanged(cell: &CellRef<'_>) -> bool
+    ensures { result ≡ is_unchanged (cell_value cell.now) }
+{
+    match *cell {
+        CellRef::Unchanged => true,
+        CellRef::Null => false,
+        CellRef::Text(_) => false,
+        CellRef::Binary(_) => false,
+    }
+}
+
 fn has_unchanged(row: &TupleRef<'_>) -> bool
     ensures { result ≡ has_unchanged row.now }
 {
-    for k in 0..row.width() {
-        if is_unchanged_at(row, k) {
+    for cell in row.cells() {
+        if is_unchanged(&cell) {
             return true;
         }
     }
@@ -171,12 +184,7 @@ fn whole_tuple(alloc: Global, row: &TupleRef<'_>) -> Result<Tuple, RelFault>
     ensures ok { IfOk result (λ cells. cells ≡ row.now) }
     ensures memory { IfErr result (λ fault. fault ≡ RelFault.Memory) }
 {
-    let width = row.width();
-    let mut cells = Vec::with_capacity(alloc, width)?;
-    for k in 0..width {
-        push_cell(&mut cells, alloc, row, k)?;
-    }
-    Ok(Tuple::from_vec(cells))
+    row.to_tuple(alloc).map_err(|_| RelFault::Memory)
 }
 
 fn identity_tuple(alloc: Global, def: &RelationDef, row: &TupleRef<'_>) -> Result<Tuple, RelFault>
@@ -291,12 +299,21 @@ pub fn resolve(alloc: Global, new: &TupleRef<'_>, old_row: &TupleRef<'_>) -> Res
     let width = new.width();
     let _old_width = old_row.width();
     let mut cells = Vec::with_capacity(alloc, width)?;
-    for k in 0..width {
-        if is_unchanged_at(new, k) {
-            push_cell(&mut cells, alloc, old_row, k)?;
-        } else {
-            push_cell(&mut cells, alloc, new, k)?;
-        }
+    let mut olds = old_row.cells();
+    for cell in new.cells() {
+        let old = olds.next();
+        let sent = sent_of(cell, old);
+        cells.push(sent.to_cell(alloc).map_err(|_| RelFault::Memory)?)?;
     }
     Ok(Tuple::from_vec(cells))
+}
+
+// The old cell where the new one wasn't sent.
+fn sent_of<'a>(cell: CellRef<'a>, old: Option<CellRef<'a>>) -> CellRef<'a>
+    ensures { cell_value result ≡ sent_cell (cell_value cell.entry) (option_map cell_value old.entry) }
+{
+    match old {
+        None => cell,
+        Some(old) => { if is_unchanged(&cell) { old } else { cell } }
+    }
 }

@@ -1,13 +1,15 @@
-use Rattle.std.proofs.Common.{sym, ◌∙◌, take}
-use Rattle.std.specs.Prelude.{slice_get}
-use Rattle.std.specs.Option.{option_to_list}
-use Rattle.pgrel.proofs.Loops.{take_next, unchanged_found, none_unchanged}
+use Rattle.std.proofs.Common.{ap, sym, ◌∙◌}
+use Rattle.std.specs.Prelude.{◌||◌}
+use Rattle.pgrel.specs.Identity.{has_unchanged}
 use Rattle.pgrel.proofs.identity.has_unchanged.Goals as goal
 
-pub loop-k-preserved : goal.loop-k-preserved
-loop-k-preserved c =
-    rw take_next (none_unchanged (take c.loop-k.k c.args.row.now) (option_to_list (slice_get c.args.row.now c.loop-k.k)) c.loop-k.invariant
-    (sym c.is_unchanged_at.ensures ∙ c.if-is_unchanged_at.false))
+pub loop-cell-preserved : goal.loop-cell-preserved
+loop-cell-preserved c =
+    ap (λ b. b || has_unchanged c.next.new.self) (sym c.if-is_unchanged.false ∙ c.is_unchanged.ensures) ∙ sym (ap has_unchanged c.in-Some.ensures.steps) ∙ c.loop-cell.invariant
 
-pub returns-then-is_unchanged_at : goal.returns-then-is_unchanged_at
-returns-then-is_unchanged_at c = sym (unchanged_found c.args.row.now c.loop-k.k (sym c.is_unchanged_at.ensures ∙ c.if-is_unchanged_at.true))
+pub returns-then-is_unchanged : goal.returns-then-is_unchanged
+returns-then-is_unchanged c =
+    ap (λ b. b || has_unchanged c.next.new.self) (sym c.if-is_unchanged.true ∙ c.is_unchanged.ensures) ∙ sym (ap has_unchanged c.in-Some.ensures.steps) ∙ c.loop-cell.invariant
+
+pub returns : goal.returns
+returns c = sym (ap has_unchanged c.in-None.ensures.steps.0) ∙ c.loop-cell.invariant
