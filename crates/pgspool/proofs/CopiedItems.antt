@@ -1,6 +1,6 @@
 -- One more item of those that are copied.
-use Rattle.std.proofs.Common.{◌≡◌, ◌+◌, ◌++◌, ◌∷◌, [], ℕ, zero, suc, List, Option, None, Some, take, refl, ap, ◌∙◌, sym, arith}
-use Rattle.std.specs.Prelude.{option_map, slice_get, map as mapped, unwrap_or}
+use Rattle.std.proofs.Common.{◌≡◌, ◌+◌, ◌++◌, ◌∷◌, [], ℕ, zero, suc, List, Some, take, refl, ap, ◌∙◌, sym}
+use Rattle.std.specs.Prelude.{option_map, slice_get}
 use Rattle.std.proofs.lemmas.List.{take_more}
 use Rattle.std.proofs.lemmas.Option.{slice_get_within, get_or_from_slice_get}
 use Rattle.pglogical.specs.declared.item.Item.{Item}

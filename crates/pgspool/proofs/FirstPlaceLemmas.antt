@@ -7,7 +7,7 @@ use Rattle.std.proofs.lemmas.List.{append-nil, take_at}
 use Rattle.std.proofs.lemmas.List.Sums.{sum_by-cons}
 use Rattle.std.proofs.lemmas.Bool.{eqb-true}
 use Rattle.std.proofs.lemmas.Bool.Decides.{nat_tests}
-use Rattle.pgspool.specs.declared.spool.FirstPlace.{FirstPlace}
+use Rattle.pgspool.specs.declared.first_place.FirstPlace.{FirstPlace}
 use Rattle.pgspool.specs.Labels.{LabelledItem, cut, cost, costs}
 use Rattle.pgspool.specs.FirstPlaces.{FirstPlaces, has_label, noted, first_places_from, first_places}
 use Rattle.pgspool.proofs.Cuts.{cut-cons_other, cut-cons_same, cut-append-cut_away}

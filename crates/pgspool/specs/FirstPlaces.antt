@@ -1,7 +1,7 @@
 -- Where each label first stands among a transaction's items, in the order of these places.
 use Rattle.std.specs.Prelude.{ℕ, List, [], ◌∷◌, ◌++◌, ◌+◌, Bool, if◌then◌else◌, is_some, nat_eq}
 use Rattle.std.specs.Map.{lookup}
-use Rattle.pgspool.specs.declared.spool.FirstPlace.{FirstPlace}
+use Rattle.pgspool.specs.declared.first_place.FirstPlace.{FirstPlace}
 use Rattle.pgspool.specs.Labels.{LabelledItem, cost}
 
 abbrev pub FirstPlaces : Type 0

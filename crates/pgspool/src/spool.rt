@@ -2,8 +2,8 @@
 ghost use Rattle.std.specs.Prelude.{◌≡◌, ◌<◌, ◌+◌, ◌^◌, [], ◌∷◌, ◌++◌, OnOk, OnErr, IfSome, option_map, slice_get, length};
 ghost use Rattle.pglogical.specs.Spelling.{IsSpellable};
 ghost use Rattle.pgspool.specs.Labels.{LabelledItem, cut, cost, costs};
-ghost use Rattle.pgspool.specs.FirstPlaces.{noted};
 
+use crate::first_place::{FirstPlace, note_first};
 use indexmap::IndexMap;
 use pglogical::{Item, ItemRef};
 use std::alloc::{AllocError, Global};
@@ -11,13 +11,6 @@ use std::marker::Model;
 
 // Room for so many items or labels is kept, however few there are.
 const SMALL_ROOM: usize = 64;
-
-/// Where a label's first item stands: how many items are before it, and the bytes that these cost.
-#[derive(Clone, Copy, Debug)]
-pub(crate) struct FirstPlace {
-    place: usize,
-    bytes: u64,
-}
 
 /// One transaction's items, each under its label, seen as their list.
 ///
@@ -28,21 +21,6 @@ pub(crate) struct Spool {
     items: Vec<(u32, Item)>,
     firsts: IndexMap<u32, FirstPlace>,
     bytes: u64,
-}
-
-/// Notes where a label first stands, unless it is noted already.
-fn note_first(
-    firsts: &mut IndexMap<u32, FirstPlace>,
-    label: u32,
-    first: FirstPlace,
-) -> Result<(), AllocError>
-    ensures ok { OnOk result (firsts.new.entries ≡ noted firsts.old.entries label first) }
-    ensures err { OnErr result (firsts.new.entries ≡ firsts.old.entries) }
-{
-    if !firsts.contains_key(&label) {
-        firsts.insert(label, first)?;
-    }
-    Ok(())
 }
 
 impl Model for Spool {

@@ -1,6 +1,5 @@
-use Rattle.std.proofs.Common.{◌≡◌, ◌++◌, ◌∷◌, [], Option, None, Some, length, ap, ◌∙◌, sym}
-use Rattle.std.specs.Prelude.{option_map, slice_get}
-use Rattle.pgspool.specs.Labels.{LabelledItem, items_of, held_of}
+use Rattle.std.proofs.Common.{◌++◌, ◌∷◌, [], ◌∙◌, sym}
+use Rattle.pgspool.specs.Labels.{held_of}
 use Rattle.pgspool.proofs.CopiedItems.{taken_item}
 use Rattle.pgspool.proofs.spools.copy_items.Goals as goal
 

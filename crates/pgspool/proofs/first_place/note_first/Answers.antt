@@ -2,7 +2,7 @@ use Rattle.std.proofs.Common.{sym, ◌∙◌}
 use Rattle.std.specs.Prelude.{nat_eq}
 use Rattle.indexmap.proofs.CallerLemmas.{insert_entry-new}
 use Rattle.pgspool.proofs.FirstPlaceLemmas.{noted_new, not_there}
-use Rattle.pgspool.proofs.spool.note_first.Goals as goal
+use Rattle.pgspool.proofs.first_place.note_first.Goals as goal
 
 pub returns-in_ok-insert-clause-ok : goal.returns-in_ok-insert-clause-ok
 returns-in_ok-insert-clause-ok c =
