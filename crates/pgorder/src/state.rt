@@ -3,7 +3,7 @@ ghost use Rattle.pglogical.specs.Spelling.{IsMessageFor};
 ghost use Rattle.pglogical.specs.Lent.{message_value};
 ghost use Rattle.pgorder.specs.Steps.{Outside, initial_order, order_step, in_version_2, step_inner, step_item, step_begin, step_commit, step_stream_start, step_stream_stop, step_stream_commit, step_stream_abort};
 ghost use Rattle.pgorder.specs.Laws.{AnswersByShape};
-ghost use Rattle.pgorder.specs.States.{StreamOrder, is_in_block, Answers, IsFirstSegment};
+ghost use Rattle.pgorder.specs.States.{StreamOrder, is_in_block, is_outside, Answers, IsFirstSegment};
 
 use crate::open::OpenXids;
 use crate::{Event, OrderFault, Version};
@@ -57,6 +57,13 @@ impl Order {
         ensures { result ≡ is_in_block self.now.state.context }
     {
         matches!(self.context, Context::InBlock { .. })
+    }
+
+    /// Whether the next message stands outside pairs and blocks.
+    pub fn is_outside(&self) -> bool
+        ensures { result ≡ is_outside self.now.state.context }
+    {
+        matches!(self.context, Context::Outside)
     }
 
     /// Forgets all messages: the next one is the first of a session.
