@@ -1,11 +1,9 @@
 -- The INSERT of a row that isn't to stand yet: what an Ok makes, and what a refusal for a key that stands tells.
-use Rattle.std.proofs.Common.{◌≡◌, ◌≢◌, ◌⊎◌, inl, inr, ℕ, ℤ, pos, Bool, true, false, not, ◌&&◌, List, [], ◌∷◌, codes, map, drop, Option, Some, None, Ok, Err, Result, refl, sym, ap, subst, ◌∙◌, true≢false, nat_cmp, cond}
-use Rattle.std.specs.List.{list_any, list_all, AllByRecursion}
+use Rattle.std.proofs.Common.{◌≡◌, ◌≢◌, inl, inr, ℕ, ℤ, pos, Bool, true, false, not, ◌&&◌, List, [], ◌∷◌, codes, Option, Some, None, Ok, Err, Result, refl, sym, ap, subst, ◌∙◌, true≢false}
 use Rattle.std.specs.Ordering.{is_eq, is_ne, int_cmp}
-use Rattle.std.specs.Cmp.Lexicographic.{slice_cmp}
-use Rattle.std.specs.FinMap.{FinMap, get, insert, int_cmp-IsAntisymmetric, nat_cmp-IsAntisymmetric, slice_cmp-IsAntisymmetric}
+use Rattle.std.specs.FinMap.{get, insert, nat_cmp-IsAntisymmetric, slice_cmp-IsAntisymmetric}
 use Rattle.std.proofs.lemmas.Cmp.{nat_list_cmp_total}
-use Rattle.std.proofs.lemmas.Bool.{cases_Bool, and_parts, and_from, not-true}
+use Rattle.std.proofs.lemmas.Bool.{cases_Bool, and_parts, and_from}
 use Rattle.sqlite_tied.specs.Compute.{everything}
 use Rattle.sqlite.specs.Given.{IsPlain}
 use Rattle.sqlite.specs.Listing.{understood}
@@ -37,7 +35,7 @@ use Rattle.pgtables.proofs.Maps.{cases_Option, row_got, row_missing}
 use Rattle.pgtables.proofs.Held.{kept_after}
 use Rattle.pgtables.proofs.Steps.{wrote}
 use Rattle.sqlite.proofs.Callers.{runs_as, statement_of}
-use Rattle.pgtables.specs.Kept.{IsApart, IfServing, IsUnderWay, Makes, IsKept, Tables, tables_in, tables_of, with_row}
+use Rattle.pgtables.specs.Kept.{IsApart, IfServing, IsUnderWay, Makes, IsKept, tables_in, tables_of, with_row}
 use Rattle.sqlite.proofs.Callers.{command_of, one_step}
 use Rattle.sqlite_catalog.specs.Listing.{IsSound}
 use Rattle.sqlite_catalog.proofs.AlterLemmas.{keys_are_unique}
@@ -55,15 +53,14 @@ use Rattle.sqlite_value.proofs.OrderLemmas.{value_cmp_total, value_cmp-Int}
 use Rattle.sqlite_value.specs.Keys.{plain, first_key}
 use Rattle.sqlite_schema.specs.declared.schema.Keys.TheVariants.{Enforced}
 use Rattle.sqlite_schema.specs.declared.schema.Constraint.TheVariants.{Unique}
-use Rattle.sqlite_schema.specs.Rules.{agree, clashes, differ, Keeps, passes}
+use Rattle.sqlite_schema.specs.Rules.{agree, clashes, differ, Keeps}
 use Rattle.sqlite_rules.specs.declared.error.Rowids.TheVariants.{Chosen}
-use Rattle.sqlite_rules.specs.Cast.{cast_row}
 use Rattle.sqlite_rules.specs.Lists.{Has}
 use Rattle.sqlite_rules.specs.Edit.{put_all, are_fresh, Edit, edit_of, Applies, IsRefused, id_in, next_rowid}
 use Rattle.sqlite_rules.proofs.ListLemmas.{all_from, some_from, some_has}
-use Rattle.pgtables.specs.Schema.{store_schema, held_table, held_index}
+use Rattle.pgtables.specs.Schema.{store_schema, held_table}
 use Rattle.pgtables.specs.Kept.{AreHeld, AreKeyed, Copies, held_row, key_in, copies_in, number_in}
-use Rattle.pgtables.proofs.Edits.{free_of, not_taken, ints_equal, same_int, same_blob, int_equal, blob_equal, edited_rows, IsEdited, replaced}
+use Rattle.pgtables.proofs.Edits.{free_of, not_taken, ints_equal, same_int, int_equal, blob_equal, edited_rows, IsEdited, replaced}
 use Rattle.pgtables.proofs.Sorted.{edited_table}
 use Rattle.pgtables.proofs.Upserts.{went, same_value}
 use Rattle.pgtables.proofs.Steps.{cast_int, cast_null}
@@ -140,8 +137,8 @@ none_clash next form row there = elim (cases_Bool (clashes plain (1 ∷ 2 ∷ []
       let both = and_parts _ _ found.2 in
       let x = found.0 in
       let same : key_in x ≡ key_in row = same_agree (Int (id_in (rowid x))) (Int (id_in (rowid row))) _ _ _ _ (copies_in x) (copies_in row)
-          (subst (λ r. agree plain (1 ∷ 2 ∷ []) (held_row (Int (id_in (rowid x))) (number_in (column x 1)) (bytes (column x 2)) (copies_in x)) (1 ∷ 2 ∷ []) r ≡ true) (form.formed row there)
-          (subst (λ r. agree plain (1 ∷ 2 ∷ []) r (1 ∷ 2 ∷ []) row ≡ true) (form.formed x found.1) both.0)) in
+      (subst (λ r. agree plain (1 ∷ 2 ∷ []) (held_row (Int (id_in (rowid x))) (number_in (column x 1)) (bytes (column x 2)) (copies_in x)) (1 ∷ 2 ∷ []) r ≡ true) (form.formed row there)
+      (subst (λ r. agree plain (1 ∷ 2 ∷ []) r (1 ∷ 2 ∷ []) row ≡ true) (form.formed x found.1) both.0)) in
       let one : x ≡ row = form.keyed x row found.1 there same in
       absurd (true≢false (sym both.1 ∙ ap (λ r. differ (rowid r) (rowid row)) one ∙ no_difference (rowid row)))
 ]
@@ -188,7 +185,7 @@ module _ (limit : Option ℕ) (o : ℕ) (i : List ℕ) (k : Copies) (db : Trees)
         let b = next_rowid (db 1) in
         let at : rowid x ≡ Int (id_in (rowid x)) = ap rowid (held.formed x h) in
         let agrees : agree plain (1 ∷ 2 ∷ []) x (1 ∷ 2 ∷ []) new_row ≡ true =
-            ap (λ r. agree plain (1 ∷ 2 ∷ []) r (1 ∷ 2 ∷ []) new_row) (held.formed x h) ∙ agree_same (Int (id_in (rowid x))) (Int b) _ o _ i (copies_in x) k is in
+        ap (λ r. agree plain (1 ∷ 2 ∷ []) r (1 ∷ 2 ∷ []) new_row) (held.formed x h) ∙ agree_same (Int (id_in (rowid x))) (Int b) _ o _ i (copies_in x) k is in
         let apart : id_in (rowid x) ≢ b = λ e. not_taken (db 1) new_row (free_of (db 1) (new_row ∷ []) new_row (record { only = λ y g. elim g [ inl is ↦ is | inr none ↦ absurd none ]; some = inl refl }) fresh) x h (at ∙ ap Int e) in
         let differs : differ (rowid x) (rowid new_row) ≡ true = ap (λ v. differ v (Int b)) at ∙ ints_differ (id_in (rowid x)) b apart in
         some_from _ next x (it_is_edited.kept x h (λ id none. absurd none)) (and_from _ _ agrees differs)
@@ -202,7 +199,7 @@ module _ (limit : Option ℕ) (o : ℕ) (i : List ℕ) (k : Copies) (db : Trees)
       let next = e.0 in
       let all : w.trees ≡ next = ap (λ (it : Written). it.trees) (same_value n.2) ∙ same_value n.1 in
       let edit : Applies store_schema Enforced db the_edit next =
-          one_step store_schema Enforced db next the_edit refl (subst (λ rows. Writes store_schema Enforced db (edit_of db held_table [] Chosen 0 rows) (Ok next)) s.1.1 e.1) in
+      one_step store_schema Enforced db next the_edit refl (subst (λ rows. Writes store_schema Enforced db (edit_of db held_table [] Chosen 0 rows) (Ok next)) s.1.1 e.1) in
       let fresh = subst (λ ns. are_fresh (db 1) ns ≡ true) news_is edit.fresh in
       let rows : next 1 ≡ put_all (db 1) (new_row ∷ []) = edit.rows ∙ ap (put_all (db 1)) news_is in
       let there : Has (next 1) new_row = (it_is_edited (next 1) rows fresh).added new_row (inl refl) in
@@ -392,8 +389,7 @@ module _ {S : Type 0} (g : Ghosts S) (old new : Held S) (o : ℕ) (i : List ℕ)
       | inl ran ↦
           let was_open = refused_open params (state g old) (state g new) ran.0 in
           let under = was (omega arith) was_open in
-          let it = row_refused o i k (state g old) (state g new) under.kept ran.0 in
-          (
+          let it = row_refused o i k (state g old) (state g new) under.kept ran.0 in (
             it.0,
             record {
               was_open = was_open;

@@ -11,7 +11,7 @@ pub mod put;
 pub mod rows;
 pub mod schema;
 
-pub use dumped::{FromDump, dump};
+pub use dumped::{DumpReader, dump};
 pub use find::{find_definition, find_row, has_rows};
 pub use found::{has_no_tables, has_our_tables};
 pub use put::{add_row, delete_row, delete_rows, put_definition, put_position, put_row};
