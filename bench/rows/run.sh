@@ -7,7 +7,7 @@ source "$here/../build.sh"
 work="$(mktemp -d)"
 trap 'rm -r "$work"' EXIT
 [ $# -gt 0 ] || set -- 1000 10000 100000
-build "$here/main.rattle" reading "$work" pglsn pgtuple pglogical pgrel pgmemory pgtables pgstore sqlite
+build "$here/main.rattle" reading "$work" pglsn pgtuple pglogical pgrel pgapply pgmemory pgtables pgstore sqlite
 program="$work/crates/reading/out/reading"
 for n in "$@"; do
     for turn in 1 2 3 4 5; do

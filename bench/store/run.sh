@@ -7,7 +7,7 @@ source "$here/../build.sh"
 work="$(mktemp -d)"
 trap 'rm -r "$work"' EXIT
 [ $# -gt 0 ] || set -- 1000 10000 100000
-build "$here/main.rattle" storing "$work" pglsn pgtuple pglogical pgrel pgmemory pgtables pgstore sqlite
+build "$here/main.rattle" storing "$work" pglsn pgtuple pglogical pgrel pgapply pgmemory pgtables pgstore sqlite
 for turn in 1 2 3 4 5; do
     "$work/crates/storing/out/storing" "$@" >> "$work/times"
 done

@@ -11,9 +11,9 @@ use Rattle.pglogical.specs.declared.item.RelationDef.{RelationDef}
 use Rattle.pgtables.specs.Schema.{store_schema}
 use Rattle.pgtables.specs.Kept as stored
 use Rattle.pgtables.specs.Kept.{tables_of, tables_in, with_place, Makes}
-use Rattle.pgstore.specs.declared.op.Op.{Op}
-use Rattle.pgstore.specs.declared.rows.StoreFault.{StoreFault}
-use Rattle.pgstore.specs.Value.{Tables}
+use Rattle.pgapply.specs.declared.op.Op.{Op}
+use Rattle.pgapply.specs.declared.rows.StoreFault.{StoreFault}
+use Rattle.pgapply.specs.Value.{Tables}
 use Rattle.pgstore.specs.Spelled.{IsStored}
 use Rattle.pgstore.specs.Acts.{FoldsOn, none_given, HasTaken, LeavesTaken, RefusesToFold}
 

@@ -17,16 +17,16 @@ use Rattle.pglogical.specs.declared.item.RelationDef.{RelationDef}
 use Rattle.pgtables.specs.Schema.{store_schema}
 use Rattle.pgtables.specs.Kept as stored
 use Rattle.pgtables.specs.Kept.{IfServing, tables_of, tables_in}
-use Rattle.pgstore.specs.declared.op.Op.{Op}
-use Rattle.pgstore.specs.declared.rows.StoreFault.{StoreFault}
-use Rattle.pgstore.specs.Value.{Table}
-use Rattle.pgstore.specs.Works.{change_values}
-use Rattle.pgstore.specs.Apply.{Change, fold_changes}
-use Rattle.pgstore.specs.Stored.{Stored, IsFault}
+use Rattle.pgapply.specs.declared.op.Op.{Op}
+use Rattle.pgapply.specs.declared.rows.StoreFault.{StoreFault}
+use Rattle.pgapply.specs.Value.{Table}
+use Rattle.pgapply.specs.Works.{change_values}
+use Rattle.pgapply.specs.Apply.{Change, fold_changes}
+use Rattle.pgapply.specs.Stored.{Stored, IsFault}
 use Rattle.pgstore.specs.Spelled.{IsStored, spelled_definition, spelled_row, row_in}
 use Rattle.pgstore.specs.Acts.{HasTaken, LeavesTaken, RefusesToFold}
 use Rattle.pgstore.specs.StoreValue.{AreOf, IsAtLeast, Keeps, IsStore, HasMade, Serves, Holds, Contains, Takes, Stays, RefusesWork, LeavesWork, nothing_stored}
-use Rattle.pgstore.proofs.KeepsForm.{none_keeps}
+use Rattle.pgapply.proofs.KeepsForm.{none_keeps}
 
 -- ---- a crash between calls
 
@@ -191,9 +191,12 @@ refuses_work g old position definitions entries changes e is h v s = subst (λ c
 module _ {S : Type 0} (g : Ghosts S) (old new : Held S) (position : ℕ) (definitions : List RelationDef) (entries : List (ℕ × Op)) (end : ℕ) (bytes : List ℕ) (spells : bytes ≡ to_be_bytes w64 end)
     (changes : List Change) (is : change_values definitions entries ≡ changes) where
   leaves_work : (db : Trees) → LeavesTaken g old definitions entries bytes db → LeavesWork g (record { conn = old; position = position }) changes end db
-  leaves_work db h = (h.was_open, λ v s.
-      let f = h.folds v.tables s.stored in
-      (f.0, subst (λ cs. fold_changes v.tables cs ≡ Ok f.0) is f.1, record { kept = h.kept; stored = f.2; position = h.position_is ∙ spells }))
+  leaves_work db h = (
+    h.was_open,
+    λ v s.
+        let f = h.folds v.tables s.stored in
+        (f.0, subst (λ cs. fold_changes v.tables cs ≡ Ok f.0) is f.1, record { kept = h.kept; stored = f.2; position = h.position_is ∙ spells }),
+  )
 
   -- what a commit leaves that wasn't answered Ok is at least as far
   pub refused_left : position < end → Survives (state g old) (state g new) (LeavesTaken g old definitions entries bytes) → (v : Stored) → v.position ≡ position → Keeps g (record { conn = old; position = position }) v

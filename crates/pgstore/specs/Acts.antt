@@ -12,19 +12,15 @@ use Rattle.pgrel.specs.Identity.{keyed, has_unchanged, resolved}
 use Rattle.pgtables.specs.Kept as stored
 use Rattle.pgtables.specs.Schema.{store_schema}
 use Rattle.pgtables.specs.Kept.{tables_of, tables_in, IsUnderWay}
-use Rattle.pgstore.specs.declared.rows.StoreFault.{StoreFault}
-use Rattle.pgstore.specs.declared.rows.StoreFault.TheVariants.{Clash, TooManyCopies, Refused, Memory}
-use Rattle.pgstore.specs.Value.{Row, Rows, Tables, identity_key, most_copies}
+use Rattle.pgapply.specs.declared.rows.StoreFault.{StoreFault}
+use Rattle.pgapply.specs.declared.rows.StoreFault.TheVariants.{Clash, TooManyCopies}
+use Rattle.pgapply.specs.Value.{Row, Rows, Tables, identity_key, most_copies}
 use Rattle.pglogical.specs.Spelling.{IsDefinition}
-use Rattle.pgstore.specs.declared.op.Op.{Op}
-use Rattle.pgstore.specs.Works.{change_value, change_values}
-use Rattle.pgstore.specs.Apply.{with_row, without_row, found_rows, apply, fold_changes}
-use Rattle.pgstore.specs.Stored.{IsFault}
+use Rattle.pgapply.specs.declared.op.Op.{Op}
+use Rattle.pgapply.specs.Works.{change_value, change_values}
+use Rattle.pgapply.specs.Apply.{with_row, without_row, found_rows, apply, fold_changes}
+use Rattle.pgapply.specs.Stored.{IsFault, IsOwnFault}
 use Rattle.pgstore.specs.Spelled.{IsChanging, IsStored, spelled_row}
-
--- the store's own cause or want of memory, which say nothing of the change
-abbrev pub IsOwnFault : StoreFault → Type 0
-IsOwnFault e = (e ≡ Memory) ⊎ (e ≡ Refused)
 
 -- the cells of a row that is new, with its spellings
 pub record IsNewRow (def : RelationDef) (cells : List Cell) (place body : List ℕ) : Type 0 where

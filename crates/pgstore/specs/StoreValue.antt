@@ -10,10 +10,10 @@ use Rattle.sqlite.specs.State.{HasCleanDisk}
 use Rattle.pgtables.specs.Schema.{store_schema}
 use Rattle.pgtables.specs.Kept as stored
 use Rattle.pgtables.specs.Kept.{IfServing, IsKept, tables_in, tables_of}
-use Rattle.pgstore.specs.declared.rows.StoreFault.{StoreFault}
-use Rattle.pgstore.specs.Value.{Tables}
-use Rattle.pgstore.specs.Apply.{Change, fold_changes}
-use Rattle.pgstore.specs.Stored.{Stored, IsFault}
+use Rattle.pgapply.specs.declared.rows.StoreFault.{StoreFault}
+use Rattle.pgapply.specs.Value.{Tables}
+use Rattle.pgapply.specs.Apply.{Change, fold_changes}
+use Rattle.pgapply.specs.Stored.{Stored, IsFault}
 use Rattle.pgstore.specs.Spelled.{IsStored}
 
 -- its connection, and its position

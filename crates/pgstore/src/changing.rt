@@ -9,16 +9,17 @@ ghost use Rattle.sqlite.specs.State.{HasCleanDisk};
 ghost use Rattle.pgtuple.specs.declared.cell.Cell.{Cell};
 ghost use Rattle.pgrel.specs.Identity.{has_unchanged, resolved};
 ghost use Rattle.pgtables.specs.Kept.{IfServing, IsUnderWay, Makes, Goes, tables_of};
-ghost use Rattle.pgstore.specs.declared.op.Op.TheVariants as op;
-ghost use Rattle.pgstore.specs.Value.{Row, Rows, Tables};
-ghost use Rattle.pgstore.specs.Apply.{with_row, without_row, rows_after};
-ghost use Rattle.pgstore.specs.Stored.{IsFault};
+ghost use Rattle.pgapply.specs.declared.op.Op.TheVariants as op;
+ghost use Rattle.pgapply.specs.Value.{Row, Rows, Tables};
+ghost use Rattle.pgapply.specs.Apply.{with_row, without_row, rows_after};
+ghost use Rattle.pgapply.specs.Stored.{IsFault};
 ghost use Rattle.pgstore.specs.Spelled.{IsChanging};
-ghost use Rattle.pgstore.specs.Acts.{IsOwnFault, IsNewRow, Adds, Changes, Refuses, Moves, RefusesToMove, Replaces, RefusesToReplace, AddsCopy, RefusesCopy, taken_row};
+ghost use Rattle.pgapply.specs.Stored.{IsOwnFault};
+ghost use Rattle.pgstore.specs.Acts.{IsNewRow, Adds, Changes, Refuses, Moves, RefusesToMove, Replaces, RefusesToReplace, AddsCopy, RefusesCopy, taken_row};
 
-use crate::op::Op;
-use crate::rows::StoreFault;
+use crate::fault::Refusal;
 use crate::spelling::{lend_prior, read_tuple, spell, spell_identity, spell_searched};
+use pgapply::{Op, StoreFault};
 use pglogical::{OldKind, RelationDef};
 use pgrel::{check_insert, keyed, resolve};
 use pgtables::{StoredRow, delete_row, delete_rows, find_row, put_row};
@@ -35,7 +36,7 @@ fn take_row<S: Alter>(
     oid: u32,
     place: &[u8],
     row: &StoredRow,
-) -> Result<(), StoreFault>
+) -> Result<(), Refusal>
     requires { IfServing S.Store tx.old.conn.now (IsUnderWay S.Store tx.old.conn.now) }
     ensures same_reference { tx.new.conn.ghost_name ≡ tx.old.conn.ghost_name }
     ensures made { HasCleanDisk (state S.Store tx.new.conn.now) → OnOk result (Makes S.Store (taken_row oid place.now row.now) tx.old.conn.now tx.new.conn.now) }
@@ -58,7 +59,7 @@ fn add_copy<S: Alter>(
     place: &[u8],
     body: &[u8],
     there: &StoredRow,
-) -> Result<(), StoreFault>
+) -> Result<(), Refusal>
     requires { IfServing S.Store tx.old.conn.now (IsUnderWay S.Store tx.old.conn.now) }
     ensures same_reference { tx.new.conn.ghost_name ≡ tx.old.conn.ghost_name }
     ensures made { HasCleanDisk (state S.Store tx.new.conn.now) → OnOk result (AddsCopy S.Store def.now place.now body.now there.now tx.old.conn.now tx.new.conn.now) }
@@ -66,11 +67,11 @@ fn add_copy<S: Alter>(
     ensures goes { Goes S.Store tx.old.conn.now tx.new.conn.now }
 {
     if keyed(def) {
-        return Err(StoreFault::Clash);
+        return Err(Refusal::new(StoreFault::Clash));
     }
     let copies = there.copies();
     if copies >= MOST_COPIES {
-        return Err(StoreFault::TooManyCopies);
+        return Err(Refusal::new(StoreFault::TooManyCopies));
     }
     put_row(tx, def.oid, place, body, copies + 1)?;
     Ok(())
@@ -82,7 +83,7 @@ fn add_again<S: Alter>(
     def: &RelationDef,
     place: &[u8],
     body: &[u8],
-) -> Result<(), StoreFault>
+) -> Result<(), Refusal>
     requires { IfServing S.Store tx.old.conn.now (IsUnderWay S.Store tx.old.conn.now) }
     ensures same_reference { tx.new.conn.ghost_name ≡ tx.old.conn.ghost_name }
     ensures made { HasCleanDisk (state S.Store tx.new.conn.now) → OnOk result (Adds S.Store tx.old.conn.now tx.new.conn.now def.now place.now body.now) }
@@ -90,7 +91,7 @@ fn add_again<S: Alter>(
     ensures goes { Goes S.Store tx.old.conn.now tx.new.conn.now }
 {
     match find_row(tx, def.oid, place)? {
-        None => Err(StoreFault::Refused),
+        None => Err(Refusal::new(StoreFault::Refused)),
         Some(there) => add_copy(tx, def, place, body, &there),
     }
 }
@@ -101,7 +102,7 @@ fn add_row<S: Alter>(
     def: &RelationDef,
     place: &[u8],
     body: &[u8],
-) -> Result<(), StoreFault>
+) -> Result<(), Refusal>
     requires { IfServing S.Store tx.old.conn.now (IsUnderWay S.Store tx.old.conn.now) }
     ensures same_reference { tx.new.conn.ghost_name ≡ tx.old.conn.ghost_name }
     ensures made { HasCleanDisk (state S.Store tx.new.conn.now) → OnOk result (Adds S.Store tx.old.conn.now tx.new.conn.now def.now place.now body.now) }
@@ -122,7 +123,7 @@ fn move_row<S: Alter>(
     place: &[u8],
     there: &StoredRow,
     row: &TupleRef<'_>,
-) -> Result<(), StoreFault>
+) -> Result<(), Refusal>
     requires serving { IfServing S.Store tx.old.conn.now (IsUnderWay S.Store tx.old.conn.now) }
     requires width { length row.now ≡ length def.now.columns }
     ensures same_reference { tx.new.conn.ghost_name ≡ tx.old.conn.ghost_name }
@@ -149,7 +150,7 @@ fn replace_row<S: Alter>(
     place: &[u8],
     there: &StoredRow,
     row: &TupleRef<'_>,
-) -> Result<(), StoreFault>
+) -> Result<(), Refusal>
     requires serving { IfServing S.Store tx.old.conn.now (IsUnderWay S.Store tx.old.conn.now) }
     requires width { length row.now ≡ length def.now.columns }
     ensures same_reference { tx.new.conn.ghost_name ≡ tx.old.conn.ghost_name }
@@ -159,7 +160,7 @@ fn replace_row<S: Alter>(
 {
     let was = read_tuple(alloc, there.body())?;
     if was.width() != row.width() {
-        return Err(StoreFault::Refused);
+        return Err(Refusal::new(StoreFault::Refused));
     }
     let next = resolve(alloc, row, &was.borrowed())?;
     move_row(tx, alloc, def, place, there, &next.borrowed())
@@ -171,7 +172,7 @@ fn insert<S: Alter>(
     alloc: Global,
     def: &RelationDef,
     row: &TupleRef<'_>,
-) -> Result<(), StoreFault>
+) -> Result<(), Refusal>
     requires { IfServing S.Store tx.old.conn.now (IsUnderWay S.Store tx.old.conn.now) }
     ensures same_reference { tx.new.conn.ghost_name ≡ tx.old.conn.ghost_name }
     ensures made { HasCleanDisk (state S.Store tx.new.conn.now) → OnOk result (Changes S.Store tx.old.conn.now tx.new.conn.now def.now (rows_after def.now (op.Insert row.now))) }
@@ -192,7 +193,7 @@ fn update<S: Alter>(
     def: &RelationDef,
     prior: &Option<(OldKind, TupleRef<'_>)>,
     row: &TupleRef<'_>,
-) -> Result<(), StoreFault>
+) -> Result<(), Refusal>
     requires { IfServing S.Store tx.old.conn.now (IsUnderWay S.Store tx.old.conn.now) }
     ensures same_reference { tx.new.conn.ghost_name ≡ tx.old.conn.ghost_name }
     ensures made { HasCleanDisk (state S.Store tx.new.conn.now) → OnOk result (Changes S.Store tx.old.conn.now tx.new.conn.now def.now (rows_after def.now (op.Update prior.now row.now))) }
@@ -214,7 +215,7 @@ fn delete<S: Alter>(
     def: &RelationDef,
     kind: OldKind,
     row: &TupleRef<'_>,
-) -> Result<(), StoreFault>
+) -> Result<(), Refusal>
     requires { IfServing S.Store tx.old.conn.now (IsUnderWay S.Store tx.old.conn.now) }
     ensures same_reference { tx.new.conn.ghost_name ≡ tx.old.conn.ghost_name }
     ensures made { HasCleanDisk (state S.Store tx.new.conn.now) → OnOk result (Changes S.Store tx.old.conn.now tx.new.conn.now def.now (rows_after def.now (op.Delete kind row.now))) }
@@ -230,7 +231,7 @@ fn delete<S: Alter>(
 }
 
 /// A truncated table.
-fn truncate<S: Alter>(tx: &mut Transaction<'_, S>, def: &RelationDef) -> Result<(), StoreFault>
+fn truncate<S: Alter>(tx: &mut Transaction<'_, S>, def: &RelationDef) -> Result<(), Refusal>
     requires { IfServing S.Store tx.old.conn.now (IsUnderWay S.Store tx.old.conn.now) }
     ensures same_reference { tx.new.conn.ghost_name ≡ tx.old.conn.ghost_name }
     ensures made { HasCleanDisk (state S.Store tx.new.conn.now) → OnOk result (Changes S.Store tx.old.conn.now tx.new.conn.now def.now (rows_after def.now op.Truncate)) }
@@ -247,7 +248,7 @@ pub(crate) fn change_rows<S: Alter>(
     alloc: Global,
     def: &RelationDef,
     op: &Op<'_>,
-) -> Result<(), StoreFault>
+) -> Result<(), Refusal>
     requires { IfServing S.Store tx.old.conn.now (IsUnderWay S.Store tx.old.conn.now) }
     ensures same_reference { tx.new.conn.ghost_name ≡ tx.old.conn.ghost_name }
     ensures made { HasCleanDisk (state S.Store tx.new.conn.now) → OnOk result (Changes S.Store tx.old.conn.now tx.new.conn.now def.now (rows_after def.now op.now)) }

@@ -5,16 +5,15 @@ ghost use Rattle.sqlite.specs.Held.{state};
 ghost use Rattle.sqlite.specs.State.{HasCleanDisk};
 ghost use Rattle.pgtables.specs.Schema.{no_schema, store_schema};
 ghost use Rattle.pgtables.specs.Kept.{IfServing};
-ghost use Rattle.pgstore.specs.Stored.{Stored};
-ghost use Rattle.pgstore.specs.Acts.{IsOwnFault};
+ghost use Rattle.pgapply.specs.Stored.{Stored, IsOwnFault};
 ghost use Rattle.pgstore.specs.StoreValue.{AreOf, HasMade};
 
-use crate::rows::StoreFault;
+use crate::fault::Refusal;
 use pgtables::create_tables;
 use sqlite::{Alter, Connection};
 
 /// Makes the tables where there are none yet, empty and with position 0/0, in one SQL transaction.
-pub(crate) fn make_tables<S: Alter>(conn: &mut Connection<S>) -> Result<(), StoreFault>
+pub(crate) fn make_tables<S: Alter>(conn: &mut Connection<S>) -> Result<(), Refusal>
     requires settled { (state S.Store conn.old).in_transaction ≡ false }
     requires bare { IfServing S.Store conn.old ((state S.Store conn.old).now.schema ≡ no_schema) }
     ensures settled { (state S.Store conn.new).in_transaction ≡ false }

@@ -1,5 +1,3 @@
-use Rattle.std.proofs.Common.{sym, subst, ◌∙◌}
-use Rattle.sqlite_trees.specs.Objects.{catalog_tree}
 use Rattle.pgtables.specs.Schema.{store_schema}
 use Rattle.pgtables.proofs.Listed.{schema_once}
 use Rattle.pgstore.proofs.opening.sees_schema.Goals as goal

@@ -1,5 +1,5 @@
 use Rattle.std.proofs.Common.{subst}
-use Rattle.pgstore.specs.Stored.{Stored}
+use Rattle.pgapply.specs.Stored.{Stored}
 use Rattle.pgstore.specs.StoreValue.{StoreValue, IsHonest, Serves, Contains, Keeps}
 use Rattle.pgstore.proofs.Stores.{contains}
 use Rattle.pgstore.proofs.store.Store.position.Goals as goal

@@ -1,8 +1,8 @@
 use Rattle.std.proofs.Common.{◌≡◌, IfOk, not, subst, ap, ◌∙◌}
 use Rattle.sqlite.specs.Held.{state}
 use Rattle.sqlite.specs.State.{HasCleanDisk, Survives}
-use Rattle.pgstore.specs.Stored.{Stored}
-use Rattle.pgstore.specs.Dump.{dump}
+use Rattle.pgapply.specs.Stored.{Stored}
+use Rattle.pgapply.specs.Dump.{dump}
 use Rattle.pgstore.specs.StoreValue.{StoreValue, Serves, Holds, Stays}
 use Rattle.pgstore.proofs.Stores.{read_left, stays_store, stays}
 use Rattle.pgstore.proofs.DumpShown.{shows_store}

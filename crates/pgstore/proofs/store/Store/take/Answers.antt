@@ -2,7 +2,7 @@ use Rattle.std.proofs.Common.{◌≡◌, ◌<◌, not, sym, subst, ap, ◌∙◌
 use Rattle.std.specs.Int.{w64, to_be_bytes}
 use Rattle.sqlite.specs.Held.{state}
 use Rattle.sqlite.specs.State.{Survives}
-use Rattle.pgstore.specs.Works.{change_values}
+use Rattle.pgapply.specs.Works.{change_values}
 use Rattle.pgstore.specs.StoreValue.{StoreValue, Takes, LeavesWork}
 use Rattle.pgstore.proofs.Stores.{refused_left, stays_store, taken_store, takes, survives_work}
 use Rattle.pgstore.proofs.store.Store.take.Goals as goal

@@ -1,0 +1,9 @@
+pub mod Value
+pub mod Apply
+pub mod Dump
+pub mod Stored
+pub mod Works
+pub mod Codes
+pub mod Laws
+pub mod Taken
+pub mod CarriedRows

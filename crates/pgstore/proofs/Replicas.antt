@@ -1,0 +1,50 @@
+-- The SQL store as what a subscriber keeps its tables in.
+use Rattle.std.proofs.Common.{◌≡◌, List, Result, Ok, Err, OnOk, OnErr, IfOk, IfErr, refl}
+use Rattle.sqlite.specs.Store.{Ghosts}
+use Rattle.pgtables.specs.Kept.{tables_of}
+use Rattle.pgapply.specs.declared.rows.DumpRow.{DumpRow}
+use Rattle.pgapply.specs.declared.rows.StoreFault.{StoreFault}
+use Rattle.pgapply.specs.Value.{Tables}
+use Rattle.pgapply.specs.Apply.{Change}
+use Rattle.pgapply.specs.Dump.{dump}
+use Rattle.pgapply.specs.Stored.{Stored}
+use Rattle.pgapply.specs.Taken as taken
+use Rattle.pgstore.specs.Spelled.{IsStored}
+use Rattle.pgstore.specs.StoreValue.{StoreValue, Holds, Takes, Stays, RefusesWork}
+
+module _ {S : Type 0} (g : Ghosts S) where
+  abbrev pub holds_tables : StoreValue S → Tables → Type 0
+  holds_tables s tables = IsStored tables (tables_of g s.conn)
+
+  pub holds_with_position : (s : StoreValue S) (tables : Tables) → holds_tables s tables → Holds g s (record { tables = tables; position = s.position })
+  holds_with_position s tables h = record { stored = h; position = refl }
+
+  pub folds_tables : (old new : StoreValue S) (changes : List Change) (end : _) → Takes g old new changes end → taken.Folds holds_tables old new changes
+  folds_tables old new changes end t tables h =
+      let f = t.folds (record { tables = tables; position = old.position }) (holds_with_position old tables h) in
+      (f.0, f.1, f.2.stored)
+
+  pub stays_tables : (old new : StoreValue S) → Stays g old new → taken.Stays holds_tables old new
+  stays_tables old new s tables h = (s.same (record { tables = tables; position = old.position }) (holds_with_position old tables h)).stored
+
+  pub refuses_tables : (old : StoreValue S) (changes : List Change) (fault : StoreFault) → RefusesWork g old changes fault → taken.RefusesWork holds_tables old changes fault
+  refuses_tables old changes fault r tables h = r (record { tables = tables; position = old.position }) (holds_with_position old tables h)
+
+  pub shows_tables : (old : StoreValue S) (rows : List DumpRow) → ((v : Stored) → Holds g old v → rows ≡ dump v.tables) → taken.Shows holds_tables old rows
+  shows_tables old rows shows tables h = shows (record { tables = tables; position = old.position }) (holds_with_position old tables h)
+
+pub on_ok : {T E : Type 0} (r : Result T E) (A B : Type 0) → OnOk r A → (A → B) → OnOk r B
+on_ok (Ok t) A B h go = go h
+on_ok (Err e) A B h go = tt
+
+pub on_err : {T E : Type 0} (r : Result T E) (A B : Type 0) → OnErr r A → (A → B) → OnErr r B
+on_err (Ok t) A B h go = tt
+on_err (Err e) A B h go = go h
+
+pub if_err : {T E : Type 0} (r : Result T E) (P Q : E → Type 0) → IfErr r P → ((e : E) → P e → Q e) → IfErr r Q
+if_err (Ok t) P Q h go = tt
+if_err (Err e) P Q h go = go e h
+
+pub if_ok : {T E : Type 0} (r : Result T E) (P Q : T → Type 0) → IfOk r P → ((t : T) → P t → Q t) → IfOk r Q
+if_ok (Ok t) P Q h go = go t h
+if_ok (Err e) P Q h go = tt
