@@ -1,0 +1,10 @@
+use Rattle.std.proofs.Common.{subst}
+use Rattle.pgspool.specs.Labels.{items_of, held_of}
+use Rattle.pgsub_core.specs.Applied.{Applied}
+use Rattle.pgsub_core.specs.Committing.{Commits}
+use Rattle.pgsub_core.proofs.applier.Applier.commit.Goals as goal
+
+pub returns-clause-taken : goal.returns-clause-taken
+returns-clause-taken g c serves =
+    subst (λ (a : Applied g.row.C.Denot). Commits g.C.ReplicaStore.holds g.C.ReplicaStore.place c.args.end (items_of (held_of a.held c.args.xid)) a.store a.confirmed a.relations c.commit.new.store c.in_ok-confirmed.confirmed c.commit.new.book) c.self.view_is
+    (c.in_ok-confirmed.ensures.taken serves)

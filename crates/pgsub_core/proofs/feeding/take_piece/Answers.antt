@@ -1,0 +1,74 @@
+use Rattle.std.proofs.Common.{◌≡◌, ◌≢◌, ◌⊎◌, ℕ, ℤ, List, Ok, Err, sym, ap, subst, ◌∙◌}
+use Rattle.std.specs.Int.{w64}
+use Rattle.std.proofs.lemmas.Int.{to_z-of_z}
+use Rattle.pgwire.specs.Deframed.{Deframed, IsFed}
+use Rattle.pgsub_core.specs.Applied.{Applied}
+use Rattle.pgwire.specs.declared.fault.WireFault.{WireFault}
+use Rattle.pgwire.specs.declared.fault.WireFault.TheVariants as wire_fault
+use Rattle.pgsub_core.specs.declared.fault.Fault.TheVariants as fault
+use Rattle.pgsub_core.specs.Framing.{FeedGoes, FeedStops}
+use Rattle.pgsub_core.proofs.DescribedChanges.{on_residual}
+use Rattle.pgsub_core.proofs.FeedStops.{stops_by_bytes, stops_by_frame, start_to, released_to}
+use Rattle.pgsub_core.proofs.FeedSteps.{fed_start, fed_one, fed_whole, fed_less, rest_of}
+use Rattle.pgsub_core.proofs.feeding.take_piece.Goals as goal
+
+pub loop-deframer-init : goal.loop-deframer-init
+loop-deframer-init g c = (
+  c.requires.opened,
+  fed_start g.C.ReplicaStore.serves g.C.ReplicaStore.holds g.C.ReplicaStore.place _ c.args.deframer.now c.feed_frames.new.deframer c.args.applier.now c.args.piece.now c.in_ok-taken.taken c.requires.waits c.requires.sound c.in_ok-taken.ensures.fed,
+  λ serves. serves,
+)
+
+pub loop-deframer-smaller : goal.loop-deframer-smaller
+loop-deframer-smaller g c =
+    fed_less c.loop-deframer.deframer c.take_whole.new.deframer c.feed_frames-in-loop-deframer.new.deframer c.args.piece.now c.loop-deframer.taken c.in_ok-taken-2.field-0 c.loop-deframer.invariant.1.within
+    (c.in_ok-take_whole.ensures.released c.if-branch.true) (subst (λ (bytes : List ℕ). IsFed c.take_whole.new.deframer bytes (Ok c.in_ok-taken-2.field-0) c.feed_frames-in-loop-deframer.new.deframer) (rest_of c.args.piece.now c.loop-deframer.taken) c.in_ok-taken-2.ensures.fed)
+
+pub loop-deframer-preserved : goal.loop-deframer-preserved
+loop-deframer-preserved g c = (
+  c.in_ok-take_whole.ensures.opened,
+  fed_one g.C.ReplicaStore.serves g.C.ReplicaStore.holds g.C.ReplicaStore.place _ c.args.deframer.now c.loop-deframer.deframer c.take_whole.new.deframer c.feed_frames-in-loop-deframer.new.deframer c.args.applier.now c.loop-deframer.applier c.take_whole.new.applier
+      c.args.piece.now c.loop-deframer.taken c.in_ok-taken-2.field-0 c.loop-deframer.invariant.1 (c.in_ok-take_whole.ensures.released c.if-branch.true) c.take_whole.ensures.served
+      (λ serves f stands. c.in_ok-take_whole.ensures.goes serves c.if-branch.true f stands) (subst (λ (bytes : List ℕ). IsFed c.take_whole.new.deframer bytes (Ok c.in_ok-taken-2.field-0) c.feed_frames-in-loop-deframer.new.deframer) (rest_of c.args.piece.now c.loop-deframer.taken) c.in_ok-taken-2.ensures.fed),
+  λ serves. c.loop-deframer.invariant.2 (c.take_whole.ensures.served serves),
+)
+
+pub returns-clause-fed : goal.returns-clause-fed
+returns-clause-fed g c serves =
+    let holds = g.C.ReplicaStore.holds in
+    let place = g.C.ReplicaStore.place in
+    let none = c.in_ok-take_whole.ensures.none c.if-branch.false in
+    subst (λ (d : Deframed). FeedGoes holds place c.args.now c.args.deframer.now c.args.applier.now c.args.piece.now d c.take_whole.new.applier) (sym none.1)
+    (subst (λ (a : Applied g.row.C.Denot). FeedGoes holds place c.args.now c.args.deframer.now c.args.applier.now c.args.piece.now c.loop-deframer.deframer a) (sym none.2)
+    (subst (λ (z : ℤ). FeedGoes holds place z c.args.deframer.now c.args.applier.now c.args.piece.now c.loop-deframer.deframer c.loop-deframer.applier) (to_z-of_z w64 c.args.now c.ranges.now)
+    (fed_whole g.C.ReplicaStore.serves holds place _ c.args.deframer.now c.loop-deframer.deframer c.args.applier.now c.loop-deframer.applier c.args.piece.now c.loop-deframer.taken c.loop-deframer.invariant.1 none.0
+    (subst (λ (a : Applied g.row.C.Denot). g.C.ReplicaStore.serves a.store) none.2 serves))))
+
+pub returns-in_err-taken-clause-refused : goal.returns-in_err-taken-clause-refused
+returns-in_err-taken-clause-refused g c serves =
+    on_residual c.from_residual.result c.in_err-taken.field-0.0 _ c.from_residual.ensures.1
+    (stops_by_bytes g.C.ReplicaStore.serves g.C.ReplicaStore.holds g.C.ReplicaStore.place c.args.now c.args.deframer.now c.args.applier.now c.args.piece.now c.args.deframer.now c.feed_frames.new.deframer c.args.applier.now 0
+    (start_to g.C.ReplicaStore.serves g.C.ReplicaStore.holds g.C.ReplicaStore.place c.args.now c.args.deframer.now c.args.applier.now c.args.piece.now c.requires.waits c.requires.sound) serves c.requires.sound c.in_err-taken.field-0.0 c.in_err-taken.ensures.refused)
+
+pub returns-in_err-take_whole-clause-refused : goal.returns-in_err-take_whole-clause-refused
+returns-in_err-take_whole-clause-refused g c serves =
+    let f = c.in_err-take_whole.field-0.0 in
+    let stopped = c.in_err-take_whole.ensures.refused serves in
+    on_residual c.from_residual-in_err-take_whole.result f _ c.from_residual-in_err-take_whole.ensures.1
+    (subst (λ (z : ℤ). FeedStops g.C.ReplicaStore.holds g.C.ReplicaStore.place z c.args.deframer.now c.args.applier.now c.args.piece.now c.take_whole.new.applier f) (to_z-of_z w64 c.args.now c.ranges.now)
+    (stops_by_frame g.C.ReplicaStore.serves g.C.ReplicaStore.holds g.C.ReplicaStore.place _ c.args.deframer.now c.args.applier.now c.args.piece.now c.loop-deframer.deframer c.loop-deframer.applier c.take_whole.new.applier c.loop-deframer.taken c.loop-deframer.invariant.1
+    (c.take_whole.ensures.served serves) f stopped.0 stopped.1 stopped.2))
+
+pub returns-in_err-taken-2-clause-refused : goal.returns-in_err-taken-2-clause-refused
+returns-in_err-taken-2-clause-refused g c serves =
+    let f = c.in_err-taken-2.field-0.0 in
+    let to = c.loop-deframer.invariant.1 in
+    let released = c.in_ok-take_whole.ensures.released c.if-branch.true in
+    let sound = ap (λ (x : Deframed). x.fault) released.released ∙ to.fault in
+    let refused = subst (λ (bytes : List ℕ). ((f ≡ fault.Memory) × (c.feed_frames-in-loop-deframer.new.deframer ≡ c.take_whole.new.deframer))
+    ⊎ ((k : WireFault) × (k ≢ wire_fault.Memory) × (f ≡ fault.Wire k) × IsFed c.take_whole.new.deframer bytes (Err k) c.feed_frames-in-loop-deframer.new.deframer)) (rest_of c.args.piece.now c.loop-deframer.taken) c.in_err-taken-2.ensures.refused in
+    on_residual c.from_residual-in_err-taken-2.result f _ c.from_residual-in_err-taken-2.ensures.1
+    (subst (λ (z : ℤ). FeedStops g.C.ReplicaStore.holds g.C.ReplicaStore.place z c.args.deframer.now c.args.applier.now c.args.piece.now c.take_whole.new.applier f) (to_z-of_z w64 c.args.now c.ranges.now)
+    (stops_by_bytes g.C.ReplicaStore.serves g.C.ReplicaStore.holds g.C.ReplicaStore.place _ c.args.deframer.now c.args.applier.now c.args.piece.now c.take_whole.new.deframer c.feed_frames-in-loop-deframer.new.deframer c.take_whole.new.applier c.loop-deframer.taken
+    (released_to g.C.ReplicaStore.serves g.C.ReplicaStore.holds g.C.ReplicaStore.place _ c.args.deframer.now c.args.applier.now c.args.piece.now c.loop-deframer.deframer c.take_whole.new.deframer c.loop-deframer.applier c.take_whole.new.applier c.loop-deframer.taken to released
+    c.take_whole.ensures.served (λ own frame stands. c.in_ok-take_whole.ensures.goes own c.if-branch.true frame stands)) serves sound f refused))

@@ -1,0 +1,23 @@
+use Rattle.std.proofs.Common.{ℤ, refl, sym, ap, subst, ◌∙◌}
+use Rattle.pgsub_core.specs.SubscriberValue.{SubscriberValue}
+use Rattle.std.specs.Int.{w64}
+use Rattle.std.proofs.lemmas.Int.{to_z-of_z}
+use Rattle.pgsub_core.specs.Framing.{FeedGoes, FeedStops}
+use Rattle.pgsub_core.proofs.Starting.{feeds, feeds_until}
+use Rattle.pgsub_core.proofs.subscriber.Subscriber.feed.Goals as goal
+
+pub returns-in-Ok-clause-fed : goal.returns-in-Ok-clause-fed
+returns-in-Ok-clause-fed g c serves =
+    feeds g.C.ReplicaStore.holds g.C.ReplicaStore.place c.args.now c.args.piece.now c.self.inside.deframer c.take_piece.new.deframer c.self.inside.applier c.take_piece.new.applier c.self.inside.closed c.args.self.now c.if-self.false c.self.view_is
+    (subst (λ (z : ℤ). FeedGoes g.C.ReplicaStore.holds g.C.ReplicaStore.place z c.self.inside.deframer c.self.inside.applier c.args.piece.now c.take_piece.new.deframer c.take_piece.new.applier) (to_z-of_z w64 c.args.now c.ranges.now)
+    (c.in-Ok.ensures.fed serves))
+
+pub returns-in-Err-clause-refused : goal.returns-in-Err-clause-refused
+returns-in-Err-clause-refused g c serves =
+    feeds_until g.C.ReplicaStore.holds g.C.ReplicaStore.place c.args.now c.args.piece.now c.self.inside.deframer c.take_piece.new.deframer c.self.inside.applier c.take_piece.new.applier c.self.inside.closed c.args.self.now c.in-Err.fault
+    c.if-self.false c.take_piece.ensures.max c.self.view_is
+    (subst (λ (z : ℤ). FeedStops g.C.ReplicaStore.holds g.C.ReplicaStore.place z c.self.inside.deframer c.self.inside.applier c.args.piece.now c.take_piece.new.applier c.in-Err.fault) (to_z-of_z w64 c.args.now c.ranges.now)
+    (c.in-Err.ensures.refused serves))
+
+pub returns-then-self-clause-refused : goal.returns-then-self-clause-refused
+returns-then-self-clause-refused g c serves tables h = (tables, h, (ap (λ (x : SubscriberValue g.row.C.Denot). x.framing.closed) (sym c.self.view_is) ∙ c.if-self.true, refl))

@@ -1,0 +1,333 @@
+//! What takes the messages of a session, one after the other: their order, what is held of open transactions, the relation
+//! cache, the store, and what is confirmed and received.
+//!
+//! PostgreSQL documentation, Streaming Replication Protocol; Logical Streaming Replication Protocol.
+
+ghost use Rattle.std.specs.Prelude.{◌≡◌, ◌⊎◌, ◌∷◌, ◌++◌, [], ℕ, ℤ, max, if◌then◌else◌, false, true, Ok, Err, OnOk, OnErr, IfOk, IfErr};
+ghost use Rattle.std.specs.FinMap as map;
+ghost use Rattle.pglogical.specs.Reading.{message_at};
+ghost use Rattle.pglogical.specs.declared.message.Message.{Message};
+ghost use Rattle.pgwire.specs.Frames.{CopyData};
+ghost use Rattle.pgwire.specs.Statuses.{status_frame};
+ghost use Rattle.pgsub_core.specs.Framing.{FramesGo, IsStopped, StopsAtBody, StopsAt};
+ghost use Rattle.pglogical.specs.Spelling.{IsSpellableMessage, IsMessageFor};
+ghost use Rattle.pgorder.specs.States.{is_in_block};
+ghost use Rattle.pgorder.specs.Steps.{initial_order};
+ghost use Rattle.pgspool.specs.Labels.{items_of, held_of, cost, all_costs};
+ghost use Rattle.pgsub_core.specs.Stream.{Data, Keepalive, kind};
+ghost use Rattle.pgsub_core.specs.ApplyState.{pushed};
+ghost use Rattle.pgsub_core.specs.Taking.{take};
+ghost use Rattle.pgsub_core.specs.Opened.{AreOpened, Fits, under_way_behind};
+ghost use Rattle.pgsub_core.specs.Applied.{Goes, Stops, IsKept};
+ghost use Rattle.pgsub_core.specs.Committing.{Commits, RefusesCommit};
+ghost use Rattle.pgsub_core.specs.Events.{HasRoom, IsFull, FindsRoom, EventGoes, EventStops, StaysBeside};
+ghost use Rattle.pgsub_core.specs.Faults.{fault_of_decode, fault_of_order, fault_of_spool};
+
+use crate::committing::{commit, later};
+use crate::fault::Fault;
+use bytes::BytesMut;
+use pgapply::ReplicaStore;
+use pglogical::{DecodeFault, Message, Reason};
+use pglsn::Lsn;
+use pgorder::{Event, Order, OrderFault, Version};
+use pgrel::Book;
+use pgspool::{SpoolFault, Spools};
+use pgwire::{ServerMsg, Status, decode_server, encode_status};
+use std::alloc::Global;
+use std::marker::Model;
+
+/// Takes the messages of a session, one after the other.
+#[derive(Drop)]
+pub(crate) struct Applier<P: Spools + Drop, C: ReplicaStore + Drop> {
+    alloc: Global,
+    order: Order,
+    book: Book,
+    spools: P,
+    store: C,
+    confirmed: Lsn,
+    received: Lsn,
+    replies: BytesMut,
+}
+
+impl<P: Spools + Drop, C: ReplicaStore + Drop> Model for Applier<P, C> {
+    ghost use Rattle.pgsub_core.specs.Applied.{Applied, applied_code};
+
+    ghost Value = { Applied C };
+
+    ghost coded = { applied_code C.code };
+
+    ghost view = { λ a. record { store = a.store; confirmed = a.confirmed; received = a.received; version = a.order.version; limit = P.most a.spools; order = a.order.state; held = P.held a.spools; relations = a.book; replies = a.replies.items } };
+}
+
+fn order_fault(fault: OrderFault) -> Fault
+    ensures { result ≡ fault_of_order fault }
+{
+    match fault {
+        OrderFault::Memory => Fault::Memory,
+        fault => Fault::Order(fault),
+    }
+}
+
+fn decode_fault(fault: DecodeFault) -> Fault
+    ensures { result ≡ fault_of_decode fault }
+{
+    match fault.reason {
+        Reason::Memory => Fault::Memory,
+        _ => Fault::Decode(fault),
+    }
+}
+
+fn spool_fault(fault: SpoolFault) -> Fault
+    ensures { result ≡ fault_of_spool fault }
+{
+    match fault {
+        SpoolFault::Memory => Fault::Memory,
+        fault => Fault::Spool(fault),
+    }
+}
+
+/// A transaction opens, without items.
+fn open<P: Spools>(spools: &mut P, xid: u32) -> Result<(), Fault>
+    requires { map.contains_key (P.held spools.old) xid ≡ false }
+    ensures ok { OnOk result (P.held spools.new ≡ map.insert (P.held spools.old) xid []) }
+    ensures memory { IfErr result (λ fault. fault ≡ Fault.Memory) }
+    ensures limit { P.most spools.new ≡ P.most spools.old }
+{
+    match spools.open(xid) {
+        Ok(()) => Ok(()),
+        Err(_) => Err(Fault::Memory),
+    }
+}
+
+/// The item of a message is held under its label. A message without one changes nothing.
+fn hold<P: Spools>(spools: &mut P, message: &Message, top: u32, label: u32) -> Result<(), Fault>
+    requires open { map.contains_key (P.held spools.old) top ≡ true }
+    requires spellable { IsSpellableMessage message.now }
+    ensures ok { OnOk result (P.held spools.new ≡ pushed (P.held spools.old) top label (kind message.now)) }
+    ensures room { OnOk result (HasRoom (P.most spools.old) (P.held spools.old) (kind message.now)) }
+    ensures refused { IfErr result (λ fault. (fault ≡ Fault.Memory) ⊎ ((fault ≡ Fault.Spool SpoolFault.SpoolFull) × IsFull (P.most spools.old) (P.held spools.old) (kind message.now))) }
+    ensures limit { P.most spools.new ≡ P.most spools.old }
+{
+    let Message::Item { item, .. } = message else {
+        return Ok(());
+    };
+    match spools.push(top, label, &item.borrowed()) {
+        Ok(()) => Ok(()),
+        Err(fault) => Err(spool_fault(fault)),
+    }
+}
+
+/// What is confirmed behind a keepalive: its end, where it stands outside pairs and blocks.
+fn confirmed_by(outside: bool, confirmed: Lsn, end: Lsn) -> Lsn
+    ensures { result ≡ (if outside then max confirmed end else confirmed) }
+{
+    if outside {
+        later(confirmed, end)
+    } else {
+        confirmed
+    }
+}
+
+/// Appends the status where a reply is asked.
+fn append_reply(asks: bool, status: &Status, replies: &mut BytesMut) -> Result<(), Fault>
+    ensures ok { OnOk result (replies.new.items ≡ (if asks then replies.old.items ++ status_frame status.now else replies.old.items)) }
+    ensures err { OnErr result (replies.new.items ≡ replies.old.items) }
+    ensures memory { IfErr result (λ fault. fault ≡ Fault.Memory) }
+{
+    if !asks {
+        return Ok(());
+    }
+    match encode_status(status, replies) {
+        Ok(()) => Ok(()),
+        Err(_) => Err(Fault::Memory),
+    }
+}
+
+impl<P: Spools + Drop, C: ReplicaStore + Drop> Applier<P, C> {
+    /// Over a store, from a disconnection on.
+    pub fn new(alloc: Global, store: C, spools: P, version: Version) -> Applier<P, C>
+        ensures store { result.store ≡ store }
+        ensures confirmed { result.confirmed ≡ C.place store }
+        ensures received { result.received ≡ C.place store }
+        ensures version { result.version ≡ version }
+        ensures limit { result.limit ≡ P.most spools }
+        ensures order { result.order ≡ initial_order }
+        ensures held { result.held ≡ map.empty }
+        ensures relations { result.relations ≡ map.empty }
+        ensures replies { result.replies ≡ [] }
+    {
+        let mut spools = spools;
+        spools.clear();
+        let position = store.position();
+        Applier {
+            alloc,
+            order: Order::new(alloc, version),
+            book: Book::new(alloc),
+            spools,
+            store,
+            confirmed: position,
+            received: position,
+            replies: BytesMut::new(alloc),
+        }
+    }
+
+    /// Forgets what belongs to the session.
+    pub fn disconnect(&mut self)
+        ensures store { self.new.store ≡ self.old.store }
+        ensures confirmed { self.new.confirmed ≡ self.old.confirmed }
+        ensures received { self.new.received ≡ self.old.confirmed }
+        ensures version { self.new.version ≡ self.old.version }
+        ensures limit { self.new.limit ≡ self.old.limit }
+        ensures order { self.new.order ≡ initial_order }
+        ensures held { self.new.held ≡ map.empty }
+        ensures relations { self.new.relations ≡ map.empty }
+        ensures replies { self.new.replies ≡ [] }
+    {
+        self.order.reset();
+        self.book.clear();
+        self.spools.clear();
+        self.received = self.confirmed;
+        self.replies.clear();
+    }
+
+    /// The position up to which the rows stand.
+    pub fn position(&self) -> Lsn
+        ensures { result ≡ C.place self.now.store }
+    {
+        self.store.position()
+    }
+
+    /// A commit of a transaction, whose items are held no longer.
+    fn commit(&mut self, xid: u32, end: Lsn) -> Result<(), Fault>
+        ensures taken { C.serves self.new.store → OnOk result (Commits C.holds C.place end (items_of (held_of self.old.held xid)) self.old.store self.old.confirmed self.old.relations self.new.store self.new.confirmed self.new.relations) }
+        ensures refused { C.serves self.new.store → IfErr result (RefusesCommit C.holds C.place end (items_of (held_of self.old.held xid)) self.old.store self.old.confirmed self.old.relations self.new.store) }
+        ensures held { OnOk result (self.new.held ≡ map.remove self.old.held xid) }
+        ensures beside { StaysBeside self.old self.new }
+        ensures kept { OnErr result (IsKept C.place self.old self.new) }
+        ensures served { C.serves self.new.store → C.serves self.old.store }
+    {
+        let confirmed = commit(
+            self.alloc,
+            &mut self.book,
+            &self.spools,
+            &mut self.store,
+            self.confirmed,
+            xid,
+            end,
+        )?;
+        self.confirmed = confirmed;
+        self.spools.drop_xid(xid);
+        Ok(())
+    }
+
+    /// Goes through with an event of the order of messages.
+    fn take_event(&mut self, message: &Message, event: Event) -> Result<(), Fault>
+        requires fits { Fits self.old.held event }
+        requires spellable { IsSpellableMessage message.now }
+        ensures goes { C.serves self.new.store → OnOk result (EventGoes C.holds C.place message.now event self.old self.new) }
+        ensures room { OnOk result (FindsRoom event self.old.limit self.old.held (kind message.now)) }
+        ensures opened { OnOk result ((x : ℕ) → map.contains_key self.new.held x ≡ under_way_behind event (map.contains_key self.old.held) x) }
+        ensures refused { C.serves self.new.store → IfErr result (EventStops C.holds C.place message.now event self.old self.new) }
+        ensures beside { StaysBeside self.old self.new }
+        ensures kept { OnErr result (IsKept C.place self.old self.new) }
+        ensures served { C.serves self.new.store → C.serves self.old.store }
+    {
+        match event {
+            Event::Ignore | Event::Reopen { .. } | Event::Close => Ok(()),
+            Event::Begin { xid } | Event::Open { xid } => open(&mut self.spools, xid),
+            Event::Hold { top, label } => hold(&mut self.spools, message, top, label),
+            Event::Cut { xid, label } => {
+                self.spools.cut(xid, label);
+                Ok(())
+            }
+            Event::Drop { xid } => {
+                self.spools.drop_xid(xid);
+                Ok(())
+            }
+            Event::CommitPair { xid, end, .. } | Event::CommitStream { xid, end, .. } => {
+                self.commit(xid, end)
+            }
+        }
+    }
+
+    /// Takes a logical message, which came with these start and end fields.
+    pub fn take_message(&mut self, message: &Message, start: Lsn, end: Lsn) -> Result<(), Fault>
+        requires for_place { IsMessageFor (is_in_block self.old.order.context) message.now }
+        requires spellable { IsSpellableMessage message.now }
+        requires opened { AreOpened self.old.order self.old.held }
+        ensures takes { C.serves self.new.store → OnOk result ((now clock : ℤ) → Goes C.holds C.place (λ s. take now s (Data start end clock message.now)) self.old self.new) }
+        ensures opened { OnOk result (AreOpened self.new.order self.new.held) }
+        ensures refused { C.serves self.new.store → IfErr result (λ fault. (now clock : ℤ) → Stops C.holds C.place now (Data start end clock message.now) self.old self.new fault) }
+        ensures kept { OnErr result (IsKept C.place self.old self.new) }
+        ensures served { C.serves self.new.store → C.serves self.old.store }
+    {
+        let event = match self.order.step(&message.borrowed()) {
+            Ok(event) => event,
+            Err(fault) => return Err(order_fault(fault)),
+        };
+        self.take_event(message, event)?;
+        self.received = later(self.confirmed, later(self.received, later(start, end)));
+        Ok(())
+    }
+
+    /// Takes the payload of a frame: XLogData with a logical message, or a keepalive.
+    pub fn take_payload(&mut self, payload: &[u8], now: i64) -> Result<(), Fault>
+        requires opened { AreOpened self.old.order self.old.held }
+        ensures takes { C.serves self.new.store → OnOk result (FramesGo C.holds C.place now (CopyData payload.now ∷ []) self.old self.new) }
+        ensures refused { C.serves self.new.store → IfErr result (IsStopped C.holds C.place (StopsAt (CopyData payload.now) now) self.old self.new) }
+        ensures opened { OnOk result (AreOpened self.new.order self.new.held) }
+        ensures kept { OnErr result (IsKept C.place self.old self.new) }
+        ensures served { C.serves self.new.store → C.serves self.old.store }
+    {
+        let message = match decode_server(payload) {
+            Ok(message) => message,
+            Err(fault) => return Err(Fault::Wire(fault)),
+        };
+        match &message {
+            ServerMsg::Data {
+                start,
+                end,
+                body,
+                ..
+            } => self.take_body(body, *start, *end),
+            ServerMsg::Keepalive { end, reply, .. } => self.take_keepalive(*end, *reply, now),
+        }
+    }
+
+    fn take_body(&mut self, body: &[u8], start: Lsn, end: Lsn) -> Result<(), Fault>
+        requires opened { AreOpened self.old.order self.old.held }
+        ensures takes { C.serves self.new.store → OnOk result ((m : Message) × (message_at (is_in_block self.old.order.context) body.now ≡ Ok m) × ((now clock : ℤ) → Goes C.holds C.place (λ s. take now s (Data start end clock m)) self.old self.new)) }
+        ensures refused { C.serves self.new.store → IfErr result (λ f. (now clock : ℤ) → IsStopped C.holds C.place (StopsAtBody now start end clock body.now) self.old self.new f) }
+        ensures opened { OnOk result (AreOpened self.new.order self.new.held) }
+        ensures kept { OnErr result (IsKept C.place self.old self.new) }
+        ensures served { C.serves self.new.store → C.serves self.old.store }
+    {
+        match pglogical::decode(self.alloc, body, self.order.in_block()) {
+            Ok(message) => self.take_message(&message, start, end),
+            Err(fault) => Err(decode_fault(fault)),
+        }
+    }
+
+    fn take_keepalive(&mut self, end: Lsn, reply: bool, now: i64) -> Result<(), Fault>
+        requires opened { AreOpened self.old.order self.old.held }
+        ensures takes { OnOk result ((clock : ℤ) → Goes C.holds C.place (λ s. take now s (Keepalive end clock reply)) self.old self.new) }
+        ensures memory { IfErr result (λ f. f ≡ Fault.Memory) }
+        ensures opened { OnOk result (AreOpened self.new.order self.new.held) }
+        ensures kept { OnErr result (IsKept C.place self.old self.new) }
+        ensures store { self.new.store ≡ self.old.store }
+    {
+        let confirmed = confirmed_by(self.order.is_outside(), self.confirmed, end);
+        let received = later(confirmed, later(self.received, end));
+        let status = Status {
+            written: received,
+            flushed: confirmed,
+            applied: confirmed,
+            clock: now,
+            ask: false,
+        };
+        append_reply(reply, &status, &mut self.replies)?;
+        self.confirmed = confirmed;
+        self.received = received;
+        Ok(())
+    }
+}

@@ -1,0 +1,205 @@
+//! The changes of a commit, each with the definition that the relation cache has where it stands.
+//!
+//! PostgreSQL documentation, Logical Replication Message Formats, Relation.
+
+ghost use Rattle.std.specs.Prelude.{◌≡◌, ◌⊎◌, ◌∷◌, ◌++◌, [], List, ℕ, nat_eq, Some, None, Ok, Err, OnOk, OnErr, IfOk, IfErr, slice_get, length};
+ghost use Rattle.std.specs.FinMap as map;
+ghost use Rattle.indexmap.specs.IndexMap.{get};
+ghost use Rattle.pglogical.specs.declared.item.Item.{Item};
+ghost use Rattle.pglogical.specs.LentItems.{def_value};
+ghost use Rattle.pglogical.specs.Spelling.{IsSpellable, IsDefinition};
+ghost use Rattle.pgspool.specs.Labels.{items_of, held_of};
+ghost use Rattle.pgsub_core.specs.Described.{described_from};
+ghost use Rattle.pgsub_core.specs.Replica.{cached, all_cached};
+ghost use Rattle.pgsub_core.specs.Drafts.{known_to, behind_changes, AreNumbered, IsNumbered, Adds, IsUndescribed, truncated, LacksDefinition};
+
+use crate::fault::Fault;
+use indexmap::IndexMap;
+use pgapply::{Op, Work};
+use pglogical::{DefRef, ItemParts, ItemRef, OidRefs};
+use pgrel::Book;
+use pgspool::Spools;
+use std::alloc::Global;
+
+/// The changes of a commit that were described so far. `numbers` has, by OID, the number of the definition in the work that the
+/// relation cache has now.
+#[derive(Drop)]
+pub(crate) struct Draft<'a> {
+    pub work: Work<'a>,
+    pub numbers: IndexMap<u32, usize>,
+}
+
+/// A Relation message: the cache knows it from here on.
+fn describe_relation(
+    alloc: Global,
+    book: &mut Book,
+    numbers: &mut IndexMap<u32, usize>,
+    def: &DefRef<'_>,
+) -> Result<(), Fault>
+    requires { IsDefinition (def_value def.now) }
+    ensures cached { OnOk result (book.new ≡ map.insert book.old def.now.oid (def_value def.now)) }
+    ensures gone { OnOk result (get nat_eq numbers.new def.now.oid ≡ None) }
+    ensures others { OnOk result ((oid n : ℕ) → get nat_eq numbers.new oid ≡ Some n → get nat_eq numbers.old oid ≡ Some n) }
+    ensures memory { IfErr result (λ fault. fault ≡ Fault.Memory) }
+{
+    let Ok(copy) = def.to_def(alloc) else {
+        return Err(Fault::Memory);
+    };
+    let _before = numbers.swap_remove(&def.oid);
+    match book.set(copy) {
+        Ok(()) => Ok(()),
+        Err(_) => Err(Fault::Memory),
+    }
+}
+
+/// The number of the definition that the cache has of a relation: the work is given it where it hasn't got it yet.
+fn number_of(alloc: Global, book: &Book, draft: &mut Draft<'_>, oid: u32) -> Result<usize, Fault>
+    requires { AreNumbered book.now draft.old.work.definitions (get nat_eq draft.old.numbers) }
+    ensures number { IfOk result (IsNumbered book.now draft.new.work.definitions oid) }
+    ensures numbers { OnOk result (AreNumbered book.now draft.new.work.definitions (get nat_eq draft.new.numbers)) }
+    ensures changes { OnOk result (draft.new.work.changes ≡ draft.old.work.changes) }
+    ensures refused { IfErr result (λ fault. (fault ≡ Fault.Memory) ⊎ IsUndescribed book.now oid fault) }
+{
+    if let Some(number) = draft.numbers.get(&oid) {
+        return Ok(*number);
+    }
+    let def = match book.get(oid) {
+        Ok(def) => def,
+        Err(fault) => return Err(Fault::Relation(fault)),
+    };
+    let Ok(copy) = def.copy(alloc) else {
+        return Err(Fault::Memory);
+    };
+    let Ok(number) = draft.work.define(copy) else {
+        return Err(Fault::Memory);
+    };
+    match draft.numbers.insert(oid, number) {
+        Ok(_) => Ok(number),
+        Err(_) => Err(Fault::Memory),
+    }
+}
+
+/// One change of a relation, with the definition that the cache has.
+fn describe_change<'a>(
+    alloc: Global,
+    book: &Book,
+    draft: &mut Draft<'a>,
+    oid: u32,
+    op: Op<'a>,
+) -> Result<(), Fault>
+    requires { AreNumbered book.now draft.old.work.definitions (get nat_eq draft.old.numbers) }
+    ensures adds { OnOk result (Adds book.now oid op.entry draft.old.work.changes draft.new.work.changes) }
+    ensures numbers { OnOk result (AreNumbered book.now draft.new.work.definitions (get nat_eq draft.new.numbers)) }
+    ensures refused { IfErr result (λ fault. (fault ≡ Fault.Memory) ⊎ IsUndescribed book.now oid fault) }
+{
+    let number = number_of(alloc, book, draft, oid)?;
+    match draft.work.change(number, op) {
+        Ok(()) => Ok(()),
+        Err(_) => Err(Fault::Memory),
+    }
+}
+
+/// A Truncate of these relations, as one change for each.
+fn describe_truncate(
+    alloc: Global,
+    book: &Book,
+    draft: &mut Draft<'_>,
+    oids: &OidRefs<'_>,
+) -> Result<(), Fault>
+    requires { AreNumbered book.now draft.old.work.definitions (get nat_eq draft.old.numbers) }
+    ensures adds { OnOk result (behind_changes draft.new.work.changes (Ok []) ≡ behind_changes draft.old.work.changes (truncated (known_to book.now) oids.now)) }
+    ensures numbers { OnOk result (AreNumbered book.now draft.new.work.definitions (get nat_eq draft.new.numbers)) }
+    ensures refused { IfErr result (λ fault. (fault ≡ Fault.Memory) ⊎ LacksDefinition (truncated (known_to book.now) oids.now) fault) }
+{
+    for oid in oids.lend() {
+        describe_change(alloc, book, draft, oid, Op::Truncate)?;
+    }
+    Ok(())
+}
+
+/// One item of a commit: a Relation goes into the cache, a change gets its definition from there.
+fn describe_item<'a>(
+    alloc: Global,
+    book: &mut Book,
+    draft: &mut Draft<'a>,
+    item: &ItemRef<'a>,
+) -> Result<(), Fault>
+    requires spellable { IsSpellable item.now }
+    requires numbers { AreNumbered book.old draft.old.work.definitions (get nat_eq draft.old.numbers) }
+    ensures changes { OnOk result ((items : List Item) → behind_changes draft.new.work.changes (described_from (known_to book.new) items) ≡ behind_changes draft.old.work.changes (described_from (known_to book.old) (item.now ∷ items))) }
+    ensures cached { OnOk result (book.new ≡ cached item.now book.old) }
+    ensures numbers { OnOk result (AreNumbered book.new draft.new.work.definitions (get nat_eq draft.new.numbers)) }
+    ensures refused { IfErr result (λ fault. (fault ≡ Fault.Memory) ⊎ ((items : List Item) → LacksDefinition (described_from (known_to book.old) (item.now ∷ items)) fault)) }
+{
+    match item.parts() {
+        ItemParts::Relation(def) => describe_relation(alloc, book, &mut draft.numbers, &def),
+        ItemParts::Insert { oid, row } => {
+            describe_change(alloc, book, draft, oid, Op::Insert { row })
+        }
+        ItemParts::Update { oid, prior, row } => {
+            describe_change(alloc, book, draft, oid, Op::Update { prior, row })
+        }
+        ItemParts::Delete { oid, kind, row } => {
+            describe_change(alloc, book, draft, oid, Op::Delete { kind, row })
+        }
+        ItemParts::Truncate { oids, .. } => describe_truncate(alloc, book, draft, &oids),
+    }
+}
+
+/// The changes of a transaction whose commit has come, in the order of its items. The Relation messages among them go into the
+/// cache.
+pub(crate) fn describe<'a, P: Spools>(
+    alloc: Global,
+    book: &mut Book,
+    spools: &'a P,
+    xid: u32,
+) -> Result<Work<'a>, Fault>
+    ensures changes { IfOk result (λ work. described_from (known_to book.old) (items_of (held_of (P.held spools.now) xid)) ≡ Ok work.changes) }
+    ensures cached { OnOk result (book.new ≡ all_cached book.old (items_of (held_of (P.held spools.now) xid))) }
+    ensures refused { IfErr result (λ fault. (fault ≡ Fault.Memory) ⊎ LacksDefinition (described_from (known_to book.old) (items_of (held_of (P.held spools.now) xid))) fault) }
+{
+    let mut draft = Draft {
+        work: Work::new(alloc),
+        numbers: IndexMap::new(alloc),
+    };
+    for place in 0..spools.count(xid) {
+        let item = spools.item(xid, place).unwrap();
+        describe_item(alloc, book, &mut draft, &item)?;
+    }
+    Ok(draft.work)
+}
+
+/// One item of a repeat, of which the Relations alone count.
+fn cache_item(alloc: Global, book: &mut Book, item: &ItemRef<'_>) -> Result<(), Fault>
+    requires { IsSpellable item.now }
+    ensures cached { OnOk result (book.new ≡ cached item.now book.old) }
+    ensures memory { IfErr result (λ fault. fault ≡ Fault.Memory) }
+{
+    let ItemParts::Relation(def) = item.parts() else {
+        return Ok(());
+    };
+    let Ok(copy) = def.to_def(alloc) else {
+        return Err(Fault::Memory);
+    };
+    match book.set(copy) {
+        Ok(()) => Ok(()),
+        Err(_) => Err(Fault::Memory),
+    }
+}
+
+/// The Relation messages of a repeat go into the cache, its changes aren't looked at.
+pub(crate) fn cache_relations<P: Spools>(
+    alloc: Global,
+    book: &mut Book,
+    spools: &P,
+    xid: u32,
+) -> Result<(), Fault>
+    ensures cached { OnOk result (book.new ≡ all_cached book.old (items_of (held_of (P.held spools.now) xid))) }
+    ensures memory { IfErr result (λ fault. fault ≡ Fault.Memory) }
+{
+    for place in 0..spools.count(xid) {
+        let item = spools.item(xid, place).unwrap();
+        cache_item(alloc, book, &item)?;
+    }
+    Ok(())
+}
