@@ -12,7 +12,7 @@ use Rattle.serde_json.specs.Data.{array}
 use Rattle.serde_json.specs.Written.{has_float, items_have_float, compact_text}
 use Rattle.pgtuple.specs.declared.cell.Cell.{Cell}
 use Rattle.pgtuple.specs.declared.cell.Cell.TheVariants.{Null, Unchanged, Text, Binary}
-use Rattle.pgstore.specs.declared.rows.DumpRow.{DumpRow}
+use Rattle.pgapply.specs.declared.rows.DumpRow.{DumpRow}
 use Rattle.pgsub.specs.DumpText.{cell_data, row_data}
 
 pub cells-next : (values : List Value) (value : Value) (cells : List Cell) (place : ℕ) (cell : Cell) → map view values ≡ map cell_data (take place cells)

@@ -4,14 +4,14 @@ use Rattle.std.specs.Prelude.{IsTrue}
 use Rattle.std.specs.Ordering.{nat_cmp}
 use Rattle.std.specs.FinMap as map
 use Rattle.std.specs.BTreeMap.{BTreeMap, get_by, Updates}
-use Rattle.pgstore.specs.declared.op.Op.{Op}
-use Rattle.pgstore.specs.declared.rows.StoreFault.{StoreFault}
+use Rattle.pgapply.specs.declared.op.Op.{Op}
+use Rattle.pgapply.specs.declared.rows.StoreFault.{StoreFault}
 use Rattle.pglogical.specs.declared.item.RelationDef.{RelationDef}
 use Rattle.pgtuple.specs.declared.cell.Cell.{Cell}
 use Rattle.pgrel.specs.Identity.{keyed, checked_insert}
-use Rattle.pgstore.specs.declared.op.Op.TheVariants.{Insert}
-use Rattle.pgstore.specs.Value.{Rows, Table, Tables, identity_key}
-use Rattle.pgstore.specs.Apply.{apply, rows_after, found_rows}
+use Rattle.pgapply.specs.declared.op.Op.TheVariants.{Insert}
+use Rattle.pgapply.specs.Value.{Rows, Table, Tables, identity_key}
+use Rattle.pgapply.specs.Apply.{apply, rows_after, found_rows}
 use Rattle.pgsub.specs.Plain.{one_copy, insert_of, tables_by_oid}
 use Rattle.pgsub.proofs.PlainMaps.{insert-remove, get-numbered, numbered-removed}
 

@@ -22,13 +22,13 @@ use Rattle.pgorder.specs.States.{is_in_block}
 use Rattle.pgorder.specs.Steps.{Context, Outside, InPair, InBlock, OrderState, StepResult, order_step}
 use Rattle.pgrel.specs.Identity.{keyed, checked_insert}
 use Rattle.pgspool.specs.Labels.{items_of, held_of}
-use Rattle.pgstore.specs.declared.op.Op.{Op}
-use Rattle.pgstore.specs.declared.op.Op.TheVariants.{Insert}
-use Rattle.pgstore.specs.declared.rows.StoreFault.{StoreFault}
-use Rattle.pgstore.specs.declared.rows.StoreFault.TheVariants as store
-use Rattle.pgstore.specs.Value.{Rows, Row, Tables, identity_key}
-use Rattle.pgstore.specs.Apply.{Change, apply, rows_after, found_rows, fold_changes, in_store, ◌>>=◌}
-use Rattle.pgstore.specs.Stored.{Stored}
+use Rattle.pgapply.specs.declared.op.Op.{Op}
+use Rattle.pgapply.specs.declared.op.Op.TheVariants.{Insert}
+use Rattle.pgapply.specs.declared.rows.StoreFault.{StoreFault}
+use Rattle.pgapply.specs.declared.rows.StoreFault.TheVariants as store
+use Rattle.pgapply.specs.Value.{Rows, Row, Tables, identity_key}
+use Rattle.pgapply.specs.Apply.{Change, apply, rows_after, found_rows, fold_changes, in_store, ◌>>=◌}
+use Rattle.pgapply.specs.Stored.{Stored}
 use Rattle.pgsub_core.proofs.Changes.{fold-append}
 use Rattle.pgsub_core.specs.declared.fault.Fault.{Fault}
 use Rattle.pgsub_core.specs.declared.fault.Fault.TheVariants as fault

@@ -6,8 +6,8 @@ use Rattle.std.proofs.lemmas.List.{take_more, map-append}
 use Rattle.pglogical.specs.declared.item.RelationDef.{RelationDef}
 use Rattle.pgtuple.specs.declared.cell.Cell.{Cell}
 use Rattle.pgrel.specs.Identity.{keyed}
-use Rattle.pgstore.specs.Value.{Tables}
-use Rattle.pgstore.specs.Apply.{apply, fold_changes, ◌>>=◌}
+use Rattle.pgapply.specs.Value.{Tables}
+use Rattle.pgapply.specs.Apply.{apply, fold_changes, ◌>>=◌}
 use Rattle.pgsub_core.proofs.Changes.{fold-append}
 use Rattle.pgsub.specs.Plain.{insert_of, held, tables_after}
 use Rattle.pgsub.specs.PlainStore.{changes_of, IsPlain}

@@ -10,7 +10,7 @@ use Rattle.pglogical.specs.declared.item.RelationDef.{RelationDef}
 use Rattle.pglogical.specs.declared.item.Item.{Item}
 use Rattle.pglogical.specs.declared.item.Item.TheVariants.{Relation, Insert}
 use Rattle.pgtuple.specs.declared.cell.Cell.{Cell}
-use Rattle.pgstore.specs.Apply.{Change}
+use Rattle.pgapply.specs.Apply.{Change}
 use Rattle.pgsub_core.specs.Described.{described_from, with_changes, found_behind}
 use Rattle.pgsub_core.specs.Replica.{RelationCache}
 use Rattle.std.proofs.lemmas.Bool.Decides.{nat_tests}

@@ -15,10 +15,10 @@ use Rattle.std.specs.List.{flat_map, AllByRecursion}
 use Rattle.std.specs.List.Sorted.{IsStrictlySortedBy}
 use Rattle.std.specs.Map.{keys_of}
 use Rattle.pglogical.specs.declared.item.RelationDef.{RelationDef}
-use Rattle.pgstore.specs.Dump.{dump, table_dump, dump_row}
+use Rattle.pgapply.specs.Dump.{dump, table_dump, dump_row}
 use Rattle.std.specs.Map.{lookup}
 use Rattle.std.proofs.lemmas.Bool.Decides.{nat_tests}
-use Rattle.pgstore.specs.Value.{Row, Rows, Table, Tables}
+use Rattle.pgapply.specs.Value.{Row, Rows, Table, Tables}
 use Rattle.pgsub.specs.Plain.{rows_by_key, tables_by_oid, printed}
 
 abbrev Key : Type 0

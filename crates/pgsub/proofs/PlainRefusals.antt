@@ -11,7 +11,7 @@ use Rattle.pgorder.specs.declared.Version.TheVariants.{One}
 use Rattle.pgorder.specs.Laws.{AreMessagesFor}
 use Rattle.pgorder.specs.States.{is_in_block}
 use Rattle.pgorder.specs.Steps.{OrderState}
-use Rattle.pgstore.specs.Stored.{Stored}
+use Rattle.pgapply.specs.Stored.{Stored}
 use Rattle.pgwire.specs.Frames.{Frame, CopyData, CopyDone, frame, frames, IsAllowed, AreFrames, IsFramingFault, has_copy_done}
 use Rattle.pgwire.specs.Payloads.{XLogData, payload, payload_at}
 use Rattle.pgwire.specs.declared.fault.WireFault.{WireFault}

@@ -19,7 +19,7 @@ use Rattle.pgorder.proofs.StepLaws.{Leaves, step_leaves}
 use Rattle.pgwire.specs.Frames.{Frame, CopyData, CopyDone}
 use Rattle.pgwire.specs.Payloads.{XLogData, payload, payload_at}
 use Rattle.pgwire.proofs.Messages.{payload_again}
-use Rattle.pgstore.specs.Stored.{Stored}
+use Rattle.pgapply.specs.Stored.{Stored}
 use Rattle.pgsub_core.specs.declared.session.Session.{Session}
 use Rattle.pgsub_core.specs.History.{Transaction, IsHistory}
 use Rattle.pgsub_core.specs.Stream.{Sent, Data, Keepalive, messages_in}

@@ -19,7 +19,7 @@ use Rattle.pgorder.specs.OpenXids.{OpenXids, is_open}
 use Rattle.pgorder.specs.States.{is_in_block}
 use Rattle.pgorder.specs.Steps.{Context, Outside, InPair, InBlock, OrderState, StepResult, order_step}
 use Rattle.pgspool.specs.Labels.{LabelledItem, HeldMap, items_of, held_of}
-use Rattle.pgstore.specs.Stored.{Stored}
+use Rattle.pgapply.specs.Stored.{Stored}
 use Rattle.pgsub_core.specs.Replica.{Replica, RelationCache, Outcome, Halt, Running, on_commit}
 use Rattle.pgsub_core.specs.ApplyState.{ApplyState, ApplyResult, on_message, committed}
 use Rattle.pgsub.specs.PlainSession.{labelled, state_of, replica_of, HoldsItem, Steps}

@@ -2,7 +2,7 @@
 use Rattle.std.proofs.Common.{◌≡◌, ℕ, List, Result, Ok, Err, OnOk, IfErr, IfSome, None, subst}
 use Rattle.std.specs.Result.{result_err}
 use Rattle.pgorder.specs.declared.Version.TheVariants.{One}
-use Rattle.pgstore.specs.Stored.{Stored}
+use Rattle.pgapply.specs.Stored.{Stored}
 use Rattle.pgsub_core.specs.declared.fault.Fault.{Fault}
 use Rattle.pgsub_core.specs.declared.session.Session.{Session}
 use Rattle.pgsub_core.specs.History.{Transaction, IsHistory}

@@ -8,7 +8,7 @@ use Rattle.serde_json.specs.Written.{compact_text}
 use Rattle.pglsn.specs.Texts.{lsn_text}
 use Rattle.pgtuple.specs.declared.cell.Cell.{Cell}
 use Rattle.pgtuple.specs.declared.cell.Cell.TheVariants.{Null, Unchanged, Text, Binary}
-use Rattle.pgstore.specs.declared.rows.DumpRow.{DumpRow}
+use Rattle.pgapply.specs.declared.rows.DumpRow.{DumpRow}
 
 -- a text is a string, bytes stand in hexadecimal
 abbrev pub cell_data : Cell → Data

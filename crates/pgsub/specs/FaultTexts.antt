@@ -6,15 +6,14 @@ use Rattle.pgtuple.specs.declared.fault.TupleFault.{TupleFault}
 use Rattle.pgtuple.specs.declared.fault.TupleFault.TheVariants as tuple
 use Rattle.pglogical.specs.declared.fault.Reason.{Reason}
 use Rattle.pglogical.specs.declared.fault.Reason.TheVariants as reason
-use Rattle.pglogical.specs.declared.fault.DecodeFault.{DecodeFault}
 use Rattle.pgorder.specs.declared.OrderFault.{OrderFault}
 use Rattle.pgorder.specs.declared.OrderFault.TheVariants as order
 use Rattle.pgrel.specs.declared.fault.RelFault.{RelFault}
 use Rattle.pgrel.specs.declared.fault.RelFault.TheVariants as relation
 use Rattle.pgspool.specs.declared.spools.SpoolFault.{SpoolFault}
 use Rattle.pgspool.specs.declared.spools.SpoolFault.TheVariants as spool
-use Rattle.pgstore.specs.declared.rows.StoreFault.{StoreFault}
-use Rattle.pgstore.specs.declared.rows.StoreFault.TheVariants as store
+use Rattle.pgapply.specs.declared.rows.StoreFault.{StoreFault}
+use Rattle.pgapply.specs.declared.rows.StoreFault.TheVariants as store
 use Rattle.pgsub_core.specs.declared.fault.Fault.{Fault}
 use Rattle.pgsub_core.specs.declared.fault.Fault.TheVariants as fault
 use Rattle.pgsub.specs.declared.run.Task.{Task}

@@ -4,12 +4,12 @@ use Rattle.std.specs.declared.alloc.Global.{Global}
 use Rattle.std.specs.FinMap as map
 use Rattle.pglogical.specs.declared.item.RelationDef.{RelationDef}
 use Rattle.pgtuple.specs.declared.cell.Cell.{Cell}
-use Rattle.pgstore.specs.declared.op.Op.TheVariants as op
-use Rattle.pgstore.specs.Value.{Row, Rows, Table, Tables}
-use Rattle.pgstore.specs.declared.rows.StoreFault.{StoreFault}
-use Rattle.pgstore.specs.Apply.{Change, fold_changes}
-use Rattle.pgstore.specs.declared.rows.DumpRow.{DumpRow}
-use Rattle.pgstore.specs.Dump.{shown_namespace}
+use Rattle.pgapply.specs.declared.op.Op.TheVariants as op
+use Rattle.pgapply.specs.Value.{Row, Rows, Table, Tables}
+use Rattle.pgapply.specs.declared.rows.StoreFault.{StoreFault}
+use Rattle.pgapply.specs.Apply.{Change, fold_changes}
+use Rattle.pgapply.specs.declared.rows.DumpRow.{DumpRow}
+use Rattle.pgapply.specs.Dump.{shown_namespace}
 
 -- rows by the bytes of their key
 abbrev pub rows_by_key : List (Vec ℕ Global × Row) → Rows

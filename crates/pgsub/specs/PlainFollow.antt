@@ -7,7 +7,7 @@ use Rattle.pgorder.specs.declared.Version.TheVariants.{One}
 use Rattle.pgorder.specs.States.{is_in_block}
 use Rattle.pgwire.specs.Payloads.{XLogData, payload_at}
 use Rattle.pgwire.specs.Frames.{Frame, CopyData, CopyDone, IsDeframedAs}
-use Rattle.pgstore.specs.Stored.{Stored}
+use Rattle.pgapply.specs.Stored.{Stored}
 use Rattle.pgsub_core.specs.declared.session.Session.{Session}
 use Rattle.pgsub_core.specs.Stream.{Data}
 use Rattle.pgsub_core.specs.Reached.{Progress}

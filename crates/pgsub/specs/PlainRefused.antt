@@ -1,9 +1,9 @@
 -- What stands where the sessions of a history are refused, and which fault it can be.
 use Rattle.std.specs.Prelude.{◌≡◌, ◌<◌, ◌++◌, ℕ, ℤ, List, [], ◌∷◌, Bool, false, Some}
 use Rattle.pglogical.specs.declared.message.Message.{Message}
-use Rattle.pgstore.specs.declared.rows.StoreFault.{StoreFault}
-use Rattle.pgstore.specs.declared.rows.StoreFault.TheVariants as store
-use Rattle.pgstore.specs.Stored.{Stored}
+use Rattle.pgapply.specs.declared.rows.StoreFault.{StoreFault}
+use Rattle.pgapply.specs.declared.rows.StoreFault.TheVariants as store
+use Rattle.pgapply.specs.Stored.{Stored}
 use Rattle.pgwire.specs.Frames as wire
 use Rattle.pgwire.specs.declared.fault.WireFault.TheVariants as wire_fault
 use Rattle.pgsub_core.specs.declared.fault.Fault.{Fault}

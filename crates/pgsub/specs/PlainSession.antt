@@ -3,13 +3,13 @@ use Rattle.std.specs.Prelude.{◌≡◌, ℕ, ℤ, List, [], ◌∷◌, map as m
 use Rattle.std.specs.FinMap as map
 use Rattle.pglogical.specs.declared.item.Item.{Item}
 use Rattle.pglogical.specs.declared.item.RelationDef.{RelationDef}
-use Rattle.pgstore.specs.Apply.{Change}
+use Rattle.pgapply.specs.Apply.{Change}
 use Rattle.pglogical.specs.declared.message.Message.{Message}
 use Rattle.pglogical.specs.declared.message.Message.TheVariants as message
 use Rattle.pgorder.specs.declared.Version.TheVariants.{One}
 use Rattle.pgorder.specs.Steps.{Context, Outside, InPair, InBlock, OrderState}
 use Rattle.pgspool.specs.Labels.{LabelledItem, HeldMap}
-use Rattle.pgstore.specs.Stored.{Stored}
+use Rattle.pgapply.specs.Stored.{Stored}
 use Rattle.pgsub_core.specs.Stream.{Data}
 use Rattle.pgsub_core.specs.Replica.{Replica, RelationCache, Running}
 use Rattle.pgsub_core.specs.ApplyState.{ApplyState, step}

@@ -9,10 +9,10 @@ use Rattle.pgorder.specs.declared.Version.TheVariants.{One}
 use Rattle.pgorder.specs.States.{is_in_block}
 use Rattle.pgorder.specs.Steps.{InPair}
 use Rattle.pgspool.specs.Labels.{items_of, held_of}
-use Rattle.pgstore.specs.declared.rows.StoreFault.{StoreFault}
-use Rattle.pgstore.specs.declared.rows.StoreFault.TheVariants as store
-use Rattle.pgstore.specs.Apply.{Change}
-use Rattle.pgstore.specs.Stored.{Stored}
+use Rattle.pgapply.specs.declared.rows.StoreFault.{StoreFault}
+use Rattle.pgapply.specs.declared.rows.StoreFault.TheVariants as store
+use Rattle.pgapply.specs.Apply.{Change}
+use Rattle.pgapply.specs.Stored.{Stored}
 use Rattle.pgwire.specs.declared.fault.WireFault.{WireFault}
 use Rattle.pgwire.specs.declared.fault.WireFault.TheVariants as wire_fault
 use Rattle.pgwire.specs.Payloads.{XLogData, Keepalive, payload_at}

@@ -1,8 +1,8 @@
 -- What a plain store keeps of its changes, and which inserts it was given.
 use Rattle.std.specs.Prelude.{◌≡◌, List, map as mapped, Ok, Option, IfSome, IsTrue}
 use Rattle.std.specs.FinMap as map
-use Rattle.pgstore.specs.Value.{Tables}
-use Rattle.pgstore.specs.Apply.{Change, fold_changes}
+use Rattle.pgapply.specs.Value.{Tables}
+use Rattle.pgapply.specs.Apply.{Change, fold_changes}
 use Rattle.pgsub.specs.Plain.{insert_of, tables_after}
 use Rattle.pgsub.specs.PlainTaken.{all_keyed}
 use Rattle.pgsub.specs.declared.plain_store.TakenInsert.{TakenInsert}

@@ -1,8 +1,8 @@
 -- What the plain core's subscriber is seen as: the longest payload of a frame that it takes, and what it stores.
 use Rattle.std.specs.Prelude.{ℕ, refl}
 use Rattle.std.specs.Coded.{Coded, code_by, coded×, coded_ℕ}
-use Rattle.pgstore.specs.Stored.{Stored}
-use Rattle.pgstore.specs.Codes.{stored_code}
+use Rattle.pgapply.specs.Stored.{Stored}
+use Rattle.pgapply.specs.Codes.{stored_code}
 
 pub record PlainSubscriber : Type 0 where
   pub max_frame : ℕ

@@ -7,7 +7,7 @@ use Rattle.pglogical.specs.declared.item.Item.TheVariants as item
 use Rattle.pglogical.specs.declared.message.Message.{Message}
 use Rattle.pglogical.specs.declared.message.Message.TheVariants as message
 use Rattle.pgrel.specs.Identity.{keyed}
-use Rattle.pgstore.specs.Apply.{Change}
+use Rattle.pgapply.specs.Apply.{Change}
 use Rattle.pgsub_core.specs.declared.fault.Fault.{Fault}
 use Rattle.pgsub_core.specs.declared.fault.Fault.TheVariants as fault
 use Rattle.pgtuple.specs.declared.cell.Cell.{Cell}

@@ -2,8 +2,8 @@
 use Rattle.std.specs.Prelude.{◌≡◌, ◌<◌, ◌⊎◌, ℕ, List, length, Ok, Err, Option, Some, IfSome}
 use Rattle.std.specs.FinMap as map
 use Rattle.pgorder.specs.declared.Version.TheVariants.{One}
-use Rattle.pgstore.specs.Dump.{dump}
-use Rattle.pgstore.specs.Stored.{Stored}
+use Rattle.pgapply.specs.Dump.{dump}
+use Rattle.pgapply.specs.Stored.{Stored}
 use Rattle.pgsub_core.specs.declared.session.Session.{Session}
 use Rattle.pgsub_core.specs.History.{Transaction, IsHistory}
 use Rattle.pgsub_core.specs.Safe.{IsSafe}

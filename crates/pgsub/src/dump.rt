@@ -5,8 +5,8 @@ ghost use Rattle.serde_json.specs.Written.{compact_text, has_float};
 ghost use Rattle.pgtuple.specs.Lent.{cell_value};
 ghost use Rattle.pgsub.specs.DumpText.{cell_data, cells_data, row_data, row_line, position_line, dump_of};
 
+use pgapply::DumpRow;
 use pglsn::Lsn;
-use pgstore::DumpRow;
 use pgtuple::{CellRef, TupleRef};
 use serde_json::{Value, json};
 use std::alloc::{AllocError, Global};

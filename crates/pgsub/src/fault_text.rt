@@ -5,11 +5,11 @@ ghost use Rattle.std.specs.Fmt.{DisplaysOnOk};
 ghost use Rattle.pgsub.specs.FaultTexts.{fault_text, stop_line, stop_text, wire_text, reason_text, tuple_text, order_text, relation_text, spool_text, store_text};
 
 use crate::run::RunFault;
+use pgapply::StoreFault;
 use pglogical::{DecodeFault, Reason};
 use pgorder::OrderFault;
 use pgrel::RelFault;
 use pgspool::SpoolFault;
-use pgstore::StoreFault;
 use pgsub_core::Fault;
 use pgtuple::TupleFault;
 use pgwire::WireFault;

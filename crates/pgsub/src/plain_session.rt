@@ -16,11 +16,11 @@ ghost use Rattle.pgsub.specs.PlainStops.{IsCommitRefusal, IsMessageRefusal, IsBo
 
 use crate::plain_store::{PlainStore, TakenInsert};
 use crate::relations::Relations;
+use pgapply::StoreFault;
 use pglogical::{DecodeFault, Item, Message, Reason};
 use pglsn::Lsn;
 use pgorder::{Order, OrderFault, Version};
 use pgrel::RelFault;
-use pgstore::StoreFault;
 use pgsub_core::Fault;
 use pgtuple::Cell;
 use std::alloc::Global;

@@ -1,17 +1,17 @@
 //! The plain store: the tables that the inserts so far leave, and the position up to which they stand.
 ghost use Rattle.std.specs.Prelude.{◌≡◌, ◌<◌, OnOk, OnErr, IfOk, IfErr, Ok, IsTrue};
 ghost use Rattle.std.specs.FinMap as map;
-ghost use Rattle.pgstore.specs.Apply.{fold_changes};
-ghost use Rattle.pgstore.specs.Dump.{dump};
+ghost use Rattle.pgapply.specs.Apply.{fold_changes};
+ghost use Rattle.pgapply.specs.Dump.{dump};
 ghost use Rattle.pgsub.specs.PlainStore.{changes_of};
 ghost use Rattle.pgsub.specs.PlainTaken.{all_keyed};
 ghost use Rattle.pgsub.specs.PlainStops.{IsRefusal};
 
 use crate::plain_table::copied;
 use crate::plain_tables::PlainTables;
+use pgapply::{DumpRow, StoreFault};
 use pglogical::RelationDef;
 use pglsn::Lsn;
-use pgstore::{DumpRow, StoreFault};
 use pgtuple::Tuple;
 use std::alloc::Global;
 use std::marker::Model;
@@ -36,8 +36,8 @@ pub struct PlainStore {
 }
 
 impl Model for PlainStore {
-    ghost use Rattle.pgstore.specs.Stored.{Stored};
-    ghost use Rattle.pgstore.specs.Codes.{stored_code};
+    ghost use Rattle.pgapply.specs.Stored.{Stored};
+    ghost use Rattle.pgapply.specs.Codes.{stored_code};
 
     ghost Value = { Stored };
 

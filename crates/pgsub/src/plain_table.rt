@@ -1,14 +1,14 @@
 //! A keyed table in memory: its definition, and its rows by the spelling of their keys.
 ghost use Rattle.std.specs.Prelude.{◌≡◌, ◌++◌, ◌⊎◌, ◌==◌, OnOk, IfOk, IfErr, None, Some, IsSome, Ok, Err};
 ghost use Rattle.std.specs.FinMap as map;
-ghost use Rattle.pgstore.specs.declared.op.Op.{Op};
-ghost use Rattle.pgstore.specs.Apply.{found_rows};
-ghost use Rattle.pgstore.specs.Dump.{shown_namespace, table_dump};
+ghost use Rattle.pgapply.specs.declared.op.Op.{Op};
+ghost use Rattle.pgapply.specs.Apply.{found_rows};
+ghost use Rattle.pgapply.specs.Dump.{shown_namespace, table_dump};
 ghost use Rattle.pgsub.specs.Plain.{one_copy};
 
+use pgapply::{DumpRow, StoreFault};
 use pglogical::RelationDef;
 use pgrel::same_shape;
-use pgstore::{DumpRow, StoreFault};
 use pgtuple::{Text, Tuple, TupleRef};
 use std::alloc::{AllocError, Global};
 use std::collections::BTreeMap;
@@ -21,8 +21,8 @@ pub struct PlainRow {
 }
 
 impl Model for PlainRow {
-    ghost use Rattle.pgstore.specs.Value.{Row};
-    ghost use Rattle.pgstore.specs.Codes.{row_code};
+    ghost use Rattle.pgapply.specs.Value.{Row};
+    ghost use Rattle.pgapply.specs.Codes.{row_code};
 
     ghost Value = { Row };
 
@@ -42,8 +42,8 @@ pub struct PlainTable {
 }
 
 impl Model for PlainTable {
-    ghost use Rattle.pgstore.specs.Value.{Table};
-    ghost use Rattle.pgstore.specs.Codes.{table_code};
+    ghost use Rattle.pgapply.specs.Value.{Table};
+    ghost use Rattle.pgapply.specs.Codes.{table_code};
 
     ghost Value = { Table };
 

@@ -1,19 +1,19 @@
 //! The plain store's tables: keyed tables in memory, by OID.
 ghost use Rattle.std.specs.Prelude.{◌≡◌, OnOk, IfOk, IfErr, Ok, Err, IsTrue};
 ghost use Rattle.std.specs.FinMap as map;
-ghost use Rattle.pgstore.specs.declared.op.Op.{Op};
+ghost use Rattle.pgapply.specs.declared.op.Op.{Op};
 ghost use Rattle.pgrel.specs.Identity.{keyed, checked_insert};
-ghost use Rattle.pgstore.specs.Value.{identity_key};
-ghost use Rattle.pgstore.specs.Apply.{store_fault, found_rows, in_store, apply};
-ghost use Rattle.pgstore.specs.Dump.{dump};
+ghost use Rattle.pgapply.specs.Value.{identity_key};
+ghost use Rattle.pgapply.specs.Apply.{store_fault, found_rows, in_store, apply};
+ghost use Rattle.pgapply.specs.Dump.{dump};
 ghost use Rattle.pgtuple.specs.Cells.{tuple_spelling};
 ghost use Rattle.pgsub.specs.Plain.{insert_of};
 ghost use Rattle.pgsub.specs.PlainStops.{IsRefusal};
 
 use crate::plain_table::PlainTable;
+use pgapply::{DumpRow, StoreFault};
 use pglogical::RelationDef;
 use pgrel::{RelFault, check_insert, keyed, row_identity};
-use pgstore::{DumpRow, StoreFault};
 use pgtuple::{Tuple, TupleRef};
 use std::alloc::{AllocError, Global};
 use std::collections::BTreeMap;
@@ -27,8 +27,8 @@ pub struct PlainTables {
 }
 
 impl Model for PlainTables {
-    ghost use Rattle.pgstore.specs.Value.{Tables};
-    ghost use Rattle.pgstore.specs.Codes.{tables_code};
+    ghost use Rattle.pgapply.specs.Value.{Tables};
+    ghost use Rattle.pgapply.specs.Codes.{tables_code};
 
     ghost Value = { Tables };
 

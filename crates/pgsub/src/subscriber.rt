@@ -8,7 +8,7 @@ ghost use Rattle.pgsub_core.specs.History.{Transaction, IsHistory};
 ghost use Rattle.pgsub_core.specs.Safe.{IsSafe};
 ghost use Rattle.pgsub_core.specs.Sessions.{AreSessions, reached_all};
 ghost use Rattle.pgsub_core.specs.Replica.{RelationCache};
-ghost use Rattle.pgstore.specs.Dump.{dump};
+ghost use Rattle.pgapply.specs.Dump.{dump};
 ghost use Rattle.std.specs.FinMap as map;
 ghost use Rattle.pgsub.specs.PlainSession.{state_of, replica_of};
 ghost use Rattle.pgorder.specs.States.{is_in_block};
@@ -19,8 +19,8 @@ ghost use Rattle.pgsub.specs.PlainRefused.{IsRefusedSafely};
 
 use crate::plain_session::PlainSession;
 use crate::plain_store::PlainStore;
+use pgapply::{DumpRow, StoreFault};
 use pglsn::Lsn;
-use pgstore::{DumpRow, StoreFault};
 use pgsub_core::{Fault, Session};
 use pgtuple::Bytes;
 use pgwire::{Frame, ServerMsg, WireFault, decode_server, front};

@@ -2,7 +2,7 @@ use Rattle.std.proofs.Common.{List, ap, subst, ◌∙◌, sym, refl}
 use Rattle.std.specs.Prelude.{IsTrue}
 use Rattle.pglogical.specs.declared.item.RelationDef.{RelationDef}
 use Rattle.pgrel.specs.Identity.{keyed}
-use Rattle.pgstore.specs.Apply.{apply}
+use Rattle.pgapply.specs.Apply.{apply}
 use Rattle.pgtuple.specs.declared.cell.Cell.{Cell}
 use Rattle.pgsub.specs.Plain.{insert_of}
 use Rattle.pgsub.specs.PlainStops.{IsRefusal}

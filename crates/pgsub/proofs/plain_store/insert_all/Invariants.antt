@@ -1,6 +1,6 @@
 use Rattle.std.proofs.Common.{◌≡◌, take, Ok}
 use Rattle.std.specs.Prelude.{IsTrue}
-use Rattle.pgstore.specs.Apply.{fold_changes}
+use Rattle.pgapply.specs.Apply.{fold_changes}
 use Rattle.pgsub.specs.PlainStore.{changes_of}
 use Rattle.pgsub.specs.PlainTaken.{all_keyed}
 use Rattle.pgsub.proofs.plain_store.insert_all.Given as goal

@@ -1,6 +1,6 @@
 use Rattle.std.proofs.Common.{ap, sym, subst, IfSome, ◌∙◌}
 use Rattle.std.specs.String.{string_bytes}
-use Rattle.pgstore.specs.Dump.{dump}
+use Rattle.pgapply.specs.Dump.{dump}
 use Rattle.pgsub.specs.DumpText.{dump_of}
 use Rattle.pgsub.specs.PlainSubscriber.{PlainSubscriber}
 use Rattle.pgsub.specs.Whole.{PrintsRefused}

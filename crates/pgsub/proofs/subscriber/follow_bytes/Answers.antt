@@ -1,6 +1,6 @@
 use Rattle.std.proofs.Common.{ap, sym, refl, inl, inr}
 use Rattle.std.specs.FinMap as map
-use Rattle.pgstore.specs.Stored.{Stored}
+use Rattle.pgapply.specs.Stored.{Stored}
 use Rattle.pgsub.specs.PlainSession.{state_of, replica_of}
 use Rattle.pgsub.specs.PlainStops.{IsFollowedUntil}
 use Rattle.pgsub.proofs.PlainFaults.{on_residual}

@@ -1,5 +1,5 @@
 use Rattle.std.proofs.Common.{ap, ◌∙◌, refl}
-use Rattle.pgstore.specs.Stored.{Stored}
+use Rattle.pgapply.specs.Stored.{Stored}
 use Rattle.pgsub.proofs.PlainFold.{taken, appended}
 use Rattle.pgsub.proofs.plain_store.PlainStore.take.Goals as goal
 

@@ -1,5 +1,5 @@
 use Rattle.std.proofs.Common.{sym, ap, ◌∙◌, inr, refl}
-use Rattle.pgstore.specs.Value.{Table, Rows}
+use Rattle.pgapply.specs.Value.{Table, Rows}
 use Rattle.pgsub.specs.Plain.{one_copy}
 use Rattle.pgsub.proofs.PlainMaps.{get-rows_by_key, rows_by_key-insert, some_is}
 use Rattle.pgsub.proofs.plain_table.PlainTable.insert.Goals as goal

@@ -1,7 +1,7 @@
 use Rattle.std.proofs.Common.{sym, ap, ◌∙◌}
 use Rattle.std.specs.Prelude.{◌==◌}
 use Rattle.std.specs.FinMap as map
-use Rattle.pgstore.specs.Value.{Table}
+use Rattle.pgapply.specs.Value.{Table}
 use Rattle.pgsub.proofs.PlainMaps.{no_rows, is_none}
 use Rattle.pgsub.proofs.plain_table.PlainTable.is_empty.Goals as goal
 

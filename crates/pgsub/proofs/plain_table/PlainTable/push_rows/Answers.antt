@@ -2,8 +2,8 @@ use Rattle.std.proofs.Common.{◌≡◌, ◌++◌, [], sym, ap, ◌∙◌, map a
 use Rattle.std.specs.Map.Iter.{deref_pair}
 use Rattle.std.proofs.lemmas.List.{append-nil}
 use Rattle.std.proofs.lemmas.Map.Iter.{rest_all}
-use Rattle.pgstore.specs.Value.{Table}
-use Rattle.pgstore.specs.Dump.{table_dump}
+use Rattle.pgapply.specs.Value.{Table}
+use Rattle.pgapply.specs.Dump.{table_dump}
 use Rattle.pgsub.specs.Plain.{printed}
 use Rattle.pgsub.proofs.PlainMaps.{table_dump-rows}
 use Rattle.pgsub.proofs.plain_table.PlainTable.push_rows.Goals as goal

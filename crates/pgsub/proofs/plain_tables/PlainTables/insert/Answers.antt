@@ -1,8 +1,8 @@
 use Rattle.std.proofs.Common.{sym, ap, subst, ◌∙◌, ℕ, List, Ok, Err, inl, inr}
 use Rattle.std.specs.Prelude.{IsSome}
 use Rattle.std.specs.FinMap as map
-use Rattle.pgstore.specs.declared.op.Op.TheVariants.{Insert}
-use Rattle.pgstore.specs.Value.{Tables}
+use Rattle.pgapply.specs.declared.op.Op.TheVariants.{Insert}
+use Rattle.pgapply.specs.Value.{Tables}
 use Rattle.pgsub.proofs.PlainApply.{put_back, then_ok, may_stand}
 use Rattle.pgsub.proofs.PlainFaults.{on_residual, not_found, refusal_for, key_refused, clashes}
 use Rattle.pgsub.proofs.plain_tables.PlainTables.insert.Goals as goal

@@ -1,7 +1,7 @@
 use Rattle.std.proofs.Common.{ap, ◌∙◌}
 use Rattle.std.specs.FinMap as map
 use Rattle.pglogical.specs.declared.item.RelationDef.{RelationDef}
-use Rattle.pgstore.specs.Value.{Tables}
+use Rattle.pgapply.specs.Value.{Tables}
 use Rattle.pgsub.proofs.PlainMaps.{numbered-inserted}
 use Rattle.pgsub.proofs.plain_tables.PlainTables.put_table.Goals as goal
 

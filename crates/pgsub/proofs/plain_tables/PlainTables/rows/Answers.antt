@@ -3,7 +3,7 @@ use Rattle.std.specs.List.{flat_map}
 use Rattle.std.specs.Map.Iter.{deref_pair}
 use Rattle.std.proofs.lemmas.List.{append-nil}
 use Rattle.std.proofs.lemmas.Map.Iter.{rest_all}
-use Rattle.pgstore.specs.Dump.{dump, table_dump}
+use Rattle.pgapply.specs.Dump.{dump, table_dump}
 use Rattle.pgsub.proofs.PlainMaps.{dump-tables}
 use Rattle.pgsub.proofs.plain_tables.PlainTables.rows.Goals as goal
 

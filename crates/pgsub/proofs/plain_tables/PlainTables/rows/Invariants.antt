@@ -1,6 +1,6 @@
 use Rattle.std.proofs.Common.{◌≡◌, ◌++◌}
 use Rattle.std.specs.List.{flat_map}
-use Rattle.pgstore.specs.Dump.{table_dump}
+use Rattle.pgapply.specs.Dump.{table_dump}
 use Rattle.pgsub.proofs.plain_tables.PlainTables.rows.Given as goal
 
 abbrev pub invariant-loop-oid : goal.invariant-loop-oid
