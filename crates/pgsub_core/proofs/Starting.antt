@@ -1,5 +1,5 @@
 -- From a disconnection on.
-use Rattle.std.proofs.Common.{◌≡◌, ℕ, ℤ, List, Bool, true, false, refl, sym, ap, subst, ◌∙◌, arith}
+use Rattle.std.proofs.Common.{◌≡◌, ◌++◌, ℕ, ℤ, List, Bool, true, false, refl, sym, ap, subst, ◌∙◌, arith}
 use Rattle.std.specs.Prelude.{is_some}
 use Rattle.std.specs.Ordering.{nat_cmp}
 use Rattle.std.specs.FinMap as map
@@ -11,7 +11,9 @@ use Rattle.pgsub_core.specs.Opened.{AreOpened}
 use Rattle.pgsub_core.specs.Applied.{Applied}
 use Rattle.pgapply.specs.Value.{Tables}
 use Rattle.pgsub_core.specs.Framing.{framing_of, FeedGoes, FeedStops}
-use Rattle.pgsub_core.specs.SubscriberValue.{SubscriberValue, IsReady, Feeds, FeedsUntil}
+use Rattle.pgsub_core.specs.SubscriberValue.{SubscriberValue, seen, IsReady, Feeds, FeedsUntil}
+use Rattle.pgsub_core.specs.Subscribed.{with_status}
+use Rattle.pgwire.specs.Statuses.{status_frame}
 use Rattle.pgsub_core.specs.declared.fault.Fault.{Fault}
 use Rattle.pgsub_core.proofs.NeverClosed.{fed_until}
 
@@ -37,3 +39,12 @@ feeds_until {C} holds place now piece d₀ d a₀ a closed old f is max same sto
     subst (λ (x : SubscriberValue C). FeedsUntil holds place now x piece (record { applied = a; framing = framing_of d true }) f) same
     (subst (λ (b : Bool). FeedsUntil holds place now (record { applied = a₀; framing = framing_of d₀ b }) piece (record { applied = a; framing = framing_of d true }) f) (sym is)
     (λ tables h. let done = stops (framing_of d true) tables refl max h in (done.0, done.1, fed_until now _ _ piece f refl done.2)))
+
+-- a status behind the bytes that wait
+pub status_seen : {C : Type 0} (place : C → ℕ) (now clock : ℤ) (ask : Bool) (d : Deframed) (closed : Bool) (a₀ a : Applied C) (old : SubscriberValue C) → record { applied = a₀; framing = framing_of d closed } ≡ old → clock ≡ now
+    → a ≡ record a₀ { replies = a₀.replies ++ status_frame (record { written = a₀.received; flushed = a₀.confirmed; applied = a₀.confirmed; clock = clock; ask = ask }) }
+    → (tables : Tables) → seen place (record { applied = a; framing = framing_of d closed }) tables ≡ with_status now ask (seen place old tables)
+status_seen {C} place now clock ask d closed a₀ a old same at is tables =
+    subst (λ (x : SubscriberValue C). seen place (record { applied = a; framing = framing_of d closed }) tables ≡ with_status now ask (seen place x tables)) same
+    (subst (λ (z : ℤ). seen place (record { applied = a; framing = framing_of d closed }) tables ≡ with_status z ask (seen place (record { applied = a₀; framing = framing_of d closed }) tables)) at
+    (ap (λ (x : Applied C). seen place (record { applied = x; framing = framing_of d closed }) tables) is))

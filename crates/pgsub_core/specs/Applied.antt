@@ -87,6 +87,10 @@ pub record IsKept {C : Type 0} (place : C → ℕ) (old new : Applied C) : Type 
   pub limit : new.limit ≡ old.limit
   pub replies : new.replies ≡ old.replies
 
+-- all but the store is as it was
+abbrev pub StaysBesideStore : {C : Type 0} → Applied C → Applied C → Type 0
+StaysBesideStore old new = new ≡ record old { store = new.store }
+
 module _ {C : Type 0} (holds : C → Tables → Type 0) (place : C → ℕ) where
   -- Whatever tables the store held, it holds others, with which the next state is this one.
   abbrev pub Goes : (Subscribed → Outcome Subscribed Fault) → Applied C → Applied C → Type 0

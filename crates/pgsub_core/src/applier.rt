@@ -18,15 +18,17 @@ ghost use Rattle.pgsub_core.specs.Stream.{Data, Keepalive, kind};
 ghost use Rattle.pgsub_core.specs.ApplyState.{pushed};
 ghost use Rattle.pgsub_core.specs.Taking.{take};
 ghost use Rattle.pgsub_core.specs.Opened.{AreOpened, Fits, under_way_behind};
-ghost use Rattle.pgsub_core.specs.Applied.{Goes, Stops, IsKept};
+ghost use Rattle.pgapply.specs.Taken.{Stays, Shows};
+ghost use Rattle.pgsub_core.specs.Applied.{Goes, Stops, IsKept, StaysBesideStore};
+ghost use Rattle.pgsub_core.specs.Faults.{IsReadFault};
 ghost use Rattle.pgsub_core.specs.Committing.{Commits, RefusesCommit};
 ghost use Rattle.pgsub_core.specs.Events.{HasRoom, IsFull, FindsRoom, EventGoes, EventStops, StaysBeside};
 ghost use Rattle.pgsub_core.specs.Faults.{fault_of_decode, fault_of_order, fault_of_spool};
 
-use crate::committing::{commit, later};
+use crate::committing::{commit, later, store_fault};
 use crate::fault::Fault;
 use bytes::BytesMut;
-use pgapply::ReplicaStore;
+use pgapply::{DumpRow, ReplicaStore};
 use pglogical::{DecodeFault, Message, Reason};
 use pglsn::Lsn;
 use pgorder::{Event, Order, OrderFault, Version};
@@ -329,5 +331,72 @@ impl<P: Spools + Drop, C: ReplicaStore + Drop> Applier<P, C> {
         self.confirmed = confirmed;
         self.received = received;
         Ok(())
+    }
+
+    /// What is confirmed.
+    pub fn confirmed(&self) -> Lsn
+        ensures { result ≡ self.now.confirmed }
+    {
+        self.confirmed
+    }
+
+    /// What is received.
+    pub fn received(&self) -> Lsn
+        ensures { result ≡ self.now.received }
+    {
+        self.received
+    }
+
+    /// The bytes that wait to be sent.
+    pub fn replies(&self) -> &[u8]
+        ensures { result.now ≡ self.now.replies }
+    {
+        self.replies.as_slice()
+    }
+
+    /// The bytes that waited were sent.
+    pub fn clear_replies(&mut self)
+        ensures { self.new ≡ record self.old { replies = [] } }
+    {
+        self.replies.clear();
+    }
+
+    /// Appends a status of what is received and confirmed to the bytes that wait to be sent.
+    pub fn append_status(&mut self, now: i64, ask: bool) -> Result<(), Fault>
+        ensures ok { OnOk result (self.new ≡ record self.old { replies = self.old.replies ++ status_frame (record { written = self.old.received; flushed = self.old.confirmed; applied = self.old.confirmed; clock = now; ask = ask }) }) }
+        ensures err { OnErr result (self.new ≡ self.old) }
+        ensures memory { IfErr result (λ fault. fault ≡ Fault.Memory) }
+    {
+        let status = Status {
+            written: self.received,
+            flushed: self.confirmed,
+            applied: self.confirmed,
+            clock: now,
+            ask,
+        };
+        append_reply(true, &status, &mut self.replies)
+    }
+
+    /// All rows of the store.
+    pub fn rows(&mut self) -> Result<Vec<DumpRow>, Fault>
+        ensures rows { C.serves self.new.store → IfOk result (λ rows. Shows C.holds self.old.store rows.items) }
+        ensures unchanged { C.serves self.new.store → Stays C.holds self.old.store self.new.store }
+        ensures kept { IsKept C.place self.old self.new }
+        ensures beside { StaysBesideStore self.old self.new }
+        ensures fault { IfErr result IsReadFault }
+        ensures served { C.serves self.new.store → C.serves self.old.store }
+        ensures open { C.is_honest self.new.store → OnOk result (C.serves self.new.store) }
+    {
+        match self.store.rows() {
+            Ok(rows) => Ok(rows),
+            Err(fault) => Err(store_fault(fault)),
+        }
+    }
+
+    /// The store alone.
+    pub fn into_store(self) -> C
+        ensures { result ≡ self.store }
+    {
+        self.store
     }
 }

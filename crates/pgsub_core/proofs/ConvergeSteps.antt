@@ -1,0 +1,76 @@
+-- Two sides that are followed and compared, whatever tables their stores hold.
+use Rattle.std.proofs.Common.{◌≡◌, ◌⊎◌, inl, inr, ℕ, ℤ, List, Option, Some, None, Result, Ok, Err, IfOk, IfErr, refl, sym, subst}
+use Rattle.pgapply.specs.Value.{Tables}
+use Rattle.pgapply.specs.Dump.{dump}
+use Rattle.pgapply.specs.Taken.{Stays, Shows}
+use Rattle.pgapply.specs.declared.rows.DumpRow.{DumpRow}
+use Rattle.pgsub_core.specs.declared.converging.Side.TheVariants.{Left, Right}
+use Rattle.pgsub_core.specs.declared.converging.Verdict.{Verdict}
+use Rattle.pgsub_core.specs.declared.fault.Fault.{Fault}
+use Rattle.pgsub_core.specs.Faults.{IsReadFault}
+use Rattle.pgsub_core.specs.Subscribed.{Subscribed}
+use Rattle.pgsub_core.specs.SubscriberValue.{SubscriberValue, seen}
+use Rattle.pgsub_core.specs.Following.{AreFed, FeedsSessions}
+use Rattle.pgsub_core.specs.Verdicts.{IsVerdictOf, SideIsFollowed, SideFails}
+use Rattle.pgsub_core.specs.Converging.{ShowsFed, FailsFed, Converges}
+use Rattle.pgsub_core.proofs.Followed.{fed_followed}
+
+side_followed : (now : ℤ) (sessions : List (List ℕ)) (old new : Subscribed) (answered : Option Fault) → AreFed now old sessions new answered → SideIsFollowed now sessions old new answered
+side_followed now sessions old new answered fed history all_complete is = fed_followed now history sessions all_complete old new answered is fed
+
+side_fails : (now : ℤ) (sessions : List (List ℕ)) (old new : Subscribed) (f : Fault) → AreFed now old sessions new (Some f) ⊎ (IsReadFault f × AreFed now old sessions new None) → SideFails now sessions old new f
+side_fails now sessions old new f (inl fed) = inl (side_followed now sessions old new (Some f) fed)
+side_fails now sessions old new f (inr fed) = inr (fed.0, side_followed now sessions old new None fed.1)
+
+module _ {C : Type 0} (holds : C → Tables → Type 0) (place : C → ℕ) (now : ℤ) where
+  pub fails_first : (old new : SubscriberValue C) (sessions : List (List ℕ)) (f : Fault) → FeedsSessions holds place now old sessions new (Some f) → FailsFed holds place now old sessions new f
+  fails_first old new sessions f fed tables h = let a = fed tables h in (a.0, a.1, inl a.2)
+
+  pub shows_rows : {T : Type 0} (r : Result T Fault) (items : T → List DumpRow) (old mid new : SubscriberValue C) (sessions : List (List ℕ)) → FeedsSessions holds place now old sessions mid None
+      → Stays holds mid.applied.store new.applied.store → ((tables : Tables) → seen place new tables ≡ seen place mid tables) → IfOk r (λ x. Shows holds mid.applied.store (items x)) → IfOk r (λ x. ShowsFed holds place now old sessions new (items x))
+  shows_rows (Ok x) items old mid new sessions fed stays same shows = λ tables h.
+      let a = fed tables h in
+      (a.0, stays a.0 a.1, subst (λ (s : Subscribed). AreFed now (seen place old tables) sessions s None) (sym (same a.0)) a.2, shows a.0 a.1)
+  shows_rows (Err f) items old mid new sessions fed stays same shows = tt
+
+  pub fails_rows : {T : Type 0} (r : Result T Fault) (old mid new : SubscriberValue C) (sessions : List (List ℕ)) → FeedsSessions holds place now old sessions mid None
+      → Stays holds mid.applied.store new.applied.store → ((tables : Tables) → seen place new tables ≡ seen place mid tables) → IfErr r IsReadFault → IfErr r (FailsFed holds place now old sessions new)
+  fails_rows (Ok x) old mid new sessions fed stays same fault = tt
+  fails_rows (Err f) old mid new sessions fed stays same fault = λ tables h.
+      let a = fed tables h in
+      (a.0, stays a.0 a.1, inr (fault, subst (λ (s : Subscribed). AreFed now (seen place old tables) sessions s None) (sym (same a.0)) a.2))
+
+module _ {C D : Type 0} (holds : C → Tables → Type 0) (place : C → ℕ) (holds' : D → Tables → Type 0) (place' : D → ℕ) (now : ℤ) where
+  pub left_fails : (left left' : SubscriberValue C) (right : SubscriberValue D) (sessions others : List (List ℕ)) (f : Fault) → FailsFed holds place now left sessions left' f
+      → Converges holds place holds' place' now left sessions left' right others right (Err (record { side = Left; fault = f }))
+  left_fails left left' right sessions others f fails tables h tables' k =
+      let a = fails tables h in
+      (a.0, a.1, tables', k, side_fails now sessions (seen place left tables) (seen place left' a.0) f a.2, refl, tt)
+
+  pub right_fails : (left left' : SubscriberValue C) (right right' : SubscriberValue D) (sessions others : List (List ℕ)) (rows : List DumpRow) (f : Fault) → ShowsFed holds place now left sessions left' rows
+      → FailsFed holds' place' now right others right' f → Converges holds place holds' place' now left sessions left' right others right' (Err (record { side = Right; fault = f }))
+  right_fails left left' right right' sessions others rows f shows fails tables h tables' k =
+      let a = shows tables h in
+      let b = fails tables' k in
+      (a.0, a.1, b.0, b.1, side_followed now sessions (seen place left tables) (seen place left' a.0) None a.2, side_fails now others (seen place' right tables') (seen place' right' b.0) f b.2, tt)
+
+  pub both_shown : (left left' : SubscriberValue C) (right right' : SubscriberValue D) (sessions others : List (List ℕ)) (rows rows' : List DumpRow) → ShowsFed holds place now left sessions left' rows
+      → ShowsFed holds' place' now right others right' rows' → (p q : ℕ) (shown shown' : List DumpRow) (v : Verdict) → p ≡ place left'.applied.store → q ≡ place' right'.applied.store → shown ≡ rows → shown' ≡ rows'
+      → IsVerdictOf p q shown shown' v → Converges holds place holds' place' now left sessions left' right others right' (Ok v)
+  both_shown left left' right right' sessions others rows rows' shows shows' p q shown shown' v at at' are are' is tables h tables' k =
+      let a = shows tables h in
+      let b = shows' tables' k in
+      let is₁ : IsVerdictOf (place left'.applied.store) q shown shown' v = subst (λ n. IsVerdictOf n q shown shown' v) at is in
+      let is₂ : IsVerdictOf (place left'.applied.store) (place' right'.applied.store) shown shown' v = subst (λ n. IsVerdictOf (place left'.applied.store) n shown shown' v) at' is₁ in
+      let is₃ : IsVerdictOf (place left'.applied.store) (place' right'.applied.store) rows shown' v = subst (λ (rs : List DumpRow). IsVerdictOf (place left'.applied.store) (place' right'.applied.store) rs shown' v) are is₂ in
+      let is₄ : IsVerdictOf (place left'.applied.store) (place' right'.applied.store) rows rows' v = subst (λ (rs : List DumpRow). IsVerdictOf (place left'.applied.store) (place' right'.applied.store) rows rs v) are' is₃ in
+      let is₅ : IsVerdictOf (place left'.applied.store) (place' right'.applied.store) (dump a.0) rows' v = subst (λ (rs : List DumpRow). IsVerdictOf (place left'.applied.store) (place' right'.applied.store) rs rows' v) a.3 is₄ in
+      (
+        a.0,
+        a.1,
+        b.0,
+        b.1,
+        side_followed now sessions (seen place left tables) (seen place left' a.0) None a.2,
+        side_followed now others (seen place' right tables') (seen place' right' b.0) None b.2,
+        subst (λ (rs : List DumpRow). IsVerdictOf (place left'.applied.store) (place' right'.applied.store) (dump a.0) rs v) b.3 is₅,
+      )

@@ -1,0 +1,47 @@
+-- How two subscribers are compared, by rows and positions.
+use Rattle.std.specs.Prelude.{◌≡◌, ◌≢◌, ◌⊎◌, ◌&&◌, ◌==◌, ℕ, ℤ, List, Bool, Option, Some, None, Result, Ok, Err, IfOk, nat_eq}
+use Rattle.std.specs.Cmp.Lexicographic.{pointwise}
+use Rattle.pgtuple.specs.Equal.{cell_eq}
+use Rattle.pgapply.specs.Value.{Tables}
+use Rattle.pgapply.specs.Dump.{dump}
+use Rattle.pgapply.specs.declared.rows.DumpRow.{DumpRow}
+use Rattle.pgsub_core.specs.declared.converging.ConvergeFault.{ConvergeFault}
+use Rattle.pgsub_core.specs.declared.converging.Side.{Side}
+use Rattle.pgsub_core.specs.declared.converging.Verdict.{Verdict}
+use Rattle.pgsub_core.specs.declared.fault.Fault.{Fault}
+use Rattle.pgsub_core.specs.Faults.{IsReadFault}
+use Rattle.pgsub_core.specs.SubscriberValue.{SubscriberValue, seen}
+use Rattle.pgsub_core.specs.Following.{AreFed, Becomes}
+use Rattle.pgsub_core.specs.Verdicts.{IsVerdictOf, IsVerdict, LeftIsFollowed, RightIsFollowed}
+
+abbrev pub same_row : DumpRow → DumpRow → Bool
+same_row a b = (a.oid == b.oid) && (pointwise nat_eq a.namespace b.namespace && (pointwise nat_eq a.name b.name && (pointwise cell_eq a.cells b.cells && (a.copies == b.copies))))
+
+-- the fault of a side where the comparison ends with one
+abbrev pub failed_side : Result Verdict ConvergeFault → Option (Side × Fault)
+failed_side (Ok v) = None
+failed_side (Err f) = Some (f.side, f.fault)
+
+module _ {C : Type 0} (holds : C → Tables → Type 0) (place : C → ℕ) (now : ℤ) where
+  -- sessions were fed, and these are the rows behind them
+  abbrev pub ShowsFed : SubscriberValue C → List (List ℕ) → SubscriberValue C → List DumpRow → Type 0
+  ShowsFed old sessions new rows =
+      (tables : Tables) → holds old.applied.store tables
+      → (tables' : Tables) × holds new.applied.store tables' × AreFed now (seen place old tables) sessions (seen place new tables') None × (rows ≡ dump tables')
+
+  -- feeding them stopped, or reading the rows behind them was refused
+  abbrev pub FailsFed : SubscriberValue C → List (List ℕ) → SubscriberValue C → Fault → Type 0
+  FailsFed old sessions new f =
+      (tables : Tables) → holds old.applied.store tables
+      → (tables' : Tables) × holds new.applied.store tables'
+      × (AreFed now (seen place old tables) sessions (seen place new tables') (Some f) ⊎ (IsReadFault f × AreFed now (seen place old tables) sessions (seen place new tables') None))
+
+module _ {C D : Type 0} (holds : C → Tables → Type 0) (place : C → ℕ) (holds' : D → Tables → Type 0) (place' : D → ℕ) (now : ℤ) where
+  -- Whatever tables both stores held, they hold others, with which each side was followed and the answer is the verdict.
+  abbrev pub Converges : SubscriberValue C → List (List ℕ) → SubscriberValue C → SubscriberValue D → List (List ℕ) → SubscriberValue D → Result Verdict ConvergeFault → Type 0
+  Converges left left_sessions left' right right_sessions right' answered =
+      (tables : Tables) → holds left.applied.store tables → (others : Tables) → holds' right.applied.store others
+      → (tables' : Tables) × holds left'.applied.store tables' × (others' : Tables) × holds' right'.applied.store others'
+      × LeftIsFollowed now left_sessions (seen place left tables) (seen place left' tables') (failed_side answered)
+      × RightIsFollowed now right_sessions (seen place' right others) (seen place' right' others') (failed_side answered)
+      × IfOk answered (IsVerdict (seen place left' tables') (seen place' right' others'))

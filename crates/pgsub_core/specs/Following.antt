@@ -1,0 +1,54 @@
+-- PostgreSQL documentation, Streaming Replication Protocol: what the bytes of sessions do, one session after the other, each from a
+-- disconnection on; of a history or not.
+use Rattle.std.specs.Prelude.{◌≡◌, ◌⊎◌, ℕ, ℤ, List, [], ◌∷◌, Option, Some, None}
+use Rattle.pgapply.specs.Value.{Tables}
+use Rattle.pgsub_core.specs.declared.fault.Fault.{Fault}
+use Rattle.pgsub_core.specs.History.{Transaction}
+use Rattle.pgsub_core.specs.Stream.{Sent}
+use Rattle.pgsub_core.specs.Subscribed.{Subscribed, disconnect}
+use Rattle.pgsub_core.specs.Feeding.{IsFedWhole, IsFedUntil}
+use Rattle.pgsub_core.specs.Handled.{IsSent, IsFollowed}
+use Rattle.pgsub_core.specs.SubscriberValue.{SubscriberValue, seen}
+
+abbrev pub AreFedWhole : ℤ → Subscribed → List (List ℕ) → Subscribed → Type 0
+AreFedWhole now old [] new = new ≡ old
+AreFedWhole now old (bytes ∷ sessions) new = (mid : Subscribed) × IsFedWhole now (disconnect old) bytes mid × AreFedWhole now mid sessions new
+
+-- up to the first fault, behind which no session is begun
+abbrev pub AreFedUntil : ℤ → Subscribed → List (List ℕ) → Subscribed → Fault → Type 0
+AreFedUntil now old [] new f = ⊥
+AreFedUntil now old (bytes ∷ sessions) new f =
+    IsFedUntil now (disconnect old) bytes new f ⊎ ((mid : Subscribed) × IsFedWhole now (disconnect old) bytes mid × AreFedUntil now mid sessions new f)
+
+-- by what is answered
+abbrev pub AreFed : ℤ → Subscribed → List (List ℕ) → Subscribed → Option Fault → Type 0
+AreFed now old sessions new None = AreFedWhole now old sessions new
+AreFed now old sessions new (Some f) = AreFedUntil now old sessions new f
+
+-- Whoever is fed the sessions of a history has followed them.
+abbrev pub FedSessionsAreFollowed : Type 0
+FedSessionsAreFollowed =
+    (now : ℤ) (history : List Transaction) (sessions : List (List ℕ)) (all_complete : List (List Sent)) (old new : Subscribed) (answered : Option Fault)
+    → IsSent history old sessions all_complete → AreFed now old sessions new answered → IsFollowed now history sessions all_complete old new answered
+
+module _ {C : Type 0} (holds : C → Tables → Type 0) (place : C → ℕ) (now : ℤ) where
+  -- whatever tables the store held, it holds others, with which this was done
+  abbrev pub Becomes : (Subscribed → Subscribed → Type 0) → SubscriberValue C → SubscriberValue C → Type 0
+  Becomes does old new = (tables : Tables) → holds old.applied.store tables → (tables' : Tables) × holds new.applied.store tables' × does (seen place old tables) (seen place new tables')
+
+  -- one session's bytes were fed, from a disconnection on
+  abbrev pub FeedsSession : SubscriberValue C → List ℕ → SubscriberValue C → Type 0
+  FeedsSession old bytes new = Becomes (λ s s'. IsFedWhole now (disconnect s) bytes s') old new
+
+  abbrev pub FeedsSessionUntil : SubscriberValue C → List ℕ → SubscriberValue C → Fault → Type 0
+  FeedsSessionUntil old bytes new f = Becomes (λ s s'. IsFedUntil now (disconnect s) bytes s' f) old new
+
+  -- sessions' bytes were fed
+  abbrev pub FeedsSessions : SubscriberValue C → List (List ℕ) → SubscriberValue C → Option Fault → Type 0
+  FeedsSessions old sessions new answered = Becomes (λ s s'. AreFed now s sessions s' answered) old new
+
+  -- Of whatever history the sessions are, and whatever tables the store held, they were followed.
+  abbrev pub FollowsSessions : SubscriberValue C → List (List ℕ) → SubscriberValue C → Option Fault → Type 0
+  FollowsSessions old sessions new answered =
+      (history : List Transaction) (all_complete : List (List Sent)) (tables : Tables) → holds old.applied.store tables → IsSent history (seen place old tables) sessions all_complete
+      → (tables' : Tables) × holds new.applied.store tables' × IsFollowed now history sessions all_complete (seen place old tables) (seen place new tables') answered
