@@ -1,0 +1,56 @@
+-- Commands that are built up, and what their matches give.
+use Rattle.std.proofs.Common.{◌≡◌, ◌∙◌, ◌||◌, ◌↔◌, ℕ, true, false, refl, nat_eq, sym, ap, ap₂, subst, arith, true≢false, List, Option, Some, None, Result, Ok, Err, unwrap_or, Bor}
+use Rattle.std.specs.Option.{option_map, is_some}
+use Rattle.std.proofs.lemmas.Bool.{eqb-true}
+use Rattle.std.specs.Str.Parse.{IsNumeral, ParsesUnsigned, digits_value, without_leading_plus}
+use Rattle.clap.specs.Words.{AddsArg, AddsSubcommand, App, ReadsOne, Rule, rule_of, with_rule, with_subcommand}
+use Rattle.clap.specs.declared.builder.arg.Arg.{Arg}
+use Rattle.clap.specs.declared.builder.command.Command.{Command}
+use Rattle.pgcommand.specs.Asked.{IsCommand, ReadsAsOne}
+
+none≢some : {X : Type 0} {x : X} → None ≡ Some x → ⊥
+none≢some e = true≢false (sym (ap is_some e))
+
+some-inj : {X : Type 0} {x y : X} → Some x ≡ Some y → x ≡ y
+some-inj {X} {x} {y} e = ap (λ (o : Option X). unwrap_or o x) e
+
+pub with_arg : (old new : Command) (a : Arg) (x : App) (r : Rule) → IsCommand x old → rule_of a ≡ r → a.global ≡ false → AddsArg old a new → IsCommand (with_rule x r) new
+with_arg old new a x r is rule local adds =
+    (adds.shape local ∙ ap₂ with_rule is.0 rule, adds.globals ∙ ap₂ (λ p q. p || q) is.1 local)
+
+pub with_sub : (old new sub : Command) (x y : App) → IsCommand x old → IsCommand y sub → AddsSubcommand old sub new → IsCommand (with_subcommand x y.top) new
+with_sub old new sub x y is is_sub adds =
+    (adds.shape is_sub.1 ∙ ap₂ with_subcommand is.0 (ap (λ (a : App). a.top) is_sub.0), adds.globals ∙ ap₂ (λ p q. p || q) is.1 is_sub.1)
+
+pub default_text : (o : Option (Bor (List ℕ))) (d : Bor (List ℕ)) → (unwrap_or o d).now ≡ unwrap_or (option_map (λ s. s.now) o) d.now
+default_text None d = refl
+default_text (Some s) d = refl
+
+-- a number that is read by its text is 1 exactly where the text reads so
+pub reads_as_one : (E : Type 0) (G : List ℕ → Result ℕ E → Type 0) (t : Option (List ℕ)) (r : Option ℕ)
+    → ((u : List ℕ) (x : Result ℕ E) → G u x → ParsesUnsigned 8 10 u x) → (t ≡ None → r ≡ None) → ((u : List ℕ) → t ≡ Some u → ReadsOne G u r)
+    → (r ≡ Some 1) ↔ ReadsAsOne t
+reads_as_one E G None r only none value =
+    (λ e. absurd (none≢some (sym (none refl) ∙ e)), λ h. absurd (none≢some h.1))
+reads_as_one E G (Some u) (Some n) only none value =
+    let parsed = only u (Ok n) (value u refl) in
+    (λ e. (u, refl, parsed.0.0, sym parsed.1 ∙ some-inj e), λ h. let same = some-inj h.1 in ap Some (parsed.1 ∙ ap (λ text. digits_value 10 (without_leading_plus text)) same ∙ h.3))
+reads_as_one E G (Some u) None only none value =
+    let failed = value u refl in (
+      λ e. absurd (none≢some e),
+      λ h. let same = some-inj h.1 in
+          absurd (only u (Err failed.0) failed.1 (subst (λ text. IsNumeral 10 (without_leading_plus text)) (sym same) h.2, rw (ap (λ text. digits_value 10 (without_leading_plus text)) same ∙ h.3) (omega arith))),
+    )
+
+pub pair_of : {X A B : Type 0} (o : Option X) (f : X → A) (g : X → B) (a : A) (b : B) → Some a ≡ option_map f o
+    → Some b ≡ option_map (λ (p : A × B). p.1) (option_map {U = A × B} (λ x. (f x, g x)) o) → option_map {U = A × B} (λ x. (f x, g x)) o ≡ Some (a, b)
+pair_of None f g a b ea eb = absurd (none≢some (sym ea))
+pair_of (Some x) f g a b ea eb = ap₂ (λ p q. Some (p, q)) (sym (some-inj ea)) (sym (some-inj eb))
+
+pub is_one : (r : Option ℕ) (n : ℕ) (P : Type 0) → r ≡ Some n → ((r ≡ Some 1) ↔ P) → (nat_eq n 1 ≡ true) ↔ P
+is_one r n P is both =
+    (λ e. both.0 (is ∙ ap Some (eqb-true n 1 e)), λ h. rw (some-inj (sym is ∙ both.1 h)) refl)
+
+pub none_is_not_one : (r : Option ℕ) (P : Type 0) → r ≡ None → ((r ≡ Some 1) ↔ P) → (false ≡ true) ↔ P
+none_is_not_one r P is both =
+    (λ e. absurd (true≢false (sym e)), λ h. absurd (none≢some (sym is ∙ both.1 h)))

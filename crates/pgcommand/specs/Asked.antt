@@ -1,0 +1,90 @@
+-- What the words of a command line ask for.
+use Rattle.std.specs.Prelude.{◌≡◌, ◌↔◌, List, [], ◌∷◌, Some, true, codes, string_bytes, Bool, false, Option, unwrap_or, pos}
+use Rattle.std.specs.Str.Parse.{IsNumeral, digits_value, without_leading_plus}
+use Rattle.clap.specs.declared.builder.command.Command.{Command}
+use Rattle.clap.specs.declared.builder.command.Command.TheViews.{out-Command}
+use Rattle.clap.specs.Words.{App, app_of, Row, Rule, Text, first_of, one_of, new_app, new_rule, subcommand_of, with_rule, with_subcommand, kind_of}
+use Rattle.clap.specs.Simple.{on_top}
+use Rattle.clap.specs.declared.error.Error.{Error}
+use Rattle.clap.specs.declared.error.kind.ErrorKind.TheVariants.{OutOfMemory}
+use Rattle.clap.specs.declared.builder.action.ArgAction.TheVariants.{SetTrue}
+use Rattle.clap.specs.declared.builder.value_parser.ValueParser.TheVariants.{Signed}
+use Rattle.pgcommand.specs.declared.task.Task.{Task}
+use Rattle.pgcommand.specs.declared.task.Task.TheVariants.{Show, Apply, Same, Resume, Lsn}
+use Rattle.pgcommand.specs.declared.fault.CommandFault.{CommandFault}
+use Rattle.pgcommand.specs.declared.fault.CommandFault.TheVariants.{Usage, Memory}
+use Rattle.pgorder.specs.declared.Version.{Version}
+use Rattle.pgorder.specs.declared.Version.TheVariants.{One}
+
+-- ---- the command line of the program
+
+abbrev pub word_rule : Text → Rule
+word_rule name = record (new_rule name) { required = true }
+
+abbrev pub proto_rule : Rule
+proto_rule = record (new_rule (codes "proto")) {
+  long = Some (codes "proto");
+  value_names = 1;
+  parser = Some (Signed (pos 1) (pos 2));
+  defaults = codes "2" ∷ [];
+}
+
+abbrev pub raw_rule : Rule
+raw_rule = record (new_rule (codes "raw")) { long = Some (codes "raw"); action = Some SetTrue }
+
+abbrev pub show_app : App
+show_app = with_rule (with_rule (new_app (codes "show")) proto_rule) (word_rule (codes "FILE"))
+
+abbrev pub apply_app : App
+apply_app = with_rule (with_rule (with_rule (new_app (codes "apply")) proto_rule) raw_rule) (word_rule (codes "FILE"))
+
+abbrev pub same_app : App
+same_app = with_rule (with_rule (with_rule (new_app (codes "same")) proto_rule) (word_rule (codes "LEFT"))) (word_rule (codes "RIGHT"))
+
+abbrev pub resume_app : App
+resume_app = with_rule (new_app (codes "resume")) (word_rule (codes "FILE"))
+
+abbrev pub lsn_app : App
+lsn_app = with_rule (new_app (codes "lsn")) (word_rule (codes "TEXT"))
+
+abbrev pub bare_app : App
+bare_app = on_top (λ s. record s { has_version = true; subcommand_required = true }) (new_app (codes "pgsub"))
+
+abbrev pub pgsub_app : App
+pgsub_app = with_subcommand (with_subcommand (with_subcommand (with_subcommand (with_subcommand bare_app
+    show_app.top) apply_app.top) same_app.top) resume_app.top) lsn_app.top
+
+-- the command is read as this one, and none of its arguments is global
+abbrev pub IsCommand : App → Command → Type 0
+IsCommand a c = (app_of c ≡ a) × ((out-Command c).has_globals ≡ false)
+
+-- ---- the task of a subcommand and its matches
+
+abbrev pub text_in : Text → List Row → Text
+text_in name rows = unwrap_or (first_of name rows) []
+
+-- version 1 is asked for where the value of `--proto` reads as 1
+abbrev pub ReadsAsOne : Option Text → Type 0
+ReadsAsOne value = (text : Text) × (value ≡ Some text) × IsNumeral 10 (without_leading_plus text) × (digits_value 10 (without_leading_plus text) ≡ 1)
+
+abbrev pub IsVersion : List Row → Version → Type 0
+IsVersion rows version = (version ≡ One) ↔ ReadsAsOne (one_of (codes "proto") rows)
+
+abbrev pub IsRaw : List Row → Bool → Type 0
+IsRaw rows raw = (one_of (codes "raw") rows ≡ Some (codes "true") → raw ≡ true) × (one_of (codes "raw") rows ≡ Some (codes "false") → raw ≡ false)
+
+abbrev pub IsAsked : Text → List Row → Task → Type 0
+IsAsked name rows (Show version file) = (name ≡ codes "show") × IsVersion rows version × (string_bytes file ≡ text_in (codes "FILE") rows)
+IsAsked name rows (Apply version raw file) = (name ≡ codes "apply") × IsVersion rows version × IsRaw rows raw × (string_bytes file ≡ text_in (codes "FILE") rows)
+IsAsked name rows (Same version left right) = (name ≡ codes "same") × IsVersion rows version × (string_bytes left ≡ text_in (codes "LEFT") rows) × (string_bytes right ≡ text_in (codes "RIGHT") rows)
+IsAsked name rows (Resume file) = (name ≡ codes "resume") × (string_bytes file ≡ text_in (codes "FILE") rows)
+IsAsked name rows (Lsn text) = (name ≡ codes "lsn") × (string_bytes text ≡ text_in (codes "TEXT") rows)
+
+-- the parse of the words meets a subcommand that asks for the task
+abbrev pub IsTaskOf : List Text → Task → Type 0
+IsTaskOf words task = (name : Text) × (rows : List Row) × (subcommand_of pgsub_app words ≡ Some (name, rows)) × IsAsked name rows task
+
+-- want of memory is told apart from the other kinds
+abbrev pub IsUsage : Error → CommandFault → Type 0
+IsUsage error (Usage told) = told ≡ error
+IsUsage error Memory = kind_of error ≡ OutOfMemory

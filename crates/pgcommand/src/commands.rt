@@ -1,0 +1,140 @@
+//! The command line as `clap` reads it.
+
+ghost use Rattle.std.specs.Prelude.{◌≡◌, IfOk, false};
+ghost use Rattle.clap.specs.Words.{new_app, rule_of};
+ghost use Rattle.pgcommand.specs.Asked.{IsCommand, word_rule, proto_rule, raw_rule, show_app, apply_app, same_app, resume_app, lsn_app, bare_app, pgsub_app};
+
+use clap::{Arg, ArgAction, Command, value_parser};
+use std::alloc::{AllocError, Global};
+
+/// The version of the program, as `--version` prints it.
+pub const VERSION: &str = "0.1.0";
+
+/// A required word.
+fn word<'a>(alloc: Global, name: &'a str, help: &'a str) -> Arg<'a>
+    ensures rule { rule_of result ≡ word_rule name.entry.now }
+    ensures local { result.global ≡ false }
+{
+    Arg::new(alloc, name).required(true).help(help)
+}
+
+/// `--proto N`.
+fn proto<'a>(alloc: Global) -> Arg<'a>
+    ensures rule { rule_of result ≡ proto_rule }
+    ensures local { result.global ≡ false }
+{
+    Arg::new(alloc, "proto")
+        .long("proto")
+        .value_name("N")
+        .help("Version of the logical replication protocol, 1 or 2")
+        .value_parser(value_parser!(u8).range(1..=2))
+        .default_value("2")
+}
+
+/// `--raw`.
+fn raw<'a>(alloc: Global) -> Arg<'a>
+    ensures rule { rule_of result ≡ raw_rule }
+    ensures local { result.global ≡ false }
+{
+    Arg::new(alloc, "raw")
+        .long("raw")
+        .action(ArgAction::SetTrue)
+        .help("Read the file as the plain bytes of one session instead of a recording")
+}
+
+/// A command without arguments.
+fn named<'a>(alloc: Global, name: &'a str, about: &'a str) -> Command<'a>
+    ensures { IsCommand (new_app name.entry.now) result }
+{
+    Command::new(alloc, name).about(about)
+}
+
+fn show_command<'a>(alloc: Global) -> Result<Command<'a>, AllocError>
+    ensures { IfOk result (IsCommand show_app) }
+{
+    named(
+        alloc,
+        "show",
+        "Print one line for each message of a recording",
+    )
+    .arg(proto(alloc))?
+    .arg(word(alloc, "FILE", "The recording"))
+}
+
+fn apply_command<'a>(alloc: Global) -> Result<Command<'a>, AllocError>
+    ensures { IfOk result (IsCommand apply_app) }
+{
+    named(
+        alloc,
+        "apply",
+        "Apply a recording, and print the rows and the position that it leads to",
+    )
+    .arg(proto(alloc))?
+    .arg(raw(alloc))?
+    .arg(word(alloc, "FILE", "The recording"))
+}
+
+fn same_command<'a>(alloc: Global) -> Result<Command<'a>, AllocError>
+    ensures { IfOk result (IsCommand same_app) }
+{
+    named(
+        alloc,
+        "same",
+        "Compare the rows and the positions that two recordings lead to",
+    )
+    .arg(proto(alloc))?
+    .arg(word(alloc, "LEFT", "One recording"))?
+    .arg(word(alloc, "RIGHT", "The other recording"))
+}
+
+fn resume_command<'a>(alloc: Global) -> Result<Command<'a>, AllocError>
+    ensures { IfOk result (IsCommand resume_app) }
+{
+    named(
+        alloc,
+        "resume",
+        "Print the position that a recording leads to, and the LSN that may be confirmed to the server",
+    )
+    .arg(word(alloc, "FILE", "The recording"))
+}
+
+fn lsn_command<'a>(alloc: Global) -> Result<Command<'a>, AllocError>
+    ensures { IfOk result (IsCommand lsn_app) }
+{
+    named(
+        alloc,
+        "lsn",
+        "Print a log sequence number as a number and as text",
+    )
+    .arg(word(alloc, "TEXT", "The log sequence number, as 16/B374D848"))
+}
+
+/// The program without its subcommands.
+fn bare<'a>(alloc: Global) -> Command<'a>
+    ensures { IsCommand bare_app result }
+{
+    named(
+        alloc,
+        "pgsub",
+        "The receiving end of PostgreSQL logical replication, over recordings of its sessions",
+    )
+    .version(VERSION)
+    .subcommand_required(true)
+}
+
+/// The command line of the program.
+pub(crate) fn program<'a>(alloc: Global) -> Result<Command<'a>, AllocError>
+    ensures { IfOk result (IsCommand pgsub_app) }
+{
+    let show = show_command(alloc)?;
+    let apply = apply_command(alloc)?;
+    let same = same_command(alloc)?;
+    let resume = resume_command(alloc)?;
+    let lsn = lsn_command(alloc)?;
+    bare(alloc)
+        .subcommand(show)?
+        .subcommand(apply)?
+        .subcommand(same)?
+        .subcommand(resume)?
+        .subcommand(lsn)
+}

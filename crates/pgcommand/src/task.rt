@@ -1,0 +1,116 @@
+//! The tasks of the program, and how the parsed words ask for them.
+
+ghost use Rattle.std.specs.Prelude.{◌≡◌, ◌↔◌, IfOk, IfSome, true, codes, string_bytes};
+ghost use Rattle.clap.specs.Words.{found_of, one_of, rows_of};
+ghost use Rattle.pgcommand.specs.Asked.{IsAsked, IsRaw, ReadsAsOne, IsVersion, text_in};
+
+use clap::ArgMatches;
+use pgorder::Version;
+use std::alloc::{AllocError, Global};
+
+/// What the program is asked for. `version` is that of the logical replication protocol, 2 by default.
+#[derive(Debug, Drop)]
+pub enum Task {
+    /// Print one line for each frame of a recording.
+    Show {
+        version: Version,
+        file: String,
+    },
+    /// Apply a recording, or with `raw` the file's bytes as one session, and print the rows and the position.
+    Apply {
+        version: Version,
+        raw: bool,
+        file: String,
+    },
+    /// Compare the rows and positions that two recordings lead to.
+    Same {
+        version: Version,
+        left: String,
+        right: String,
+    },
+    /// Print the position that a recording leads to, and the LSN up to which it may be confirmed.
+    Resume {
+        file: String,
+    },
+    /// Print an LSN as a number and as text.
+    Lsn {
+        text: String,
+    },
+}
+
+/// Whether version 1 is asked for.
+fn wants_one(found: &ArgMatches<'_>) -> bool
+    ensures { (result ≡ true) ↔ ReadsAsOne (one_of (codes "proto") (rows_of (found_of found.now))) }
+{
+    match found.get_one::<u8>("proto") {
+        Some(number) => number == 1,
+        None => false,
+    }
+}
+
+fn version_of(found: &ArgMatches<'_>) -> Version
+    ensures { IsVersion (rows_of (found_of found.now)) result }
+{
+    if wants_one(found) {
+        Version::One
+    } else {
+        Version::Two
+    }
+}
+
+fn raw_of(found: &ArgMatches<'_>) -> bool
+    ensures { IsRaw (rows_of (found_of found.now)) result }
+{
+    found.get_flag("raw")
+}
+
+/// The value of a required word, copied.
+fn value_of(alloc: Global, found: &ArgMatches<'_>, name: &str) -> Result<String, AllocError>
+    ensures { IfOk result (λ text. string_bytes text ≡ text_in name.now (rows_of (found_of found.now))) }
+{
+    String::from_str(alloc, found.get_str(name).unwrap_or(""))
+}
+
+/// The task that a subcommand of this name asks for by these matches, None for an unknown name.
+pub(crate) fn task_of(
+    alloc: Global,
+    name: &str,
+    found: &ArgMatches<'_>,
+) -> Result<Option<Task>, AllocError>
+    ensures { IfOk result (λ task. IfSome task (IsAsked name.now (rows_of (found_of found.now)))) }
+{
+    let task = match name {
+        "show" => {
+            let file = value_of(alloc, found, "FILE")?;
+            Task::Show {
+                version: version_of(found),
+                file,
+            }
+        }
+        "apply" => {
+            let file = value_of(alloc, found, "FILE")?;
+            Task::Apply {
+                version: version_of(found),
+                raw: raw_of(found),
+                file,
+            }
+        }
+        "same" => {
+            let left = value_of(alloc, found, "LEFT")?;
+            let right = value_of(alloc, found, "RIGHT")?;
+            Task::Same {
+                version: version_of(found),
+                left,
+                right,
+            }
+        }
+        "resume" => Task::Resume {
+            file: value_of(alloc, found, "FILE")?,
+        },
+        "lsn" => Task::Lsn {
+            text: value_of(alloc, found, "TEXT")?,
+        },
+        _ => return Ok(None),
+    };
+    Ok(Some(task))
+}
