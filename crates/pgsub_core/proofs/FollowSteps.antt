@@ -17,7 +17,7 @@ use Rattle.pgsub_core.specs.Following.{AreFedWhole, AreFedUntil, AreFed, FeedsSe
 use Rattle.pgsub_core.proofs.Pieces.{two_pieces, piece_then_stop, stop_stands, stays_open, nothing_fed}
 use Rattle.pgsub_core.proofs.Followed.{fed_more, fed_then_stopped, fed_followed}
 
-until_of : (now : ℤ) (old new : Subscribed) (piece : List ℕ) (f : Fault) → old.closed ≡ false → IsFed now old piece new (Some f) → IsFedUntil now old piece new f
+pub until_of : (now : ℤ) (old new : Subscribed) (piece : List ℕ) (f : Fault) → old.closed ≡ false → IsFed now old piece new (Some f) → IsFedUntil now old piece new f
 until_of now old new piece (fault.Wire k) unclosed fed = fed.1
 until_of now old new piece (fault.Decode k) unclosed fed = fed.1
 until_of now old new piece (fault.Order k) unclosed fed = fed.1
@@ -69,8 +69,7 @@ module _ {C : Type 0} (holds : C → Tables → Type 0) (place : C → ℕ) (now
       let a = so tables h in
       let b = one a.0 a.1 in
       let s = disconnect (seen place old tables) in
-      let unclosed : (seen place mid a.0).closed ≡ false = stays_open now s (seen place mid a.0) bytes a.2 in
-      (
+      let unclosed : (seen place mid a.0).closed ≡ false = stays_open now s (seen place mid a.0) bytes a.2 in (
         b.0,
         b.1,
         stop_stands now s (seen place new b.0) (bytes ++ piece) later f

@@ -5,6 +5,7 @@
 
 ghost use Rattle.std.specs.Prelude.{◌≡◌, ◌⊎◌, ◌∷◌, ◌++◌, [], ℕ, ℤ, max, if◌then◌else◌, false, true, Ok, Err, OnOk, OnErr, IfOk, IfErr};
 ghost use Rattle.std.specs.FinMap as map;
+ghost use Rattle.pglogical.specs.Lent.{message_value};
 ghost use Rattle.pglogical.specs.Reading.{message_at};
 ghost use Rattle.pglogical.specs.declared.message.Message.{Message};
 ghost use Rattle.pgwire.specs.Frames.{CopyData};
@@ -20,16 +21,15 @@ ghost use Rattle.pgsub_core.specs.Taking.{take};
 ghost use Rattle.pgsub_core.specs.Opened.{AreOpened, Fits, under_way_behind};
 ghost use Rattle.pgapply.specs.Taken.{Stays, Shows};
 ghost use Rattle.pgsub_core.specs.Applied.{Goes, Stops, IsKept, StaysBesideStore};
-ghost use Rattle.pgsub_core.specs.Faults.{IsReadFault};
 ghost use Rattle.pgsub_core.specs.Committing.{Commits, RefusesCommit};
 ghost use Rattle.pgsub_core.specs.Events.{HasRoom, IsFull, FindsRoom, EventGoes, EventStops, StaysBeside};
-ghost use Rattle.pgsub_core.specs.Faults.{fault_of_decode, fault_of_order, fault_of_spool};
+ghost use Rattle.pgsub_core.specs.Faults.{fault_of_decode, fault_of_order, fault_of_spool, IsOfFeeding, IsReadFault};
 
 use crate::committing::{commit, later, store_fault};
 use crate::fault::Fault;
 use bytes::BytesMut;
 use pgapply::{DumpRow, ReplicaStore};
-use pglogical::{DecodeFault, Message, Reason};
+use pglogical::{DecodeFault, MessageRef, Reason, decode_ref};
 use pglsn::Lsn;
 use pgorder::{Event, Order, OrderFault, Version};
 use pgrel::Book;
@@ -62,7 +62,8 @@ impl<P: Spools + Drop, C: ReplicaStore + Drop> Model for Applier<P, C> {
 }
 
 fn order_fault(fault: OrderFault) -> Fault
-    ensures { result ≡ fault_of_order fault }
+    ensures fault { result ≡ fault_of_order fault }
+    ensures own { IsOfFeeding result }
 {
     match fault {
         OrderFault::Memory => Fault::Memory,
@@ -71,7 +72,8 @@ fn order_fault(fault: OrderFault) -> Fault
 }
 
 fn decode_fault(fault: DecodeFault) -> Fault
-    ensures { result ≡ fault_of_decode fault }
+    ensures fault { result ≡ fault_of_decode fault }
+    ensures own { IsOfFeeding result }
 {
     match fault.reason {
         Reason::Memory => Fault::Memory,
@@ -80,7 +82,8 @@ fn decode_fault(fault: DecodeFault) -> Fault
 }
 
 fn spool_fault(fault: SpoolFault) -> Fault
-    ensures { result ≡ fault_of_spool fault }
+    ensures fault { result ≡ fault_of_spool fault }
+    ensures own { IsOfFeeding result }
 {
     match fault {
         SpoolFault::Memory => Fault::Memory,
@@ -102,18 +105,23 @@ fn open<P: Spools>(spools: &mut P, xid: u32) -> Result<(), Fault>
 }
 
 /// The item of a message is held under its label. A message without one changes nothing.
-fn hold<P: Spools>(spools: &mut P, message: &Message, top: u32, label: u32) -> Result<(), Fault>
-    requires open { map.contains_key (P.held spools.old) top ≡ true }
-    requires spellable { IsSpellableMessage message.now }
-    ensures ok { OnOk result (P.held spools.new ≡ pushed (P.held spools.old) top label (kind message.now)) }
-    ensures room { OnOk result (HasRoom (P.most spools.old) (P.held spools.old) (kind message.now)) }
-    ensures refused { IfErr result (λ fault. (fault ≡ Fault.Memory) ⊎ ((fault ≡ Fault.Spool SpoolFault.SpoolFull) × IsFull (P.most spools.old) (P.held spools.old) (kind message.now))) }
+fn hold<P: Spools>(
+    spools: &mut P,
+    message: &MessageRef<'_>,
+    xid: u32,
+    subxid: u32,
+) -> Result<(), Fault>
+    requires open { map.contains_key (P.held spools.old) xid ≡ true }
+    requires spellable { IsSpellableMessage (message_value message.now) }
+    ensures ok { OnOk result (P.held spools.new ≡ pushed (P.held spools.old) xid subxid (kind (message_value message.now))) }
+    ensures room { OnOk result (HasRoom (P.most spools.old) (P.held spools.old) (kind (message_value message.now))) }
+    ensures refused { IfErr result (λ fault. (fault ≡ Fault.Memory) ⊎ ((fault ≡ Fault.Spool SpoolFault.SpoolFull) × IsFull (P.most spools.old) (P.held spools.old) (kind (message_value message.now)))) }
     ensures limit { P.most spools.new ≡ P.most spools.old }
 {
-    let Message::Item { item, .. } = message else {
+    let MessageRef::Item { item, .. } = message else {
         return Ok(());
     };
-    match spools.push(top, label, &item.borrowed()) {
+    match spools.push(xid, subxid, item) {
         Ok(()) => Ok(()),
         Err(fault) => Err(spool_fault(fault)),
     }
@@ -203,6 +211,7 @@ impl<P: Spools + Drop, C: ReplicaStore + Drop> Applier<P, C> {
     fn commit(&mut self, xid: u32, end: Lsn) -> Result<(), Fault>
         ensures taken { C.serves self.new.store → OnOk result (Commits C.holds C.place end (items_of (held_of self.old.held xid)) self.old.store self.old.confirmed self.old.relations self.new.store self.new.confirmed self.new.relations) }
         ensures refused { C.serves self.new.store → IfErr result (RefusesCommit C.holds C.place end (items_of (held_of self.old.held xid)) self.old.store self.old.confirmed self.old.relations self.new.store) }
+        ensures own { IfErr result IsOfFeeding }
         ensures held { OnOk result (self.new.held ≡ map.remove self.old.held xid) }
         ensures beside { StaysBeside self.old self.new }
         ensures kept { OnErr result (IsKept C.place self.old self.new) }
@@ -223,13 +232,14 @@ impl<P: Spools + Drop, C: ReplicaStore + Drop> Applier<P, C> {
     }
 
     /// Goes through with an event of the order of messages.
-    fn take_event(&mut self, message: &Message, event: Event) -> Result<(), Fault>
+    fn take_event(&mut self, message: &MessageRef<'_>, event: Event) -> Result<(), Fault>
         requires fits { Fits self.old.held event }
-        requires spellable { IsSpellableMessage message.now }
-        ensures goes { C.serves self.new.store → OnOk result (EventGoes C.holds C.place message.now event self.old self.new) }
-        ensures room { OnOk result (FindsRoom event self.old.limit self.old.held (kind message.now)) }
+        requires spellable { IsSpellableMessage (message_value message.now) }
+        ensures goes { C.serves self.new.store → OnOk result (EventGoes C.holds C.place (message_value message.now) event self.old self.new) }
+        ensures room { OnOk result (FindsRoom event self.old.limit self.old.held (kind (message_value message.now))) }
         ensures opened { OnOk result ((x : ℕ) → map.contains_key self.new.held x ≡ under_way_behind event (map.contains_key self.old.held) x) }
-        ensures refused { C.serves self.new.store → IfErr result (EventStops C.holds C.place message.now event self.old self.new) }
+        ensures refused { C.serves self.new.store → IfErr result (EventStops C.holds C.place (message_value message.now) event self.old self.new) }
+        ensures own { IfErr result IsOfFeeding }
         ensures beside { StaysBeside self.old self.new }
         ensures kept { OnErr result (IsKept C.place self.old self.new) }
         ensures served { C.serves self.new.store → C.serves self.old.store }
@@ -253,17 +263,23 @@ impl<P: Spools + Drop, C: ReplicaStore + Drop> Applier<P, C> {
     }
 
     /// Takes a logical message, which came with these start and end fields.
-    pub fn take_message(&mut self, message: &Message, start: Lsn, end: Lsn) -> Result<(), Fault>
-        requires for_place { IsMessageFor (is_in_block self.old.order.context) message.now }
-        requires spellable { IsSpellableMessage message.now }
+    pub fn take_message(
+        &mut self,
+        message: &MessageRef<'_>,
+        start: Lsn,
+        end: Lsn,
+    ) -> Result<(), Fault>
+        requires for_place { IsMessageFor (is_in_block self.old.order.context) (message_value message.now) }
+        requires spellable { IsSpellableMessage (message_value message.now) }
         requires opened { AreOpened self.old.order self.old.held }
-        ensures takes { C.serves self.new.store → OnOk result ((now clock : ℤ) → Goes C.holds C.place (λ s. take now s (Data start end clock message.now)) self.old self.new) }
+        ensures takes { C.serves self.new.store → OnOk result ((now clock : ℤ) → Goes C.holds C.place (λ s. take now s (Data start end clock (message_value message.now))) self.old self.new) }
         ensures opened { OnOk result (AreOpened self.new.order self.new.held) }
-        ensures refused { C.serves self.new.store → IfErr result (λ fault. (now clock : ℤ) → Stops C.holds C.place now (Data start end clock message.now) self.old self.new fault) }
+        ensures refused { C.serves self.new.store → IfErr result (λ fault. (now clock : ℤ) → Stops C.holds C.place now (Data start end clock (message_value message.now)) self.old self.new fault) }
+        ensures own { IfErr result IsOfFeeding }
         ensures kept { OnErr result (IsKept C.place self.old self.new) }
         ensures served { C.serves self.new.store → C.serves self.old.store }
     {
-        let event = match self.order.step(&message.borrowed()) {
+        let event = match self.order.step(message) {
             Ok(event) => event,
             Err(fault) => return Err(order_fault(fault)),
         };
@@ -277,6 +293,7 @@ impl<P: Spools + Drop, C: ReplicaStore + Drop> Applier<P, C> {
         requires opened { AreOpened self.old.order self.old.held }
         ensures takes { C.serves self.new.store → OnOk result (FramesGo C.holds C.place now (CopyData payload.now ∷ []) self.old self.new) }
         ensures refused { C.serves self.new.store → IfErr result (IsStopped C.holds C.place (StopsAt (CopyData payload.now) now) self.old self.new) }
+        ensures own { IfErr result IsOfFeeding }
         ensures opened { OnOk result (AreOpened self.new.order self.new.held) }
         ensures kept { OnErr result (IsKept C.place self.old self.new) }
         ensures served { C.serves self.new.store → C.serves self.old.store }
@@ -300,11 +317,12 @@ impl<P: Spools + Drop, C: ReplicaStore + Drop> Applier<P, C> {
         requires opened { AreOpened self.old.order self.old.held }
         ensures takes { C.serves self.new.store → OnOk result ((m : Message) × (message_at (is_in_block self.old.order.context) body.now ≡ Ok m) × ((now clock : ℤ) → Goes C.holds C.place (λ s. take now s (Data start end clock m)) self.old self.new)) }
         ensures refused { C.serves self.new.store → IfErr result (λ f. (now clock : ℤ) → IsStopped C.holds C.place (StopsAtBody now start end clock body.now) self.old self.new f) }
+        ensures own { IfErr result IsOfFeeding }
         ensures opened { OnOk result (AreOpened self.new.order self.new.held) }
         ensures kept { OnErr result (IsKept C.place self.old self.new) }
         ensures served { C.serves self.new.store → C.serves self.old.store }
     {
-        match pglogical::decode(self.alloc, body, self.order.in_block()) {
+        match decode_ref(body, self.order.in_block()) {
             Ok(message) => self.take_message(&message, start, end),
             Err(fault) => Err(decode_fault(fault)),
         }

@@ -43,6 +43,6 @@ returns-clause-refused g c serves =
     let standing = c.position.ensures in
     let lt : nat_lt (g.C.ReplicaStore.place c.args.store.now) c.args.end ≡ true = grind (arith, nat_tests) in
     let less : g.C.ReplicaStore.place c.args.store.now < c.args.end = grind (arith, nat_tests) in
-    rw c.store_fault.ensures
+    rw c.store_fault.ensures.fault
     (refuses_work g.C.ReplicaStore.holds g.C.ReplicaStore.place c.args.end items c.args.store.now c.take.new.self c.args.confirmed c.args.book.now c.describe.new.book lt less c.in_ok-work.work.changes c.in-Err.fault
     c.in_ok-work.ensures.changes (c.in-Err.ensures.unchanged serves) (c.in-Err.ensures.fault serves))

@@ -1,7 +1,5 @@
-use Rattle.std.proofs.Common.{◌≡◌, ◌≢◌, Ok, Err, max, sym, ap, subst, ◌∙◌}
-use Rattle.pglogical.specs.declared.message.Message.{Message}
-use Rattle.pgorder.specs.declared.OrderFault.TheVariants as order_fault
-use Rattle.pgorder.specs.Steps.{order_step}
+use Rattle.std.proofs.Common.{◌≡◌, max, sym, ap, subst, ◌∙◌}
+use Rattle.pglogical.specs.Lent.{message_value}
 use Rattle.pgsub_core.specs.Stream.{Data}
 use Rattle.pgsub_core.specs.Applied.{Applied, Stops}
 use Rattle.pgsub_core.specs.Opened.{AreOpened}
@@ -12,9 +10,8 @@ use Rattle.pgsub_core.proofs.applier.Applier.take_message.Goals as goal
 
 pub returns-in-Err-clause-refused : goal.returns-in-Err-clause-refused
 returns-in-Err-clause-refused g c serves now clock =
-    let stops = subst (λ (m : Message). c.in-Err.fault ≢ order_fault.Memory → order_step c.self.inside.order.version c.self.inside.order.state m ≡ Err c.in-Err.fault) c.borrowed.ensures c.in-Err.ensures.fault in
-    order_refuses g.C.ReplicaStore.holds g.C.ReplicaStore.place c.args.message.now c.args.start c.args.end _ c.args.self.now c.self.view_is c.step.new.self.state c.step.new.self.version c.step.ensures.version
-    c.in-Err.fault c.order_fault.result c.order_fault.ensures stops now clock
+    order_refuses g.C.ReplicaStore.holds g.C.ReplicaStore.place (message_value c.args.message.now) c.args.start c.args.end _ c.args.self.now c.self.view_is c.step.new.self.state c.step.new.self.version c.step.ensures.version
+    c.in-Err.fault c.order_fault.result c.order_fault.ensures.fault c.in-Err.ensures.fault now clock
 
 pub returns-in_err-take_event-clause-refused : goal.returns-in_err-take_event-clause-refused
 returns-in_err-take_event-clause-refused g c serves =
@@ -22,28 +19,28 @@ returns-in_err-take_event-clause-refused g c serves =
     let place = g.C.ReplicaStore.place in
     let f = c.in_err-take_event.field-0.0 in
     let stops = c.in_err-take_event.ensures.refused serves in
-    let taken = subst (λ (m : Message). order_step c.self.inside.order.version c.self.inside.order.state m ≡ Ok (c.step.new.self.state, c.in-Ok.event)) c.borrowed.ensures c.in-Ok.ensures.taken in
+    let taken = c.in-Ok.ensures.taken in
     on_residual c.from_residual.result f _ c.from_residual.ensures.1 (λ now clock.
-    subst (λ (a : Applied g.row.C.Denot). Stops holds place now (Data c.args.start c.args.end clock c.args.message.now) a c.take_event.new.self f) c.self.view_is
-    (message_stops holds place c.args.message.now c.args.start c.args.end _ c.step.new.self.state c.in-Ok.event c.step.new.self.version taken c.take_event.new.self f stops c.in_err-take_event.ensures.kept c.step.ensures.version now clock))
+    subst (λ (a : Applied g.row.C.Denot). Stops holds place now (Data c.args.start c.args.end clock (message_value c.args.message.now)) a c.take_event.new.self f) c.self.view_is
+    (message_stops holds place (message_value c.args.message.now) c.args.start c.args.end _ c.step.new.self.state c.in-Ok.event c.step.new.self.version taken c.take_event.new.self f stops c.in_err-take_event.ensures.kept c.step.ensures.version now clock))
 
 pub returns-clause-takes : goal.returns-clause-takes
 returns-clause-takes g c serves now clock =
     let own = c.self-2.view_is in
-    let taken = subst (λ (m : Message). order_step c.self.inside.order.version c.self.inside.order.state m ≡ Ok (c.step.new.self.state, c.in-Ok.event)) c.borrowed.ensures c.in-Ok.ensures.taken in
+    let taken = c.in-Ok.ensures.taken in
     let goes = c.in_ok-take_event.ensures.goes (subst (λ (a : Applied g.row.C.Denot). g.C.ReplicaStore.serves a.store) own serves) in
     let raised : c.later-self-inside.result ≡ max c.self-2.inside.confirmed (max c.self-2.inside.received (max c.args.start c.args.end)) =
     c.later-self-inside.ensures ∙ ap (max c.self-2.inside.confirmed) (c.later-2.ensures ∙ ap (max c.self-2.inside.received) c.later.ensures) in
-    event_takes g.C.ReplicaStore.holds g.C.ReplicaStore.place c.args.message.now c.args.start c.args.end _ c.args.self.now c.self.view_is c.step.new.self.state c.step.new.self.version c.step.ensures.version
+    event_takes g.C.ReplicaStore.holds g.C.ReplicaStore.place (message_value c.args.message.now) c.args.start c.args.end _ c.args.self.now c.self.view_is c.step.new.self.state c.step.new.self.version c.step.ensures.version
     c.in-Ok.event taken _ c.take_event.new.self own goes c.in_ok-take_event.ensures.room c.take_event.ensures.beside c.later-self-inside.result raised now clock
 
 pub returns-clause-opened : goal.returns-clause-opened
 returns-clause-opened g c =
     let own = c.self-2.view_is in
-    let taken = subst (λ (m : Message). order_step c.self.inside.order.version c.self.inside.order.state m ≡ Ok (c.step.new.self.state, c.in-Ok.event)) c.borrowed.ensures c.in-Ok.ensures.taken in
+    let taken = c.in-Ok.ensures.taken in
     let beside = c.take_event.ensures.beside in
     let held_now = ap (λ (a : Applied g.row.C.Denot). a.held) own in
     let order_now : c.self-2.inside.order.state ≡ c.step.new.self.state = ap (λ (a : Applied g.row.C.Denot). a.order) own ∙ beside.order in
     let was : AreOpened c.self.inside.order.state (g.P.Spools.held c.self.inside.spools) = subst (λ (a : Applied g.row.C.Denot). AreOpened a.order a.held) (sym c.self.view_is) c.requires.opened in
-    let opened = event_opens c.self.inside.order.version c.self.inside.order.state c.step.new.self.state c.args.message.now c.in-Ok.event (g.P.Spools.held c.self.inside.spools) was taken c.take_event.new.self.held c.in_ok-take_event.ensures.opened in
+    let opened = event_opens c.self.inside.order.version c.self.inside.order.state c.step.new.self.state (message_value c.args.message.now) c.in-Ok.event (g.P.Spools.held c.self.inside.spools) was taken c.take_event.new.self.held c.in_ok-take_event.ensures.opened in
     rw (order_now, held_now) opened

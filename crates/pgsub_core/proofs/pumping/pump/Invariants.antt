@@ -1,0 +1,15 @@
+use Rattle.std.proofs.Common.{◌-◌, ◌≡◌, false, length}
+use Rattle.pgsub_core.specs.Pumping.{Pumps}
+use Rattle.pgsub_core.proofs.pumping.pump.Given as goal
+
+abbrev pub invariant-loop-source : goal.invariant-loop-source
+invariant-loop-source g l =
+    (l.source.failed ≡ false)
+    × (length l.room ≡ 4096)
+    × (g.C.ReplicaStore.serves l.subscriber.applied.store
+    → Pumps g.C.ReplicaStore.holds g.C.ReplicaStore.place l.fn.now (g.R.Read.remaining l.fn.source.reader) (g.R.Read.remaining l.source.reader) l.fn.source.reads l.source.reads l.fn.subscriber l.subscriber)
+    × (l.subscriber.framing.closed ≡ l.fn.subscriber.framing.closed)
+    × (g.C.ReplicaStore.serves l.subscriber.applied.store → g.C.ReplicaStore.serves l.fn.subscriber.applied.store)
+
+abbrev pub decreases-loop-source : goal.decreases-loop-source
+decreases-loop-source g l = 18446744073709551615 - l.source.reads
