@@ -1,10 +1,10 @@
--- When a capture text is refused.
-use Rattle.std.specs.Prelude.{◌≡◌, List, Result, Err, ℕ}
+-- When a recording is rejected.
+use Rattle.std.specs.Prelude.{◌≡◌, List, Result, Err, IsOk, ℕ}
 use Rattle.pgsub_core.specs.declared.session.Session.{Session}
-use Rattle.pgcapture.specs.declared.CaptureFault.{CaptureFault}
-use Rattle.pgcapture.specs.declared.CaptureFault.TheVariants.{NotHexadecimal, Memory}
+use Rattle.pgcapture.specs.declared.fault.CaptureFault.{CaptureFault}
+use Rattle.pgcapture.specs.declared.fault.CaptureFault.TheVariants.{NotHexadecimal, Memory}
 
--- a refused line is the first that is none; want of memory is no line's
+-- a rejected line is the first that can't be read; only a text whose lines can all be read runs out of memory
 abbrev pub IsRefused : CaptureFault → Result (List Session) ℕ → Type 0
 IsRefused (NotHexadecimal number) sessions = sessions ≡ Err number
-IsRefused Memory sessions = Unit {0}
+IsRefused Memory sessions = IsOk sessions

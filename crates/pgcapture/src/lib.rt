@@ -1,46 +1,41 @@
-//! Capture texts: recorded sessions, a piece of bytes a line in hexadecimal.
+//! Recordings of the sessions of a replication stream, as text.
+//!
+//! A recording (a file `.pgx`) has one chunk of received bytes per line, in hexadecimal digits of
+//! either case. A line `--` is a disconnection: it ends a session and begins the next. Empty lines
+//! and lines that begin with `#` are skipped. A line ends with a line feed alone, which the last
+//! line may lack; so a carriage return makes a line unreadable.
 #![tactic(auto)]
 
-ghost use Rattle.std.specs.Prelude.{◌≡◌, ◌<◌, ◌++◌, ◌∷◌, ◌⊎◌, [], ◌==◌, length, IfOk, IfErr, Ok, IfSome, OnOk, option_copied};
+ghost use Rattle.std.specs.Prelude.{◌≡◌, ◌<◌, ◌++◌, ◌∷◌, ◌⊎◌, ◌↔◌, [], ◌==◌, length, false};
+ghost use Rattle.std.specs.Prelude.{IfOk, IfErr, IsOk, IsTrue, Ok, IfSome, OnOk, option_copied};
 ghost use Rattle.std.specs.List.{position};
-ghost use Rattle.pgcapture.specs.Capture.{NoLine, Captured, lines_of, lines_behind, meaning_of, with_line, joined, sessions_of, session_of};
+ghost use Rattle.std.specs.Result.{result_err};
+ghost use Rattle.hex.specs.Hex.{decode_of};
+ghost use Rattle.pgcapture.specs.Capture.{NoLine, Captured, lines_of, lines_behind, meaning_of};
+ghost use Rattle.pgcapture.specs.Capture.{with_line, joined, sessions_of, session_of};
+ghost use Rattle.pgcapture.specs.Capture.{is_skipped as is_skipped_line};
+ghost use Rattle.pgcapture.specs.Capture.{is_disconnection as is_disconnection_line};
 ghost use Rattle.pgcapture.specs.Refused.{IsRefused};
 
+mod fault;
+#[cfg(test)]
+mod tests;
+
+pub use fault::CaptureFault;
 use hex::FromHexError;
 use pgsub_core::Session;
 use pgtuple::{Bytes, Seq};
-use std::alloc::{AllocFailed, Global};
+use std::alloc::Global;
 use std::mem;
 
-/// Why a capture text can't be read.
-#[derive(Clone, Copy, Debug, PartialEq, Eq)]
-pub enum CaptureFault {
-    /// The line with this number, counted from 1, is neither empty, nor a comment, nor `--`, nor an even number of
-    /// hexadecimal digits.
-    NotHexadecimal(usize),
-    /// Memory has run out.
-    Memory,
-}
-
-impl<T: Drop> From<AllocFailed<T>> for CaptureFault {
-    ghost use Rattle.std.specs.Prelude.{◌≡◌};
-    ghost use Rattle.pgcapture.specs.declared.CaptureFault.TheVariants.{Memory};
-
-    ghost from_gives = { λ _ fault. fault ≡ Memory };
-
-    fn from(_refused: AllocFailed<T>) -> CaptureFault {
-        CaptureFault::Memory
-    }
-}
-
-/// Where the first line feed stands.
+/// The offset of the first line feed.
 fn line_end(text: &[u8]) -> Option<usize>
     ensures { result ≡ position (λ byte. byte == 10) text.now }
 {
     text.iter().position(|byte| *byte == b'\n')
 }
 
-/// A text's first line without its line feed, and what stands behind that.
+/// A text's first line without its line feed, and the text after that.
 fn first_line(text: &[u8]) -> (&[u8], Option<&[u8]>)
     ensures lines { lines_of text.now ≡ result.0.now ∷ lines_behind (option_copied result.1) }
     ensures shorter { IfSome result.1 (λ behind. length behind.now < length text.now) }
@@ -51,7 +46,56 @@ fn first_line(text: &[u8]) -> (&[u8], Option<&[u8]>)
     }
 }
 
-/// Takes a line: a piece is added, and a disconnection ends the session.
+/// Whether a line is empty or a comment.
+fn is_skipped(line: &[u8]) -> bool
+    ensures { result ≡ is_skipped_line line.now }
+{
+    line.is_empty() || line[0] == b'#'
+}
+
+/// Whether a line is a disconnection.
+fn is_disconnection(line: &[u8]) -> bool
+    ensures { result ≡ is_disconnection_line line.now }
+{
+    line == b"--".as_slice()
+}
+
+/// Whether a line is an even number of hexadecimal digits.
+fn is_hexadecimal(line: &[u8]) -> bool
+    ensures { IsTrue result ↔ IsOk (decode_of line.now) }
+{
+    line.len() % 2 == 0 && line.iter().all(|byte| byte.is_ascii_hexdigit())
+}
+
+/// Whether a line can be read.
+fn is_readable(line: &[u8]) -> bool
+    ensures { (result ≡ false) ↔ (meaning_of line.now ≡ NoLine) }
+{
+    is_skipped(line) || is_disconnection(line) || is_hexadecimal(line)
+}
+
+/// The number of the first line that can't be read, counted from 1. It takes no memory.
+fn first_bad_line(text: &[u8]) -> Option<usize>
+    ensures { result ≡ result_err (sessions_of text.now) }
+{
+    let mut rest = text;
+    let mut number = 1usize;
+    loop {
+        let (line, behind) = first_line(rest);
+        if !is_readable(line) {
+            return Some(number);
+        }
+        match behind {
+            Some(next) => {
+                rest = next;
+                number += 1;
+            }
+            None => return None,
+        }
+    }
+}
+
+/// Reads a line: a chunk is added to those of the session, and a disconnection ends the session.
 fn take_line(
     alloc: Global,
     line: &[u8],
@@ -62,10 +106,10 @@ fn take_line(
     ensures taken { OnOk result ((rest : Captured) → joined sessions.new.items pieces.new.items rest ≡ joined sessions.old.items pieces.old.items (with_line number (meaning_of line.now) rest)) }
     ensures refused { IfErr result (λ fault. (fault ≡ CaptureFault.Memory) ⊎ ((fault ≡ CaptureFault.NotHexadecimal number) × (meaning_of line.now ≡ NoLine))) }
 {
-    if line.is_empty() || line[0] == b'#' {
+    if is_skipped(line) {
         return Ok(());
     }
-    if line == b"--".as_slice() {
+    if is_disconnection(line) {
         return end_session(alloc, sessions, pieces);
     }
     match hex::decode(alloc, line) {
@@ -78,7 +122,7 @@ fn take_line(
     }
 }
 
-/// Ends the session that the pieces so far belong to.
+/// Ends the session that the chunks so far belong to.
 fn end_session(
     alloc: Global,
     sessions: &mut Vec<Session>,
@@ -94,12 +138,19 @@ fn end_session(
     Ok(())
 }
 
-/// The sessions of a capture text: an empty line is skipped, one that begins with `#` is a comment, `--` ends a session
-/// and begins the next, and any other line is a piece in hexadecimal.
+/// Reads the sessions of a recording. The lines are checked before any memory is taken, so a text
+/// with a line that can't be read never runs out of memory.
+///
+/// # Errors
+///
+/// `NotHexadecimal` with the number of the first line that can't be read, or `Memory`.
 pub fn read_capture(alloc: Global, text: &[u8]) -> Result<Vec<Session>, CaptureFault>
     ensures sessions { IfOk result (λ sessions. sessions_of text.now ≡ Ok sessions.items) }
     ensures refused { IfErr result (λ fault. IsRefused fault (sessions_of text.now)) }
 {
+    if let Some(number) = first_bad_line(text) {
+        return Err(CaptureFault::NotHexadecimal(number));
+    }
     let mut sessions = Vec::new(alloc);
     let mut pieces = Vec::new(alloc);
     let mut rest = text;
