@@ -1,0 +1,113 @@
+//! Logical messages in JSON.
+//!
+//! PostgreSQL documentation, Logical Replication Message Formats.
+
+ghost use Rattle.std.specs.Prelude.{◌≡◌, IfOk};
+ghost use Rattle.serde_json.specs.View.{view};
+ghost use Rattle.pglogical.specs.Lent.{message_value};
+ghost use Rattle.pgjson.specs.Messages.{begin_data, commit_data, logical_data, message_data, origin_data, stream_commit_data, type_data};
+
+use crate::items::item_json;
+use crate::parts::{flag, lsn_json, xid_json};
+use pglogical::MessageRef;
+use pglsn::Lsn;
+use serde_json::{Value, json};
+use std::alloc::{AllocError, Global};
+
+fn begin_json(alloc: Global, lsn: Lsn, time: i64, xid: u32) -> Result<Value, AllocError>
+    ensures { IfOk result (λ value. view value ≡ begin_data lsn time xid) }
+{
+    let lsn = lsn_json(alloc, lsn)?;
+    json!(in alloc; ["Begin", lsn, time, xid])
+}
+
+fn commit_json(alloc: Global, lsn: Lsn, end: Lsn, time: i64) -> Result<Value, AllocError>
+    ensures { IfOk result (λ value. view value ≡ commit_data lsn end time) }
+{
+    let lsn = lsn_json(alloc, lsn)?;
+    let end = lsn_json(alloc, end)?;
+    json!(in alloc; ["Commit", lsn, end, time])
+}
+
+fn origin_json(alloc: Global, lsn: Lsn, name: &str) -> Result<Value, AllocError>
+    ensures { IfOk result (λ value. view value ≡ origin_data lsn name.now) }
+{
+    let lsn = lsn_json(alloc, lsn)?;
+    json!(in alloc; ["Origin", lsn, name])
+}
+
+fn logical_json(
+    alloc: Global,
+    xid: Option<u32>,
+    transactional: bool,
+    lsn: Lsn,
+    prefix: &str,
+    content: &[u8],
+) -> Result<Value, AllocError>
+    ensures { IfOk result (λ value. view value ≡ logical_data xid transactional lsn prefix.now content.now) }
+{
+    let lsn = lsn_json(alloc, lsn)?;
+    let digits = hex::encode(alloc, content)?;
+    let content = json!(in alloc; {"hex": digits})?;
+    json!(in alloc; ["Message", xid_json(xid), flag(transactional), lsn, prefix, content])
+}
+
+fn stream_commit_json(
+    alloc: Global,
+    xid: u32,
+    lsn: Lsn,
+    end: Lsn,
+    time: i64,
+) -> Result<Value, AllocError>
+    ensures { IfOk result (λ value. view value ≡ stream_commit_data xid lsn end time) }
+{
+    let lsn = lsn_json(alloc, lsn)?;
+    let end = lsn_json(alloc, end)?;
+    json!(in alloc; ["StreamCommit", xid, lsn, end, time])
+}
+
+/// A logical message in JSON: an array of its name and its fields.
+pub fn message_json(alloc: Global, message: &MessageRef<'_>) -> Result<Value, AllocError>
+    ensures { IfOk result (λ value. view value ≡ message_data (message_value message.now)) }
+{
+    match message {
+        MessageRef::Begin {
+            final_lsn,
+            commit_time,
+            xid,
+        } => begin_json(alloc, *final_lsn, *commit_time, *xid),
+        MessageRef::Commit {
+            commit_lsn,
+            end_lsn,
+            commit_time,
+        } => commit_json(alloc, *commit_lsn, *end_lsn, *commit_time),
+        MessageRef::Origin { commit_lsn, name } => origin_json(alloc, *commit_lsn, name),
+        MessageRef::TypeName {
+            xid,
+            oid,
+            namespace,
+            name,
+        } => json!(in alloc; ["Type", xid_json(*xid), *oid, *namespace, *name]),
+        MessageRef::Logical {
+            xid,
+            transactional,
+            lsn,
+            prefix,
+            content,
+        } => logical_json(alloc, *xid, *transactional, *lsn, prefix, content),
+        MessageRef::Item { xid, item } => item_json(alloc, *xid, &item.parts()),
+        MessageRef::StreamStart { xid, first_segment } => {
+            json!(in alloc; ["StreamStart", *xid, flag(*first_segment)])
+        }
+        MessageRef::StreamStop => json!(in alloc; ["StreamStop"]),
+        MessageRef::StreamCommit {
+            xid,
+            commit_lsn,
+            end_lsn,
+            commit_time,
+        } => stream_commit_json(alloc, *xid, *commit_lsn, *end_lsn, *commit_time),
+        MessageRef::StreamAbort { xid, subxid } => {
+            json!(in alloc; ["StreamAbort", *xid, *subxid])
+        }
+    }
+}
