@@ -11,7 +11,7 @@ use Rattle.pgspool.specs.Labels.{LabelledItem, HeldMap, cut, held_of, costs, all
 use Rattle.pgspool.specs.Spooled.{spooled_of, IsCounted}
 use Rattle.pgspool.proofs.HeldMaps.{same_held, absent, all_costs_change, all_costs_shrink, all_costs-empty}
 
-abbrev Open : Type 0
+abbrev pub Open : Type 0
 Open = List (ℕ × List LabelledItem)
 
 same_test : (x y : ℕ) (b : Bool) → nat_eq x y ≡ b → eq_by_cmp nat_cmp x y ≡ b

@@ -18,7 +18,7 @@ spelled held = flat_map (λ (l : LabelledItem). item_spelling None l.1) held
 -- where each item begins
 abbrev pub marks_from : ℕ → List LabelledItem → List Mark
 marks_from n [] = []
-marks_from n (l ∷ ls) = record { label = l.0; start = n } ∷ marks_from (n + length (item_spelling None l.1)) ls
+marks_from n (l ∷ ls) = record { subxid = l.0; start = n } ∷ marks_from (n + length (item_spelling None l.1)) ls
 
 abbrev pub start_or : ℕ → Option Mark → ℕ
 start_or end None = end
@@ -61,4 +61,4 @@ next_start (m ∷ ms) end = m.start
 -- the items, from the bytes at the first one's start on
 abbrev pub held_in : List Mark → List ℕ → List LabelledItem
 held_in [] bytes = []
-held_in (m ∷ ms) bytes = (m.label, item_in (take (next_start ms (m.start + length bytes) - m.start) bytes)) ∷ held_in ms (drop (next_start ms (m.start + length bytes) - m.start) bytes)
+held_in (m ∷ ms) bytes = (m.subxid, item_in (take (next_start ms (m.start + length bytes) - m.start) bytes)) ∷ held_in ms (drop (next_start ms (m.start + length bytes) - m.start) bytes)

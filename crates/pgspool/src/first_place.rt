@@ -1,28 +1,30 @@
-//! Where a label first stands among a transaction's items.
-ghost use Rattle.std.specs.Prelude.{◌≡◌, OnOk, OnErr};
+//! Where a subtransaction's first item stands among a transaction's items.
+ghost use Rattle.std.specs.Prelude.{◌≡◌, ◌<◌, OnOk, OnErr, IsOk};
+ghost use Rattle.indexmap.specs.IndexMap.{spare};
 ghost use Rattle.pgspool.specs.FirstPlaces.{noted};
 
 use indexmap::IndexMap;
 use std::alloc::AllocError;
 
-/// Where a label's first item stands: how many items are before it, and the bytes that these cost.
+/// Where a subtransaction's first item stands: how many items are before it, and the bytes that these cost.
 #[derive(Clone, Copy, Debug)]
 pub(crate) struct FirstPlace {
     pub(crate) place: usize,
     pub(crate) bytes: u64,
 }
 
-/// Notes where a label first stands, unless it is noted already.
+/// Notes where a subtransaction's first item stands, unless it is noted already. It takes no memory where there is room.
 pub(crate) fn note_first(
     firsts: &mut IndexMap<u32, FirstPlace>,
-    label: u32,
+    subxid: u32,
     first: FirstPlace,
 ) -> Result<(), AllocError>
-    ensures ok { OnOk result (firsts.new.entries ≡ noted firsts.old.entries label first) }
+    ensures ok { OnOk result (firsts.new.entries ≡ noted firsts.old.entries subxid first) }
     ensures err { OnErr result (firsts.new.entries ≡ firsts.old.entries) }
+    ensures succeeds { 0 < spare firsts.old → IsOk result }
 {
-    if !firsts.contains_key(&label) {
-        firsts.insert(label, first)?;
+    if !firsts.contains_key(&subxid) {
+        firsts.insert(subxid, first)?;
     }
     Ok(())
 }

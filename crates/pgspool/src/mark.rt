@@ -1,8 +1,8 @@
-//! Where an item of a spool begins.
+//! Where an item begins among those that are kept as bytes.
 
-/// An item's label, and where its spelling begins in the buffer.
+/// An item's subxid, and the offset at which its encoding begins in the buffer.
 #[derive(Clone, Copy, Debug)]
 pub(crate) struct Mark {
-    pub(crate) label: u32,
+    pub(crate) subxid: u32,
     pub(crate) start: usize,
 }

@@ -1,83 +1,100 @@
-ghost use Rattle.std.specs.Prelude.{◌≡◌, IfOk};
-ghost use Rattle.pglogical.specs.Spelling.{IsSpellable};
+//! Both spools over the same tables of steps.
 
-use crate::{ListSpools, SpoolFault, Spools, copy_items, hold_one};
+use crate::{ByteSpools, ListSpools, SpoolFault, Spools, copy_items, hold_one};
 use pglogical::{Column, Item, RelationDef};
 use pgtuple::{Cell, Seq, Text, Tuple};
 use std::alloc::{AllocError, Global};
 use std::process::Abort;
 use std::test::Fail;
 
-fn text(alloc: Global, bytes: &str) -> Result<Text, Fail>
-    ensures { IfOk result (λ t. t ≡ bytes.now) }
-{
+/// Columns: of each its key flag, its name and its type's OID.
+type Columns = &'static [(bool, &'static str, u32)];
+
+/// An item of the tables t (id integer key, v text) and w (id integer key, v text, w text).
+#[derive(Clone, Copy)]
+enum Sample {
+    Relation(u32, &'static str, Columns),
+    Insert(u32, &'static [&'static str]),
+    Truncate(u32),
+}
+
+const REL_T: Sample = Sample::Relation(16384, "t", &[(true, "id", 23), (false, "v", 25)]);
+
+const REL_W: Sample = Sample::Relation(
+    16385,
+    "w",
+    &[(true, "id", 23), (false, "v", 25), (false, "w", 25)],
+);
+
+fn text(alloc: Global, bytes: &str) -> Result<Text, AllocError> {
     Ok(Text::from_string(String::from_str(alloc, bytes)?))
 }
 
-// A row of text cells, inserted.
-fn insert(alloc: Global, oid: u32, cells: &[&str]) -> Result<Item, Fail>
-    ensures { IfOk result (λ i. IsSpellable i) }
-{
+fn relation(alloc: Global, oid: u32, name: &str, table: Columns) -> Result<RelationDef, Fail> {
+    let mut columns = Vec::new(alloc);
+    for &(key, name, type_oid) in table {
+        columns.push(Column {
+            key,
+            name: text(alloc, name)?,
+            type_oid,
+            modifier: -1,
+        })?;
+    }
+    Ok(RelationDef {
+        oid,
+        namespace: text(alloc, "public")?,
+        name: text(alloc, name)?,
+        letter: b'd',
+        columns: Seq::from_vec(columns),
+    })
+}
+
+fn row(alloc: Global, cells: &[&str]) -> Result<Tuple, Fail> {
     let mut row = Vec::new(alloc);
     for cell in cells {
         row.push(Cell::Text(text(alloc, cell)?))?;
     }
-    let row = Tuple::from_cells(row).ok_or("within the limits")?;
-    Ok(Item::Insert { oid, row })
+    Ok(Tuple::from_cells(row).ok_or("within the limits")?)
 }
 
-fn insert_t(alloc: Global, id: &str, v: &str) -> Result<Item, Fail>
-    ensures { IfOk result (λ i. IsSpellable i) }
-{
-    insert(alloc, 16384, &[id, v])
-}
-
-fn insert_w(alloc: Global, id: &str, v: &str, w: &str) -> Result<Item, Fail>
-    ensures { IfOk result (λ i. IsSpellable i) }
-{
-    insert(alloc, 16385, &[id, v, w])
-}
-
-fn column(alloc: Global, key: bool, name: &str, type_oid: u32) -> Result<Column, Fail>
-    ensures { IfOk result (λ c. c.name ≡ name.now) }
-{
-    Ok(Column {
-        key,
-        name: text(alloc, name)?,
-        type_oid,
-        modifier: -1,
+fn item(alloc: Global, sample: Sample) -> Result<Item, Fail> {
+    Ok(match sample {
+        Sample::Relation(oid, name, columns) => {
+            Item::Relation(relation(alloc, oid, name, columns)?)
+        }
+        Sample::Insert(oid, cells) => Item::Insert {
+            oid,
+            row: row(alloc, cells)?,
+        },
+        Sample::Truncate(oid) => Item::Truncate {
+            options: 3,
+            oids: Seq::from_vec(vec![in alloc; oid, 16384]?),
+        },
     })
 }
 
-// public.t (id integer key, v text)
-fn relation_t(alloc: Global) -> Result<Item, Fail>
-    ensures { IfOk result (λ i. IsSpellable i) }
-{
-    let id = column(alloc, true, "id", 23)?;
-    let v = column(alloc, false, "v", 25)?;
-    Ok(Item::Relation(RelationDef {
-        oid: 16384,
-        namespace: text(alloc, "public")?,
-        name: text(alloc, "t")?,
-        letter: b'd',
-        columns: Seq::from_vec(vec![in alloc; id, v]?),
-    }))
+/// One call.
+#[derive(Clone, Copy)]
+enum Step {
+    Open(u32),
+    Push(u32, u32, Sample),
+    /// A push that passes the limit.
+    Full(u32, u32, Sample),
+    Cut(u32, u32),
+    DropXid(u32),
+    Clear,
 }
 
-// public.w (id integer key, v text, w text)
-fn relation_w(alloc: Global) -> Result<Item, Fail>
-    ensures { IfOk result (λ i. IsSpellable i) }
-{
-    let id = column(alloc, true, "id", 23)?;
-    let v = column(alloc, false, "v", 25)?;
-    let w = column(alloc, false, "w", 25)?;
-    Ok(Item::Relation(RelationDef {
-        oid: 16385,
-        namespace: text(alloc, "public")?,
-        name: text(alloc, "w")?,
-        letter: b'd',
-        columns: Seq::from_vec(vec![in alloc; id, v, w]?),
-    }))
+fn push<P: Spools>(
+    rt: &impl Abort,
+    spools: &mut P,
+    xid: u32,
+    subxid: u32,
+    item: &Item,
+) -> Result<(), SpoolFault> {
+    assert!(rt; spools.is_open(xid));
+    assert!(rt; item.borrowed().spellable());
+    spools.push(xid, subxid, &item.borrowed())
 }
 
 fn open<P: Spools>(rt: &impl Abort, spools: &mut P, xid: u32) -> Result<(), SpoolFault> {
@@ -85,270 +102,303 @@ fn open<P: Spools>(rt: &impl Abort, spools: &mut P, xid: u32) -> Result<(), Spoo
     spools.open(xid)
 }
 
-fn hold<P: Spools>(
-    rt: &impl Abort,
-    spools: &mut P,
-    xid: u32,
-    label: u32,
-    item: &Item,
-) -> Result<(), SpoolFault>
-    requires { IsSpellable item.now }
-{
-    assert!(rt; spools.is_open(xid));
-    spools.push(xid, label, &item.borrowed())
-}
-
-fn hold_relation_t<P: Spools>(
-    rt: &impl Abort,
-    alloc: Global,
-    spools: &mut P,
-    xid: u32,
-) -> Result<(), Fail> {
-    let item = relation_t(alloc)?;
-    Ok(hold(rt, spools, xid, xid, &item)?)
-}
-
-fn hold_relation_w<P: Spools>(
-    rt: &impl Abort,
-    alloc: Global,
-    spools: &mut P,
-    xid: u32,
-    label: u32,
-) -> Result<(), Fail> {
-    let item = relation_w(alloc)?;
-    Ok(hold(rt, spools, xid, label, &item)?)
-}
-
-// Holds an Insert of this row into t, or into w where it has three cells.
-fn hold_row<P: Spools>(
-    rt: &impl Abort,
-    alloc: Global,
-    spools: &mut P,
-    xid: u32,
-    label: u32,
-    cells: &[&str],
-) -> Result<(), Fail> {
-    let oid = if cells.len() == 3 { 16385 } else { 16384 };
-    let item = insert(alloc, oid, cells)?;
-    Ok(hold(rt, spools, xid, label, &item)?)
-}
-
-// A transaction's own items and those of its subtransactions 21 and 22; all but the last cost 225 bytes, the last 28.
-fn hold_all_but_the_last<P: Spools>(
-    rt: &impl Abort,
-    alloc: Global,
-    spools: &mut P,
-) -> Result<(), Fail> {
-    open(rt, spools, 20)?;
-    hold_relation_t(rt, alloc, spools, 20)?;
-    hold_row(rt, alloc, spools, 20, 20, &["1", "a"])?;
-    hold_relation_w(rt, alloc, spools, 20, 21)?;
-    hold_row(rt, alloc, spools, 20, 21, &["1", "p", "q"])?;
-    hold_row(rt, alloc, spools, 20, 21, &["2", "b"])?;
-    hold_row(rt, alloc, spools, 20, 22, &["3", "c"])?;
-    assert_eq!(rt; spools.bytes(), 225);
-    Ok(())
-}
-
-// The items that a transaction holds, as text.
-fn held_text<P: Spools>(alloc: Global, spools: &P, xid: u32) -> Result<String, Fail> {
-    let items = copy_items(alloc, spools, xid)?;
-    Ok(format!(in alloc; "{items:?}")?)
-}
-
-// What is left of them once both subtransactions were aborted and two items came behind.
-fn surviving_text(alloc: Global) -> Result<String, Fail> {
-    let mut items = Vec::new(alloc);
-    items.push(relation_t(alloc)?)?;
-    items.push(insert_t(alloc, "1", "a")?)?;
-    items.push(relation_w(alloc)?)?;
-    items.push(insert_w(alloc, "2", "r", "s")?)?;
-    Ok(format!(in alloc; "{items:?}")?)
-}
-
-fn first_row_text(alloc: Global) -> Result<String, Fail> {
-    let mut items = Vec::new(alloc);
-    items.push(insert_t(alloc, "1", "a")?)?;
-    Ok(format!(in alloc; "{items:?}")?)
-}
-
-fn bytes_follow_cuts<P: Spools>(
-    rt: &impl Abort,
-    alloc: Global,
-    spools: &mut P,
-) -> Result<(), Fail> {
-    hold_all_but_the_last(rt, alloc, spools)?;
-    hold_row(rt, alloc, spools, 20, 21, &["4", "d"])?;
-    assert_eq!(rt; spools.bytes(), 253);
-    spools.cut(20, 22);
-    assert_eq!(rt; spools.bytes(), 197);
-    assert_eq!(rt; spools.count(20), 5);
-    spools.cut(20, 21);
-    assert_eq!(rt; spools.bytes(), 76);
-    hold_relation_w(rt, alloc, spools, 20, 20)?;
-    hold_row(rt, alloc, spools, 20, 20, &["2", "r", "s"])?;
-    assert_eq!(rt; spools.bytes(), 169);
-
-    let text = held_text(alloc, spools, 20)?;
-    assert_eq!(rt; text, surviving_text(alloc)?);
-    assert!(rt; spools.item(20, 4).is_none());
-    spools.drop_xid(20);
-    assert_eq!(rt; spools.bytes(), 0);
-    assert_eq!(rt; spools.count(20), 0);
-    assert!(rt; !spools.is_open(20));
-    Ok(())
-}
-
-#[test]
-fn a_cut_and_a_drop_give_back_what_they_take(rt: HostRuntime) -> Result<(), Fail> {
-    bytes_follow_cuts(&rt, rt.alloc(), &mut ListSpools::new(rt.alloc(), 253))
-}
-
-fn full_one_byte_below<P: Spools>(
-    rt: &impl Abort,
-    alloc: Global,
-    spools: &mut P,
-) -> Result<(), Fail> {
-    hold_all_but_the_last(rt, alloc, spools)?;
-    let last = insert_t(alloc, "4", "d")?;
-    assert_eq!(rt; hold(rt, spools, 20, 21, &last), Err(SpoolFault::SpoolFull));
-    assert_eq!(rt; spools.bytes(), 225);
-    assert_eq!(rt; spools.count(20), 6);
-    assert_eq!(rt; spools.limit(), 252);
-    spools.cut(20, 22);
-    assert_eq!(rt; hold(rt, spools, 20, 21, &last), Ok(()));
-    assert_eq!(rt; spools.bytes(), 225);
-    Ok(())
-}
-
-#[test]
-fn an_item_that_passes_the_limit_is_refused(rt: HostRuntime) -> Result<(), Fail> {
-    full_one_byte_below(&rt, rt.alloc(), &mut ListSpools::new(rt.alloc(), 252))
-}
-
-#[test]
-fn spools_are_full_below_eight_bytes(rt: HostRuntime) -> Result<(), Fail> {
-    let mut spools = ListSpools::new(rt.alloc(), 7);
-    open(&rt, &mut spools, 20)?;
-    let item = insert_t(rt.alloc(), "1", "a")?;
-    assert_eq!(rt;
-        hold(&rt, &mut spools, 20, 20, &item),
-        Err(SpoolFault::SpoolFull)
-    );
-    Ok(())
-}
-
-fn labels_that_return<P: Spools>(
-    rt: &impl Abort,
-    alloc: Global,
-    spools: &mut P,
-) -> Result<(), Fail> {
-    open(rt, spools, 50)?;
-    hold_row(rt, alloc, spools, 50, 51, &["1", "a"])?;
-    hold_row(rt, alloc, spools, 50, 52, &["2", "b"])?;
-    hold_row(rt, alloc, spools, 50, 51, &["3", "c"])?;
-    let before = held_text(alloc, spools, 50)?;
-    spools.cut(50, 53);
-    spools.cut(60, 51);
-    spools.drop_xid(60);
-    assert_eq!(rt; held_text(alloc, spools, 50)?, before);
-    assert_eq!(rt; spools.bytes(), 84);
-    assert!(rt; !spools.is_open(60));
-    spools.cut(50, 52);
-    let text = held_text(alloc, spools, 50)?;
-    assert_eq!(rt; text, first_row_text(alloc)?);
-    spools.cut(50, 52);
-    assert_eq!(rt; spools.count(50), 1);
-    hold_row(rt, alloc, spools, 50, 52, &["4", "d"])?;
-    spools.cut(50, 51);
-    assert_eq!(rt; spools.count(50), 0);
-    assert!(rt; spools.is_open(50));
-    Ok(())
-}
-
-#[test]
-fn a_cut_starts_at_the_first_item_with_the_label(rt: HostRuntime) -> Result<(), Fail> {
-    labels_that_return(&rt, rt.alloc(), &mut ListSpools::new(rt.alloc(), 1000))
-}
-
-fn transactions_are_apart<P: Spools>(
-    rt: &impl Abort,
-    alloc: Global,
-    spools: &mut P,
-) -> Result<(), Fail> {
-    for xid in 1..6u32 {
-        assert!(rt; !spools.is_open(xid));
-        let item = insert_t(alloc, "1", "a")?;
-        hold_one(spools, xid, &item.borrowed())?;
+fn take<P: Spools>(rt: &impl Abort, alloc: Global, spools: &mut P, step: Step) -> Result<(), Fail> {
+    match step {
+        Step::Open(xid) => open(rt, spools, xid)?,
+        Step::Push(xid, subxid, sample) => push(rt, spools, xid, subxid, &item(alloc, sample)?)?,
+        Step::Full(xid, subxid, sample) => {
+            let found = push(rt, spools, xid, subxid, &item(alloc, sample)?);
+            assert_eq!(rt; found, Err(SpoolFault::SpoolFull));
+        }
+        Step::Cut(xid, subxid) => spools.cut(xid, subxid),
+        Step::DropXid(xid) => spools.drop_xid(xid),
+        Step::Clear => spools.clear(),
     }
-    spools.drop_xid(2);
-    spools.cut(4, 4);
-    assert_eq!(rt; spools.bytes(), 84);
-    assert_eq!(rt; spools.count(1), 1);
-    assert_eq!(rt; spools.count(4), 0);
-    assert_eq!(rt; spools.count(5), 1);
-    spools.clear();
-    assert_eq!(rt; spools.bytes(), 0);
-    assert_eq!(rt; spools.limit(), 1000);
-    assert!(rt; !spools.is_open(5));
     Ok(())
 }
 
+/// A step, and behind it the bytes of all items and the number of one transaction's.
+type Row = (Step, u64, usize);
+
+/// Takes the steps, and stops at the first one behind which bytes or number differ.
+fn take_all<P: Spools>(
+    rt: &impl Abort,
+    alloc: Global,
+    spools: &mut P,
+    xid: u32,
+    steps: &[Row],
+) -> Result<(), Fail> {
+    let limit = spools.limit();
+    for (place, &(step, bytes, count)) in steps.iter().enumerate() {
+        take(rt, alloc, spools, step)?;
+        assert_eq!(rt;
+            (spools.bytes(), spools.count(xid)),
+            (bytes, count),
+            "step {place}"
+        );
+        assert_eq!(rt; spools.limit(), limit);
+    }
+    Ok(())
+}
+
+/// Takes the steps on both spools under one limit, and stops where they then hold other items than these.
+fn both_hold(
+    rt: &impl Abort,
+    alloc: Global,
+    max_bytes: u64,
+    xid: u32,
+    steps: &[Row],
+    left: &[Sample],
+) -> Result<(), Fail> {
+    let mut lists = ListSpools::new(alloc, max_bytes);
+    take_all(rt, alloc, &mut lists, xid, steps)?;
+    holds(rt, alloc, &lists, xid, left)?;
+    let mut bytes = ByteSpools::new(alloc, max_bytes);
+    take_all(rt, alloc, &mut bytes, xid, steps)?;
+    holds(rt, alloc, &bytes, xid, left)
+}
+
+/// Stops where a transaction holds other items than these, told by copies and one by one.
+fn holds<P: Spools>(
+    rt: &impl Abort,
+    alloc: Global,
+    spools: &P,
+    xid: u32,
+    left: &[Sample],
+) -> Result<(), Fail> {
+    let held = copy_items(alloc, spools, xid)?;
+    assert_eq!(rt; held.len(), left.len());
+    for (index, (found, sample)) in held.iter().zip(left).enumerate() {
+        let wanted = item(alloc, *sample)?;
+        assert_eq!(rt;
+            format!(in alloc; "{found:?}")?,
+            format!(in alloc; "{wanted:?}")?,
+            "item {index}"
+        );
+        assert!(rt; spools.item(xid, index).is_some());
+    }
+    assert!(rt; spools.item(xid, left.len()).is_none());
+    Ok(())
+}
+
+const T_1A: Sample = Sample::Insert(16384, &["1", "a"]);
+
+const T_2B: Sample = Sample::Insert(16384, &["2", "b"]);
+
+const T_3C: Sample = Sample::Insert(16384, &["3", "c"]);
+
+const T_4D: Sample = Sample::Insert(16384, &["4", "d"]);
+
+const W_1PQ: Sample = Sample::Insert(16385, &["1", "p", "q"]);
+
+const W_2RS: Sample = Sample::Insert(16385, &["2", "r", "s"]);
+
+// The transaction 20 with the subtransactions 21 and 22, which are both rolled back before two more items come.
+#[test]
+fn bytes_follow_pushes_cuts_and_drops(rt: HostRuntime) -> Result<(), Fail> {
+    let steps: &[Row] = &[
+        (Step::Open(20), 0, 0),
+        (Step::Push(20, 20, REL_T), 48, 1),
+        (Step::Push(20, 20, T_1A), 76, 2),
+        (Step::Push(20, 21, REL_W), 135, 3),
+        (Step::Push(20, 21, W_1PQ), 169, 4),
+        (Step::Push(20, 21, T_2B), 197, 5),
+        (Step::Push(20, 22, T_3C), 225, 6),
+        (Step::Push(20, 21, T_4D), 253, 7),
+        (Step::Cut(20, 22), 197, 5),
+        (Step::Cut(20, 21), 76, 2),
+        (Step::Push(20, 20, REL_W), 135, 3),
+        (Step::Push(20, 20, W_2RS), 169, 4),
+    ];
+    both_hold(
+        &rt,
+        rt.alloc(),
+        253,
+        20,
+        steps,
+        &[REL_T, T_1A, REL_W, W_2RS],
+    )
+}
+
+#[test]
+fn full_one_byte_below(rt: HostRuntime) -> Result<(), Fail> {
+    let steps: &[Row] = &[
+        (Step::Open(20), 0, 0),
+        (Step::Push(20, 20, REL_T), 48, 1),
+        (Step::Push(20, 20, T_1A), 76, 2),
+        (Step::Push(20, 21, REL_W), 135, 3),
+        (Step::Push(20, 21, W_1PQ), 169, 4),
+        (Step::Push(20, 21, T_2B), 197, 5),
+        (Step::Push(20, 22, T_3C), 225, 6),
+        (Step::Full(20, 21, T_4D), 225, 6),
+        (Step::Cut(20, 22), 197, 5),
+        (Step::Push(20, 21, T_4D), 225, 6),
+        (Step::DropXid(20), 0, 0),
+    ];
+    both_hold(&rt, rt.alloc(), 252, 20, steps, &[])
+}
+
+#[test]
+fn full_below_one_overhead(rt: HostRuntime) -> Result<(), Fail> {
+    let steps: &[Row] = &[(Step::Open(20), 0, 0), (Step::Full(20, 20, T_1A), 0, 0)];
+    both_hold(&rt, rt.alloc(), 7, 20, steps, &[])
+}
+
+#[test]
+fn a_cut_starts_at_the_first_item_of_its_subtransaction(rt: HostRuntime) -> Result<(), Fail> {
+    let steps: &[Row] = &[
+        (Step::Open(50), 0, 0),
+        (Step::Push(50, 51, T_1A), 28, 1),
+        (Step::Push(50, 52, T_2B), 56, 2),
+        (Step::Push(50, 51, T_3C), 84, 3),
+        (Step::Cut(50, 53), 84, 3),
+        (Step::Cut(60, 51), 84, 3),
+        (Step::DropXid(60), 84, 3),
+        (Step::Cut(50, 52), 28, 1),
+        (Step::Cut(50, 52), 28, 1),
+        (Step::Push(50, 52, T_4D), 56, 2),
+        (Step::Cut(50, 51), 0, 0),
+        (Step::Push(50, 50, T_2B), 28, 1),
+    ];
+    both_hold(&rt, rt.alloc(), 1000, 50, steps, &[T_2B])
+}
+
+// Xids and OIDs up to the largest; the limit is over all transactions, and no transaction touches another one's items.
 #[test]
 fn each_transaction_has_its_own_items(rt: HostRuntime) -> Result<(), Fail> {
-    transactions_are_apart(&rt, rt.alloc(), &mut ListSpools::new(rt.alloc(), 1000))
+    let steps: &[Row] = &[
+        (Step::Open(4294967295), 0, 0),
+        (Step::Open(0), 0, 0),
+        (Step::Push(0, 4294967294, T_1A), 28, 0),
+        (
+            Step::Push(4294967295, 4294967295, Sample::Truncate(4294967295)),
+            50,
+            1,
+        ),
+        (
+            Step::Push(4294967295, 4294967294, Sample::Insert(4294967295, &[])),
+            66,
+            2,
+        ),
+        (Step::Push(4294967295, 0, T_2B), 94, 3),
+        (Step::Full(0, 0, T_1A), 94, 3),
+        (Step::Cut(0, 4294967294), 66, 3),
+        (Step::DropXid(0), 66, 3),
+        (Step::Cut(4294967295, 0), 38, 2),
+    ];
+    let left: &[Sample] = &[
+        Sample::Truncate(4294967295),
+        Sample::Insert(4294967295, &[]),
+    ];
+    both_hold(&rt, rt.alloc(), 121, 4294967295, steps, left)
 }
 
-// An Insert of one cell, which costs 22 bytes.
-fn one_cell(alloc: Global) -> Result<Item, AllocError>
-    ensures { IfOk result (λ i. IsSpellable i) }
-{
-    let cell = Cell::Text(Text::from_string(String::from_str(alloc, "a")?));
-    match Tuple::from_cells(vec![in alloc; cell]?) {
-        Some(row) => Ok(Item::Insert { oid: 1, row }),
-        None => Err(AllocError),
-    }
-}
-
-// Holds the item, once more where memory was refused, which changes nothing.
-fn hold_in_the_end<P: Spools>(rt: &impl Abort, spools: &mut P, xid: u32, label: u32, item: &Item)
-    requires { IsSpellable item.now }
-{
-    let bytes = spools.bytes();
-    let count = spools.count(xid);
-    if hold(rt, spools, xid, label, item) == Err(SpoolFault::Memory) {
-        assert_eq!(rt; spools.bytes(), bytes);
-        assert_eq!(rt; spools.count(xid), count);
-        assert_eq!(rt; hold(rt, spools, xid, label, item), Ok(()));
-    }
-}
-
-// Run it with each allocation failing in turn: a call that is refused changes nothing, and is answered when it comes once more.
 #[test]
-fn refused_memory_changes_nothing(rt: HostRuntime) -> Result<(), Fail> {
-    let Ok(item) = one_cell(rt.alloc()) else {
-        return Ok(());
-    };
-    let mut spools = ListSpools::new(rt.alloc(), 100000);
+fn clear_forgets_all(rt: HostRuntime) -> Result<(), Fail> {
+    let steps: &[Row] = &[
+        (Step::Open(1), 0, 0),
+        (Step::Push(1, 1, T_1A), 28, 1),
+        (Step::Open(2), 28, 1),
+        (Step::Clear, 0, 0),
+        (Step::Open(1), 0, 0),
+        (Step::Push(1, 1, T_1A), 28, 1),
+    ];
+    both_hold(&rt, rt.alloc(), 56, 1, steps, &[T_1A])
+}
+
+/// Holds one item of a new transaction.
+fn hold<P: Spools>(
+    rt: &impl Abort,
+    alloc: Global,
+    spools: &mut P,
+    xid: u32,
+) -> Result<Result<(), SpoolFault>, Fail> {
+    let item = item(alloc, T_1A)?;
+    assert!(rt; !spools.is_open(xid));
+    assert!(rt; item.borrowed().spellable());
+    Ok(hold_one(spools, xid, &item.borrowed()))
+}
+
+#[test]
+fn one_item_opens_its_transaction(rt: HostRuntime) -> Result<(), Fail> {
+    let mut spools = ByteSpools::new(rt.alloc(), 28);
+    hold(&rt, rt.alloc(), &mut spools, 7)??;
+    assert_eq!(rt; (spools.bytes(), spools.count(7)), (28, 1));
+    assert_eq!(rt;
+        hold(&rt, rt.alloc(), &mut spools, 8)?,
+        Err(SpoolFault::SpoolFull)
+    );
+    assert!(rt; !spools.is_open(8));
+    Ok(())
+}
+
+/// Pushes two items for each of 10,000 subtransactions, and rolls back all but the first ten, the last one first.
+fn roll_back_many<P: Spools>(rt: &impl Abort, alloc: Global, spools: &mut P) -> Result<(), Fail> {
+    let item = item(alloc, T_1A)?;
+    open(rt, spools, 1)?;
+    for subxid in 2..10002u32 {
+        push(rt, spools, 1, subxid, &item)?;
+        push(rt, spools, 1, subxid, &item)?;
+    }
+    assert_eq!(rt; (spools.bytes(), spools.count(1)), (560000, 20000));
+    assert!(rt; spools.item(1, 19999).is_some());
+    for subxid in (12..10002u32).rev() {
+        spools.cut(1, subxid);
+    }
+    assert_eq!(rt; (spools.bytes(), spools.count(1)), (560, 20));
+    push(rt, spools, 1, 12, &item)?;
+    assert_eq!(rt; (spools.bytes(), spools.count(1)), (588, 21));
+    Ok(())
+}
+
+#[test]
+fn many_subtransactions_are_cut(rt: HostRuntime) -> Result<(), Fail> {
+    roll_back_many(&rt, rt.alloc(), &mut ListSpools::new(rt.alloc(), 560000))?;
+    roll_back_many(&rt, rt.alloc(), &mut ByteSpools::new(rt.alloc(), 560000))
+}
+
+/// Opens once more where memory was refused, which changes nothing.
+fn open_in_the_end<P: Spools>(rt: &impl Abort, spools: &mut P, xid: u32) {
+    if open(rt, spools, xid) == Err(SpoolFault::Memory) {
+        assert!(rt; !spools.is_open(xid));
+        assert_eq!(rt; open(rt, spools, xid), Ok(()));
+    }
+}
+
+/// Pushes once more where memory was refused, which changes nothing.
+fn push_in_the_end<P: Spools>(rt: &impl Abort, spools: &mut P, xid: u32, subxid: u32, item: &Item) {
+    let before = (spools.bytes(), spools.count(xid));
+    if push(rt, spools, xid, subxid, item) == Err(SpoolFault::Memory) {
+        assert_eq!(rt; (spools.bytes(), spools.count(xid)), before);
+        assert_eq!(rt; push(rt, spools, xid, subxid, item), Ok(()));
+    }
+}
+
+/// Forty items in each of nine transactions, and then three.
+fn refuse_one<P: Spools>(rt: &impl Abort, spools: &mut P, item: &Item) {
     for xid in 1..10u32 {
-        if open(&rt, &mut spools, xid) == Err(SpoolFault::Memory) {
-            assert!(rt; !spools.is_open(xid));
-            assert_eq!(rt; spools.bytes(), 0);
-            assert_eq!(rt; open(&rt, &mut spools, xid), Ok(()));
-        }
+        open_in_the_end(rt, spools, xid);
     }
     for round in 0..40u32 {
         for xid in 1..10u32 {
-            hold_in_the_end(&rt, &mut spools, xid, xid + round, &item);
+            push_in_the_end(rt, spools, xid, xid + round, item);
         }
     }
-    assert_eq!(rt; spools.bytes(), 40 * 9 * 22);
+    assert_eq!(rt; spools.bytes(), 40 * 9 * 28);
     for xid in 1..10u32 {
         spools.cut(xid, xid + 3);
-        hold_in_the_end(&rt, &mut spools, xid, xid + 3, &item);
+        push_in_the_end(rt, spools, xid, xid + 3, item);
         spools.cut(xid, xid + 3);
         assert_eq!(rt; spools.count(xid), 3);
     }
-    assert_eq!(rt; spools.bytes(), 3 * 9 * 22);
+    assert_eq!(rt; spools.bytes(), 3 * 9 * 28);
+}
+
+// Run it with each allocation failing in turn: a call that is refused changes nothing, and succeeds when it comes once more.
+#[test]
+fn refused_memory_changes_nothing(rt: HostRuntime) -> Result<(), Fail> {
+    let item = item(rt.alloc(), T_1A)?;
+    refuse_one(&rt, &mut ListSpools::new(rt.alloc(), 100000), &item);
+    refuse_one(&rt, &mut ByteSpools::new(rt.alloc(), 100000), &item);
     Ok(())
 }

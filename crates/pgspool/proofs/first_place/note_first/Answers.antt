@@ -8,5 +8,5 @@ pub returns-in_ok-insert-clause-ok : goal.returns-in_ok-insert-clause-ok
 returns-in_ok-insert-clause-ok c =
     let new = sym c.contains_key.ensures ∙ c.if-not-contains_key.true in
     c.in_ok-insert.ensures.entries
-    ∙ insert_entry-new nat_eq c.args.firsts.now c.args.label c.args.first (not_there _ new)
-    ∙ sym (noted_new c.args.firsts.now.entries c.args.label c.args.first new)
+    ∙ insert_entry-new nat_eq c.args.firsts.now c.args.subxid c.args.first (not_there _ new)
+    ∙ sym (noted_new c.args.firsts.now.entries c.args.subxid c.args.first new)

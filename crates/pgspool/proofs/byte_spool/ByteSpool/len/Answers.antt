@@ -1,6 +1,0 @@
-use Rattle.std.proofs.Common.{length, ap, ◌∙◌}
-use Rattle.pgspool.proofs.MarkLemmas.{count_is}
-use Rattle.pgspool.proofs.byte_spool.ByteSpool.len.Goals as goal
-
-pub returns : goal.returns
-returns c = c.len.ensures ∙ c.self.inside.marks.ok.0 ∙ count_is _ _ _ _ _ c.self.invariant ∙ ap length c.self.view_is

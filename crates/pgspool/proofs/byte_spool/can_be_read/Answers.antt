@@ -1,7 +1,0 @@
-use Rattle.std.proofs.Common.{arith, subst}
-use Rattle.pgtuple.specs.Limits.{IsBytes}
-use Rattle.pgspool.proofs.MarkLemmas.{readable}
-use Rattle.pgspool.proofs.byte_spool.can_be_read.Goals as goal
-
-pub returns : goal.returns
-returns c = readable c.args.item.now (subst IsBytes c.requires.spelled (λ i. omega (arith, c.type_inv.bytes i))) c.requires.wire

@@ -1,5 +1,0 @@
-use Rattle.pgspool.proofs.OpenEntries.{IsCounted-empty}
-use Rattle.pgspool.proofs.list_spools.ListSpoolsSpools.clear.Goals as goal
-
-pub invariant_of-self : goal.invariant_of-self
-invariant_of-self c = rw c.new.ensures.empty (IsCounted-empty c.self.inside.max_bytes)
