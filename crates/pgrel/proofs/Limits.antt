@@ -1,5 +1,5 @@
 -- What is made of a tuple's cells is within a tuple's limits.
-use Rattle.std.proofs.Common.{List, [], ◌∷◌, ℕ, zero, suc, take, length-take, arith}
+use Rattle.std.proofs.Common.{List, [], ◌∷◌, arith}
 use Rattle.std.specs.Prelude.{Bool, true, false, if◌then◌else◌}
 use Rattle.std.specs.List.{AllByRecursion}
 use Rattle.pgtuple.specs.declared.cell.Cell.{Cell}
@@ -36,14 +36,3 @@ resolved_are (cell ∷ cells) (old ∷ olds) g h = (either_cell (is_unchanged ce
 pub resolved_is_tuple : (new old : List Cell) → IsTuple new → IsTuple old → IsTuple (resolved new old)
 resolved_is_tuple new old g h = let same = resolved_width new old in let width = g.width in record { width = omega (arith, same, width); each = resolved_are new old g.each h.each }
 
-front_are : (k : ℕ) (cells : List Cell) → AreCells cells → AreCells (take k cells)
-front_are zero cells h = tt
-front_are (suc k) [] h = tt
-front_are (suc k) (cell ∷ cells) h = (h.0, front_are k cells h.1)
-
-front_is_tuple : (k : ℕ) (cells : List Cell) → IsTuple cells → IsTuple (take k cells)
-front_is_tuple k cells h = let bound = length-take k cells in let width = h.width in record { width = omega (arith, bound, width); each = front_are k cells h.each }
-
--- the first k cells of the new row
-pub resolved_front_is_tuple : (new old : List Cell) (k : ℕ) → IsTuple new → IsTuple old → IsTuple (resolved (take k new) (take k old))
-resolved_front_is_tuple new old k g h = resolved_is_tuple (take k new) (take k old) (front_is_tuple k new g) (front_is_tuple k old h)

@@ -3,9 +3,9 @@
 //! PostgreSQL documentation, ALTER TABLE, REPLICA IDENTITY; Logical Replication Message Formats, Relation, Insert, Update,
 //! Delete.
 
-ghost use Rattle.std.specs.Prelude.{◌≡◌, ◌⊎◌, ◌++◌, length, slice_get, IsSome, IfOk, IfErr, OnOk, option_map};
+ghost use Rattle.std.specs.Prelude.{◌≡◌, ◌⊎◌, ◌++◌, ◌∷◌, List, length, IsSome, IfOk, IfErr, option_map};
 ghost use Rattle.std.specs.Option.{option_to_list};
-ghost use Rattle.pgrel.specs.Steps.{key_cell, sent_cell};
+ghost use Rattle.pgrel.specs.Steps.{sent_cell};
 ghost use Rattle.pgtuple.specs.Lent.{cell_value};
 ghost use Rattle.std.specs.Cmp.Lexicographic.{pointwise};
 ghost use Rattle.std.specs.List.{list_any};
@@ -32,7 +32,7 @@ ghost use Rattle.pgrel.specs.Identity.{
 
 use crate::fault::RelFault;
 use pglogical::{Column, OldKind, RelationDef};
-use pgtuple::{Cell, CellRef, Tuple, TupleRef};
+use pgtuple::{CellRef, Cells, Tuple, TupleRef};
 use std::alloc::Global;
 
 /// Whether the table's rows are known by their key: the replica identity letter is `d` or `i` and some column is flagged
@@ -121,47 +121,26 @@ fn has_unchanged(row: &TupleRef<'_>) -> bool
     false
 }
 
+// The next cell of a row, where its column is part of the key.
+fn next_key_cell<'a>(column: &Column, cells: &mut Cells<'a>) -> Option<CellRef<'a>>
+    ensures { (rest : List Column) → key_cells (column.now ∷ rest) cells.old ≡ option_to_list (option_map cell_value result) ++ key_cells rest cells.new }
+{
+    let cell = cells.next()?;
+    if column.key { Some(cell) } else { None }
+}
+
 fn has_unchanged_key(columns: &[Column], row: &TupleRef<'_>) -> bool
     ensures { result ≡ has_unchanged (key_cells columns.now row.now) }
 {
-    for (k, column) in columns.iter().enumerate() {
-        if is_unchanged_key(column, row, k) {
-            return true;
+    let mut cells = row.cells();
+    for column in columns {
+        if let Some(cell) = next_key_cell(column, &mut cells) {
+            if is_unchanged(&cell) {
+                return true;
+            }
         }
     }
     false
-}
-
-fn is_unchanged_key(column: &Column, row: &TupleRef<'_>, k: usize) -> bool
-    ensures { result ≡ has_unchanged (key_cell column.now row.now k) }
-{
-    column.key && is_unchanged_at(row, k)
-}
-
-fn is_unchanged_at(row: &TupleRef<'_>, k: usize) -> bool
-    ensures { result ≡ has_unchanged (option_to_list (slice_get row.now k)) }
-{
-    match row.get(k) {
-        Some(CellRef::Unchanged) => true,
-        _ => false,
-    }
-}
-
-// Puts a copy of the k-th cell behind the others.
-fn push_cell(
-    cells: &mut Vec<Cell>,
-    alloc: Global,
-    row: &TupleRef<'_>,
-    k: usize,
-) -> Result<(), RelFault>
-    ensures ok { OnOk result (cells.new.items ≡ cells.old.items ++ option_to_list (slice_get row.now k)) }
-    ensures memory { IfErr result (λ fault. fault ≡ RelFault.Memory) }
-{
-    if let Some(cell) = row.get(k) {
-        let cell = cell.to_cell(alloc).map_err(|_| RelFault::Memory)?;
-        cells.push(cell)?;
-    }
-    Ok(())
 }
 
 // The cells of the key columns, in column order.
@@ -171,13 +150,14 @@ fn key_tuple(alloc: Global, columns: &[Column], row: &TupleRef<'_>) -> Result<Tu
 {
     // Its contract says that the row is within a tuple's limits.
     let _width = row.width();
-    let mut cells = Vec::new(alloc);
-    for (k, column) in columns.iter().enumerate() {
-        if column.key {
-            push_cell(&mut cells, alloc, row, k)?;
+    let mut key = Vec::new(alloc);
+    let mut cells = row.cells();
+    for column in columns {
+        if let Some(cell) = next_key_cell(column, &mut cells) {
+            key.push(cell.to_cell(alloc).map_err(|_| RelFault::Memory)?)?;
         }
     }
-    Ok(Tuple::from_vec(cells))
+    Ok(Tuple::from_vec(key))
 }
 
 fn whole_tuple(alloc: Global, row: &TupleRef<'_>) -> Result<Tuple, RelFault>
