@@ -1,3 +1,4 @@
+//! The order of messages: where a stream stands, and what the next message means there.
 ghost use Rattle.std.specs.Prelude.{◌≡◌, ◌≢◌, IfOk, IfErr, IsOk, OnErr, Err, IsTrue};
 ghost use Rattle.pglogical.specs.Spelling.{IsMessageFor};
 ghost use Rattle.pglogical.specs.Lent.{message_value};
@@ -52,14 +53,14 @@ impl Order {
         }
     }
 
-    /// Whether the next message stands inside a block of a streamed transaction.
+    /// Whether the next message is inside a block of a streamed transaction.
     pub fn in_block(&self) -> bool
         ensures { result ≡ is_in_block self.now.state.context }
     {
         matches!(self.context, Context::InBlock { .. })
     }
 
-    /// Whether the next message stands outside pairs and blocks.
+    /// Whether the next message is outside pairs and blocks.
     pub fn is_outside(&self) -> bool
         ensures { result ≡ is_outside self.now.state.context }
     {
@@ -74,13 +75,15 @@ impl Order {
         self.open_xids.clear();
     }
 
-    /// Takes the next message, or says why it can't stand here. Only the first segment of a streamed transaction
-    /// takes memory.
+    /// Accepts the next message, or says why it can't come here; then nothing changes. Only the first segment of a streamed
+    /// transaction takes memory.
+    ///
+    /// PostgreSQL documentation, Logical Streaming Replication Protocol, Logical Streaming Replication Protocol Message Flow.
     pub fn step(&mut self, message: &MessageRef<'_>) -> Result<Event, OrderFault>
         requires { IsMessageFor (is_in_block self.old.state.context) (message_value message.now) }
 
-        // Behind any messages that leave this state: exactly where the shape goes on, with the message's event, and
-        // else with the first fault that holds.
+        // After any messages that leave this state: Ok exactly where the shape goes on, with the message's event, and else
+        // the first fault that holds.
         ensures shape { AnswersByShape self.old.version self.old.state (message_value message.now) result }
 
         ensures taken { IfOk result (λ event. order_step self.old.version self.old.state (message_value message.now) ≡ Ok (self.new.state, event)) }
@@ -136,9 +139,9 @@ impl Order {
         }
     }
 
-    // In a block the label is the message's xid, in a pair that of Begin.
-    fn item(&self, label: Option<u32>) -> Result<Event, OrderFault>
-        ensures { Answers (step_item self.now.state self.now.state.context label) self.now.state result }
+    // In a block the subxid is the message's xid, in a pair that of Begin.
+    fn item(&self, subxid: Option<u32>) -> Result<Event, OrderFault>
+        ensures { Answers (step_item self.now.state self.now.state.context subxid) self.now.state result }
     {
         match self.context {
             Context::Outside => Err(OrderFault::OutsideTransaction),
@@ -148,7 +151,7 @@ impl Order {
             }),
             Context::InBlock { xid } => Ok(Event::Hold {
                 top: xid,
-                label: label.unwrap_or(xid),
+                label: subxid.unwrap_or(xid),
             }),
         }
     }
@@ -255,31 +258,31 @@ impl Order {
     }
 
     // The abort of a transaction that isn't open is ignored.
-    fn stream_abort(&mut self, xid: u32, label: u32) -> Result<Event, OrderFault>
-        ensures answer { Answers (in_version_2 self.old.version (step_stream_abort self.old.state self.old.state.context xid label)) self.new.state result }
+    fn stream_abort(&mut self, xid: u32, subxid: u32) -> Result<Event, OrderFault>
+        ensures answer { Answers (in_version_2 self.old.version (step_stream_abort self.old.state self.old.state.context xid subxid)) self.new.state result }
         ensures version { self.new.version ≡ self.old.version }
         ensures unchanged { OnErr result (self.new ≡ self.old) }
     {
         match (self.version, self.context) {
             (Version::One, _) => Err(OrderFault::StreamInVersion1),
-            (Version::Two, Context::Outside) => Ok(self.abort_outside(xid, label)),
+            (Version::Two, Context::Outside) => Ok(self.abort_outside(xid, subxid)),
             (Version::Two, _) => Err(OrderFault::AbortMisplaced),
         }
     }
 
-    fn abort_outside(&mut self, xid: u32, label: u32) -> Event
+    fn abort_outside(&mut self, xid: u32, subxid: u32) -> Event
         requires { self.old.state.context ≡ Outside }
-        ensures answer { step_stream_abort self.old.state Outside xid label ≡ Ok (self.new.state, result) }
+        ensures answer { step_stream_abort self.old.state Outside xid subxid ≡ Ok (self.new.state, result) }
         ensures version { self.new.version ≡ self.old.version }
     {
-        if xid == label {
+        if xid == subxid {
             if self.open_xids.remove(xid) {
                 Event::Drop { xid }
             } else {
                 Event::Ignore
             }
         } else if self.open_xids.contains(xid) {
-            Event::Cut { xid, label }
+            Event::Cut { xid, label: subxid }
         } else {
             Event::Ignore
         }
