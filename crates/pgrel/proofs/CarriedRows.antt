@@ -1,27 +1,26 @@
 -- Carried rows are within a tuple's limits.
 use Rattle.std.proofs.Common.{◌≡◌, ◌≤◌, List, [], ◌∷◌, ℕ, zero, suc, length, take, length-take, refl, ap, arith}
 use Rattle.std.proofs.lemmas.Bool.{or_parts}
-use Rattle.std.specs.Prelude.{Option, Some, None, slice_get, unwrap_or, false, ◌||◌}
-use Rattle.std.specs.List.{AllByRecursion, position_from}
+use Rattle.std.specs.Prelude.{Bool, true, false, ◌||◌, if◌then◌else◌}
+use Rattle.std.specs.List.{AllByRecursion}
 use Rattle.pgtuple.specs.declared.cell.Cell.{Cell}
-use Rattle.pgtuple.specs.declared.cell.Cell.TheVariants.{Null}
 use Rattle.pgtuple.specs.Limits.{IsCell, IsTuple}
 use Rattle.pglogical.specs.declared.item.Column.{Column}
 use Rattle.pgrel.specs.Identity.{is_unchanged, has_unchanged}
-use Rattle.pgrel.specs.Carried.{cell_or_null, carried_cells, has_name}
+use Rattle.pgrel.specs.Carried.{carried_cells, has_name, named_cell}
 
-cell_is : (cells : List Cell) (k : ℕ) → AllByRecursion IsCell cells → IsCell (unwrap_or (slice_get cells k) Null)
-cell_is [] k h = tt
-cell_is (cell ∷ cells) zero h = h.0
-cell_is (cell ∷ cells) (suc k) h = cell_is cells k h.1
-
-taken_is : (place : Option ℕ) (cells : List Cell) → AllByRecursion IsCell cells → IsCell (cell_or_null place cells)
-taken_is None cells h = tt
-taken_is (Some k) cells h = cell_is cells k h
+named_is : (name : List ℕ) (columns : List Column) (cells : List Cell) → AllByRecursion IsCell cells → IsCell (named_cell name columns cells)
+named_is name [] cells h = tt
+named_is name (c ∷ cs) [] h = tt
+named_is name (c ∷ cs) (cell ∷ cells) h = either (has_name name c) cell (named_cell name cs cells) h.0 (named_is name cs cells h.1)
+  where
+    either : (b : Bool) (here later : Cell) → IsCell here → IsCell later → IsCell (if b then here else later)
+    either true here later g h = g
+    either false here later g h = h
 
 carried_are : (old : List Column) (cells : List Cell) (new : List Column) → AllByRecursion IsCell cells → AllByRecursion IsCell (carried_cells old cells new)
 carried_are old cells [] h = tt
-carried_are old cells (c ∷ new) h = (taken_is (position_from (has_name c.name) 0 old) cells h, carried_are old cells new h)
+carried_are old cells (c ∷ new) h = (named_is c.name old cells h, carried_are old cells new h)
 
 -- a cell for each new column
 pub carried_width : (old : List Column) (cells : List Cell) (new : List Column) → length (carried_cells old cells new) ≡ length new
@@ -36,18 +35,20 @@ carried_front_is_tuple old cells new k h most = let bound = length-take k new in
 
 -- ---- a row that is whole stays whole
 
-sent_at : (cells : List Cell) (k : ℕ) → has_unchanged cells ≡ false → is_unchanged (unwrap_or (slice_get cells k) Null) ≡ false
-sent_at [] k e = refl
-sent_at (cell ∷ cells) zero e = (or_parts (is_unchanged cell) (has_unchanged cells) e).0
-sent_at (cell ∷ cells) (suc k) e = sent_at cells k (or_parts (is_unchanged cell) (has_unchanged cells) e).1
-
-sent_taken : (place : Option ℕ) (cells : List Cell) → has_unchanged cells ≡ false → is_unchanged (cell_or_null place cells) ≡ false
-sent_taken None cells e = refl
-sent_taken (Some k) cells e = sent_at cells k e
+sent_named : (name : List ℕ) (columns : List Column) (cells : List Cell) → has_unchanged cells ≡ false → is_unchanged (named_cell name columns cells) ≡ false
+sent_named name [] cells e = refl
+sent_named name (c ∷ cs) [] e = refl
+sent_named name (c ∷ cs) (cell ∷ cells) e =
+    let parts = or_parts (is_unchanged cell) (has_unchanged cells) e in
+    either (has_name name c) cell (named_cell name cs cells) parts.0 (sent_named name cs cells parts.1)
+  where
+    either : (b : Bool) (here later : Cell) → is_unchanged here ≡ false → is_unchanged later ≡ false → is_unchanged (if b then here else later) ≡ false
+    either true here later g h = g
+    either false here later g h = h
 
 pub carried_whole : (old : List Column) (cells : List Cell) (new : List Column) → has_unchanged cells ≡ false → has_unchanged (carried_cells old cells new) ≡ false
 carried_whole old cells [] e = refl
 carried_whole old cells (c ∷ new) e =
-    let here = sent_taken (position_from (has_name c.name) 0 old) cells e in
+    let here = sent_named c.name old cells e in
     let rest = carried_whole old cells new e in
     λ i. here i || rest i

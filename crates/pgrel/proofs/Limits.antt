@@ -35,4 +35,3 @@ resolved_are (cell ∷ cells) (old ∷ olds) g h = (either_cell (is_unchanged ce
 
 pub resolved_is_tuple : (new old : List Cell) → IsTuple new → IsTuple old → IsTuple (resolved new old)
 resolved_is_tuple new old g h = let same = resolved_width new old in let width = g.width in record { width = omega (arith, same, width); each = resolved_are new old g.each h.each }
-

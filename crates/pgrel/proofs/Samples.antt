@@ -2,11 +2,12 @@
 use Rattle.std.proofs.Common.{◌≡◌, refl, ◌∷◌, [], ◌++◌, List, ℕ, Bool, Some, None, Ok, Err, negsuc, true, false}
 use Rattle.std.specs.Prelude.{codes}
 use Rattle.pgtuple.specs.declared.cell.Cell.{Cell}
-use Rattle.pgtuple.specs.declared.cell.Cell.TheVariants.{Null, Unchanged, Text}
+use Rattle.pgtuple.specs.declared.cell.Cell.TheVariants.{Null, Unchanged, Text, Binary}
 use Rattle.pglogical.specs.declared.item.RelationDef.{RelationDef}
 use Rattle.pglogical.specs.declared.item.Column.{Column}
 use Rattle.pglogical.specs.declared.item.OldKind.TheVariants.{Key, Full}
 use Rattle.pgrel.specs.declared.fault.RelFault.TheVariants.{Width, UnknownIdentity, UnchangedInInsert, NoIdentity}
+use Rattle.pgrel.specs.Carried.{carried}
 use Rattle.pgrel.specs.Identity.{keyed, identity, same_shape, resolved, checked_insert, checked_identity, searched_identity}
 
 abbrev column : Bool → List ℕ → ℕ → Column
@@ -202,3 +203,32 @@ big_kept = refl
 
 null_is_sent : resolved (Null ∷ []) (text 97 ∷ []) ≡ Null ∷ []
 null_is_sent = refl
+
+-- ---- rows carried to another shape
+
+-- a new column is null
+third_column : carried t t3 (text 49 ∷ text 97 ∷ []) ≡ text 49 ∷ text 97 ∷ Null ∷ []
+third_column = refl
+
+-- an old column goes
+column_dropped : carried t3 t (text 49 ∷ text 97 ∷ text 98 ∷ []) ≡ text 49 ∷ text 97 ∷ []
+column_dropped = refl
+
+all_dropped : carried t no_columns (text 49 ∷ text 97 ∷ []) ≡ []
+all_dropped = refl
+
+-- cells follow the names of their columns, whatever their places, types and key flags are
+columns_swapped : carried t (record t { columns = column true (codes "v") 20 ∷ column false (codes "id") 25 ∷ [] }) (text 49 ∷ text 97 ∷ []) ≡ text 97 ∷ text 49 ∷ []
+columns_swapped = refl
+
+-- a renamed column is a new one
+column_renamed : carried t (record t { columns = column true (codes "id") 23 ∷ column false (codes "V") 25 ∷ [] }) (text 49 ∷ text 97 ∷ []) ≡ text 49 ∷ Null ∷ []
+column_renamed = refl
+
+-- of two old columns of one name the first, for each new one of it
+first_of_two : carried (record t { columns = column true (codes "v") 23 ∷ column false (codes "v") 25 ∷ [] }) (record t { columns = column true (codes "v") 23 ∷ column false (codes "v") 25 ∷ [] }) (text 49 ∷ text 97 ∷ []) ≡ text 49 ∷ text 49 ∷ []
+first_of_two = refl
+
+-- a cell is carried as it is
+binary_carried : carried f (record f { letter = 100 }) (Binary (0 ∷ 255 ∷ []) ∷ []) ≡ Binary (0 ∷ 255 ∷ []) ∷ []
+binary_carried = refl

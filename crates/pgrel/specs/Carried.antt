@@ -1,7 +1,6 @@
 -- A row of a table whose definition changes: the row as it stands under the new definition.
 -- PostgreSQL documentation, Logical Replication Message Formats, Relation; Logical Replication, Restrictions (schema changes).
-use Rattle.std.specs.Prelude.{ℕ, Bool, List, map, ◌==◌, Option, Some, None, slice_get, unwrap_or}
-use Rattle.std.specs.List.{position_from}
+use Rattle.std.specs.Prelude.{ℕ, Bool, List, [], ◌∷◌, map, ◌==◌, if◌then◌else◌}
 use Rattle.std.specs.Cmp.Lexicographic.{pointwise}
 use Rattle.pgtuple.specs.declared.cell.Cell.{Cell}
 use Rattle.pgtuple.specs.declared.cell.Cell.TheVariants.{Null}
@@ -11,14 +10,11 @@ use Rattle.pglogical.specs.declared.item.Column.{Column}
 abbrev pub has_name : List ℕ → Column → Bool
 has_name name column = pointwise ◌==◌ column.name name
 
--- the cell at this place, or null where there is none
-abbrev pub cell_or_null : Option ℕ → List Cell → Cell
-cell_or_null None cells = Null
-cell_or_null (Some k) cells = unwrap_or (slice_get cells k) Null
-
 -- the cell of the first column of this name, or null where there is none
 abbrev pub named_cell : List ℕ → List Column → List Cell → Cell
-named_cell name columns cells = cell_or_null (position_from (has_name name) 0 columns) cells
+named_cell name [] cells = Null
+named_cell name (column ∷ columns) [] = Null
+named_cell name (column ∷ columns) (cell ∷ cells) = if has_name name column then cell else named_cell name columns cells
 
 -- Each new column takes the cell of the first old column of its name, and null if there is none. Old cells without a column go.
 abbrev pub carried_cells : List Column → List Cell → List Column → List Cell

@@ -45,7 +45,7 @@ impl Book {
         }
     }
 
-    /// Puts a definition in the place of what was known of its OID. It refuses for want of memory alone, which comes only for
+    /// Puts a definition in the place of what was known of its OID. The one error is out of memory, which comes only for
     /// an OID that isn't known, and leaves the book as it was.
     pub fn set(&mut self, def: RelationDef) -> Result<(), RelFault>
         requires { IsDefinition def }

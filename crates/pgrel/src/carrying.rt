@@ -2,11 +2,9 @@
 //!
 //! PostgreSQL documentation, Logical Replication Message Formats, Relation.
 
-ghost use Rattle.std.specs.Prelude.{◌≡◌, ◌++◌, ◌∷◌, [], length, OnOk, IfOk, IfErr};
-ghost use Rattle.std.specs.List.{position_from};
-ghost use Rattle.pgtuple.specs.declared.cell.Cell.{Cell};
+ghost use Rattle.std.specs.Prelude.{◌≡◌, length, IfOk, IfErr};
 ghost use Rattle.pglogical.specs.Spelling.{IsDefinition};
-ghost use Rattle.pgrel.specs.Carried.{carried, cell_or_null, has_name, named_cell};
+ghost use Rattle.pgrel.specs.Carried.{carried, named_cell};
 
 use crate::fault::RelFault;
 use pglogical::{Column, RelationDef};
@@ -14,7 +12,7 @@ use pgtuple::{Cell, Tuple, TupleRef};
 use std::alloc::Global;
 
 /// A row as it stands under the new definition: each new column takes the cell of the first old column of its name, and null
-/// where there is none; old cells without a column go. It refuses for want of memory alone.
+/// where there is none; old cells without a column go. The one error is out of memory.
 pub fn carry(
     alloc: Global,
     old: &RelationDef,
@@ -46,28 +44,14 @@ fn named_cell(
     ensures ok { IfOk result (λ cell. cell ≡ named_cell name.now columns.now row.now) }
     ensures memory { IfErr result (λ fault. fault ≡ RelFault.Memory) }
 {
-    cell_or_null(alloc, place_of(name, columns), row)
-}
-
-/// The place of the first column of this name.
-fn place_of(name: &str, columns: &[Column]) -> Option<usize>
-    ensures { result ≡ position_from (has_name name.now) 0 columns.now }
-{
-    columns
-        .iter()
-        .position(|column| column.name.as_str() == name)
-}
-
-/// A copy of the cell at this place, or null where there is none.
-fn cell_or_null(alloc: Global, place: Option<usize>, row: &TupleRef<'_>) -> Result<Cell, RelFault>
-    ensures ok { IfOk result (λ cell. cell ≡ cell_or_null place row.now) }
-    ensures memory { IfErr result (λ fault. fault ≡ RelFault.Memory) }
-{
-    let Some(k) = place else {
-        return Ok(Cell::Null);
-    };
-    match row.get(k) {
-        Some(cell) => cell.to_cell(alloc).map_err(|_| RelFault::Memory),
-        None => Ok(Cell::Null),
+    let mut cells = row.cells();
+    for column in columns {
+        let Some(cell) = cells.next() else {
+            return Ok(Cell::Null);
+        };
+        if column.name.as_str() == name {
+            return cell.to_cell(alloc).map_err(|_| RelFault::Memory);
+        }
     }
+    Ok(Cell::Null)
 }

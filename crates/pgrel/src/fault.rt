@@ -1,3 +1,5 @@
+//! Why a tuple doesn't fit a relation, or a relation isn't known.
+
 ghost use Rattle.std.specs.Prelude.{◌≡◌};
 
 use std::alloc::{AllocError, AllocFailed};

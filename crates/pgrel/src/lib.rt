@@ -1,6 +1,16 @@
-//! The relation cache, and by what a row is known.
+//! The relation cache, and the identity of rows.
 //!
 //! PostgreSQL documentation, Logical Replication Message Formats, Relation; ALTER TABLE, REPLICA IDENTITY.
+//!
+//! A [`Book`] has the last definition of each relation that a Relation message described. Of a definition and the tuples of a
+//! change it tells by which cells the row is found, and which checks the tuples fail:
+//!
+//! ```text
+//! book.set(def)?;                                            // at a Relation message
+//! let def = book.get(oid)?;                                  // at a change
+//! let identity = search_identity(alloc, def, old, Some(new))?;
+//! let whole = resolve(alloc, &new, &old_row)?;               // with the old row's cells where none was sent
+//! ```
 #![tactic(auto)]
 
 pub mod book;
