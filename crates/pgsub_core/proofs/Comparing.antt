@@ -1,10 +1,9 @@
 -- Rows that compare as equal are one.
-use Rattle.std.proofs.Common.{◌≡◌, ◌&&◌, ◌==◌, ℕ, List, Bool, true, false, nat_eq, Decides, refl, ap, sym, ◌∙◌}
+use Rattle.std.proofs.Common.{◌≡◌, ◌&&◌, ◌==◌, ℕ, List, Bool, true, Decides, refl, ap, sym, ◌∙◌}
 use Rattle.std.specs.Cmp.{first_so, second_so, nat_eq_equiv}
 use Rattle.std.specs.Cmp.Lexicographic.{pointwise}
 use Rattle.std.proofs.lemmas.Slice.Eq.{bytes_eq-Decides, slice_eq-Decides}
 use Rattle.std.proofs.lemmas.Bool.{eqb-true}
-use Rattle.pgtuple.specs.Equal.{cell_eq}
 use Rattle.pgtuple.proofs.Equality.{cells_eq-Decides}
 use Rattle.pgapply.specs.declared.rows.DumpRow.{DumpRow}
 use Rattle.pgsub_core.specs.Converging.{same_row}

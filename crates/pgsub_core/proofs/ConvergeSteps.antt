@@ -64,8 +64,7 @@ module _ {C D : Type 0} (holds : C → Tables → Type 0) (place : C → ℕ) (h
       let is₂ : IsVerdictOf (place left'.applied.store) (place' right'.applied.store) shown shown' v = subst (λ n. IsVerdictOf (place left'.applied.store) n shown shown' v) at' is₁ in
       let is₃ : IsVerdictOf (place left'.applied.store) (place' right'.applied.store) rows shown' v = subst (λ (rs : List DumpRow). IsVerdictOf (place left'.applied.store) (place' right'.applied.store) rs shown' v) are is₂ in
       let is₄ : IsVerdictOf (place left'.applied.store) (place' right'.applied.store) rows rows' v = subst (λ (rs : List DumpRow). IsVerdictOf (place left'.applied.store) (place' right'.applied.store) rows rs v) are' is₃ in
-      let is₅ : IsVerdictOf (place left'.applied.store) (place' right'.applied.store) (dump a.0) rows' v = subst (λ (rs : List DumpRow). IsVerdictOf (place left'.applied.store) (place' right'.applied.store) rs rows' v) a.3 is₄ in
-      (
+      let is₅ : IsVerdictOf (place left'.applied.store) (place' right'.applied.store) (dump a.0) rows' v = subst (λ (rs : List DumpRow). IsVerdictOf (place left'.applied.store) (place' right'.applied.store) rs rows' v) a.3 is₄ in (
         a.0,
         a.1,
         b.0,

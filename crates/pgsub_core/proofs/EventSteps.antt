@@ -12,7 +12,7 @@ use Rattle.pgsub_core.specs.declared.fault.Fault.{Fault}
 use Rattle.pgsub_core.specs.Stream.{Kind, BeginsPair, CommitsPair, Holds, StartsBlock, StopsBlock, CommitsStream, AbortsStream, ChangesNothing}
 use Rattle.pgsub_core.specs.Replica.{Replica, Running, on_commit}
 use Rattle.pgsub_core.specs.ApplyState.{ApplyState, ApplyResult, pushed, committed, on_event}
-use Rattle.pgsub_core.specs.Handled.{Cause, OutOfMemory, StatementRefused, HeaderTooLarge, NextMessage, NeverAnswered, cause}
+use Rattle.pgsub_core.specs.Handled.{Cause, OutOfMemory, StatementRefused, HeaderTooLarge, ForeignBytes, NextMessage, NeverAnswered, cause}
 use Rattle.pgsub_core.specs.Committing.{replica_with, StopsAtCommit, Commits, RefusesCommit}
 use Rattle.pgsub_core.specs.Applied.{Applied}
 use Rattle.pgsub_core.specs.Events.{state_with, event_end, StopsAtEvent, EventGoes, EventStops, StaysBeside}
@@ -54,6 +54,7 @@ module _ {C : Type 0} (holds : C → Tables → Type 0) (place : C → ℕ) (m :
     stops_by limit tables f ends OutOfMemory h = tt
     stops_by limit tables f ends StatementRefused h = (end, ends, h)
     stops_by limit tables f ends HeaderTooLarge h = absurd h
+    stops_by limit tables f ends ForeignBytes h = absurd h
     stops_by limit tables f ends NextMessage h = inl (_, h.0, is (state_with place a tables) ∙ ap (committed (state_with place a tables) a.order xid) h.1, h.2)
     stops_by limit tables f ends NeverAnswered h = absurd h
 

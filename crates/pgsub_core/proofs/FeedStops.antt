@@ -12,7 +12,7 @@ use Rattle.pgsub_core.specs.declared.fault.Fault.{Fault}
 use Rattle.pgsub_core.specs.declared.fault.Fault.TheVariants as fault
 use Rattle.pgsub_core.specs.Subscribed.{Subscribed}
 use Rattle.pgsub_core.specs.Reached.{Progress}
-use Rattle.pgsub_core.specs.Handled.{Cause, OutOfMemory, StatementRefused, HeaderTooLarge, NextMessage, NeverAnswered, cause, IsLeft}
+use Rattle.pgsub_core.specs.Handled.{Cause, OutOfMemory, StatementRefused, HeaderTooLarge, ForeignBytes, NextMessage, NeverAnswered, cause, IsLeft}
 use Rattle.pgsub_core.specs.Feeding.{StopsIn, BeginsWith}
 use Rattle.pgsub_core.specs.Applied.{Applied, Framing, subscribed, IsKept}
 use Rattle.pgsub_core.specs.Framing.{framing_behind, framing_of, done_of, Releases, StopsAt, StopsAtFrame, IsStopped, FramesGo, IsFedTo, IsTakenTo, FeedStops}
@@ -60,10 +60,11 @@ module _ {C : Type 0} (serves : C → Type 0) (holds : C → Tables → Type 0) 
 
   -- ---- by a frame
 
-  frame_why : (d : Deframed) (frame : Frame) (rest : List ℕ) (s : Subscribed) (f : Fault) (k : Cause) → BeginsWith d₀.max (d.held ++ rest) frame → StopsAtFrame now s frame f k → StopsIn now d₀.max d.done (d.held ++ rest) s f k
+  frame_why : (d : Deframed) (frame : Frame) (rest : List ℕ) (s : Subscribed) (f : Fault) (k : Cause) → BeginsWith d₀.max d.done (d.held ++ rest) frame → StopsAtFrame now s frame f k → StopsIn now d₀.max d.done (d.held ++ rest) s f k
   frame_why d frame rest s f OutOfMemory begins h = tt
   frame_why d frame rest s f StatementRefused begins h = (frame, begins, h)
   frame_why d frame rest s f HeaderTooLarge begins h = absurd h
+  frame_why d frame rest s f ForeignBytes begins h = absurd h
   frame_why d frame rest s f NextMessage begins h = inr (frame, h.0, begins, h.1)
   frame_why d frame rest s f NeverAnswered begins h = absurd h
 
@@ -75,16 +76,16 @@ module _ {C : Type 0} (serves : C → Type 0) (holds : C → Tables → Type 0) 
   stops_by_frame d a a' taken to own f frame stands stopped =
       stopped_at d a a' taken (taken_to d a taken to) own stopped.kept stopped.stays f (λ framing tables h.
       frame_why d frame (drop taken piece) (subscribed place framing a tables) f (cause f)
-      (record { more = drop taken piece; whole = ap (λ b. b ++ drop taken piece) stands.whole; allowed = subst (λ m. IsAllowed m frame) to.max stands.allowed })
+      (record { more = drop taken piece; going_on = stands.first; whole = ap (λ b. b ++ drop taken piece) stands.whole; allowed = subst (λ m. IsAllowed m frame) to.max stands.allowed })
       (stopped.why framing tables h))
 
   -- ---- by the bytes
 
   bytes_why : (done : Bool) (bytes : List ℕ) (s : Subscribed) (k : WireFault) → k ≢ wire_fault.Memory → IsFramingFault d₀.max done bytes k → StopsIn now d₀.max done bytes s (fault.Wire k) (cause (fault.Wire k))
-  bytes_why done bytes s (wire_fault.UnknownFrame byte) other h = inl (wire_fault.UnknownFrame byte, refl, h)
+  bytes_why done bytes s (wire_fault.UnknownFrame byte) other h = (wire_fault.UnknownFrame byte, refl, h)
   bytes_why done bytes s wire_fault.BadLength other h = inl (wire_fault.BadLength, refl, h)
   bytes_why done bytes s wire_fault.TooLarge other h = (wire_fault.TooLarge, refl, h)
-  bytes_why done bytes s wire_fault.AfterDone other h = inl (wire_fault.AfterDone, refl, h)
+  bytes_why done bytes s wire_fault.AfterDone other h = (wire_fault.AfterDone, refl, h)
   bytes_why done bytes s (wire_fault.UnknownServerMessage byte) other h = absurd h
   bytes_why done bytes s wire_fault.Short other h = absurd h
   bytes_why done bytes s wire_fault.Trailing other h = absurd h

@@ -1,7 +1,6 @@
 -- Pieces of a session and sessions, one after the other, whatever tables the store holds.
-use Rattle.std.proofs.Common.{◌≡◌, ◌++◌, ◌<◌, ◌+◌, ◌∷◌, inl, inr, ℕ, ℤ, List, [], true, false, Option, Some, None, Result, Ok, Err, take, drop, get_or, length, refl, sym, ap, subst, ◌∙◌, append_assoc, append-nil, arith}
+use Rattle.std.proofs.Common.{◌≡◌, ◌++◌, ◌<◌, ◌+◌, ◌∷◌, ℕ, ℤ, List, [], true, false, Option, Some, None, Result, Ok, Err, take, drop, get_or, length, refl, sym, ap, subst, ◌∙◌, append_assoc, append-nil}
 use Rattle.std.specs.List.{flat_map}
-use Rattle.std.specs.Prelude.{map as mapped}
 use Rattle.std.proofs.lemmas.Grind.{flat_map-append}
 use Rattle.std.proofs.lemmas.List.{map-append, take_more, take-append-drop}
 use Rattle.pgapply.specs.Value.{Tables}
@@ -13,7 +12,7 @@ use Rattle.std.specs.Prelude.{IsErrAnd}
 use Rattle.pgsub_core.specs.Handled.{fault_in}
 use Rattle.pgsub_core.specs.Feeding.{IsFed, IsFedWhole, IsFedUntil}
 use Rattle.pgsub_core.specs.SubscriberValue.{SubscriberValue, seen, Feeds, FeedsUntil}
-use Rattle.pgsub_core.specs.Following.{AreFedWhole, AreFedUntil, AreFed, FeedsSession, FeedsSessionUntil, FeedsSessions, FollowsSessions}
+use Rattle.pgsub_core.specs.Following.{FeedsSession, FeedsSessionUntil, FeedsSessions, FollowsSessions}
 use Rattle.pgsub_core.proofs.Pieces.{two_pieces, piece_then_stop, stop_stands, stays_open, nothing_fed}
 use Rattle.pgsub_core.proofs.Followed.{fed_more, fed_then_stopped, fed_followed}
 

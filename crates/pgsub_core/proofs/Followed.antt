@@ -1,20 +1,19 @@
 -- The sessions of a history, fed one after the other.
-use Rattle.std.proofs.Common.{◌≡◌, ◌++◌, ◌⊎◌, inl, inr, ℕ, ℤ, List, [], ◌∷◌, Option, Some, None, true, refl, sym, ap, subst, ◌∙◌, append-nil}
+use Rattle.std.proofs.Common.{◌≡◌, ◌++◌, inl, inr, ℕ, ℤ, List, [], ◌∷◌, Option, Some, None, true, refl, sym, ap, subst, ◌∙◌, append-nil}
 use Rattle.pgorder.specs.declared.Version.{Version}
 use Rattle.pgsub_core.specs.declared.fault.Fault.{Fault}
 use Rattle.pgsub_core.specs.History.{Transaction}
 use Rattle.pgsub_core.specs.Stream.{Sent}
 use Rattle.pgsub_core.specs.Reached.{Progress}
-use Rattle.pgsub_core.specs.Sessions.{AreSessions, starting_by}
+use Rattle.pgsub_core.specs.Sessions.{AreIncoming, starting_by}
 use Rattle.pgsub_core.specs.Replica.{Running, then_run}
 use Rattle.pgsub_core.specs.Subscribed.{Subscribed, disconnect, progress_of}
 use Rattle.pgsub_core.specs.Taking.{take_all, take_sessions}
-use Rattle.pgsub_core.specs.Handled.{IsSent, IsHandled, IsFollowed, IsLeft, StopsBy, Cause, OutOfMemory, StatementRefused, HeaderTooLarge, NextMessage, NeverAnswered, cause}
+use Rattle.pgsub_core.specs.Handled.{IsSent, IsHandled, IsFollowed, IsLeft, StopsBy, Cause, OutOfMemory, StatementRefused, HeaderTooLarge, ForeignBytes, NextMessage, NeverAnswered, cause, NoneForeign}
 use Rattle.pgsub_core.specs.Feeding.{IsFedWhole, IsFedUntil}
 use Rattle.pgsub_core.specs.Following.{AreFedWhole, AreFedUntil, AreFed}
 use Rattle.pgsub_core.proofs.ReadAgain.{read_again}
-use Rattle.pgsub_core.proofs.FedSessions.{fed_session}
-use Rattle.pgsub_core.proofs.StoppedSessions.{fed_stopped}
+use Rattle.pgsub_core.proofs.StoppedSessions.{fed_stopped, fed_session_whole}
 use Rattle.pgsub_core.proofs.HandledSessions.{taking_followed}
 use Rattle.pgsub_core.proofs.Steps.{running}
 
@@ -29,40 +28,45 @@ pub fed_then_stopped : (now : ℤ) (sessions : List (List ℕ)) (bytes : List �
 fed_then_stopped now [] bytes later old mid new f so one = inl (subst (λ (x : Subscribed). IsFedUntil now (disconnect x) bytes new f) so one)
 fed_then_stopped now (first ∷ sessions) bytes later old mid new f so one = inr (so.0, so.1, fed_then_stopped now sessions bytes later so.0 mid new f so.2 one)
 
-record IsTakenWhole (now : ℤ) (old : Subscribed) (all_complete : List (List Sent)) (new : Subscribed) : Type 0 where
+record IsTakenWhole (now : ℤ) (old : Subscribed) (sessions : List (List ℕ)) (all_complete : List (List Sent)) (new : Subscribed) : Type 0 where
   state : Subscribed
   takes : take_sessions now old all_complete ≡ Running state
   left : new ≡ record state { partial = new.partial; copy_done = new.copy_done }
+  none : NoneForeign all_complete sessions
 
 -- the bytes that wait and CopyDone are nothing to the sessions behind
-from_there : (now : ℤ) (mid state new : Subscribed) (all_complete : List (List Sent)) → mid ≡ record state { partial = mid.partial; copy_done = mid.copy_done } → IsTakenWhole now mid all_complete new → IsTakenWhole now state all_complete new
-from_there now mid state new [] is taken =
+from_there : (now : ℤ) (mid state new : Subscribed) (sessions : List (List ℕ)) (all_complete : List (List Sent)) → mid ≡ record state { partial = mid.partial; copy_done = mid.copy_done } → IsTakenWhole now mid sessions all_complete new
+    → IsTakenWhole now state sessions all_complete new
+from_there now mid state new sessions [] is taken =
     let same : mid ≡ taken.state = running taken.takes in
     record {
       state = state;
       takes = refl;
       left = taken.left ∙ ap (λ (x : Subscribed). record x { partial = new.partial; copy_done = new.copy_done }) (sym same ∙ is);
+      none = taken.none;
     }
-from_there now mid state new (x ∷ all_complete) is taken =
+from_there now mid state new sessions (x ∷ all_complete) is taken =
     let same : disconnect state ≡ disconnect mid = sym (ap disconnect is) in
     record {
       state = taken.state;
       takes = ap (λ (s : Subscribed). then_run (take_all now s x) (λ next. take_sessions now next all_complete)) same ∙ taken.takes;
       left = taken.left;
+      none = taken.none;
     }
 
 whole_from : (now : ℤ) (v : Version) (history : List Transaction) (sessions : List (List ℕ)) (all_complete : List (List Sent)) (from : Progress) (old new : Subscribed)
-    → AreSessions v history from sessions all_complete → AreFedWhole now old sessions new → IsTakenWhole now old all_complete new
-whole_from now v history [] [] from old new sent so = record { state = old; takes = refl; left = so ∙ ap (λ (x : Subscribed). record old { partial = x.partial; copy_done = x.copy_done }) (sym so) }
+    → AreIncoming v history from sessions all_complete → AreFedWhole now old sessions new → IsTakenWhole now old sessions all_complete new
+whole_from now v history [] [] from old new sent so = record { state = old; takes = refl; left = so ∙ ap (λ (x : Subscribed). record old { partial = x.partial; copy_done = x.copy_done }) (sym so); none = tt }
 whole_from now v history [] (complete ∷ all_complete) from old new sent so = absurd sent
 whole_from now v history (bytes ∷ sessions) [] from old new sent so = absurd sent
 whole_from now v history (bytes ∷ sessions) (complete ∷ all_complete) from old new sent so =
-    let one = fed_session read_again now v history sent.0.0 bytes complete old so.0 sent.0.2 so.1 in
-    let rest = from_there now so.0 one.0 new all_complete one.2 (whole_from now v history sessions all_complete _ so.0 new sent.1 so.2) in
+    let one = fed_session_whole read_again now v history sent.0.0 bytes complete old so.0 sent.0.2 so.1 in
+    let rest = from_there now so.0 one.0 new sessions all_complete one.2 (whole_from now v history sessions all_complete _ so.0 new sent.1 so.2) in
     record {
       state = rest.state;
       takes = ap (λ o. then_run o (λ next. take_sessions now next all_complete)) one.1 ∙ rest.takes;
       left = rest.left;
+      none = (one.3, rest.none);
     }
 
 record IsTakenUntil (now : ℤ) (old : Subscribed) (sessions : List (List ℕ)) (all_complete : List (List Sent)) (new : Subscribed) (f : Fault) : Type 0 where
@@ -80,6 +84,7 @@ in_first : (now : ℤ) (bytes : List ℕ) (sessions : List (List ℕ)) (complete
 in_first now bytes sessions complete front all_complete s f OutOfMemory why = tt
 in_first now bytes sessions complete front all_complete s f StatementRefused why = why
 in_first now bytes sessions complete front all_complete s f HeaderTooLarge why = why
+in_first now bytes sessions complete front all_complete s f ForeignBytes why = why
 in_first now bytes sessions complete front all_complete s f NextMessage why = why
 in_first now bytes sessions complete front all_complete s f NeverAnswered why = why
 
@@ -88,11 +93,12 @@ in_later : (now : ℤ) (bytes : List ℕ) (sessions : List (List ℕ)) (complete
 in_later now bytes sessions complete first others all_complete s f OutOfMemory why = tt
 in_later now bytes sessions complete first others all_complete s f StatementRefused why = (why.0, (refl, why.1), why.2, why.3, why.4)
 in_later now bytes sessions complete first others all_complete s f HeaderTooLarge why = why
+in_later now bytes sessions complete first others all_complete s f ForeignBytes why = (refl, why)
 in_later now bytes sessions complete first others all_complete s f NextMessage why = (why.0, (refl, why.1), why.2, why.3)
 in_later now bytes sessions complete first others all_complete s f NeverAnswered why = why
 
 until_from : (now : ℤ) (v : Version) (history : List Transaction) (sessions : List (List ℕ)) (all_complete : List (List Sent)) (from : Progress) (old new : Subscribed) (f : Fault)
-    → AreSessions v history from sessions all_complete → AreFedUntil now old sessions new f → IsTakenUntil now old sessions all_complete new f
+    → AreIncoming v history from sessions all_complete → AreFedUntil now old sessions new f → IsTakenUntil now old sessions all_complete new f
 until_from now v history [] all_complete from old new f sent so = absurd so
 until_from now v history (bytes ∷ sessions) [] from old new f sent so = absurd sent
 until_from now v history (bytes ∷ sessions) (complete ∷ all_complete) from old new f sent (inl stops) =
@@ -108,7 +114,7 @@ until_from now v history (bytes ∷ sessions) (complete ∷ all_complete) from o
       why = in_first now bytes sessions complete here.front all_complete here.state f (cause f) here.why;
     }
 until_from now v history (bytes ∷ sessions) (complete ∷ all_complete) from old new f sent (inr so) =
-    let one = fed_session read_again now v history sent.0.0 bytes complete old so.0 sent.0.2 so.1 in
+    let one = fed_session_whole read_again now v history sent.0.0 bytes complete old so.0 sent.0.2 so.1 in
     let rest = until_from now v history sessions all_complete _ so.0 new f sent.1 so.2 in
     let same : disconnect one.0 ≡ disconnect so.0 = sym (ap disconnect one.2) in
     record {
@@ -139,7 +145,7 @@ pub fed_followed : (now : ℤ) (history : List Transaction) (sessions : List (Li
     → IsSent history old sessions all_complete → AreFed now old sessions new answered → IsFollowed now history sessions all_complete old new answered
 fed_followed now history sessions all_complete old new None is so =
     let whole = whole_from now old.version history sessions all_complete (starting_by is.start (progress_of old)) old new is.sent so in
-    taking_followed now history sessions all_complete all_complete old whole.state new None is (all_handled all_complete) whole.takes (left_of whole.state new whole.left) whole.left refl
+    taking_followed now history sessions all_complete all_complete old whole.state new None is (all_handled all_complete) whole.takes (left_of whole.state new whole.left) whole.left (refl, whole.none)
 fed_followed now history sessions all_complete old new (Some f) is so =
     let until = until_from now old.version history sessions all_complete (starting_by is.start (progress_of old)) old new f is.sent so in
     taking_followed now history sessions all_complete (until.first ∷ until.others) old until.state new (Some f) is until.front until.takes until.left until.closed until.why

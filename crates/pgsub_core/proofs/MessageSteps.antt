@@ -20,7 +20,7 @@ use Rattle.pgsub_core.specs.Replica.{Replica, Halt, Outcome, Running, Stopped, o
 use Rattle.pgsub_core.specs.ApplyState.{ApplyState, ApplyResult, committed, on_event}
 use Rattle.pgsub_core.specs.Subscribed.{Subscribed}
 use Rattle.pgsub_core.specs.Taking.{with_state, receive, passes_limit, take}
-use Rattle.pgsub_core.specs.Handled.{Cause, OutOfMemory, StatementRefused, HeaderTooLarge, NextMessage, NeverAnswered, cause, end_by_kind}
+use Rattle.pgsub_core.specs.Handled.{Cause, OutOfMemory, StatementRefused, HeaderTooLarge, ForeignBytes, NextMessage, NeverAnswered, cause, end_by_kind}
 use Rattle.pgsub_core.specs.Applied.{Applied, Framing, subscribed, StopsAtMessage, IsKept, Goes, Stops}
 use Rattle.pgsub_core.specs.Events.{state_with, FindsRoom, FindsNoRoom, event_end, StopsAtEvent, EventGoes, EventStops, StaysBeside}
 use Rattle.pgsub_core.specs.Faults.{fault_of_order}
@@ -199,6 +199,7 @@ module _ {C : Type 0} (holds : C → Tables → Type 0) (place : C → ℕ) (m :
       why_stops f OutOfMemory h = tt
       why_stops f StatementRefused h = (h.0, sym (means was).ends ∙ h.1, h.2)
       why_stops f HeaderTooLarge h = absurd h
+      why_stops f ForeignBytes h = absurd h
       why_stops f NextMessage (inl h) =
           let stops = event_stops (state_with place v tables) o m e h.0 h.1 h.2 in
           (was, rw (is, stops.1, h.3) refl)

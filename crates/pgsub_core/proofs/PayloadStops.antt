@@ -17,7 +17,7 @@ use Rattle.pgsub_core.specs.declared.fault.Fault.{Fault}
 use Rattle.pgsub_core.specs.declared.fault.Fault.TheVariants as fault
 use Rattle.pgsub_core.specs.Stream.{Data}
 use Rattle.pgsub_core.specs.Subscribed.{Subscribed}
-use Rattle.pgsub_core.specs.Handled.{Cause, OutOfMemory, StatementRefused, HeaderTooLarge, NextMessage, NeverAnswered, cause}
+use Rattle.pgsub_core.specs.Handled.{Cause, OutOfMemory, StatementRefused, HeaderTooLarge, ForeignBytes, NextMessage, NeverAnswered, cause}
 use Rattle.pgsub_core.specs.Applied.{Applied, subscribed, StopsAtMessage, IsKept, Stops}
 use Rattle.pgsub_core.specs.Framing.{StopsAtBody, StopsAtFrame, StopsAt, IsStopped}
 
@@ -29,6 +29,7 @@ module _ {C : Type 0} (holds : C → Tables → Type 0) (place : C → ℕ) (now
   at_body s m f OutOfMemory reads h = tt
   at_body s m f StatementRefused reads h = (m, reads, h.0, h.1, h.2)
   at_body s m f HeaderTooLarge reads h = absurd h
+  at_body s m f ForeignBytes reads h = absurd h
   at_body s m f NextMessage reads h = (h.0, rw reads h.1)
   at_body s m f NeverAnswered reads h = absurd h
 
@@ -63,6 +64,7 @@ module _ {C : Type 0} (holds : C → Tables → Type 0) (place : C → ℕ) (now
     at_frame s f StatementRefused h =
         record { payload = payload; start = start; current = end; clock = clock; body = body; message = h.0; end = h.2; frame = refl; xlog_data = is; decodes = h.1; commits = h.3; passes = h.4 }
     at_frame s f HeaderTooLarge h = absurd h
+    at_frame s f ForeignBytes h = absurd h
     at_frame s f NextMessage h = (h.0, rw is h.1)
     at_frame s f NeverAnswered h = absurd h
 

@@ -4,7 +4,7 @@ use Rattle.pglogical.specs.Reading.{message_at}
 use Rattle.pglogical.specs.declared.message.Message.{Message}
 use Rattle.pglogical.specs.declared.fault.DecodeFault.{DecodeFault}
 use Rattle.pgorder.specs.States.{is_in_block}
-use Rattle.pgwire.specs.Frames.{Frame, CopyData, CopyDone, frame, frames, IsDeframedAs, AreFrames, IsPartial, has_copy_done}
+use Rattle.pgwire.specs.Frames.{Frame, CopyData, CopyDone, frame, frames, AreFrames, IsPartial, has_copy_done}
 use Rattle.pgwire.specs.Payloads.{ServerMessage, XLogData, Keepalive, payload_at}
 use Rattle.pgwire.specs.declared.fault.WireFault.{WireFault}
 use Rattle.pgspool.specs.declared.spools.SpoolFault.TheVariants as spool
@@ -18,7 +18,7 @@ use Rattle.pgsub_core.specs.Subscribed.{Subscribed, apply_state_of}
 use Rattle.pgsub_core.specs.Taking.{take, taken_with, take_message, take_payload, take_frame, take_frames, handled, passes_limit, message_passes_limit}
 use Rattle.pgsub_core.proofs.FedSessions.{take_frames-append}
 use Rattle.std.specs.Prelude.{if◌then◌else◌}
-use Rattle.pgsub_core.specs.Handled.{IsLeft, Cause, OutOfMemory, StatementRefused, HeaderTooLarge, NextMessage, NeverAnswered, cause}
+use Rattle.pgsub_core.specs.Handled.{IsLeft, Cause, OutOfMemory, StatementRefused, HeaderTooLarge, ForeignBytes, NextMessage, NeverAnswered, cause}
 use Rattle.pgwire.specs.declared.fault.WireFault.TheVariants as wire_fault
 use Rattle.pgwire.specs.Frames.{IsFramingFault}
 use Rattle.pgwire.proofs.Holding.{fault-append}
@@ -222,6 +222,7 @@ stops_in : (now : ℤ) (max : ℕ) (done : Bool) (rest r : List ℕ) (t : Subscr
 stops_in now max done rest r t f OutOfMemory why = tt
 stops_in now max done rest r t f StatementRefused why = (why.0, why.1, commit_frame r t why.0 why.2)
 stops_in now max done rest r t f HeaderTooLarge why = why
+stops_in now max done rest r t f ForeignBytes why = why
 stops_in now max done rest r t f NextMessage (inl why) = inl why
 stops_in now max done rest r t f NextMessage (inr why) =
     let stops = stopped_of r (take_frame now t why.0) why.1 f (sym (frame_over now r t why.0) ∙ why.3) in
@@ -244,8 +245,8 @@ piece_then_stop now old mid new p q f a b' =
     let D = done_frames old in
     let behind : a.rest ++ q ≡ frames b.fs ++ b.rest = without_done a.state.copy_done (a.rest ++ q) b.rest b.fs b.whole in
     let why : StopsIn now a.state.max_frame (has_copy_done (front_of a.state.copy_done ++ b.fs)) b.rest through.0 f (cause f) =
-        stops_in now a.state.max_frame (has_copy_done (front_of a.state.copy_done ++ b.fs)) b.rest a.rest through.0 f (cause f)
-        (subst (λ x. StopsIn now a.state.max_frame (has_copy_done (front_of a.state.copy_done ++ b.fs)) b.rest x f (cause f)) (sym through.2) b.why) in
+    stops_in now a.state.max_frame (has_copy_done (front_of a.state.copy_done ++ b.fs)) b.rest a.rest through.0 f (cause f)
+    (subst (λ x. StopsIn now a.state.max_frame (has_copy_done (front_of a.state.copy_done ++ b.fs)) b.rest x f (cause f)) (sym through.2) b.why) in
     record {
       fs = a.fs ++ b.fs;
       rest = b.rest;
@@ -262,8 +263,8 @@ piece_then_stop now old mid new p q f a b' =
           (subst (λ h. StopsIn now a.state.max_frame h b.rest through.0 f (cause f)) (ap (λ d. has_copy_done (front_of d ++ b.fs)) kept.1 ∙ sym (done_join old.copy_done a.fs b.fs)) why);
     }
 
-begins_more : (max : ℕ) (bytes more : List ℕ) (f : Frame) → BeginsWith max bytes f → BeginsWith max (bytes ++ more) f
-begins_more max bytes more f b = record { more = b.more ++ more; whole = ap (λ bs. bs ++ more) b.whole ∙ append_assoc (frame f) b.more more; allowed = b.allowed }
+begins_more : (max : ℕ) (done : Bool) (bytes more : List ℕ) (f : Frame) → BeginsWith max done bytes f → BeginsWith max done (bytes ++ more) f
+begins_more max done bytes more f b = record { more = b.more ++ more; going_on = b.going_on; whole = ap (λ bs. bs ++ more) b.whole ∙ append_assoc (frame f) b.more more; allowed = b.allowed }
 
 fault_more : (max : ℕ) (done : Bool) (bytes more : List ℕ) (k : WireFault) → IsFramingFault max done bytes k → IsFramingFault max done (bytes ++ more) k
 fault_more max false bytes more k breaks = fault-append max bytes more k breaks
@@ -279,10 +280,11 @@ fault_more max true bytes more wire_fault.Memory breaks = elim breaks [ ]
 
 stops_more : (now : ℤ) (max : ℕ) (done : Bool) (rest more : List ℕ) (s : Subscribed) (f : Fault) (c : Cause) → StopsIn now max done rest s f c → StopsIn now max done (rest ++ more) s f c
 stops_more now max done rest more s f OutOfMemory why = tt
-stops_more now max done rest more s f StatementRefused why = (why.0, begins_more max rest more why.0 why.1, why.2)
+stops_more now max done rest more s f StatementRefused why = (why.0, begins_more max done rest more why.0 why.1, why.2)
 stops_more now max done rest more s f HeaderTooLarge why = (why.0, why.1, fault_more max done rest more why.0 why.2)
+stops_more now max done rest more s f ForeignBytes why = (why.0, why.1, fault_more max done rest more why.0 why.2)
 stops_more now max done rest more s f NextMessage (inl why) = inl (why.0, why.1, fault_more max done rest more why.0 why.2)
-stops_more now max done rest more s f NextMessage (inr why) = inr (why.0, why.1, begins_more max rest more why.0 why.2, why.3)
+stops_more now max done rest more s f NextMessage (inr why) = inr (why.0, why.1, begins_more max done rest more why.0 why.2, why.3)
 stops_more now max done rest more s f NeverAnswered why = why
 
 -- what comes behind a fault changes nothing of it

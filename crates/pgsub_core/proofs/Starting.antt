@@ -1,5 +1,5 @@
 -- From a disconnection on.
-use Rattle.std.proofs.Common.{◌≡◌, ◌++◌, ℕ, ℤ, List, Bool, true, false, refl, sym, ap, subst, ◌∙◌, arith}
+use Rattle.std.proofs.Common.{◌≡◌, ◌++◌, ℕ, ℤ, List, Bool, true, false, Some, refl, sym, ap, subst, ◌∙◌, arith}
 use Rattle.std.specs.Prelude.{is_some}
 use Rattle.std.specs.Ordering.{nat_cmp}
 use Rattle.std.specs.FinMap as map
@@ -15,7 +15,9 @@ use Rattle.pgsub_core.specs.SubscriberValue.{SubscriberValue, seen, IsReady, Fee
 use Rattle.pgsub_core.specs.Subscribed.{with_status}
 use Rattle.pgwire.specs.Statuses.{status_frame}
 use Rattle.pgsub_core.specs.declared.fault.Fault.{Fault}
-use Rattle.pgsub_core.proofs.NeverClosed.{fed_until}
+use Rattle.pgsub_core.specs.declared.fault.Fault.TheVariants as fault
+use Rattle.pgsub_core.specs.Subscribed.{Subscribed}
+use Rattle.pgsub_core.specs.Feeding.{IsFed, IsFedUntil}
 
 none_opened : AreOpened initial_order map.empty
 none_opened = record { each = λ x. ap is_some (get-empty nat_cmp x) ∙ sym (is_open-none_open x); sound = tt }
@@ -25,6 +27,18 @@ fresh_waits max = record { partial = record { tag = λ some. absurd (omega arith
 
 pub ready_at_first : {C : Type 0} (max : ℕ) (d : Deframed) (a : Applied C) → d ≡ fresh max → a.order ≡ initial_order → a.held ≡ map.empty → IsReady d a
 ready_at_first max d a is order held = record { waits = rw is (fresh_waits max); sound = rw is refl; opened = rw (order, held) none_opened }
+
+-- what stops a piece is a fault of its own
+fed_until : (now : ℤ) (old new : Subscribed) (piece : List ℕ) (f : Fault) → old.closed ≡ false → IsFedUntil now old piece new f → IsFed now old piece new (Some f)
+fed_until now old new piece (fault.Wire k) is until = (is, until)
+fed_until now old new piece (fault.Decode k) is until = (is, until)
+fed_until now old new piece (fault.Order k) is until = (is, until)
+fed_until now old new piece (fault.Relation k) is until = (is, until)
+fed_until now old new piece (fault.Spool k) is until = (is, until)
+fed_until now old new piece (fault.Store k) is until = (is, until)
+fed_until now old new piece fault.Read is until = (is, until)
+fed_until now old new piece fault.Closed is until = absurd until.why
+fed_until now old new piece fault.Memory is until = (is, until)
 
 -- a piece that was fed to its parts
 pub feeds : {C : Type 0} (holds : C → Tables → Type 0) (place : C → ℕ) (now : ℤ) (piece : List ℕ) (d₀ d : Deframed) (a₀ a : Applied C) (closed : Bool) (old : SubscriberValue C) → closed ≡ false

@@ -12,7 +12,7 @@ use Rattle.pgsub_core.specs.Stream.{Sent}
 use Rattle.pgsub_core.specs.Replica.{RelationCache, Outcome, Running, Stopped}
 use Rattle.pgsub_core.specs.Subscribed.{Subscribed}
 use Rattle.pgsub_core.specs.Taking.{take}
-use Rattle.pgsub_core.specs.Handled.{Cause, OutOfMemory, StatementRefused, HeaderTooLarge, NextMessage, NeverAnswered, cause, commit_end}
+use Rattle.pgsub_core.specs.Handled.{Cause, OutOfMemory, StatementRefused, HeaderTooLarge, ForeignBytes, NextMessage, NeverAnswered, cause, commit_end}
 use Rattle.pgsub_core.specs.Codes.{held_code, relations_code}
 
 pub record Applied (C : Type 0) : Type 0 where
@@ -75,6 +75,7 @@ abbrev pub StopsAtMessage : ℤ → Subscribed → Sent → Fault → Cause → 
 StopsAtMessage now s m f OutOfMemory = Unit {0}
 StopsAtMessage now s m f StatementRefused = (end : ℕ) × (commit_end m ≡ Some end) × (s.position < end)
 StopsAtMessage now s m f HeaderTooLarge = ⊥
+StopsAtMessage now s m f ForeignBytes = ⊥
 StopsAtMessage now s m f NextMessage = (stopped : Subscribed) × (take now s m ≡ Stopped stopped f)
 StopsAtMessage now s m f NeverAnswered = ⊥
 

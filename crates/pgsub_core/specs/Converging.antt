@@ -1,5 +1,5 @@
 -- How two subscribers are compared, by rows and positions.
-use Rattle.std.specs.Prelude.{◌≡◌, ◌≢◌, ◌⊎◌, ◌&&◌, ◌==◌, ℕ, ℤ, List, Bool, Option, Some, None, Result, Ok, Err, IfOk, nat_eq}
+use Rattle.std.specs.Prelude.{◌≡◌, ◌⊎◌, ◌&&◌, ◌==◌, ℕ, ℤ, List, Bool, Option, Some, None, Result, Ok, Err, IfOk, nat_eq}
 use Rattle.std.specs.Cmp.Lexicographic.{pointwise}
 use Rattle.pgtuple.specs.Equal.{cell_eq}
 use Rattle.pgapply.specs.Value.{Tables}
@@ -11,8 +11,8 @@ use Rattle.pgsub_core.specs.declared.converging.Verdict.{Verdict}
 use Rattle.pgsub_core.specs.declared.fault.Fault.{Fault}
 use Rattle.pgsub_core.specs.Faults.{IsReadFault}
 use Rattle.pgsub_core.specs.SubscriberValue.{SubscriberValue, seen}
-use Rattle.pgsub_core.specs.Following.{AreFed, Becomes}
-use Rattle.pgsub_core.specs.Verdicts.{IsVerdictOf, IsVerdict, LeftIsFollowed, RightIsFollowed}
+use Rattle.pgsub_core.specs.Following.{AreFed}
+use Rattle.pgsub_core.specs.Verdicts.{IsVerdict, LeftIsFollowed, RightIsFollowed}
 
 abbrev pub same_row : DumpRow → DumpRow → Bool
 same_row a b = (a.oid == b.oid) && (pointwise nat_eq a.namespace b.namespace && (pointwise nat_eq a.name b.name && (pointwise cell_eq a.cells b.cells && (a.copies == b.copies))))

@@ -12,7 +12,7 @@ use Rattle.pgsub_core.specs.Stream.{Kind, Holds, kind as kind_of}
 use Rattle.pgsub_core.specs.Replica.{Halt, Running, Stopped}
 use Rattle.pgsub_core.specs.ApplyState.{ApplyState, on_event}
 use Rattle.pgsub_core.specs.Taking.{fault_of}
-use Rattle.pgsub_core.specs.Handled.{Cause, OutOfMemory, StatementRefused, HeaderTooLarge, NextMessage, NeverAnswered, cause}
+use Rattle.pgsub_core.specs.Handled.{Cause, OutOfMemory, StatementRefused, HeaderTooLarge, ForeignBytes, NextMessage, NeverAnswered, cause}
 use Rattle.pgsub_core.specs.Committing.{replica_with}
 use Rattle.pgsub_core.specs.Applied.{Applied}
 
@@ -57,6 +57,7 @@ abbrev pub StopsAtEvent : ApplyState → Message → Event → ℕ → Fault →
 StopsAtEvent old m e limit f OutOfMemory = Unit {0}
 StopsAtEvent old m e limit f StatementRefused = (end : ℕ) × (event_end e ≡ Some end) × (old.replica.position < end)
 StopsAtEvent old m e limit f HeaderTooLarge = ⊥
+StopsAtEvent old m e limit f ForeignBytes = ⊥
 StopsAtEvent old m e limit f NextMessage =
     ((stopped : ApplyState) × (why : Halt) × (on_event old m old.order e ≡ Stopped stopped why) × (f ≡ fault_of why))
     ⊎ ((f ≡ fault.Spool spool.SpoolFull) × FindsNoRoom e limit old.held (kind_of m))

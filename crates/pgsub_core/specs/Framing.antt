@@ -13,7 +13,7 @@ use Rattle.pgorder.specs.States.{is_in_block}
 use Rattle.pgsub_core.specs.Stream.{Data}
 use Rattle.pgsub_core.specs.Taking.{take_frame, take_frames, take_message}
 use Rattle.pgsub_core.specs.Feeding.{IsCommitFrame, IsFedWhole, IsFedUntil}
-use Rattle.pgsub_core.specs.Handled.{Cause, OutOfMemory, StatementRefused, HeaderTooLarge, NextMessage, NeverAnswered, cause, commit_end}
+use Rattle.pgsub_core.specs.Handled.{Cause, OutOfMemory, StatementRefused, HeaderTooLarge, ForeignBytes, NextMessage, NeverAnswered, cause, commit_end}
 use Rattle.pgsub_core.specs.Applied.{Applied, Framing, subscribed, IsKept}
 
 -- why a frame isn't taken
@@ -21,6 +21,7 @@ abbrev pub StopsAtFrame : ℤ → Subscribed → wire.Frame → Fault → Cause 
 StopsAtFrame now s next f OutOfMemory = Unit {0}
 StopsAtFrame now s next f StatementRefused = IsCommitFrame s next
 StopsAtFrame now s next f HeaderTooLarge = ⊥
+StopsAtFrame now s next f ForeignBytes = ⊥
 StopsAtFrame now s next f NextMessage = (stopped : Subscribed) × (take_frame now s next ≡ Stopped stopped f)
 StopsAtFrame now s next f NeverAnswered = ⊥
 
@@ -34,6 +35,7 @@ StopsAtBody now start end clock body s f OutOfMemory = Unit {0}
 StopsAtBody now start end clock body s f StatementRefused =
     (m : Message) × (message_at (is_in_block s.order.context) body ≡ Ok m) × (last : ℕ) × (commit_end (Data start end clock m) ≡ Some last) × (s.position < last)
 StopsAtBody now start end clock body s f HeaderTooLarge = ⊥
+StopsAtBody now start end clock body s f ForeignBytes = ⊥
 StopsAtBody now start end clock body s f NextMessage = (stopped : Subscribed) × (take_message now s start end clock (message_at (is_in_block s.order.context) body) ≡ Stopped stopped f)
 StopsAtBody now start end clock body s f NeverAnswered = ⊥
 

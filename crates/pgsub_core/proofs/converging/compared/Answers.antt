@@ -1,4 +1,4 @@
-use Rattle.std.proofs.Common.{◌≡◌, rules, refl, sym, ◌∙◌}
+use Rattle.std.proofs.Common.{rules, refl, sym, ◌∙◌}
 use Rattle.std.proofs.lemmas.Bool.{true≢false}
 use Rattle.pgsub_core.proofs.Comparing.{same_rows-Decides}
 use Rattle.pgsub_core.proofs.converging.compared.Goals as goal

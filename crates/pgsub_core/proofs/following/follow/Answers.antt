@@ -3,8 +3,8 @@ use Rattle.std.specs.Int.{w64}
 use Rattle.std.proofs.lemmas.Int.{to_z-of_z}
 use Rattle.pgsub_core.specs.Handled.{fault_in}
 use Rattle.pgsub_core.specs.Subscribed.{bytes_of}
-use Rattle.pgsub_core.specs.Following.{FeedsSessions, FollowsSessions}
-use Rattle.pgsub_core.proofs.FollowSteps.{none_followed, follows_more, follows_stops, follows_whole, follows, answers_fault}
+use Rattle.pgsub_core.specs.Following.{FeedsSessions}
+use Rattle.pgsub_core.proofs.FollowSteps.{follows_more, follows_stops, follows_whole, follows, answers_fault}
 use Rattle.pgsub_core.proofs.following.follow.Goals as goal
 
 pub loop-session-preserved : goal.loop-session-preserved

@@ -1,4 +1,4 @@
-use Rattle.std.proofs.Common.{◌≡◌, List, None, take}
+use Rattle.std.proofs.Common.{None, take}
 use Rattle.pgsub_core.specs.Subscribed.{bytes_of}
 use Rattle.pgsub_core.specs.Following.{FeedsSessions}
 use Rattle.pgsub_core.proofs.following.follow.Given as goal
