@@ -1,5 +1,5 @@
 -- A commit over a store of which it is said what tables it holds.
-use Rattle.std.proofs.Common.{◌≡◌, ◌<◌, ◌⊎◌, inl, inr, ℕ, List, true, false, Ok, Err, max, refl}
+use Rattle.std.proofs.Common.{◌≡◌, ◌<◌, ◌⊎◌, inl, inr, ℕ, List, true, false, Result, Ok, Err, max, refl}
 use Rattle.std.specs.Prelude.{nat_lt}
 use Rattle.pglogical.specs.declared.item.Item.{Item}
 use Rattle.pgapply.specs.declared.rows.StoreFault.{StoreFault}
@@ -12,7 +12,7 @@ use Rattle.pgsub_core.specs.declared.fault.Fault.{Fault}
 use Rattle.pgsub_core.specs.declared.fault.Fault.TheVariants as fault
 use Rattle.pgsub_core.specs.Described.{described_from}
 use Rattle.pgsub_core.specs.Drafts.{known_to, LacksDefinition}
-use Rattle.pgsub_core.specs.Replica.{Replica, RelationCache, UnknownRelation, StoreRefuses, Running, Stopped, all_cached, on_commit}
+use Rattle.pgsub_core.specs.Replica.{Replica, RelationCache, UnknownRelation, StoreRefuses, Running, Stopped, GoesOrStops, IsOfStore, stored, all_cached, on_commit}
 use Rattle.pgsub_core.specs.Handled.{cause}
 use Rattle.pgsub_core.specs.Faults.{fault_of_store}
 use Rattle.pgsub_core.specs.Committing.{replica_with, StopsAtCommit, Commits, RefusesCommit}
@@ -32,6 +32,13 @@ module _ (tables : Tables) (position confirmed end : ℕ) (relations : RelationC
     refused_by : (changes : List Change) (k : StoreFault) → described_from (known_to relations) items ≡ Ok changes → fold_changes tables changes ≡ Err k → on_commit was end items ≡ Stopped was (StoreRefuses end k)
     refused_by changes k described folds = rw (below, described, folds) refl
 
+    stored_reaches : (relations' : RelationCache) (r : Result Tables StoreFault) → GoesOrStops IsOfStore (stored was end relations' r)
+    stored_reaches relations' (Ok next) = tt
+    stored_reaches relations' (Err k) = tt
+
+    reaches_store : (changes : List Change) → described_from (known_to relations) items ≡ Ok changes → GoesOrStops IsOfStore (on_commit was end items)
+    reaches_store changes described = rw (below, described) (stored_reaches (all_cached relations items) (fold_changes tables changes))
+
     pub refuses_changes : position < end → (changes : List Change) (k : StoreFault) → described_from (known_to relations) items ≡ Ok changes → IsFault k (fold_changes tables changes)
         → StopsAtCommit was end items (fault_of_store k) (cause (fault_of_store k))
     refuses_changes less changes store.Clash described is = (StoreRefuses end store.Clash, refused_by changes store.Clash described is, refl)
@@ -41,7 +48,7 @@ module _ (tables : Tables) (position confirmed end : ℕ) (relations : RelationC
     refuses_changes less changes store.Width described is = (StoreRefuses end store.Width, refused_by changes store.Width described is, refl)
     refuses_changes less changes store.SchemaChanged described is = (StoreRefuses end store.SchemaChanged, refused_by changes store.SchemaChanged described is, refl)
     refuses_changes less changes store.TooManyCopies described is = (StoreRefuses end store.TooManyCopies, refused_by changes store.TooManyCopies described is, refl)
-    refuses_changes less changes store.Refused described is = less
+    refuses_changes less changes store.Refused described is = (less, reaches_store changes described)
     refuses_changes less changes store.Memory described is = tt
 
     lacking : (oid : ℕ) → described_from (known_to relations) items ≡ Err oid → on_commit was end items ≡ Stopped was (UnknownRelation oid)

@@ -1,26 +1,53 @@
 -- Two sides that are followed and compared, whatever tables their stores hold.
-use Rattle.std.proofs.Common.{◌≡◌, ◌⊎◌, inl, inr, ℕ, ℤ, List, Option, Some, None, Result, Ok, Err, IfOk, IfErr, refl, sym, subst}
+use Rattle.std.specs.Prelude.{◌==◌}
+use Rattle.std.proofs.lemmas.Bool.Decides.{nat_tests}
+use Rattle.std.proofs.Common.{◌≡◌, ◌≢◌, ◌⊎◌, inl, inr, ℕ, ℤ, List, Option, Some, None, Bool, true, false, cond, Result, Ok, Err, IfOk, IfErr, refl, sym, ap, subst, ◌∙◌, arith}
 use Rattle.pgapply.specs.Value.{Tables}
 use Rattle.pgapply.specs.Dump.{dump}
 use Rattle.pgapply.specs.Taken.{Stays, Shows}
 use Rattle.pgapply.specs.declared.rows.DumpRow.{DumpRow}
 use Rattle.pgsub_core.specs.declared.converging.Side.TheVariants.{Left, Right}
+use Rattle.pgsub_core.specs.declared.converging.ConvergeFault.{ConvergeFault}
 use Rattle.pgsub_core.specs.declared.converging.Verdict.{Verdict}
+use Rattle.pgsub_core.specs.declared.converging.Verdict.TheVariants.{Same, Positions, Rows}
 use Rattle.pgsub_core.specs.declared.fault.Fault.{Fault}
 use Rattle.pgsub_core.specs.Faults.{IsReadFault}
-use Rattle.pgsub_core.specs.Subscribed.{Subscribed}
+use Rattle.pgsub_core.specs.History.{Transaction}
+use Rattle.pgsub_core.specs.Stream.{Sent}
+use Rattle.pgsub_core.specs.Reached.{Progress}
+use Rattle.pgsub_core.specs.Sessions.{reached_all}
+use Rattle.pgsub_core.specs.Subscribed.{Subscribed, IsSafeFor, progress_of}
+use Rattle.pgsub_core.specs.Handled.{IsFollowed}
 use Rattle.pgsub_core.specs.SubscriberValue.{SubscriberValue, seen}
 use Rattle.pgsub_core.specs.Following.{AreFed, FeedsSessions}
-use Rattle.pgsub_core.specs.Verdicts.{IsVerdictOf, SideIsFollowed, SideFails}
-use Rattle.pgsub_core.specs.Converging.{ShowsFed, FailsFed, Converges}
+use Rattle.pgsub_core.specs.Verdicts.{IsVerdictOf, IsVerdict, SideIsFollowed, SideFails}
+use Rattle.pgsub_core.specs.Converging.{ShowsFed, FailsFed, Converges, Agree, agreed, position_reached}
+use Rattle.pgsub_core.proofs.Verdicts.{one_history}
 use Rattle.pgsub_core.proofs.Followed.{fed_followed}
 
 side_followed : (now : ℤ) (sessions : List (List ℕ)) (old new : Subscribed) (answered : Option Fault) → AreFed now old sessions new answered → SideIsFollowed now sessions old new answered
-side_followed now sessions old new answered fed history all_complete is = fed_followed now history sessions all_complete old new answered is fed
+side_followed now sessions old new answered fed = record { fed = fed; followed = λ history all_complete is. fed_followed now history sessions all_complete old new answered is fed }
 
 side_fails : (now : ℤ) (sessions : List (List ℕ)) (old new : Subscribed) (f : Fault) → AreFed now old sessions new (Some f) ⊎ (IsReadFault f × AreFed now old sessions new None) → SideFails now sessions old new f
 side_fails now sessions old new f (inl fed) = inl (side_followed now sessions old new (Some f) fed)
 side_fails now sessions old new f (inr fed) = inr (fed.0, side_followed now sessions old new None fed.1)
+
+-- where all was handled, the position is what all of it reaches
+stands_at : (now : ℤ) (history : List Transaction) (sessions : List (List ℕ)) (all_complete : List (List Sent)) (old new : Subscribed) → IsFollowed now history sessions all_complete old new None
+    → new.position ≡ position_reached old all_complete
+stands_at now history sessions all_complete old new f = ap (λ (p : Progress). p.position) (f.progress ∙ ap (reached_all (progress_of old)) f.why.0)
+
+module _ (history : List Transaction) (left right : Subscribed) where
+  agreed_by : (v : Verdict) (p q : ℕ) → IsSafeFor history left → IsSafeFor history right → IsVerdict left right v → left.position ≡ p → right.position ≡ q → (b : Bool) → (p == q) ≡ b
+      → v ≡ cond b (Same p) (Positions p q)
+  agreed_by (Same n) p q safe safe' is at at' true test = ap Same (sym is.0 ∙ at)
+  agreed_by (Same n) p q safe safe' is at at' false test = absurd (let differ : p ≢ q = grind (arith, nat_tests) in differ (sym at ∙ is.0 ∙ sym is.1 ∙ at'))
+  agreed_by (Positions n m) p q safe safe' is at at' true test = absurd (let same : p ≡ q = grind (arith, nat_tests) in is.2 (sym is.0 ∙ at ∙ same ∙ sym at' ∙ is.1))
+  agreed_by (Positions n m) p q safe safe' is at at' false test = ap (λ k. Positions k m) (sym is.0 ∙ at) ∙ ap (λ k. Positions p k) (sym is.1 ∙ at')
+  agreed_by (Rows n) p q safe safe' is at at' b test = absurd ((one_history history left right (Rows n) safe safe' is).0 n refl)
+
+  verdict_agreed : (v : Verdict) (p q : ℕ) → IsSafeFor history left → IsSafeFor history right → IsVerdict left right v → left.position ≡ p → right.position ≡ q → v ≡ agreed p q
+  verdict_agreed v p q safe safe' is at at' = agreed_by v p q safe safe' is at at' (p == q) refl
 
 module _ {C : Type 0} (holds : C → Tables → Type 0) (place : C → ℕ) (now : ℤ) where
   pub fails_first : (old new : SubscriberValue C) (sessions : List (List ℕ)) (f : Fault) → FeedsSessions holds place now old sessions new (Some f) → FailsFed holds place now old sessions new f
@@ -73,3 +100,14 @@ module _ {C D : Type 0} (holds : C → Tables → Type 0) (place : C → ℕ) (h
         side_followed now others (seen place' right tables') (seen place' right' b.0) None b.2,
         subst (λ (rs : List DumpRow). IsVerdictOf (place left'.applied.store) (place' right'.applied.store) (dump a.0) rs v) b.3 is₅,
       )
+
+  -- over one history
+  pub agrees : (left left' : SubscriberValue C) (right right' : SubscriberValue D) (sessions others : List (List ℕ)) (answered : Result Verdict ConvergeFault)
+      → Converges holds place holds' place' now left sessions left' right others right' answered → Agree holds place holds' place' left sessions right others answered
+  agrees left left' right right' sessions others (Err f) converges history left_complete right_complete tables tables' h k is is' = tt
+  agrees left left' right right' sessions others (Ok v) converges history left_complete right_complete tables tables' h k is is' =
+      let c = converges tables h tables' k in
+      let a = c.4.followed history left_complete is in
+      let b = c.5.followed history right_complete is' in
+      verdict_agreed history (seen place left' c.0) (seen place' right' c.2) v (position_reached (seen place left tables) left_complete) (position_reached (seen place' right tables') right_complete) a.safe b.safe c.6
+      (stands_at now history sessions left_complete (seen place left tables) (seen place left' c.0) a) (stands_at now history others right_complete (seen place' right tables') (seen place' right' c.2) b)

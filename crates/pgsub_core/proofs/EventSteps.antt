@@ -10,7 +10,7 @@ use Rattle.pgspool.specs.Labels.{HeldMap, items_of, held_of}
 use Rattle.pgapply.specs.Value.{Tables}
 use Rattle.pgsub_core.specs.declared.fault.Fault.{Fault}
 use Rattle.pgsub_core.specs.Stream.{Kind, BeginsPair, CommitsPair, Holds, StartsBlock, StopsBlock, CommitsStream, AbortsStream, ChangesNothing}
-use Rattle.pgsub_core.specs.Replica.{Replica, Running, on_commit}
+use Rattle.pgsub_core.specs.Replica.{Replica, Running, on_commit, Outcome, GoesOrStops, IsOfStore, Halt, Stopped}
 use Rattle.pgsub_core.specs.ApplyState.{ApplyState, ApplyResult, pushed, committed, on_event}
 use Rattle.pgsub_core.specs.Handled.{Cause, OutOfMemory, StatementRefused, HeaderTooLarge, ForeignBytes, NextMessage, NeverAnswered, cause}
 use Rattle.pgsub_core.specs.Committing.{replica_with, StopsAtCommit, Commits, RefusesCommit}
@@ -49,10 +49,15 @@ module _ {C : Type 0} (holds : C → Tables → Type 0) (place : C → ℕ) (m :
         leaves : OrderState → HeldMap → Replica → ApplyResult
         leaves o h r = Running (record { order = o; held = h; replica = r })
 
+    committed_reaches : (old : ApplyState) (o : OrderState) (x : ℕ) (out : Outcome Replica Halt) → GoesOrStops IsOfStore out → GoesOrStops IsOfStore (committed old o x out)
+    committed_reaches old o x (Running replica) h = tt
+    committed_reaches old o x (Stopped replica why) h = h
+
     stops_by : (limit : ℕ) (tables : Tables) (f : Fault) (ends : event_end e ≡ Some end) (k : Cause) → StopsAtCommit (replica_with tables (place a.store) a.confirmed a.relations) end items f k
         → StopsAtEvent (state_with place a tables) m e limit f k
     stops_by limit tables f ends OutOfMemory h = tt
-    stops_by limit tables f ends StatementRefused h = (end, ends, h)
+    stops_by limit tables f ends StatementRefused h =
+        (end, ends, h.0, rw (is (state_with place a tables)) (committed_reaches (state_with place a tables) a.order xid _ h.1))
     stops_by limit tables f ends HeaderTooLarge h = absurd h
     stops_by limit tables f ends ForeignBytes h = absurd h
     stops_by limit tables f ends NextMessage h = inl (_, h.0, is (state_with place a tables) ∙ ap (committed (state_with place a tables) a.order xid) h.1, h.2)

@@ -62,7 +62,7 @@ module _ {C : Type 0} (serves : C → Type 0) (holds : C → Tables → Type 0) 
 
   frame_why : (d : Deframed) (frame : Frame) (rest : List ℕ) (s : Subscribed) (f : Fault) (k : Cause) → BeginsWith d₀.max d.done (d.held ++ rest) frame → StopsAtFrame now s frame f k → StopsIn now d₀.max d.done (d.held ++ rest) s f k
   frame_why d frame rest s f OutOfMemory begins h = tt
-  frame_why d frame rest s f StatementRefused begins h = (frame, begins, h)
+  frame_why d frame rest s f StatementRefused begins h = (frame, begins, h.0, h.1)
   frame_why d frame rest s f HeaderTooLarge begins h = absurd h
   frame_why d frame rest s f ForeignBytes begins h = absurd h
   frame_why d frame rest s f NextMessage begins h = inr (frame, h.0, begins, h.1)

@@ -1,5 +1,5 @@
 -- The sessions of a history, fed one after the other.
-use Rattle.std.proofs.Common.{◌≡◌, ◌++◌, inl, inr, ℕ, ℤ, List, [], ◌∷◌, Option, Some, None, true, refl, sym, ap, subst, ◌∙◌, append-nil}
+use Rattle.std.proofs.Common.{◌≡◌, ◌++◌, inl, inr, ℕ, ℤ, List, [], ◌∷◌, Option, Some, None, Bool, true, refl, sym, ap, subst, ◌∙◌, append-nil}
 use Rattle.pgorder.specs.declared.Version.{Version}
 use Rattle.pgsub_core.specs.declared.fault.Fault.{Fault}
 use Rattle.pgsub_core.specs.History.{Transaction}
@@ -7,7 +7,10 @@ use Rattle.pgsub_core.specs.Stream.{Sent}
 use Rattle.pgsub_core.specs.Reached.{Progress}
 use Rattle.pgsub_core.specs.Sessions.{AreIncoming, starting_by}
 use Rattle.pgsub_core.specs.Replica.{Running, then_run}
-use Rattle.pgsub_core.specs.Subscribed.{Subscribed, disconnect, progress_of}
+use Rattle.pgsub_core.specs.Subscribed.{Subscribed, IsSafeFor, disconnect, progress_of, with_status}
+use Rattle.pgsub_core.specs.Confirming.{AreSafeReplies}
+use Rattle.pgsub_core.proofs.Confirmed.{status_is_safe}
+use Rattle.pgsub_core.proofs.SessionCuts.{sent_front}
 use Rattle.pgsub_core.specs.Taking.{take_all, take_sessions}
 use Rattle.pgsub_core.specs.Handled.{IsSent, IsHandled, IsFollowed, IsLeft, StopsBy, Cause, OutOfMemory, StatementRefused, HeaderTooLarge, ForeignBytes, NextMessage, NeverAnswered, cause, NoneForeign}
 use Rattle.pgsub_core.specs.Feeding.{IsFedWhole, IsFedUntil}
@@ -91,7 +94,7 @@ in_first now bytes sessions complete front all_complete s f NeverAnswered why = 
 in_later : (now : ℤ) (bytes : List ℕ) (sessions : List (List ℕ)) (complete first : List Sent) (others all_complete : List (List Sent)) (s : Subscribed) (f : Fault) (c : Cause)
     → StopsBy now sessions all_complete (first ∷ others) s f c → StopsBy now (bytes ∷ sessions) (complete ∷ all_complete) (complete ∷ first ∷ others) s f c
 in_later now bytes sessions complete first others all_complete s f OutOfMemory why = tt
-in_later now bytes sessions complete first others all_complete s f StatementRefused why = (why.0, (refl, why.1), why.2, why.3, why.4)
+in_later now bytes sessions complete first others all_complete s f StatementRefused why = (why.0, (refl, why.1), why.2, why.3, why.4, why.5)
 in_later now bytes sessions complete first others all_complete s f HeaderTooLarge why = why
 in_later now bytes sessions complete first others all_complete s f ForeignBytes why = (refl, why)
 in_later now bytes sessions complete first others all_complete s f NextMessage why = (why.0, (refl, why.1), why.2, why.3)
@@ -149,3 +152,13 @@ fed_followed now history sessions all_complete old new None is so =
 fed_followed now history sessions all_complete old new (Some f) is so =
     let until = until_from now old.version history sessions all_complete (starting_by is.start (progress_of old)) old new f is.sent so in
     taking_followed now history sessions all_complete (until.first ∷ until.others) old until.state new (Some f) is until.front until.takes until.left until.closed until.why
+
+-- at any cut
+pub confirmed_stored : (now : ℤ) (history : List Transaction) (old new : Subscribed) (sessions : List (List ℕ)) (bytes more : List ℕ) (later : List (List ℕ)) (all_complete : List (List Sent)) (answered : Option Fault)
+    → IsSent history old (sessions ++ (bytes ++ more) ∷ later) all_complete → AreSafeReplies history old → AreFed now old (sessions ++ bytes ∷ []) new answered
+    → IsSafeFor history new × AreSafeReplies history new × ((clock : ℤ) (ask : Bool) → AreSafeReplies history (with_status clock ask new))
+confirmed_stored now history old new sessions bytes more later all_complete answered is before fed =
+    let front = sent_front history old sessions bytes more later all_complete is in
+    let followed = fed_followed now history (sessions ++ bytes ∷ []) front.0 old new answered front.1 fed in
+    let replies = followed.replies before in
+    (followed.safe, replies, λ clock ask. status_is_safe history clock ask new followed.safe replies)

@@ -1,5 +1,5 @@
 -- One logical message, by the event that it is.
-use Rattle.std.proofs.Common.{◌≡◌, ◌≢◌, ◌<◌, ◌≤◌, ◌+◌, inl, inr, ℕ, ℤ, List, Bool, true, false, cond, Option, Ok, Err, max, refl, sym, ap, subst, ◌∙◌, arith}
+use Rattle.std.proofs.Common.{◌≡◌, ◌≢◌, ◌<◌, ◌≤◌, ◌+◌, inl, inr, ℕ, ℤ, List, Bool, true, false, cond, Option, Some, Ok, Err, max, refl, sym, ap, subst, ◌∙◌, arith}
 use Rattle.std.specs.Prelude.{◌==◌, nat_lt}
 use Rattle.std.proofs.lemmas.Bool.Decides.{nat_tests}
 use Rattle.pglogical.specs.declared.message.Message.{Message}
@@ -15,11 +15,11 @@ use Rattle.pgorder.specs.Steps.{Context, Outside, InPair, InBlock, OrderState, S
 use Rattle.pgspool.specs.Labels.{HeldMap, cost, all_costs, items_of, held_of}
 use Rattle.pgapply.specs.Value.{Tables}
 use Rattle.pgsub_core.specs.declared.fault.Fault.{Fault}
-use Rattle.pgsub_core.specs.Stream.{Data, Kind, kind}
-use Rattle.pgsub_core.specs.Replica.{Replica, Halt, Outcome, Running, Stopped, on_commit}
+use Rattle.pgsub_core.specs.Stream.{Data, Kind, BeginsPair, CommitsPair, Holds, StartsBlock, StopsBlock, CommitsStream, AbortsStream, ChangesNothing, kind}
+use Rattle.pgsub_core.specs.Replica.{Replica, Halt, UnknownRelation, StoreRefuses, OutOfOrder, Outcome, Running, Stopped, GoesOrStops, IsOfStore, on_commit}
 use Rattle.pgsub_core.specs.ApplyState.{ApplyState, ApplyResult, committed, on_event}
 use Rattle.pgsub_core.specs.Subscribed.{Subscribed}
-use Rattle.pgsub_core.specs.Taking.{with_state, receive, passes_limit, take}
+use Rattle.pgsub_core.specs.Taking.{with_state, receive, passes_limit, fault_of, take, IsStoreFault, ReachesStore}
 use Rattle.pgsub_core.specs.Handled.{Cause, OutOfMemory, StatementRefused, HeaderTooLarge, ForeignBytes, NextMessage, NeverAnswered, cause, end_by_kind}
 use Rattle.pgsub_core.specs.Applied.{Applied, Framing, subscribed, StopsAtMessage, IsKept, Goes, Stops}
 use Rattle.pgsub_core.specs.Events.{state_with, FindsRoom, FindsNoRoom, event_end, StopsAtEvent, EventGoes, EventStops, StaysBeside}
@@ -162,6 +162,22 @@ module _ (st : ApplyState) (o : OrderState) (m : Message) where
 
 -- ---- a message
 
+-- a commit holds no item
+commit_fits : (s : Subscribed) (k : Kind) (end : ℕ) → end_by_kind k ≡ Some end → passes_limit s k ≡ false
+commit_fits s (BeginsPair xid) end h = refl
+commit_fits s (CommitsPair lsn last) end h = refl
+commit_fits s (Holds subxid item) end h = absurd (cc)
+commit_fits s (StartsBlock xid first) end h = refl
+commit_fits s StopsBlock end h = refl
+commit_fits s (CommitsStream xid lsn last) end h = refl
+commit_fits s (AbortsStream xid subxid) end h = refl
+commit_fits s ChangesNothing end h = refl
+
+store_reason : (why : Halt) → IsOfStore why → IsStoreFault (fault_of why)
+store_reason (UnknownRelation oid) h = h
+store_reason (StoreRefuses end k) h = h
+store_reason (OutOfOrder k) h = h
+
 module _ {C : Type 0} (holds : C → Tables → Type 0) (place : C → ℕ) (m : Message) (start end : ℕ) (v : Applied C) where
   -- out of order
   pub order_stops : (k : OrderFault) → (k ≢ order.Memory → order_step v.version v.order m ≡ Err k) → (now clock : ℤ) (framing : Framing) (tables : Tables)
@@ -195,9 +211,14 @@ module _ {C : Type 0} (holds : C → Tables → Type 0) (place : C → ℕ) (m :
           → take now was (Data start end clock m) ≡ Running (receive (max start end) (with_state r was))
       taken_by r h room = rw (is, event_runs (state_with place v tables) o m e r h, room) refl
 
+      -- with the order as it stood before, the store is reached all the same
+      reaches : passes_limit was (kind m) ≡ false → (out : ApplyResult) → on_event (state_with place mid tables) m o e ≡ out → GoesOrStops IsOfStore out → ReachesStore (take now was (Data start end clock m))
+      reaches room (Running r) h own = rw (is, event_runs (state_with place v tables) o m e r h, room) tt
+      reaches room (Stopped s why) h own = rw (is, (event_stops (state_with place v tables) o m e s why h).1) (store_reason why own)
+
       why_stops : (f : Fault) (k : Cause) → StopsAtEvent (state_with place mid tables) m e v.limit f k → StopsAtMessage now was (Data start end clock m) f k
       why_stops f OutOfMemory h = tt
-      why_stops f StatementRefused h = (h.0, sym (means was).ends ∙ h.1, h.2)
+      why_stops f StatementRefused h = (h.0, sym (means was).ends ∙ h.1, h.2, reaches (commit_fits was (kind m) h.0 (sym (means was).ends ∙ h.1)) (on_event (state_with place mid tables) m o e) refl h.3)
       why_stops f HeaderTooLarge h = absurd h
       why_stops f ForeignBytes h = absurd h
       why_stops f NextMessage (inl h) =

@@ -27,7 +27,7 @@ unchanged place a = record { position = refl; confirmed = refl; received = refl;
 module _ {C : Type 0} (holds : C → Tables → Type 0) (place : C → ℕ) (now clock : ℤ) (start end : ℕ) (body : List ℕ) (a b : Applied C) where
   at_body : (s : Subscribed) (m : Message) (f : Fault) (k : Cause) → message_at (is_in_block s.order.context) body ≡ Ok m → StopsAtMessage now s (Data start end clock m) f k → StopsAtBody now start end clock body s f k
   at_body s m f OutOfMemory reads h = tt
-  at_body s m f StatementRefused reads h = (m, reads, h.0, h.1, h.2)
+  at_body s m f StatementRefused reads h = (m, reads, h.0, h.1, h.2, rw reads h.3)
   at_body s m f HeaderTooLarge reads h = absurd h
   at_body s m f ForeignBytes reads h = absurd h
   at_body s m f NextMessage reads h = (h.0, rw reads h.1)
@@ -61,8 +61,10 @@ module _ {C : Type 0} (holds : C → Tables → Type 0) (place : C → ℕ) (now
   module _ (clock : ℤ) (start end : ℕ) (body : List ℕ) (is : payload_at payload ≡ Ok (XLogData start end clock body)) where
     at_frame : (s : Subscribed) (f : Fault) (k : Cause) → StopsAtBody now start end clock body s f k → StopsAtFrame now s (CopyData payload) f k
     at_frame s f OutOfMemory h = tt
-    at_frame s f StatementRefused h =
-        record { payload = payload; start = start; current = end; clock = clock; body = body; message = h.0; end = h.2; frame = refl; xlog_data = is; decodes = h.1; commits = h.3; passes = h.4 }
+    at_frame s f StatementRefused h = (
+      record { payload = payload; start = start; current = end; clock = clock; body = body; message = h.0; end = h.2; frame = refl; xlog_data = is; decodes = h.1; commits = h.3; passes = h.4 },
+      rw is h.5,
+    )
     at_frame s f HeaderTooLarge h = absurd h
     at_frame s f ForeignBytes h = absurd h
     at_frame s f NextMessage h = (h.0, rw is h.1)

@@ -15,7 +15,7 @@ use Rattle.pgsub_core.specs.Stream as stream
 use Rattle.pgsub_core.specs.Replica.{Outcome, Running, Stopped, then_run}
 use Rattle.pgsub_core.specs.ApplyState.{ApplyState, ApplyResult, step}
 use Rattle.pgsub_core.specs.Subscribed.{Subscribed, apply_state_of}
-use Rattle.pgsub_core.specs.Taking.{take, taken_with, take_message, take_payload, take_frame, take_frames, handled, passes_limit, message_passes_limit}
+use Rattle.pgsub_core.specs.Taking.{take, taken_with, take_message, take_payload, take_frame, take_frames, handled, passes_limit, message_passes_limit, ReachesStore}
 use Rattle.pgsub_core.proofs.FedSessions.{take_frames-append}
 use Rattle.std.specs.Prelude.{if◌then◌else◌}
 use Rattle.pgsub_core.specs.Handled.{IsLeft, Cause, OutOfMemory, StatementRefused, HeaderTooLarge, ForeignBytes, NextMessage, NeverAnswered, cause}
@@ -138,7 +138,7 @@ frames_keep now [] s = (refl, refl, refl)
 frames_keep now (f ∷ fs) s = then_keeps now s f fs (λ next. frames_keep now fs next) (take_frame now s f) (frame_keeps now s f)
 
 -- CopyDone in front where it has come
-abbrev front_of : Bool → List Frame
+abbrev pub front_of : Bool → List Frame
 front_of d = if d then CopyDone ∷ [] else []
 
 stays_done : (fs : List Frame) → done_after true fs ≡ true
@@ -166,7 +166,7 @@ frames_of_both : (a b : List Frame) → frames (a ++ b) ≡ frames a ++ frames b
 frames_of_both [] b = refl
 frames_of_both (f ∷ a) b = ap (λ bs. frame f ++ bs) (frames_of_both a b) ∙ sym (append_assoc (frame f) (frames a) (frames b))
 
-without_done : (d : Bool) (bytes rest : List ℕ) (fs : List Frame) → frames (front_of d) ++ bytes ≡ frames (front_of d ++ fs) ++ rest → bytes ≡ frames fs ++ rest
+pub without_done : (d : Bool) (bytes rest : List ℕ) (fs : List Frame) → frames (front_of d) ++ bytes ≡ frames (front_of d ++ fs) ++ rest → bytes ≡ frames fs ++ rest
 without_done true bytes rest fs e = cc
 without_done false bytes rest fs e = e
 
@@ -218,9 +218,14 @@ commit_frame r t f c = record {
   passes = c.passes;
 }
 
+reaches_over : (r : List ℕ) (o : Outcome Subscribed Fault) → ReachesStore (over r o) → ReachesStore o
+reaches_over r (Running s) h = tt
+reaches_over r (Stopped s why) h = h
+
 stops_in : (now : ℤ) (max : ℕ) (done : Bool) (rest r : List ℕ) (t : Subscribed) (f : Fault) (c : Cause) → StopsIn now max done rest (wait r t) f c → StopsIn now max done rest t f c
 stops_in now max done rest r t f OutOfMemory why = tt
-stops_in now max done rest r t f StatementRefused why = (why.0, why.1, commit_frame r t why.0 why.2)
+stops_in now max done rest r t f StatementRefused why =
+    (why.0, why.1, commit_frame r t why.0 why.2, reaches_over r (take_frame now t why.0) (subst ReachesStore (frame_over now r t why.0) why.3))
 stops_in now max done rest r t f HeaderTooLarge why = why
 stops_in now max done rest r t f ForeignBytes why = why
 stops_in now max done rest r t f NextMessage (inl why) = inl why
@@ -280,7 +285,7 @@ fault_more max true bytes more wire_fault.Memory breaks = elim breaks [ ]
 
 stops_more : (now : ℤ) (max : ℕ) (done : Bool) (rest more : List ℕ) (s : Subscribed) (f : Fault) (c : Cause) → StopsIn now max done rest s f c → StopsIn now max done (rest ++ more) s f c
 stops_more now max done rest more s f OutOfMemory why = tt
-stops_more now max done rest more s f StatementRefused why = (why.0, begins_more max done rest more why.0 why.1, why.2)
+stops_more now max done rest more s f StatementRefused why = (why.0, begins_more max done rest more why.0 why.1, why.2, why.3)
 stops_more now max done rest more s f HeaderTooLarge why = (why.0, why.1, fault_more max done rest more why.0 why.2)
 stops_more now max done rest more s f ForeignBytes why = (why.0, why.1, fault_more max done rest more why.0 why.2)
 stops_more now max done rest more s f NextMessage (inl why) = inl (why.0, why.1, fault_more max done rest more why.0 why.2)

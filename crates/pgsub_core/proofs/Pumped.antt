@@ -1,5 +1,5 @@
 -- Pieces that are read and fed one after the other.
-use Rattle.std.proofs.Common.{◌≡◌, ◌≢◌, ◌∙◌, ◌++◌, ◌∷◌, ◌<◌, ◌≤◌, ◌+◌, ℕ, ℤ, List, [], Option, Some, None, true, false, length, take, refl, sym, ap, subst, append-nil, append_assoc, length-append, zero, suc, arith}
+use Rattle.std.proofs.Common.{◌≡◌, ◌≢◌, ◌∙◌, ◌++◌, ◌∷◌, ◌<◌, ◌≤◌, ◌+◌, ℕ, ℤ, List, [], Option, Some, None, false, length, take, refl, sym, ap, subst, append-nil, append_assoc, length-append, zero, suc, arith}
 use Rattle.std.specs.List.{All}
 use Rattle.std.proofs.lemmas.Grind.{flat_map-append}
 use Rattle.std.proofs.lemmas.List.{length-take-le}
@@ -8,11 +8,11 @@ use Rattle.std.specs.Io.KnownBytes.{Consumes, Keeps}
 use Rattle.pgapply.specs.Value.{Tables}
 use Rattle.pgsub_core.specs.declared.fault.Fault.{Fault}
 use Rattle.pgsub_core.specs.Subscribed.{Subscribed, disconnect}
-use Rattle.pgsub_core.specs.Feeding.{IsFed, IsFedWhole}
+use Rattle.pgsub_core.specs.Feeding.{IsFedWhole}
 use Rattle.pgsub_core.specs.SubscriberValue.{SubscriberValue, seen, Feeds, FeedsUntil}
 use Rattle.pgsub_core.specs.Following.{FeedsSession}
 use Rattle.pgsub_core.specs.Pumping.{bytes_in, AreRead, FeedsPieces, Pumps, PumpsUntil}
-use Rattle.pgsub_core.proofs.NeverClosed.{fed_until}
+use Rattle.pgsub_core.proofs.Starting.{fed_until}
 use Rattle.pgsub_core.proofs.FollowSteps.{until_of}
 use Rattle.pgsub_core.proofs.Pieces.{two_pieces, piece_then_stop, stays_open, nothing_fed}
 

@@ -29,7 +29,7 @@ pub ready_at_first : {C : Type 0} (max : ℕ) (d : Deframed) (a : Applied C) →
 ready_at_first max d a is order held = record { waits = rw is (fresh_waits max); sound = rw is refl; opened = rw (order, held) none_opened }
 
 -- what stops a piece is a fault of its own
-fed_until : (now : ℤ) (old new : Subscribed) (piece : List ℕ) (f : Fault) → old.closed ≡ false → IsFedUntil now old piece new f → IsFed now old piece new (Some f)
+pub fed_until : (now : ℤ) (old new : Subscribed) (piece : List ℕ) (f : Fault) → old.closed ≡ false → IsFedUntil now old piece new f → IsFed now old piece new (Some f)
 fed_until now old new piece (fault.Wire k) is until = (is, until)
 fed_until now old new piece (fault.Decode k) is until = (is, until)
 fed_until now old new piece (fault.Order k) is until = (is, until)

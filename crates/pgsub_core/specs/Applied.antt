@@ -11,7 +11,7 @@ use Rattle.pgsub_core.specs.declared.fault.Fault.{Fault}
 use Rattle.pgsub_core.specs.Stream.{Sent}
 use Rattle.pgsub_core.specs.Replica.{RelationCache, Outcome, Running, Stopped}
 use Rattle.pgsub_core.specs.Subscribed.{Subscribed}
-use Rattle.pgsub_core.specs.Taking.{take}
+use Rattle.pgsub_core.specs.Taking.{take, ReachesStore}
 use Rattle.pgsub_core.specs.Handled.{Cause, OutOfMemory, StatementRefused, HeaderTooLarge, ForeignBytes, NextMessage, NeverAnswered, cause, commit_end}
 use Rattle.pgsub_core.specs.Codes.{held_code, relations_code}
 
@@ -73,7 +73,7 @@ subscribed place framing a tables = record {
 -- Why a message of the server isn't handled.
 abbrev pub StopsAtMessage : ℤ → Subscribed → Sent → Fault → Cause → Type 0
 StopsAtMessage now s m f OutOfMemory = Unit {0}
-StopsAtMessage now s m f StatementRefused = (end : ℕ) × (commit_end m ≡ Some end) × (s.position < end)
+StopsAtMessage now s m f StatementRefused = (end : ℕ) × (commit_end m ≡ Some end) × (s.position < end) × ReachesStore (take now s m)
 StopsAtMessage now s m f HeaderTooLarge = ⊥
 StopsAtMessage now s m f ForeignBytes = ⊥
 StopsAtMessage now s m f NextMessage = (stopped : Subscribed) × (take now s m ≡ Stopped stopped f)

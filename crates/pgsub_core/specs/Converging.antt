@@ -1,5 +1,6 @@
+-- Part of the statement.
 -- How two subscribers are compared, by rows and positions.
-use Rattle.std.specs.Prelude.{◌≡◌, ◌⊎◌, ◌&&◌, ◌==◌, ℕ, ℤ, List, Bool, Option, Some, None, Result, Ok, Err, IfOk, nat_eq}
+use Rattle.std.specs.Prelude.{◌≡◌, ◌⊎◌, ◌&&◌, ◌==◌, ℕ, ℤ, List, Bool, Option, Some, None, Result, Ok, Err, IfOk, nat_eq, if◌then◌else◌}
 use Rattle.std.specs.Cmp.Lexicographic.{pointwise}
 use Rattle.pgtuple.specs.Equal.{cell_eq}
 use Rattle.pgapply.specs.Value.{Tables}
@@ -8,8 +9,14 @@ use Rattle.pgapply.specs.declared.rows.DumpRow.{DumpRow}
 use Rattle.pgsub_core.specs.declared.converging.ConvergeFault.{ConvergeFault}
 use Rattle.pgsub_core.specs.declared.converging.Side.{Side}
 use Rattle.pgsub_core.specs.declared.converging.Verdict.{Verdict}
+use Rattle.pgsub_core.specs.declared.converging.Verdict.TheVariants.{Same, Positions}
 use Rattle.pgsub_core.specs.declared.fault.Fault.{Fault}
 use Rattle.pgsub_core.specs.Faults.{IsReadFault}
+use Rattle.pgsub_core.specs.History.{Transaction}
+use Rattle.pgsub_core.specs.Stream.{Sent}
+use Rattle.pgsub_core.specs.Sessions.{reached_all}
+use Rattle.pgsub_core.specs.Subscribed.{Subscribed, progress_of}
+use Rattle.pgsub_core.specs.Handled.{IsSent}
 use Rattle.pgsub_core.specs.SubscriberValue.{SubscriberValue, seen}
 use Rattle.pgsub_core.specs.Following.{AreFed}
 use Rattle.pgsub_core.specs.Verdicts.{IsVerdict, LeftIsFollowed, RightIsFollowed}
@@ -21,6 +28,14 @@ same_row a b = (a.oid == b.oid) && (pointwise nat_eq a.namespace b.namespace && 
 abbrev pub failed_side : Result Verdict ConvergeFault → Option (Side × Fault)
 failed_side (Ok v) = None
 failed_side (Err f) = Some (f.side, f.fault)
+
+-- how two replicas of one history compare that stand at these positions
+abbrev pub agreed : ℕ → ℕ → Verdict
+agreed p q = if p == q then Same p else Positions p q
+
+-- the position that these messages reach
+abbrev pub position_reached : Subscribed → List (List Sent) → ℕ
+position_reached old all_complete = (reached_all (progress_of old) all_complete).position
 
 module _ {C : Type 0} (holds : C → Tables → Type 0) (place : C → ℕ) (now : ℤ) where
   -- sessions were fed, and these are the rows behind them
@@ -45,3 +60,12 @@ module _ {C D : Type 0} (holds : C → Tables → Type 0) (place : C → ℕ) (h
       × LeftIsFollowed now left_sessions (seen place left tables) (seen place left' tables') (failed_side answered)
       × RightIsFollowed now right_sessions (seen place' right others) (seen place' right' others') (failed_side answered)
       × IfOk answered (IsVerdict (seen place left' tables') (seen place' right' others'))
+
+module _ {C D : Type 0} (holds : C → Tables → Type 0) (place : C → ℕ) (holds' : D → Tables → Type 0) (place' : D → ℕ) where
+  -- Where both sides are sent sessions of one history, all that is complete in them was handled, and after the same latest commit they
+  -- have the same rows.
+  abbrev pub Agree : SubscriberValue C → List (List ℕ) → SubscriberValue D → List (List ℕ) → Result Verdict ConvergeFault → Type 0
+  Agree left left_sessions right right_sessions answered =
+      (history : List Transaction) (left_complete right_complete : List (List Sent)) (tables others : Tables) → holds left.applied.store tables → holds' right.applied.store others
+      → IsSent history (seen place left tables) left_sessions left_complete → IsSent history (seen place' right others) right_sessions right_complete
+      → IfOk answered (λ v. v ≡ agreed (position_reached (seen place left tables) left_complete) (position_reached (seen place' right others) right_complete))

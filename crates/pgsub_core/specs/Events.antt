@@ -9,7 +9,7 @@ use Rattle.pgspool.specs.declared.spools.SpoolFault.TheVariants as spool
 use Rattle.pgsub_core.specs.declared.fault.Fault.{Fault}
 use Rattle.pgsub_core.specs.declared.fault.Fault.TheVariants as fault
 use Rattle.pgsub_core.specs.Stream.{Kind, Holds, kind as kind_of}
-use Rattle.pgsub_core.specs.Replica.{Halt, Running, Stopped}
+use Rattle.pgsub_core.specs.Replica.{Halt, Running, Stopped, GoesOrStops, IsOfStore}
 use Rattle.pgsub_core.specs.ApplyState.{ApplyState, on_event}
 use Rattle.pgsub_core.specs.Taking.{fault_of}
 use Rattle.pgsub_core.specs.Handled.{Cause, OutOfMemory, StatementRefused, HeaderTooLarge, ForeignBytes, NextMessage, NeverAnswered, cause}
@@ -55,7 +55,8 @@ event_end _ = None
 -- why an event isn't gone through with
 abbrev pub StopsAtEvent : ApplyState → Message → Event → ℕ → Fault → Cause → Type 0
 StopsAtEvent old m e limit f OutOfMemory = Unit {0}
-StopsAtEvent old m e limit f StatementRefused = (end : ℕ) × (event_end e ≡ Some end) × (old.replica.position < end)
+StopsAtEvent old m e limit f StatementRefused =
+    (end : ℕ) × (event_end e ≡ Some end) × (old.replica.position < end) × GoesOrStops IsOfStore (on_event old m old.order e)
 StopsAtEvent old m e limit f HeaderTooLarge = ⊥
 StopsAtEvent old m e limit f ForeignBytes = ⊥
 StopsAtEvent old m e limit f NextMessage =

@@ -1,12 +1,13 @@
 -- PostgreSQL documentation, Streaming Replication Protocol: what the bytes of sessions do, one session after the other, each from a
 -- disconnection on; of a history or not.
-use Rattle.std.specs.Prelude.{◌≡◌, ◌⊎◌, ℕ, ℤ, List, [], ◌∷◌, Option, Some, None}
+use Rattle.std.specs.Prelude.{◌≡◌, ◌⊎◌, ◌++◌, ℕ, ℤ, List, [], ◌∷◌, Bool, Option, Some, None}
 use Rattle.pgapply.specs.Value.{Tables}
 use Rattle.pgsub_core.specs.declared.fault.Fault.{Fault}
 use Rattle.pgsub_core.specs.History.{Transaction}
 use Rattle.pgsub_core.specs.Stream.{Sent}
-use Rattle.pgsub_core.specs.Subscribed.{Subscribed, disconnect}
-use Rattle.pgsub_core.specs.Feeding.{IsFedWhole, IsFedUntil}
+use Rattle.pgsub_core.specs.Subscribed.{Subscribed, IsSafeFor, disconnect, with_status}
+use Rattle.pgsub_core.specs.Confirming.{AreSafeReplies}
+use Rattle.pgsub_core.specs.Feeding.{IsFedWhole, IsFedUntil, IsSettled, EndsSame}
 use Rattle.pgsub_core.specs.Handled.{IsSent, IsFollowed}
 use Rattle.pgsub_core.specs.SubscriberValue.{SubscriberValue, seen}
 
@@ -30,6 +31,26 @@ abbrev pub FedSessionsAreFollowed : Type 0
 FedSessionsAreFollowed =
     (now : ℤ) (history : List Transaction) (sessions : List (List ℕ)) (all_complete : List (List Sent)) (old new : Subscribed) (answered : Option Fault)
     → IsSent history old sessions all_complete → AreFed now old sessions new answered → IsFollowed now history sessions all_complete old new answered
+
+-- Feeding sessions has one outcome, of a history or not.
+abbrev pub SessionsHaveOneOutcome : Type 0
+SessionsHaveOneOutcome =
+    (now : ℤ) (old a b : Subscribed) (sessions : List (List ℕ)) (x y : Option Fault) → IsSettled x → IsSettled y → AreFed now old sessions a x → AreFed now old sessions b y
+    → (x ≡ y) × EndsSame x a b
+
+-- Wherever the bytes of the sessions of a history are cut off, what came is sessions of that history.
+abbrev pub FrontsAreSent : Type 0
+FrontsAreSent =
+    (history : List Transaction) (old : Subscribed) (sessions : List (List ℕ)) (bytes more : List ℕ) (later : List (List ℕ)) (all_complete : List (List Sent))
+    → IsSent history old (sessions ++ (bytes ++ more) ∷ later) all_complete → (fronts : List (List Sent)) × IsSent history old (sessions ++ bytes ∷ []) fronts
+
+-- In every state to which the sessions of a history lead, wherever they are cut off and whatever was answered: every transaction that
+-- changes rows and ends by what is confirmed is stored, and no status that waits or is asked for confirms more.
+abbrev pub ConfirmedIsStored : Type 0
+ConfirmedIsStored =
+    (now : ℤ) (history : List Transaction) (old new : Subscribed) (sessions : List (List ℕ)) (bytes more : List ℕ) (later : List (List ℕ)) (all_complete : List (List Sent)) (answered : Option Fault)
+    → IsSent history old (sessions ++ (bytes ++ more) ∷ later) all_complete → AreSafeReplies history old → AreFed now old (sessions ++ bytes ∷ []) new answered
+    → IsSafeFor history new × AreSafeReplies history new × ((clock : ℤ) (ask : Bool) → AreSafeReplies history (with_status clock ask new))
 
 module _ {C : Type 0} (holds : C → Tables → Type 0) (place : C → ℕ) (now : ℤ) where
   -- whatever tables the store held, it holds others, with which this was done

@@ -11,7 +11,7 @@ use Rattle.pglogical.specs.Reading.{message_at}
 use Rattle.pglogical.specs.declared.message.Message.{Message}
 use Rattle.pgorder.specs.States.{is_in_block}
 use Rattle.pgsub_core.specs.Stream.{Data}
-use Rattle.pgsub_core.specs.Taking.{take_frame, take_frames, take_message}
+use Rattle.pgsub_core.specs.Taking.{take_frame, take_frames, take_message, ReachesStore}
 use Rattle.pgsub_core.specs.Feeding.{IsCommitFrame, IsFedWhole, IsFedUntil}
 use Rattle.pgsub_core.specs.Handled.{Cause, OutOfMemory, StatementRefused, HeaderTooLarge, ForeignBytes, NextMessage, NeverAnswered, cause, commit_end}
 use Rattle.pgsub_core.specs.Applied.{Applied, Framing, subscribed, IsKept}
@@ -19,7 +19,7 @@ use Rattle.pgsub_core.specs.Applied.{Applied, Framing, subscribed, IsKept}
 -- why a frame isn't taken
 abbrev pub StopsAtFrame : ℤ → Subscribed → wire.Frame → Fault → Cause → Type 0
 StopsAtFrame now s next f OutOfMemory = Unit {0}
-StopsAtFrame now s next f StatementRefused = IsCommitFrame s next
+StopsAtFrame now s next f StatementRefused = IsCommitFrame s next × ReachesStore (take_frame now s next)
 StopsAtFrame now s next f HeaderTooLarge = ⊥
 StopsAtFrame now s next f ForeignBytes = ⊥
 StopsAtFrame now s next f NextMessage = (stopped : Subscribed) × (take_frame now s next ≡ Stopped stopped f)
@@ -34,6 +34,7 @@ abbrev pub StopsAtBody : ℤ → ℕ → ℕ → ℤ → List ℕ → Subscribed
 StopsAtBody now start end clock body s f OutOfMemory = Unit {0}
 StopsAtBody now start end clock body s f StatementRefused =
     (m : Message) × (message_at (is_in_block s.order.context) body ≡ Ok m) × (last : ℕ) × (commit_end (Data start end clock m) ≡ Some last) × (s.position < last)
+    × ReachesStore (take_message now s start end clock (message_at (is_in_block s.order.context) body))
 StopsAtBody now start end clock body s f HeaderTooLarge = ⊥
 StopsAtBody now start end clock body s f ForeignBytes = ⊥
 StopsAtBody now start end clock body s f NextMessage = (stopped : Subscribed) × (take_message now s start end clock (message_at (is_in_block s.order.context) body) ≡ Stopped stopped f)

@@ -1,9 +1,9 @@
-use Rattle.std.proofs.Common.{ℤ, subst}
+use Rattle.std.proofs.Common.{ℤ, Ok, subst}
 use Rattle.std.specs.Int.{w64}
 use Rattle.std.proofs.lemmas.Int.{to_z-of_z}
 use Rattle.pgsub_core.specs.Subscribed.{bytes_of}
 use Rattle.pgsub_core.specs.Converging.{ShowsFed, FailsFed}
-use Rattle.pgsub_core.proofs.ConvergeSteps.{left_fails, right_fails, both_shown}
+use Rattle.pgsub_core.proofs.ConvergeSteps.{left_fails, right_fails, both_shown, agrees}
 use Rattle.pgsub_core.proofs.converging.converge.Goals as goal
 
 pub returns-in-Err-clause-converges : goal.returns-in-Err-clause-converges
@@ -27,3 +27,8 @@ returns-clause-converges g c serves serves' =
     (subst (λ (z : ℤ). ShowsFed g.D.ReplicaStore.holds g.D.ReplicaStore.place z c.args.right.now (bytes_of c.args.right_sessions.now) c.followed_rows-2.new.subscriber c.in-Ok-followed_rows.rows.items) (to_z-of_z w64 c.args.now c.ranges.now)
     (c.in-Ok-followed_rows.ensures.rows serves'))
     c.position.result c.position-2.result c.as_slice.result.now c.as_slice-2.result.now c.compared.result c.position.ensures c.position-2.ensures c.as_slice.ensures.value c.as_slice-2.ensures.value c.compared.ensures
+
+pub returns-clause-agree : goal.returns-clause-agree
+returns-clause-agree g c serves serves' =
+    agrees g.C.ReplicaStore.holds g.C.ReplicaStore.place g.D.ReplicaStore.holds g.D.ReplicaStore.place c.args.now c.args.left.now c.followed_rows.new.subscriber c.args.right.now c.followed_rows-2.new.subscriber
+    (bytes_of c.args.left_sessions.now) (bytes_of c.args.right_sessions.now) (Ok c.compared.result) (returns-clause-converges g c serves serves')
