@@ -48,30 +48,30 @@ done_both (CopyDone ∷ fs) f c = sym (true_last (has_copy_done (f ∷ [])))
 
 -- ---- from where a deframer waits
 
-abbrev deframed : ℕ → List ℕ → Bool → Deframed
-deframed max held done = record { max = max; held = held; done = done; fault = None }
+abbrev deframed : ℕ → List ℕ → Bool → ℕ → Deframed
+deframed max held done room = record { max = max; held = held; done = done; fault = None; room = room }
 
 abbrev if_done : Bool → List Frame
 if_done b = cond b (CopyDone ∷ []) []
 
-abbrev copy_done_whole : ℕ → Deframed
-copy_done_whole max = deframed max (wire.frame CopyDone) false
+abbrev copy_done_whole : ℕ → ℕ → Deframed
+copy_done_whole max room = deframed max (wire.frame CopyDone) false room
 
-whole_copy_done : (max : ℕ) → Stands (copy_done_whole max) CopyDone
-whole_copy_done max = record { allowed = tt; whole = refl; first = refl; fault = refl }
+whole_copy_done : (max room : ℕ) → Stands (copy_done_whole max room) CopyDone
+whole_copy_done max room = record { allowed = tt; whole = refl; first = refl; fault = refl }
 
-pub waiting_leads : (max : ℕ) (held : List ℕ) (done : Bool) (d : Deframed) → d ≡ deframed max held done → Waits d → (done ≡ true → held ≡ []) → (calls : List Call) × Leads max calls (frames (if_done done) ++ held) (if_done done) d
+pub waiting_leads : (max : ℕ) (held : List ℕ) (done : Bool) (d : Deframed) → d ≡ deframed max held done d.room → Waits d → (done ≡ true → held ≡ []) → (calls : List Call) × Leads max calls (frames (if_done done) ++ held) (if_done done) d
 waiting_leads max held false d is waits last = (
   Feed held (Ok (length held)) ∷ [],
-  ([], fresh max, (refl, refl, refl), (refl, omega arith, is ∙ ap (λ (h : List ℕ). deframed max h false) (sym (take-length held)), inr (refl, waits)), sym (take-length held)),
+  ([], fresh max, (refl, refl, refl), (refl, omega arith, is ∙ ap (λ (h : List ℕ). deframed max h false d.room) (sym (take-length held)), inr (refl, waits)), sym (take-length held)),
 )
 waiting_leads max held true d is waits last = (
   Release ∷ Feed (wire.frame CopyDone) (Ok 5) ∷ [],
   (
     [],
-    copy_done_whole max,
-    ([], fresh max, (refl, refl, refl), (refl, omega arith, refl, inl (CopyDone, whole_copy_done max)), rw (last refl) refl),
-    inl (CopyDone, whole_copy_done max, is ∙ ap (λ (h : List ℕ). deframed max h true) (last refl), refl),
+    copy_done_whole max d.room,
+    ([], fresh max, (refl, refl, refl), (refl, omega arith, refl, inl (CopyDone, whole_copy_done max d.room)), rw (last refl) refl),
+    inl (CopyDone, whole_copy_done max d.room, is ∙ ap (λ (h : List ℕ). deframed max h true d.room) (last refl), refl),
   ),
 )
 
@@ -79,7 +79,7 @@ module _ {C : Type 0} (serves : C → Type 0) (holds : C → Tables → Type 0) 
   -- the first bytes of a piece
   pub fed_start : (d₀ d : Deframed) (a₀ : Applied C) (piece : List ℕ) (n : ℕ) → Waits d₀ → d₀.fault ≡ None → IsFed d₀ piece (Ok n) d → IsFedTo holds place now serves d₀ a₀ piece d a₀ n
   fed_start d₀ d a₀ piece n waits none fed =
-      let is : d₀ ≡ deframed d₀.max d₀.held d₀.done = ap (λ (f : Option WireFault). let same : Deframed = record d₀ { fault = f } in same) none in
+      let is : d₀ ≡ deframed d₀.max d₀.held d₀.done d₀.room = ap (λ (f : Option WireFault). let same : Deframed = record d₀ { fault = f } in same) none in
       let leads = waiting_leads d₀.max d₀.held d₀.done d₀ is waits waits.last in
       record {
         calls = Feed piece (Ok n) ∷ leads.0;

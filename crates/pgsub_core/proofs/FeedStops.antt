@@ -116,7 +116,7 @@ module _ {C : Type 0} (serves : C → Type 0) (holds : C → Tables → Type 0) 
 
   pub start_to : Waits d₀ → d₀.fault ≡ None → IsTakenTo holds place now serves d₀ a₀ piece d₀ a₀ 0
   start_to waits none =
-      let is : d₀ ≡ record { max = d₀.max; held = d₀.held; done = d₀.done; fault = None } = ap (λ (f : Option WireFault). let same : Deframed = record d₀ { fault = f } in same) none in
+      let is : d₀ ≡ record { max = d₀.max; held = d₀.held; done = d₀.done; fault = None; room = d₀.room } = ap (λ (f : Option WireFault). let same : Deframed = record d₀ { fault = f } in same) none in
       let leads = waiting_leads d₀.max d₀.held d₀.done d₀ is waits waits.last in
       record {
         calls = leads.0;

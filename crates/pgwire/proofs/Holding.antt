@@ -8,7 +8,7 @@ use Rattle.pgwire.specs.declared.fault.WireFault.{WireFault}
 use Rattle.pgwire.specs.declared.fault.WireFault.TheVariants.{UnknownFrame, BadLength, TooLarge, AfterDone, UnknownServerMessage, Short, Trailing, BadReplyByte, Memory}
 use Rattle.pgwire.specs.declared.header.Header.{Header}
 use Rattle.pgwire.specs.Frames.{Frame, CopyData, CopyDone, tag_of, length_of, IsTag, IsPartial, BreaksLength, IsFramingFault, HasPayloadLen}
-use Rattle.pgwire.specs.Deframed.{Deframed, Stands, Waits, IsFed}
+use Rattle.pgwire.specs.Deframed.{Deframed, Stands, Waits, IsFed, payload_come}
 use Rattle.pgwire.specs.Held.{come, IsSound, IsHeaderWith}
 use Rattle.pgwire.proofs.Headers.{IsBytes, IsBytes-take, header_spelled}
 use Rattle.pgwire.proofs.Readings.{tag-append, length-of-append}
@@ -19,7 +19,7 @@ length-come h = length-take-le h.len h.bytes (omega (arith, h.within, h.five))
 come_fits : (h : Header) → IsBytes (come h)
 come_fits h = IsBytes-take h.len h.bytes h.bytes_fit
 
--- more bytes behind don't mend a fault
+-- more bytes don't mend a fault
 pub fault-append : (max : ℕ) (bytes more : List ℕ) (fault : WireFault) → IsFramingFault max false bytes fault → IsFramingFault max false (bytes ++ more) fault
 fault-append max bytes more AfterDone breaks = absurd (false≢true breaks.0)
 fault-append max bytes more (UnknownFrame byte) breaks =
@@ -77,9 +77,9 @@ not_done true never = absurd (never refl)
 not_done false never = refl
 
 -- the frame whose header and payload are there
-pub data_stands : (max n : ℕ) (h : Header) (payload : List ℕ) (done : Bool) (fault : Option WireFault) → fault ≡ None → (done ≡ true → h.len ≡ 0) → HasPayloadLen max (come h) n → h.len ≡ 5 → length payload ≡ n → tag_of (come h) ≡ 100
-    → Stands (record { max = max; held = come h ++ payload; done = done; fault = fault }) (CopyData payload)
-data_stands max n h payload done fault none_yet last good five whole is_data =
+pub data_stands : (max n : ℕ) (h : Header) (payload : List ℕ) (done : Bool) (fault : Option WireFault) (room : ℕ) → fault ≡ None → (done ≡ true → h.len ≡ 0) → HasPayloadLen max (come h) n → h.len ≡ 5 → length payload ≡ n → tag_of (come h) ≡ 100
+    → Stands (record { max = max; held = come h ++ payload; done = done; fault = fault; room = room }) (CopyData payload)
+data_stands max n h payload done fault room none_yet last good five whole is_data =
     let len = length-come h in
     let counted = good.counted (omega arith) in
     let size : length_of (come h) ≡ length payload + 4 = omega (arith, counted.0) in
@@ -95,9 +95,9 @@ data_stands max n h payload done fault none_yet last good five whole is_data =
       fault = none_yet;
     }
 
-pub done_stands : (max n : ℕ) (h : Header) (payload : List ℕ) (done : Bool) (fault : Option WireFault) → fault ≡ None → (done ≡ true → h.len ≡ 0) → HasPayloadLen max (come h) n → h.len ≡ 5 → length payload ≡ n → tag_of (come h) ≡ 99
-    → Stands (record { max = max; held = come h ++ payload; done = done; fault = fault }) CopyDone
-done_stands max n h payload done fault none_yet last good five whole is_done =
+pub done_stands : (max n : ℕ) (h : Header) (payload : List ℕ) (done : Bool) (fault : Option WireFault) (room : ℕ) → fault ≡ None → (done ≡ true → h.len ≡ 0) → HasPayloadLen max (come h) n → h.len ≡ 5 → length payload ≡ n → tag_of (come h) ≡ 99
+    → Stands (record { max = max; held = come h ++ payload; done = done; fault = fault; room = room }) CopyDone
+done_stands max n h payload done fault room none_yet last good five whole is_done =
     let len = length-come h in
     let zero_len = good.done (omega arith) is_done in
     let counted = good.counted (omega arith) in
@@ -115,12 +115,12 @@ done_stands max n h payload done fault none_yet last good five whole is_done =
       fault = none_yet;
     }
 
-pub stands_now : (max n : ℕ) (h : Header) (payload : List ℕ) (done : Bool) (fault : Option WireFault) → fault ≡ None → (done ≡ true → h.len ≡ 0) → HasPayloadLen max (come h) n → h.len ≡ 5 → length payload ≡ n
-    → (f : Frame) × Stands (record { max = max; held = come h ++ payload; done = done; fault = fault }) f
-stands_now max n h payload done fault none_yet last good five whole =
+pub stands_now : (max n : ℕ) (h : Header) (payload : List ℕ) (done : Bool) (fault : Option WireFault) (room : ℕ) → fault ≡ None → (done ≡ true → h.len ≡ 0) → HasPayloadLen max (come h) n → h.len ≡ 5 → length payload ≡ n
+    → (f : Frame) × Stands (record { max = max; held = come h ++ payload; done = done; fault = fault; room = room }) f
+stands_now max n h payload done fault room none_yet last good five whole =
     elim (good.tag (omega (arith, length-come h))) [
-      | inl is_data ↦ (CopyData payload, data_stands max n h payload done fault none_yet last good five whole is_data)
-      | inr is_done ↦ (CopyDone, done_stands max n h payload done fault none_yet last good five whole is_done)
+      | inl is_data ↦ (CopyData payload, data_stands max n h payload done fault room none_yet last good five whole is_data)
+      | inr is_done ↦ (CopyDone, done_stands max n h payload done fault room none_yet last good five whole is_done)
     ]
 
 -- a header that isn't whole has no payload behind it
@@ -147,9 +147,9 @@ partial_payload max n h payload good fewer five =
       ];
     }
 
-pub waits_now : (max n : ℕ) (h : Header) (payload : List ℕ) (done : Bool) (fault : Option WireFault) → HasPayloadLen max (come h) n → length payload ≤ n → (done ≡ true → h.len ≡ 0) → (h.len ≡ 5 → length payload < n)
-    → Waits (record { max = max; held = come h ++ payload; done = done; fault = fault })
-waits_now max n h payload done fault good within last fewer = record {
+pub waits_now : (max n : ℕ) (h : Header) (payload : List ℕ) (done : Bool) (fault : Option WireFault) (room : ℕ) → HasPayloadLen max (come h) n → length payload ≤ n → (done ≡ true → h.len ≡ 0) → (h.len ≡ 5 → length payload < n)
+    → Waits (record { max = max; held = come h ++ payload; done = done; fault = fault; room = room })
+waits_now max n h payload done fault room good within last fewer = record {
   partial = elim (cases_lt h.len 5) [
     | inl short ↦ partial_header max n h payload good within short
     | inr whole ↦ let five : h.len ≡ 5 = omega (arith, h.within) in partial_payload max n h payload good (fewer five) five
@@ -203,10 +203,10 @@ fits_behind max old new payload piece done before after k step =
       | inr whole ↦ let five : old.len ≡ 5 = omega (arith, old.within) in omega (arith, same_len max old new payload piece done before after k step five, step.within)
     ]
 
-pub fed_ok : (max : ℕ) (old new : Header) (payload piece : List ℕ) (done : Bool) (before after k : ℕ) (fault : Option WireFault) → fault ≡ None → IsStep max old new payload piece done before after k
-    → IsFed (record { max = max; held = come old ++ payload; done = done; fault = fault }) piece (Ok (new.len - old.len + k))
-    (record { max = max; held = come new ++ (payload ++ take k (drop (new.len - old.len) piece)); done = done; fault = fault })
-fed_ok max old new payload piece done before after k fault none_yet step =
+pub fed_ok : (max : ℕ) (old new : Header) (payload piece : List ℕ) (done : Bool) (before after k : ℕ) (fault : Option WireFault) (room next : ℕ) → fault ≡ None → IsStep max old new payload piece done before after k
+    → IsFed (record { max = max; held = come old ++ payload; done = done; fault = fault; room = room }) piece (Ok (new.len - old.len + k))
+    (record { max = max; held = come new ++ (payload ++ take k (drop (new.len - old.len) piece)); done = done; fault = fault; room = next })
+fed_ok max old new payload piece done before after k fault room next none_yet step =
     let c = new.len - old.len in
     let more = take k (drop c piece) in
     let more_len : length more ≡ k = omega (arith, length-take k (drop c piece), length-drop c piece, step.count) in
@@ -217,13 +217,13 @@ fed_ok max old new payload piece done before after k fault none_yet step =
     let last : done ≡ true → new.len ≡ 0 = λ d. omega (arith, taken, step.last d, ap length (step.empty d)) in (
       none_yet,
       omega (arith, step.count, taken),
-      ap (λ held. let d : Deframed = record { max = max; held = held; done = done; fault = fault } in d) (held_grows max old new payload piece done before after k step),
+      ap (λ held. let d : Deframed = record { max = max; held = held; done = done; fault = fault; room = next } in d) (held_grows max old new payload piece done before after k step),
       elim (cases_eq (length (payload ++ more)) after) [
         | inl whole ↦ elim (cases_eq new.len 5) [
-          | inl five ↦ inl (stands_now max after new (payload ++ more) done fault none_yet last step.is five whole)
-          | inr short ↦ inr (omega (arith, taken, step.count, new.within), waits_now max after new (payload ++ more) done fault step.is room last (λ five. absurd (short five)))
+          | inl five ↦ inl (stands_now max after new (payload ++ more) done fault next none_yet last step.is five whole)
+          | inr short ↦ inr (omega (arith, taken, step.count, new.within), waits_now max after new (payload ++ more) done fault next step.is room last (λ five. absurd (short five)))
         ]
-        | inr fewer ↦ inr (omega (arith, taken, step.count, len, more_len, fits), waits_now max after new (payload ++ more) done fault step.is room last (λ five. omega (arith, room)))
+        | inr fewer ↦ inr (omega (arith, taken, step.count, len, more_len, fits), waits_now max after new (payload ++ more) done fault next step.is room last (λ five. omega (arith, room)))
       ],
     )
 
@@ -251,23 +251,37 @@ no_fault_behind max old new payload piece done before after k x step five breaks
     let on = goes_on max old new payload piece done before after k step in
     good_header max after (come new) on.0 x step.is (omega (arith, length-come new)) (subst (λ bytes. IsFramingFault max false bytes x) on.1 breaks)
 
--- want of memory, where some of the payload would have been taken
-pub fed_memory : (max : ℕ) (old new : Header) (payload piece : List ℕ) (done : Bool) (before after k : ℕ) (fault : Option WireFault) → fault ≡ None → IsStep max old new payload piece done before after k → 0 < k
-    → IsFed (record { max = max; held = come old ++ payload; done = done; fault = fault }) piece (Err Memory) (record { max = max; held = come old ++ payload; done = done; fault = fault })
-fed_memory max old new payload piece done before after k fault none_yet step some =
+-- out of memory, where some of the payload would have been taken
+pub fed_memory : (max : ℕ) (old new : Header) (payload piece : List ℕ) (done : Bool) (before after k : ℕ) (fault : Option WireFault) (room : ℕ) → fault ≡ None → IsStep max old new payload piece done before after k → 0 < k
+    → IsFed (record { max = max; held = come old ++ payload; done = done; fault = fault; room = room }) piece (Err Memory) (record { max = max; held = come old ++ payload; done = done; fault = fault; room = room })
+fed_memory max old new payload piece done before after k fault room none_yet step some =
     let taken = step.with_piece.len in
     let five : new.len ≡ 5 =
     elim (cases_lt new.len 5) [ inl short ↦ absurd (omega (arith, step.count, step.is.begun (omega (arith, length-come new)))) | inr whole ↦ omega (arith, new.within) ] in
     let not_done : done ≡ true → ⊥ = λ d. omega (arith, taken, five, step.last d, ap length (step.empty d)) in (
       none_yet,
       refl,
-      waits_now max before old payload done fault step.was step.within step.last (λ whole. omega (arith, same_len max old new payload piece done before after k step whole, step.count)),
+      waits_now max before old payload done fault room step.was step.within step.last (λ whole. omega (arith, same_len max old new payload piece done before after k step whole, step.count)),
       omega (arith, length-append (come old ++ payload) piece, length-append (come old) payload, length-come old, taken, step.count),
       λ x breaks. elim (cases_Bool done) [
         | inl is ↦ not_done is
         | inr not_yet ↦ no_fault_behind max old new payload piece done before after k x step five (subst (λ b. IsFramingFault max b ((come old ++ payload) ++ piece) x) not_yet breaks)
       ],
     )
+
+-- how many bytes of the payload are there with those that the piece adds
+pub payload_counted : (max : ℕ) (old new : Header) (payload piece : List ℕ) (done : Bool) (before after k : ℕ) → IsStep max old new payload piece done before after k → 0 < k
+    → length payload + k ≡ payload_come ((come old ++ payload) ++ piece)
+payload_counted max old new payload piece done before after k step some =
+    let taken = step.with_piece.len in
+    let five : new.len ≡ 5 =
+    elim (cases_lt new.len 5) [ inl short ↦ absurd (omega (arith, step.count, step.is.begun (omega (arith, length-come new)))) | inr whole ↦ omega (arith, new.within) ] in
+    let long : 5 ≤ length (come new) = omega (arith, length-come new) in
+    let on = goes_on max old new payload piece done before after k step in
+    let size : length_of ((come old ++ payload) ++ piece) ≡ length_of (come new) = ap length_of on.1 ∙ length-of-append (come new) on.0 long in
+    let bytes : length ((come old ++ payload) ++ piece) ≡ old.len + length payload + length piece = omega (arith, length-append (come old ++ payload) piece, length-append (come old) payload, length-come old) in
+    let fits = fits_behind max old new payload piece done before after k step in
+    omega (arith, size, bytes, (step.is.counted long).0, step.count, taken)
 
 -- the header is not whole where the piece shows a fault
 short_header : (max n : ℕ) (h : Header) (piece : List ℕ) (done : Bool) (x : WireFault) → HasPayloadLen max (come h) n → (done ≡ true → h.len ≡ 0) → IsFramingFault max done (come h ++ piece) x → h.len < 5
@@ -282,16 +296,16 @@ faulted d piece BadLength none waits breaks = (refl, waits, inr (none, breaks))
 faulted d piece TooLarge none waits breaks = (refl, waits, inr (none, breaks))
 faulted d piece _ none waits breaks = absurd breaks
 
-pub fed_fault : (max n : ℕ) (h : Header) (payload piece : List ℕ) (done : Bool) (fault : Option WireFault) (x : WireFault) → fault ≡ None → HasPayloadLen max (come h) n → length payload ≤ n → (done ≡ true → h.len ≡ 0)
+pub fed_fault : (max n : ℕ) (h : Header) (payload piece : List ℕ) (done : Bool) (fault : Option WireFault) (room : ℕ) (x : WireFault) → fault ≡ None → HasPayloadLen max (come h) n → length payload ≤ n → (done ≡ true → h.len ≡ 0)
     → IsFramingFault max done (come h ++ piece) x
-    → IsFed (record { max = max; held = come h ++ payload; done = done; fault = fault }) piece (Err x) (record { max = max; held = come h ++ payload; done = done; fault = Some x })
-fed_fault max n h payload piece done fault x none good within last breaks =
+    → IsFed (record { max = max; held = come h ++ payload; done = done; fault = fault; room = room }) piece (Err x) (record { max = max; held = come h ++ payload; done = done; fault = Some x; room = room })
+fed_fault max n h payload piece done fault room x none good within last breaks =
     let short = short_header max n h piece done x good last breaks in
     let same : come h ++ payload ≡ come h = ap (λ behind. come h ++ behind) (no_payload max n h payload good within short) ∙ append-nil (come h) in
-    faulted (record { max = max; held = come h ++ payload; done = done; fault = fault }) piece x none (waits_now max n h payload done fault good within last (λ five. absurd (omega arith)))
+    faulted (record { max = max; held = come h ++ payload; done = done; fault = fault; room = room }) piece x none (waits_now max n h payload done fault room good within last (λ five. absurd (omega arith)))
     (subst (λ front. IsFramingFault max done (front ++ piece) x) (sym same) breaks)
 
--- a fault is answered again
+-- a fault is returned again
 again : (d : Deframed) (piece : List ℕ) (x : WireFault) → d.fault ≡ Some x → x ≢ Memory → Waits d → IsFed d piece (Err x) d
 again d piece AfterDone is other waits = (ap (λ f. let e : Deframed = record d { fault = f } in e) is, waits, inl is)
 again d piece (UnknownFrame byte) is other waits = (ap (λ f. let e : Deframed = record d { fault = f } in e) is, waits, inl is)
@@ -303,21 +317,21 @@ again d piece Trailing is other waits = (ap (λ f. let e : Deframed = record d {
 again d piece BadReplyByte is other waits = (ap (λ f. let e : Deframed = record d { fault = f } in e) is, waits, inl is)
 again d piece Memory is other waits = absurd (other refl)
 
-pub fed_again : (max : ℕ) (h : Header) (payload piece : List ℕ) (done : Bool) (fault : Option WireFault) (x : WireFault) → fault ≡ Some x → IsSound max h payload done fault
-    → IsFed (record { max = max; held = come h ++ payload; done = done; fault = fault }) piece (Err x) (record { max = max; held = come h ++ payload; done = done; fault = fault })
-fed_again max h payload piece done fault x is sound =
-    again (record { max = max; held = come h ++ payload; done = done; fault = fault }) piece x is (sound.waits x is).0
-    (waits_now max sound.payload_len h payload done fault sound.good sound.within sound.last (sound.waits x is).1)
+pub fed_again : (max : ℕ) (h : Header) (payload piece : List ℕ) (done : Bool) (fault : Option WireFault) (room : ℕ) (x : WireFault) → fault ≡ Some x → IsSound max h payload done fault
+    → IsFed (record { max = max; held = come h ++ payload; done = done; fault = fault; room = room }) piece (Err x) (record { max = max; held = come h ++ payload; done = done; fault = fault; room = room })
+fed_again max h payload piece done fault room x is sound =
+    again (record { max = max; held = come h ++ payload; done = done; fault = fault; room = room }) piece x is (sound.waits x is).0
+    (waits_now max sound.payload_len h payload done fault room sound.good sound.within sound.last (sound.waits x is).1)
 
 -- a piece of which the header alone takes bytes
-pub fed_header : (max : ℕ) (old new : Header) (payload piece : List ℕ) (done : Bool) (before after k : ℕ) (fault : Option WireFault) → fault ≡ None → IsStep max old new payload piece done before after k → k ≡ 0
-    → IsFed (record { max = max; held = come old ++ payload; done = done; fault = fault }) piece (Ok (new.len - old.len)) (record { max = max; held = come new ++ payload; done = done; fault = fault })
-fed_header max old new payload piece done before after k fault none step nothing =
+pub fed_header : (max : ℕ) (old new : Header) (payload piece : List ℕ) (done : Bool) (before after k : ℕ) (fault : Option WireFault) (room : ℕ) → fault ≡ None → IsStep max old new payload piece done before after k → k ≡ 0
+    → IsFed (record { max = max; held = come old ++ payload; done = done; fault = fault; room = room }) piece (Ok (new.len - old.len)) (record { max = max; held = come new ++ payload; done = done; fault = fault; room = room })
+fed_header max old new payload piece done before after k fault room none step nothing =
     let c = new.len - old.len in
-    let fed = fed_ok max old new payload piece done before after k fault none step in
+    let fed = fed_ok max old new payload piece done before after k fault room room none step in
     let count : c + k ≡ c = omega arith in
     let same : payload ++ take k (drop c piece) ≡ payload = ap (λ n. payload ++ take n (drop c piece)) nothing ∙ append-nil payload in
-    let P : ℕ → List ℕ → Type 0 = λ n behind. IsFed (record { max = max; held = come old ++ payload; done = done; fault = fault }) piece (Ok n) (record { max = max; held = come new ++ behind; done = done; fault = fault }) in
+    let P : ℕ → List ℕ → Type 0 = λ n behind. IsFed (record { max = max; held = come old ++ payload; done = done; fault = fault; room = room }) piece (Ok n) (record { max = max; held = come new ++ behind; done = done; fault = fault; room = room }) in
     subst (λ n. P n payload) count (subst (λ behind. P (c + k) behind) same fed)
 
 pub no_fault_yet : (fault : Option WireFault) → ((x : WireFault) → fault ≡ Some x → ⊥) → fault ≡ None

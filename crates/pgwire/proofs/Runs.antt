@@ -53,7 +53,7 @@ counted_fed : (max : ℕ) (taken piece : List ℕ) (released : List Frame) (resu
     → IsCounted max (taken ++ taken_of piece result) released new
 counted_fed max taken piece released (Ok n) old new is fed =
     let state : StandsOrWaits new = ⊎_elim (λ stands. inl stands) (λ waits. inr waits.1) fed.3 in
-    let grown : Deframed = record old { held = old.held ++ take n piece } in
+    let grown : Deframed = record old { held = old.held ++ take n piece; room = new.room } in
     subst (IsCounted max (taken ++ take n piece) released) (sym fed.2) (record {
       max_is = is.max_is;
       whole = ap (λ bytes. bytes ++ take n piece) is.whole ∙ append_assoc (frames released) old.held (take n piece);

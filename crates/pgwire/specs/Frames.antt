@@ -7,6 +7,10 @@ use Rattle.pgwire.specs.declared.fault.WireFault.{WireFault}
 use Rattle.pgwire.specs.declared.fault.WireFault.TheVariants.{UnknownFrame, BadLength, TooLarge, AfterDone}
 pub use Rattle.pgwire.specs.Payloads.{ServerMessage, XLogData, Keepalive, payload}
 
+-- the greatest length that the four bytes of a header tell, an Int32
+abbrev pub max_length : ℕ
+max_length = 2147483647
+
 -- a frame: CopyData with its payload, or CopyDone
 pub data Frame : Type 0 where
   CopyData : (bytes : List ℕ) → Frame
@@ -20,9 +24,9 @@ frame CopyDone = 99 ∷ 0 ∷ 0 ∷ 0 ∷ 4 ∷ []
 abbrev pub frames : List Frame → List ℕ
 frames fs = flat_map frame fs
 
--- the payload is at most max bytes, and its length can be spelled
+-- the payload has at most max bytes, and its length fits the header
 abbrev pub IsAllowed : ℕ → Frame → Type 0
-IsAllowed max (CopyData bytes) = (length bytes ≤ max) × (length bytes + 4 ≤ 2147483647)
+IsAllowed max (CopyData bytes) = (length bytes ≤ max) × (length bytes + 4 ≤ max_length)
 IsAllowed max CopyDone = Unit {0}
 
 -- each frame is allowed, and CopyDone is the last alone
@@ -49,7 +53,7 @@ IsTag tag = (tag ≡ 100) ⊎ (tag ≡ 99)
 -- less than a whole frame, within the rules: nothing, or a letter, and once the header stands, a payload that isn't whole
 pub record IsPartial (max : ℕ) (bytes : List ℕ) : Type 0 where
   pub tag : 1 ≤ length bytes → IsTag (tag_of bytes)
-  pub payload : 5 ≤ length bytes → (tag_of bytes ≡ 100) × (length bytes < length_of bytes + 1) × (length_of bytes ≤ max + 4) × (length_of bytes ≤ 2147483647)
+  pub payload : 5 ≤ length bytes → (tag_of bytes ≡ 100) × (length bytes < length_of bytes + 1) × (length_of bytes ≤ max + 4) × (length_of bytes ≤ max_length)
 
 -- the bytes are these frames, and then less than a whole one; nothing behind CopyDone
 pub record IsDeframedAs (max : ℕ) (bytes : List ℕ) (fs : List Frame) (rest : List ℕ) : Type 0 where
@@ -60,14 +64,14 @@ pub record IsDeframedAs (max : ℕ) (bytes : List ℕ) (fs : List Frame) (rest :
 
 -- how a length breaks the rules
 abbrev pub BreaksLength : ℕ → ℕ → Type 0
-BreaksLength tag n = (n < 4) ⊎ (2147483647 < n) ⊎ ((tag ≡ 99) × (n ≢ 4))
+BreaksLength tag n = (n < 4) ⊎ (max_length < n) ⊎ ((tag ≡ 99) × (n ≢ 4))
 
 -- what stands behind the whole frames, of which CopyDone may be one, can't be the front of a frame
 abbrev pub IsFramingFault : ℕ → Bool → List ℕ → WireFault → Type 0
 IsFramingFault max done bytes AfterDone = (done ≡ true) × (1 ≤ length bytes)
 IsFramingFault max done bytes (UnknownFrame byte) = (done ≡ false) × (1 ≤ length bytes) × (byte ≡ tag_of bytes) × (byte ≢ 100) × (byte ≢ 99)
 IsFramingFault max done bytes BadLength = (done ≡ false) × (5 ≤ length bytes) × IsTag (tag_of bytes) × BreaksLength (tag_of bytes) (length_of bytes)
-IsFramingFault max done bytes TooLarge = (done ≡ false) × (5 ≤ length bytes) × (tag_of bytes ≡ 100) × (max + 4 < length_of bytes) × (length_of bytes ≤ 2147483647)
+IsFramingFault max done bytes TooLarge = (done ≡ false) × (5 ≤ length bytes) × (tag_of bytes ≡ 100) × (max + 4 < length_of bytes) × (length_of bytes ≤ max_length)
 IsFramingFault max done bytes _ = ⊥
 
 pub record HasFramingFault (max : ℕ) (bytes : List ℕ) (fault : WireFault) : Type 0 where
@@ -88,6 +92,6 @@ pub record IsFront (max : ℕ) (bytes : List ℕ) (f : Frame) (n : ℕ) : Type 0
 pub record HasPayloadLen (max : ℕ) (header : List ℕ) (n : ℕ) : Type 0 where
   pub tag : 1 ≤ length header → IsTag (tag_of header)
   pub begun : length header < 5 → n ≡ 0
-  pub counted : 5 ≤ length header → (n + 4 ≡ length_of header) × (length_of header ≤ 2147483647)
+  pub counted : 5 ≤ length header → (n + 4 ≡ length_of header) × (length_of header ≤ max_length)
   pub most : n ≤ max
   pub done : 5 ≤ length header → tag_of header ≡ 99 → n ≡ 0

@@ -1,7 +1,7 @@
 //! One frame at the front of bytes.
 
 ghost use Rattle.std.specs.Prelude.{◌≡◌, ◌+◌, ◌≤◌, ◌<◌, ◌⊎◌, false, length, MatchResult, MatchOption};
-ghost use Rattle.pgwire.specs.Frames.{IsPartial, IsFront, IsFramingFault, IsTag, BreaksLength};
+ghost use Rattle.pgwire.specs.Frames.{IsPartial, IsFront, IsFramingFault, IsTag, BreaksLength, max_length};
 ghost use Rattle.pgwire.specs.Lent.{frame_value};
 ghost use Rattle.pgwire.specs.declared.fault.WireFault.TheVariants.{BadLength, TooLarge};
 
@@ -11,7 +11,7 @@ use byteorder::{BigEndian, ByteOrder};
 /// A frame of a session: CopyData with its payload, or CopyDone.
 #[derive(Clone, Copy, Debug, PartialEq, Eq)]
 pub enum Frame<'a> {
-    /// CopyData: the bytes behind the header.
+    /// CopyData: the bytes after the header.
     Data(&'a [u8]),
     /// CopyDone, the last frame.
     Done,
@@ -20,7 +20,7 @@ pub enum Frame<'a> {
 /// The bytes of a frame's header: its letter and its length.
 pub const HEADER_LEN: usize = 5;
 
-// The greatest Int32.
+// The greatest length that the four bytes of a header tell, an Int32.
 const MAX_LENGTH: u32 = 2147483647;
 
 /// The frame that the bytes begin with, and how many bytes it takes. None where they are less than a whole frame.
@@ -54,8 +54,8 @@ pub fn front(bytes: &[u8], max_frame: u32) -> Result<Option<(Frame<'_>, usize)>,
 pub fn payload_len(tag: u8, length: u32, max_frame: u32) -> Result<usize, WireFault>
     requires { IsTag tag }
     ensures { MatchResult result
-        (λ n. (n + 4 ≡ length) × (n ≤ max_frame) × (length ≤ 2147483647) × (tag ≡ 99 → n ≡ 0))
-        (λ fault. ((fault ≡ BadLength) × BreaksLength tag length) ⊎ ((fault ≡ TooLarge) × (tag ≡ 100) × (max_frame + 4 < length) × (length ≤ 2147483647))) }
+        (λ n. (n + 4 ≡ length) × (n ≤ max_frame) × (length ≤ max_length) × (tag ≡ 99 → n ≡ 0))
+        (λ fault. ((fault ≡ BadLength) × BreaksLength tag length) ⊎ ((fault ≡ TooLarge) × (tag ≡ 100) × (max_frame + 4 < length) × (length ≤ max_length))) }
 {
     if length < 4 || length > MAX_LENGTH || (tag == b'c' && length != 4) {
         return Err(WireFault::BadLength);
@@ -109,6 +109,20 @@ mod tests {
             (&[b'c', 0, 0, 0, 0x45], WireFault::BadLength),
         ] {
             assert_eq!(rt; front(bytes, 64), Err(fault), "{bytes:?}");
+        }
+    }
+
+    #[test]
+    fn lengths_at_the_limits(rt: HostRuntime) {
+        for (length, max_frame, expected) in [
+            (16777220u32, 16777216u32, Ok(16777216usize)),
+            (16777221, 16777216, Err(WireFault::TooLarge)),
+            (2147483647, 2147483643, Ok(2147483643)),
+            (2147483648, 2147483643, Err(WireFault::BadLength)),
+            (4294967295, 2147483643, Err(WireFault::BadLength)),
+            (3, 2147483643, Err(WireFault::BadLength)),
+        ] {
+            assert_eq!(rt; payload_len(b'd', length, max_frame), expected, "{length}");
         }
     }
 }

@@ -29,7 +29,7 @@ pub struct Status {
 // The frame's header, the letter and the fields.
 const FRAME_LEN: usize = 39;
 
-/// Appends the CopyData frame of a status. A refusal, for want of memory alone, leaves the buffer as it was.
+/// Appends the CopyData frame of a status. Out of memory, which is the only error, leaves the buffer as it was.
 pub fn encode_status(status: &Status, out: &mut BytesMut) -> Result<(), WireFault>
     ensures appended { MatchResult result
         (λ _. out.new.items ≡ out.old.items ++ status_frame status.now)
@@ -74,20 +74,14 @@ mod tests {
             ask: true,
         };
         let mut out = BytesMut::new(rt.alloc());
-        // Refused for want of memory, it leaves the buffer as it was, and the next call appends.
-        for _ in 0..2 {
-            let Err(fault) = encode_status(&status, &mut out) else {
-                break;
-            };
-            assert_eq!(rt; fault, WireFault::Memory);
-            assert!(rt; out.is_empty());
-        }
+        assert_eq!(rt; encode_status(&status, &mut out), Ok(()));
         let frame =
             b"d\0\0\0\x26r\0\0\0\0\0\0\x01\x80\0\0\0\0\0\0\x01\x30\0\0\0\0\0\0\x01\x20\xff\xff\xff\xff\xff\xff\xff\xfe\x01";
         assert!(rt; out.as_slice() == frame.as_slice());
     }
 
-    // Run it with each allocation failing in turn: a refused status leaves those in front of it, and is appended at the next call.
+    // Run it with each allocation failing in turn: a refused status leaves those before it, and is appended at the next call. It alone
+    // takes Memory for an answer.
     #[test]
     fn refused_memory_changes_nothing(rt: HostRuntime) {
         let mut out = BytesMut::new(rt.alloc());

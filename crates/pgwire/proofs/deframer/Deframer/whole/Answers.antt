@@ -1,4 +1,4 @@
-use Rattle.std.proofs.Common.{◌≡◌, arith, length, None, sym, ◌∙◌, ⊎_elim}
+use Rattle.std.proofs.Common.{◌≡◌, vec_capacity, arith, length, None, sym, ◌∙◌, ⊎_elim}
 use Rattle.std.proofs.lemmas.List.{get_or-take}
 use Rattle.pgwire.specs.Frames.{tag_of}
 use Rattle.pgwire.specs.Held.{come}
@@ -14,7 +14,7 @@ returns-then-self-eq99 c =
     let size : length d.payload.items ≡ n = omega (arith, same, c.self.invariant.within) in
     let none : d.fault ≡ None = no_fault_yet d.fault (λ x e. omega (arith, (c.self.invariant.waits x e).1 five)) in
     let tag : tag_of (come d.header) ≡ 99 = get_or-take d.header.len d.header.bytes 0 0 (omega arith) ∙ c.if-self-eq99.true in
-    rw (← c.self.view_is) (done_stands d.max_frame n d.header d.payload.items d.done d.fault none c.self.invariant.last c.in-Ok.ensures five size tag)
+    rw (← c.self.view_is) (done_stands d.max_frame n d.header d.payload.items d.done d.fault (vec_capacity d.payload) none c.self.invariant.last c.in-Ok.ensures five size tag)
 
 pub returns : goal.returns
 returns c =
@@ -26,4 +26,4 @@ returns c =
     let none : d.fault ≡ None = no_fault_yet d.fault (λ x e. omega (arith, (c.self.invariant.waits x e).1 five)) in
     let first = get_or-take d.header.len d.header.bytes 0 0 (omega arith) in
     let tag : tag_of (come d.header) ≡ 100 = ⊎_elim (λ is_data. is_data) (λ is_done. absurd (c.if-self-eq99.false (sym first ∙ is_done))) (c.in-Ok.ensures.tag (omega (arith, length-come d.header))) in
-    rw (← c.self.view_is, c.deref.ensures.value) (data_stands d.max_frame n d.header d.payload.items d.done d.fault none c.self.invariant.last c.in-Ok.ensures five size tag)
+    rw (← c.self.view_is, c.deref.ensures.value) (data_stands d.max_frame n d.header d.payload.items d.done d.fault (vec_capacity d.payload) none c.self.invariant.last c.in-Ok.ensures five size tag)
