@@ -1,15 +1,15 @@
 -- What the definition's answer says of the bytes.
-use Rattle.std.proofs.Common.{◌≡◌, ◌≢◌, ℕ, List, ◌++◌, length, drop, Result, Ok, refl, sym, ap, subst, ◌∙◌}
+use Rattle.std.proofs.Common.{◌≡◌, ◌≢◌, ◌+◌, ℕ, List, ◌++◌, length, drop, Result, Ok, refl, sym, ap, subst, ◌∙◌}
+use Rattle.std.specs.List.{flat_map}
 use Rattle.std.proofs.lemmas.List.{drop_at}
 use Rattle.pgtuple.specs.declared.cell.Cell.{Cell}
 use Rattle.pgtuple.specs.declared.fault.TupleFault.{TupleFault}
 use Rattle.pgtuple.specs.declared.fault.TupleFault.TheVariants as fault
 use Rattle.pgtuple.specs.Limits.{IsWireTuple, IsBytes}
-use Rattle.pgtuple.specs.Cells.{tuple_spelling}
+use Rattle.pgtuple.specs.Cells.{cell_spelling, tuple_spelling}
 use Rattle.pgtuple.specs.Reading.{Fails, At, tuple_from, tuple_at}
-use Rattle.pgtuple.specs.Faults.{HasTupleFault}
+use Rattle.pgtuple.specs.Faults.{HasCellFault, no_kind, bad_kind, short_length, bad_length, short_bytes, not_utf8, HasTupleFault, short_width, bad_width, in_cell}
 use Rattle.pgtuple.proofs.Fields.{ok_is}
-use Rattle.pgtuple.proofs.FirstFaults.{faults_are_first}
 use Rattle.pgtuple.proofs.Tuples.{tuple_takes, tuple_again}
 
 pub record IsFront (bytes : List ℕ) (cells : List Cell) (at : At) : Type 0 where
@@ -48,12 +48,16 @@ is_memory bytes f t more e fits same =
     let again = ap (λ (l : List ℕ). tuple_from (0, l)) same ∙ tuple_again t more fits in
     only_memory f (t, (length (tuple_spelling t), more)) (subst (λ (r : Result (List Cell × At) TupleFault). Fails f r) again e)
 
--- A fault that isn't want of memory is the first field that can't be read.
-pub is_first : (bytes : List ℕ) (f : TupleFault) → IsBytes bytes → Fails f (tuple_from (0, bytes)) → f ≢ fault.Memory → HasTupleFault bytes f
-unfolding tuple_at
-is_first bytes fault.Memory fits e other = absurd (other refl)
-is_first bytes (fault.Short place) fits e other = (faults_are_first bytes (fault.Short place) fits).0 e
-is_first bytes (fault.BadKind place) fits e other = (faults_are_first bytes (fault.BadKind place) fits).0 e
-is_first bytes (fault.BadLength place) fits e other = (faults_are_first bytes (fault.BadLength place) fits).0 e
-is_first bytes (fault.NotUtf8 place) fits e other = (faults_are_first bytes (fault.NotUtf8 place) fits).0 e
-is_first bytes (fault.TooManyColumns place) fits e other = (faults_are_first bytes (fault.TooManyColumns place) fits).0 e
+no_cell_wants_memory : (bytes : List ℕ) (place : ℕ) → HasCellFault bytes place fault.Memory → ⊥
+no_cell_wants_memory bytes place (no_kind e is) = absurd cc
+no_cell_wants_memory bytes place (bad_kind kind more e a b c d is) = absurd cc
+no_cell_wants_memory bytes place (short_length kind rest e counted short is) = absurd cc
+no_cell_wants_memory bytes place (bad_length kind n more e counted long fits is) = absurd cc
+no_cell_wants_memory bytes place (short_bytes kind n rest e counted fits short is) = absurd cc
+no_cell_wants_memory bytes place (not_utf8 text more e fits bad is) = absurd cc
+
+-- reading asks for no memory
+pub no_memory : (bytes : List ℕ) (f : TupleFault) → HasTupleFault bytes f → f ≢ fault.Memory
+no_memory bytes f (short_width short is) memory = absurd cc
+no_memory bytes f (bad_width n more e wide fits is) memory = absurd cc
+no_memory bytes f (in_cell n front rest e fits fewer cells texts at) memory = no_cell_wants_memory rest _ (subst (λ (g : TupleFault). HasCellFault rest (2 + length (flat_map cell_spelling front)) g) memory at)

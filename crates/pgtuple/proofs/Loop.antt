@@ -3,8 +3,7 @@ use Rattle.std.proofs.Common.{◌≡◌, ℕ, suc, ◌-◌, ◌+◌, ◌≤◌, 
 use Rattle.std.proofs.lemmas.List.{append-nil}
 use Rattle.pgtuple.specs.declared.cell.Cell.{Cell}
 use Rattle.pgtuple.specs.declared.fault.TupleFault.{TupleFault}
-use Rattle.pgtuple.specs.declared.fault.TupleFault.TheVariants as fault
-use Rattle.pgtuple.specs.Reading.{◌>>=◌, Fails, At, Read, cell_at, cells_at}
+use Rattle.pgtuple.specs.Reading.{◌>>=◌, At, Read, cell_at, cells_at}
 
 -- what was read before, and what is still read
 abbrev pub with_front : List Cell → Read (List Cell) → Read (List Cell)
@@ -33,15 +32,6 @@ ends_at f front count i at total lt h so_far =
     let k : count - i ≡ suc (count - (i + 1)) = omega arith in
     let one : with_front front (cells_at (count - i) at) ≡ Err f = rw (k, h) refl in
     sym so_far ∙ one
-
-pub ends : (f : TupleFault) (front : List Cell) (count i : ℕ) (at : At) (total : Read (List Cell)) → i < count → Fails f (cell_at at)
-    → with_front front (cells_at (count - i) at) ≡ total → Fails f total
-ends fault.Memory front count i at total lt h so_far = tt
-ends (fault.Short place) front count i at total lt h so_far = ends_at (fault.Short place) front count i at total lt h so_far
-ends (fault.BadKind place) front count i at total lt h so_far = ends_at (fault.BadKind place) front count i at total lt h so_far
-ends (fault.BadLength place) front count i at total lt h so_far = ends_at (fault.BadLength place) front count i at total lt h so_far
-ends (fault.NotUtf8 place) front count i at total lt h so_far = ends_at (fault.NotUtf8 place) front count i at total lt h so_far
-ends (fault.TooManyColumns place) front count i at total lt h so_far = ends_at (fault.TooManyColumns place) front count i at total lt h so_far
 
 pub is_done : (front : List Cell) (count i : ℕ) (at : At) (total : Read (List Cell)) → count ≤ i → with_front front (cells_at (count - i) at) ≡ total → total ≡ Ok (front, at)
 unfolding cells_at

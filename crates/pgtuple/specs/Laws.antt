@@ -23,3 +23,7 @@ NoSpellingBeginsAnother = (a b : List Cell) (x y : List ℕ) → IsTuple a → I
 -- Where reading fails the fault is the first field from the left that can't be read, and each such field is the fault.
 abbrev pub FaultsAreTheFirst : Type 0
 FaultsAreTheFirst = (bytes : List ℕ) (f : TupleFault) → IsBytes bytes → (tuple_at bytes ≡ Err f → HasTupleFault bytes f) × (HasTupleFault bytes f → tuple_at bytes ≡ Err f)
+
+-- The bytes begin with the encoding of a tuple that the wire may hold.
+abbrev pub BeginsWithTuple : List ℕ → Type 0
+BeginsWithTuple bytes = (cells : List Cell) × (more : List ℕ) × IsWireTuple cells × (bytes ≡ tuple_spelling cells ++ more)

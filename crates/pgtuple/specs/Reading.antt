@@ -7,6 +7,7 @@ use Rattle.pgtuple.specs.declared.cell.Cell.{Cell}
 use Rattle.pgtuple.specs.declared.cell.Cell.TheVariants.{Null, Unchanged, Text, Binary}
 use Rattle.pgtuple.specs.declared.fault.TupleFault.{TupleFault}
 use Rattle.pgtuple.specs.declared.fault.TupleFault.TheVariants as fault
+use Rattle.pgtuple.specs.Limits.{max_columns, max_int32}
 
 -- an offset in the tuple, and the bytes from there on
 abbrev pub At : Type 0
@@ -16,7 +17,7 @@ At = ℕ × List ℕ
 abbrev pub Read : Type 0 → Type 0
 Read A = Result (A × At) TupleFault
 
--- What a fault of a call has to do with what reading gives: all but want of memory is the definition's.
+-- What a fault of a call has to do with what reading gives: all but Memory is the definition's.
 abbrev pub Fails : {A : Type 0} → TupleFault → Result A TupleFault → Type 0
 Fails fault.Memory read = ⊤
 Fails (fault.Short place) read = read ≡ Err (fault.Short place)
@@ -44,7 +45,7 @@ byte_at (place, byte ∷ bytes) = Ok (byte, (place + 1, bytes))
 unfoldable pub length_at : At → Read ℕ
 length_at at = do
   n ← number_at w32 at
-  if nat_le n.0 2147483647 then Ok n else Err (fault.BadLength at.0)
+  if nat_le n.0 max_int32 then Ok n else Err (fault.BadLength at.0)
 
 unfoldable pub bytes_at : ℕ → At → Read (List ℕ)
 bytes_at n at = if nat_lt (length at.1) n then Err (fault.Short at.0) else Ok (take n at.1, further n at)
@@ -90,9 +91,9 @@ cells_at (suc n) at = do
 abbrev pub tuple_from : At → Read (List Cell)
 tuple_from at = do
   width ← number_at w16 at
-  _few ← (if nat_le width.0 1600 then Ok width else Err (fault.TooManyColumns at.0))
+  _few ← (if nat_le width.0 max_columns then Ok width else Err (fault.TooManyColumns at.0))
   cells_at width.0 width.1
 
--- the tuple at the front of these bytes, and the offset behind it
+-- the tuple at the front of these bytes, and the offset after it
 unfoldable pub tuple_at : List ℕ → Read (List Cell)
 tuple_at bytes = tuple_from (0, bytes)

@@ -8,16 +8,18 @@ ghost use Rattle.pgtuple.specs.Limits.{IsWireTuple};
 ghost use Rattle.pgtuple.specs.Lent.{cell_value};
 ghost use Rattle.pgtuple.specs.Spelled.{IsReadTo};
 ghost use Rattle.pgtuple.specs.Cells.{tuple_spelling};
+ghost use Rattle.pgtuple.specs.Laws.{BeginsWithTuple};
 ghost use Rattle.pgtuple.specs.Faults.{HasTupleFault};
 ghost use Rattle.pgtuple.specs.Reading.{Fails, cell_at, cells_at, tuple_from, tuple_at};
 
 use crate::cell::Tuple;
 use crate::fault::TupleFault;
 use crate::lent::{CellRef, TupleRef};
+use crate::limits::MAX_COLUMNS;
 use crate::reader::Reader;
 use std::alloc::Global;
 
-/// A cell: its kind, and behind `t` and `b` its length and its bytes.
+/// A cell: its kind, and after `t` and `b` its length and its bytes.
 #[tactic(auto, unfolding(crate::specs::Reading::cell_at, crate::specs::Reading::byte_at, crate::specs::Reading::text_cell_at, crate::specs::Reading::binary_cell_at))]
 #[inline(always)]
 pub(crate) fn cell<'a>(reader: &mut Reader<'a>) -> Result<CellRef<'a>, TupleFault>
@@ -57,19 +59,19 @@ fn columns(reader: &mut Reader<'_>) -> Result<(), TupleFault>
 {
     let offset = reader.offset();
     let width = reader.u16()?;
-    if width > 1600 {
+    if width > MAX_COLUMNS {
         return Err(TupleFault::TooManyColumns(offset));
     }
     cells(width as usize, reader)
 }
 
-/// The tuple at the front of these bytes, lent by them, and how many of them it takes. Text is UTF-8 and tested once. It takes
-/// no memory.
+/// The tuple at the front of these bytes, borrowed from them, and how many of them it takes. Text is UTF-8 and tested once. It asks
+/// for no memory.
 pub fn decode_ref(bytes: &[u8]) -> Result<(TupleRef<'_>, usize), TupleFault>
-    // The bytes begin with the spelling of the tuple, which ends there.
+    // The bytes begin with the encoding of the tuple, which ends there.
     ensures found { IfOk result (λ x. IsWireTuple x.0 × (bytes.now ≡ tuple_spelling x.0 ++ drop x.1 bytes.now) × (x.1 ≡ length (tuple_spelling x.0))) }
 
-    // The same as the definition's reading: a tuple that is spelled there is read,
+    // The same as the definition's reading: a tuple that is encoded there is read,
     ensures exact { MatchResult result (λ x. tuple_at bytes.now ≡ Ok (x.0, (x.1, drop x.1 bytes.now))) (λ f. tuple_at bytes.now ≡ Err f) }
 
     // and the fault is that of the first field from the left that can't be read.
@@ -82,20 +84,23 @@ pub fn decode_ref(bytes: &[u8]) -> Result<(TupleRef<'_>, usize), TupleFault>
     Ok((TupleRef::of_bytes(spelled), len))
 }
 
-/// The tuple at the front of these bytes, with memory of its own, and how many of them it takes. No memory is taken before all
-/// of it is read.
+/// The tuple at the front of these bytes, with memory of its own, and how many of them it takes. It asks for no memory before all
+/// of the tuple has been read.
 pub fn decode(alloc: Global, bytes: &[u8]) -> Result<(Tuple, usize), TupleFault>
-    // The bytes begin with the spelling of the tuple, which ends there.
+    // The bytes begin with the encoding of the tuple, which ends there.
     ensures found { IfOk result (λ x. IsWireTuple x.0 × (bytes.now ≡ tuple_spelling x.0 ++ drop x.1 bytes.now) × (x.1 ≡ length (tuple_spelling x.0))) }
 
-    // A tuple that is spelled there is read, unless memory runs out.
+    // A tuple that is encoded there is read, unless memory runs out.
     ensures only { (t : List Cell) (more : List ℕ) → IsWireTuple t → bytes.now ≡ tuple_spelling t ++ more
         → MatchResult result (λ x. (x.0 ≡ t) × (x.1 ≡ length (tuple_spelling t))) (λ f. f ≡ TupleFault.Memory) }
 
     // The fault is that of the first field from the left that can't be read.
     ensures fault { IfErr result (λ f. f ≢ TupleFault.Memory → HasTupleFault bytes.now f) }
 
-    // The same in one: the answer is the definition's.
+    // Memory is asked for only where the bytes begin with the encoding of a tuple.
+    ensures memory { IfErr result (λ f. f ≡ TupleFault.Memory → BeginsWithTuple bytes.now) }
+
+    // The same in one: the result is the definition's.
     ensures exact { MatchResult result (λ x. tuple_at bytes.now ≡ Ok (x.0, (x.1, drop x.1 bytes.now))) (λ f. Fails f (tuple_at bytes.now)) }
 {
     let (lent, len) = decode_ref(bytes)?;

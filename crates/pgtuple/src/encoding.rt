@@ -5,7 +5,7 @@
 ghost use Rattle.std.specs.Prelude.{◌≡◌, ◌≤◌, ◌++◌, ◌∷◌, length, All, OnOk, OnErr, IfErr};
 ghost use Rattle.std.specs.Int.{w32, to_be_bytes};
 ghost use Rattle.std.specs.List.{flat_map};
-ghost use Rattle.pgtuple.specs.Limits.{IsCell, IsTuple};
+ghost use Rattle.pgtuple.specs.Limits.{IsCell, IsTuple, max_int32};
 ghost use Rattle.pgtuple.specs.Cells.{cell_spelling, tuple_spelling};
 ghost use Rattle.pgtuple.specs.Writing.{Keeps};
 ghost use Rattle.pgtuple.specs.Forms.{form_cells, IsForm};
@@ -17,7 +17,7 @@ use std::alloc::AllocError;
 
 /// The kind of a cell, the number of its bytes, and the bytes.
 fn push_counted(out: &mut Vec<u8>, kind: u8, bytes: &[u8]) -> Result<(), AllocError>
-    requires { length bytes.now ≤ 2147483647 }
+    requires { length bytes.now ≤ max_int32 }
     ensures ok { OnOk result (out.new.items ≡ out.old.items ++ kind ∷ (to_be_bytes w32 (length bytes.now) ++ bytes.now)) }
     ensures err { OnErr result (Keeps out.old.items out.new.items) }
 {
@@ -63,7 +63,7 @@ fn push_tuple(out: &mut Vec<u8>, cells: &[Cell]) -> Result<(), AllocError>
     Ok(())
 }
 
-/// The cells of someone's, or the bytes that spell them.
+/// The owned cells, or the bytes that encode them.
 fn push_form(out: &mut Vec<u8>, form: &Form<'_>) -> Result<(), AllocError>
     requires { IsForm form.now }
     ensures ok { OnOk result (out.new.items ≡ out.old.items ++ tuple_spelling (form_cells form.now)) }
@@ -75,7 +75,7 @@ fn push_form(out: &mut Vec<u8>, form: &Form<'_>) -> Result<(), AllocError>
     }
 }
 
-/// Appends the one spelling of the tuple.
+/// Appends the one encoding of the tuple.
 pub fn encode(tuple: &TupleRef<'_>, out: &mut Vec<u8>) -> Result<(), TupleFault>
     ensures ok { OnOk result (out.new.items ≡ out.old.items ++ tuple_spelling tuple.now) }
     ensures err { OnErr result (out.new.items ≡ out.old.items) }

@@ -8,6 +8,7 @@ pub mod encoding;
 pub mod fault;
 pub mod laws;
 pub mod lent;
+pub mod limits;
 mod reader;
 pub mod seq;
 mod spelled;
@@ -19,6 +20,7 @@ pub use decoding::{decode, decode_ref};
 pub use encoding::encode;
 pub use fault::TupleFault;
 pub use lent::{CellRef, Cells, TupleRef};
+pub use limits::{MAX_COLUMNS, MAX_INT32};
 pub use seq::Seq;
 pub use text::Text;
 

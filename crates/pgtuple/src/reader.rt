@@ -7,6 +7,7 @@ ghost use Rattle.std.specs.Int.{w16, w32};
 ghost use Rattle.pgtuple.specs.Reading.{At, number_at, length_at, bytes_at, text_at, byte_at};
 
 use crate::fault::TupleFault;
+use crate::limits::MAX_INT32;
 use std::marker::Model;
 
 /// The bytes that are still to be read, and the offset of the first of them in the tuple.
@@ -87,7 +88,7 @@ impl<'a> Reader<'a> {
     {
         let offset = self.offset();
         let length = self.u32()?;
-        if length > 2147483647 {
+        if length > MAX_INT32 {
             return Err(TupleFault::BadLength(offset));
         }
         Ok(length as usize)

@@ -13,143 +13,161 @@ const KEPT: &[u8] = &[0, 2, b't', 0, 0, 0, 1, b'2', b'u'];
 
 const BINARY: &[u8] = &[0, 1, b'b', 0, 0, 0, 2, 255, 0];
 
-/// Reads the bytes, with some behind them too, and writes what was read behind others.
-fn goes_both_ways(rt: &impl Abort, alloc: Global, bytes: &[u8]) -> Result<(), TupleFault> {
-    let (tuple, length) = decode(alloc, bytes)?;
-    assert_eq!(rt; length, bytes.len());
+/// Encoded tuples and how many cells they have.
+const VECTORS: [(&[u8], usize); 5] = [(EMPTY, 0), (ROW, 2), (KEY, 2), (KEPT, 2), (BINARY, 1)];
+
+/// Bytes that don't begin with a tuple, and the first field that can't be read. Lengths and widths beyond the bytes are among them.
+const FAULTS: [(&[u8], TupleFault); 16] = [
+    (&[], TupleFault::Short(0)),
+    (&[0], TupleFault::Short(0)),
+    (&[6, 65], TupleFault::TooManyColumns(0)),
+    (&[255, 255], TupleFault::TooManyColumns(0)),
+    (&[6, 64], TupleFault::Short(2)),
+    (&[0, 1, b'x'], TupleFault::BadKind(2)),
+    (&[0, 1, b't'], TupleFault::Short(3)),
+    (&[0, 1, b't', 0, 0, 0], TupleFault::Short(3)),
+    (&[0, 1, b't', 128, 0, 0, 0], TupleFault::BadLength(3)),
+    (&[0, 1, b'b', 255, 255, 255, 255], TupleFault::BadLength(3)),
+    (&[0, 1, b't', 0, 0, 0, 2, b'a'], TupleFault::Short(7)),
+    (&[0, 1, b'b', 127, 255, 255, 255], TupleFault::Short(7)),
+    (
+        &[0, 1, b't', 127, 255, 255, 255, 97, 97],
+        TupleFault::Short(7),
+    ),
+    (&[6, 64, b'b', 127, 255, 255, 255, 0], TupleFault::Short(7)),
+    (&[0, 2, b'n', b't', 0, 0, 0, 1, 255], TupleFault::NotUtf8(8)),
+    (&[0, 1, b't', 0, 0, 0, 2, 195, 40], TupleFault::NotUtf8(7)),
+];
+
+/// The bytes are a tuple of so many cells, whichever decoder reads them, and are written again whichever way it is borrowed.
+fn goes_both_ways(rt: &impl Abort, alloc: Global, bytes: &[u8], width: usize) -> Result<(), Fail> {
+    let (borrowed, len) = decode_ref(bytes)?;
+    assert_eq!(rt; len, bytes.len());
+    assert_eq!(rt; borrowed.width(), width);
+    assert_eq!(rt; borrowed.spelled_len(), bytes.len() as u64);
+    assert!(rt; borrowed.spelled() == Some(bytes));
+    let (tuple, len) = decode(alloc, bytes)?;
+    assert_eq!(rt; len, bytes.len());
+    assert!(rt; borrowed.to_tuple(alloc)? == tuple);
+    assert!(rt; tuple.borrowed().spelled().is_none());
     assert_eq!(rt; tuple.borrowed().spelled_len(), bytes.len() as u64);
     let mut out = b"before".to_vec(alloc)?;
+    encode(&borrowed, &mut out)?;
     encode(&tuple.borrowed(), &mut out)?;
     assert_eq!(rt; &out[..6], b"before".as_slice());
-    assert_eq!(rt; &out[6..], bytes);
-    let (again, length) = decode(alloc, &out[6..])?;
-    assert_eq!(rt; length, bytes.len());
-    assert!(rt; again == tuple);
+    assert!(rt; out[6..].starts_with(bytes));
+    assert!(rt; out[6..].ends_with(bytes));
+    assert_eq!(rt; out.len(), 6 + 2 * bytes.len());
     assert!(rt; tuple.clone()? == tuple);
+    assert_eq!(rt; tuple.into_cells().capacity(), width);
     Ok(())
 }
 
 #[test]
 fn vectors_go_both_ways(rt: HostRuntime) -> Result<(), Fail> {
-    goes_both_ways(&rt, rt.alloc(), EMPTY)?;
-    goes_both_ways(&rt, rt.alloc(), ROW)?;
-    goes_both_ways(&rt, rt.alloc(), KEY)?;
-    goes_both_ways(&rt, rt.alloc(), KEPT)?;
-    goes_both_ways(&rt, rt.alloc(), BINARY)?;
+    for (bytes, width) in VECTORS {
+        goes_both_ways(&rt, rt.alloc(), bytes, width)?;
+    }
     Ok(())
+}
+
+/// More bytes may follow a tuple.
+#[test]
+fn bytes_after_a_tuple(rt: HostRuntime) -> Result<(), Fail> {
+    for (bytes, width) in VECTORS {
+        let mut longer = bytes.to_vec(rt.alloc())?;
+        longer.extend_from_slice(b"more")?;
+        let (borrowed, len) = decode_ref(&longer)?;
+        assert_eq!(rt; len, bytes.len());
+        assert_eq!(rt; borrowed.cells().len(), width);
+        assert!(rt; borrowed.spelled() == Some(bytes));
+    }
+    Ok(())
+}
+
+/// 1600 columns, and a text of 1 MB.
+#[test]
+fn tuples_at_the_limits(rt: HostRuntime) -> Result<(), Fail> {
+    let alloc = rt.alloc();
+    let mut widest = [6u8, 64].to_vec(alloc)?;
+    widest.resize(1602, b'n')?;
+    goes_both_ways(&rt, alloc, &widest, 1600)?;
+    let mut longest = [0u8, 1, b't', 0, 16, 0, 0].to_vec(alloc)?;
+    longest.resize(1048583, b'a')?;
+    goes_both_ways(&rt, alloc, &longest, 1)
+}
+
+/// What can't be read has this fault by either decoder, which asks for no memory: so also with every request refused.
+#[test]
+fn faults_and_their_offsets(rt: HostRuntime) {
+    for (bytes, fault) in FAULTS {
+        assert!(rt; decode_ref(bytes).err() == Some(fault), "{bytes:?}");
+        assert!(rt; decode(rt.alloc(), bytes).err() == Some(fault), "{bytes:?}");
+    }
+}
+
+/// The cells of a tuple are those that the iterator gives, whichever way it is borrowed.
+fn has_cells(rt: &impl Abort, row: &TupleRef<'_>, expected: &[CellRef<'_>]) {
+    let mut cells = row.cells();
+    for (k, cell) in expected.iter().enumerate() {
+        assert!(rt; cells.len() == expected.len().saturating_sub(k));
+        assert!(rt; is_same(row.get(k), Some(*cell)));
+        assert!(rt; is_same(cells.next(), Some(*cell)));
+    }
+    assert!(rt; cells.next().is_none());
+    assert!(rt; cells.next().is_none());
+    assert!(rt; row.get(expected.len()).is_none());
+}
+
+fn is_same(a: Option<CellRef<'_>>, b: Option<CellRef<'_>>) -> bool {
+    match (a, b) {
+        (Some(CellRef::Null), Some(CellRef::Null)) => true,
+        (Some(CellRef::Unchanged), Some(CellRef::Unchanged)) => true,
+        (Some(CellRef::Text(a)), Some(CellRef::Text(b))) => a == b,
+        (Some(CellRef::Binary(a)), Some(CellRef::Binary(b))) => a == b,
+        _ => false,
+    }
 }
 
 #[test]
 fn cells_of_rows(rt: HostRuntime) -> Result<(), Fail> {
-    let (tuple, _) = decode(rt.alloc(), KEY)?;
-    assert_eq!(rt; tuple.width(), 2);
-    let lent = tuple.borrowed();
-    assert_eq!(rt; lent.width(), 2);
-    assert!(rt; matches!(lent.get(0), Some(CellRef::Text("1"))));
-    assert!(rt; matches!(lent.get(1), Some(CellRef::Null)));
-    assert!(rt; lent.get(2).is_none());
-    let (tuple, _) = decode(rt.alloc(), KEPT)?;
-    assert!(rt; matches!(tuple.get(1), Some(Cell::Unchanged)));
-    let (tuple, _) = decode(rt.alloc(), BINARY)?;
-    assert!(rt; matches!(tuple.borrowed().get(0), Some(CellRef::Binary([255, 0]))));
+    for (bytes, cells) in [
+        (EMPTY, &[][..]),
+        (ROW, &[CellRef::Text("1"), CellRef::Text("a")]),
+        (KEY, &[CellRef::Text("1"), CellRef::Null]),
+        (KEPT, &[CellRef::Text("2"), CellRef::Unchanged]),
+        (BINARY, &[CellRef::Binary(&[255, 0])]),
+    ] {
+        has_cells(&rt, &decode_ref(bytes)?.0, cells);
+        has_cells(&rt, &decode_ref(bytes)?.0.lend(), cells);
+        has_cells(&rt, &decode(rt.alloc(), bytes)?.0.borrowed(), cells);
+    }
     Ok(())
 }
 
-/// The fault that the bytes have.
-fn fault_of(alloc: Global, bytes: &[u8]) -> Option<TupleFault> {
-    decode(alloc, bytes).err()
-}
-
-#[test]
-fn faults_and_their_places(rt: HostRuntime) {
-    let alloc = rt.alloc();
-    assert_eq!(rt; fault_of(alloc, &[]), Some(TupleFault::Short(0)));
-    assert_eq!(rt; fault_of(alloc, &[0]), Some(TupleFault::Short(0)));
-    assert_eq!(rt;
-        fault_of(alloc, &[6, 65]),
-        Some(TupleFault::TooManyColumns(0))
-    );
-    assert_eq!(rt;
-        fault_of(alloc, &[255, 255]),
-        Some(TupleFault::TooManyColumns(0))
-    );
-    assert_eq!(rt; fault_of(alloc, &[6, 64]), Some(TupleFault::Short(2)));
-    assert_eq!(rt;
-        fault_of(alloc, &[0, 1, b'x']),
-        Some(TupleFault::BadKind(2))
-    );
-    assert_eq!(rt;
-        fault_of(alloc, &[0, 1, b't', 0, 0, 0]),
-        Some(TupleFault::Short(3))
-    );
-    assert_eq!(rt;
-        fault_of(alloc, &[0, 1, b't', 128, 0, 0, 0]),
-        Some(TupleFault::BadLength(3))
-    );
-    assert_eq!(rt;
-        fault_of(alloc, &[0, 1, b'b', 255, 255, 255, 255]),
-        Some(TupleFault::BadLength(3))
-    );
-    assert_eq!(rt;
-        fault_of(alloc, &[0, 1, b't', 0, 0, 0, 2, b'a']),
-        Some(TupleFault::Short(7))
-    );
-    assert_eq!(rt;
-        fault_of(alloc, &[0, 1, b'b', 127, 255, 255, 255]),
-        Some(TupleFault::Short(7))
-    );
-    assert_eq!(rt;
-        fault_of(alloc, &[0, 2, b'n', b't', 0, 0, 0, 1, 255]),
-        Some(TupleFault::NotUtf8(8))
-    );
-}
-
-/// Where memory runs out that is the answer, and the buffer stays.
-fn answers_or_wants_memory(rt: &impl Abort, alloc: Global) -> Result<(), TupleFault> {
+/// Where memory runs out that is the error, and the buffer stays. Run it with each allocation failing in turn: it alone takes Memory for
+/// an answer.
+fn reads_and_writes(rt: &impl Abort, alloc: Global) -> Result<(), TupleFault> {
     let mut out = b"before".to_vec(alloc)?;
-    let tuple = match decode(alloc, ROW) {
-        Ok((tuple, length)) => {
-            assert_eq!(rt; length, ROW.len());
-            tuple
-        }
-        Err(fault) => {
-            assert_eq!(rt; fault, TupleFault::Memory);
-            return Err(fault);
-        }
-    };
+    let (tuple, len) = decode(alloc, ROW)?;
+    assert_eq!(rt; len, ROW.len());
     if let Err(fault) = encode(&tuple.borrowed(), &mut out) {
         assert_eq!(rt; fault, TupleFault::Memory);
         assert_eq!(rt; out.as_slice(), b"before".as_slice());
         return Err(fault);
     }
     assert_eq!(rt; &out[6..], ROW);
-    for k in 0..tuple.width() {
-        if let (Some(cell), Some(lent)) = (tuple.get(k), tuple.borrowed().get(k)) {
-            assert!(rt; lent.to_cell(alloc)? == *cell);
-            assert!(rt; cell.clone()? == *cell);
-        }
+    for (cell, borrowed) in tuple.as_slice().iter().zip(tuple.borrowed().cells()) {
+        assert!(rt; borrowed.to_cell(alloc)? == *cell);
+        assert!(rt; cell.clone()? == *cell);
     }
     Ok(())
 }
 
 #[test]
-fn want_of_memory_is_an_answer(rt: HostRuntime) {
-    let answer = answers_or_wants_memory(&rt, rt.alloc());
-    assert!(rt; matches!(answer, Ok(()) | Err(TupleFault::Memory)));
-}
-
-/// What can't be read takes no memory for what isn't there.
-#[test]
-fn claims_beyond_the_bytes(rt: HostRuntime) {
-    let alloc = rt.alloc();
-    assert_eq!(rt;
-        fault_of(alloc, &[6, 64, b'b', 127, 255, 255, 255, 0]),
-        Some(TupleFault::Short(7))
-    );
-    assert_eq!(rt;
-        fault_of(alloc, &[0, 1, b't', 127, 255, 255, 255, 97, 97, 97, 97]),
-        Some(TupleFault::Short(7))
-    );
+fn refused_memory_is_the_only_error(rt: HostRuntime) {
+    let result = reads_and_writes(&rt, rt.alloc());
+    assert!(rt; matches!(result, Ok(()) | Err(TupleFault::Memory)));
 }
 
 #[test]
