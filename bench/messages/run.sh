@@ -1,17 +1,33 @@
 #!/usr/bin/env bash
-# Measures how fast messages are read: run.sh [RAW [PROGRAM..]]. Without a raw session one is made (200,000 Inserts of four text
-# cells of 10 bytes). A PROGRAM with its words is run in turn on the same file, seven times, and prints its own times.
+# Measures how fast messages are read, beside decoder.c, which does the same by hand in C: run.sh [RAW]. Without the bytes of a session
+# these are made (200,000 Inserts of four text cells of 10 bytes). Each way is run in turn, 21 times; the medians are printed, with the
+# bytes of frames a second and the ratio to C.
 set -e
 here="$(cd "$(dirname "$0")" && pwd)"
 source "$here/../build.sh"
 work="$(mktemp -d)"
 trap 'rm -r "$work"' EXIT
 raw="${1:-$work/made.raw}"
-[ $# -gt 0 ] && shift || python3 "$here/make.py" "$raw"
+[ $# -gt 0 ] || python3 "$here/make.py" "$raw"
 build "$here/main.rattle" messages "$work" pglsn pgtuple pgwire pglogical
-for turn in 1 2 3 4 5 6 7; do
-    "$work/crates/messages/out/messages" "$raw" | tee -a "$work/times"
-    [ $# -eq 0 ] || "$@" "$raw"
+gcc -O2 -o "$work/decoder" "$here/decoder.c"
+size="$(stat -c %s "$raw")"
+chunks="4096 65536 1000000"
+for turn in $(seq 21); do
+    for chunk in $chunks; do
+        "$work/decoder" "$raw" "$chunk" 1 >> "$work/c.$chunk"
+        for way in borrowed cells owned; do
+            "$work/crates/messages/out/messages" "$raw" "$way" "$chunk" 1 >> "$work/$way.$chunk"
+        done
+    done
 done
-echo "median of the passes, in microseconds: $(awk '{print $2}' "$work/times" | median)"
+printf '%-10s %-9s %10s %6s %8s\n' chunks way micros GB/s 'times C'
+for chunk in $chunks; do
+    c="$(awk '{ print $4 }' "$work/c.$chunk" | median)"
+    for way in c borrowed cells owned; do
+        micros="$(awk '{ print $4 }' "$work/$way.$chunk" | median)"
+        awk -v chunk="$chunk" -v way="$way" -v t="$micros" -v c="$c" -v size="$size" \
+            'BEGIN { printf "%-10s %-9s %10d %6.2f %8.2f\n", chunk, way, t, size / t / 1000, t / c }'
+    done
+done
 uptime
