@@ -1,5 +1,5 @@
-//! What takes the messages of a session, one after the other: their order, what is held of open transactions, the relation
-//! cache, the store, and what is confirmed and received.
+//! Applies the messages of a session in the order in which they come. It keeps the order of messages, the buffered items of open
+//! transactions, the relation cache, the store, and the confirmed and received positions.
 //!
 //! PostgreSQL documentation, Streaming Replication Protocol; Logical Streaming Replication Protocol.
 
@@ -38,7 +38,7 @@ use pgwire::{ServerMsg, Status, decode_server, encode_status};
 use std::alloc::Global;
 use std::marker::Model;
 
-/// Takes the messages of a session, one after the other.
+/// Applies the messages of a session to a store.
 #[derive(Drop)]
 pub(crate) struct Applier<P: Spools + Drop, C: ReplicaStore + Drop> {
     alloc: Global,
@@ -61,6 +61,7 @@ impl<P: Spools + Drop, C: ReplicaStore + Drop> Model for Applier<P, C> {
     ghost view = { λ a. record { store = a.store; confirmed = a.confirmed; received = a.received; version = a.order.version; limit = P.most a.spools; order = a.order.state; held = P.held a.spools; relations = a.book; replies = a.replies.items } };
 }
 
+// Out of memory in the order of messages is the subscriber's own.
 fn order_fault(fault: OrderFault) -> Fault
     ensures fault { result ≡ fault_of_order fault }
     ensures own { IsOfFeeding result }
@@ -71,6 +72,7 @@ fn order_fault(fault: OrderFault) -> Fault
     }
 }
 
+// Out of memory in the decoder is the subscriber's own.
 fn decode_fault(fault: DecodeFault) -> Fault
     ensures fault { result ≡ fault_of_decode fault }
     ensures own { IsOfFeeding result }
@@ -81,6 +83,7 @@ fn decode_fault(fault: DecodeFault) -> Fault
     }
 }
 
+// Out of memory in the spools is the subscriber's own.
 fn spool_fault(fault: SpoolFault) -> Fault
     ensures fault { result ≡ fault_of_spool fault }
     ensures own { IsOfFeeding result }
@@ -91,7 +94,7 @@ fn spool_fault(fault: SpoolFault) -> Fault
     }
 }
 
-/// A transaction opens, without items.
+// Opens a transaction, which has no items yet.
 fn open<P: Spools>(spools: &mut P, xid: u32) -> Result<(), Fault>
     requires { map.contains_key (P.held spools.old) xid ≡ false }
     ensures ok { OnOk result (P.held spools.new ≡ map.insert (P.held spools.old) xid []) }
@@ -104,7 +107,8 @@ fn open<P: Spools>(spools: &mut P, xid: u32) -> Result<(), Fault>
     }
 }
 
-/// The item of a message is held under its label. A message without one changes nothing.
+// Buffers the item of a message until its transaction commits, under the transaction or subtransaction that made it. A message
+// without an item changes nothing.
 fn hold<P: Spools>(
     spools: &mut P,
     message: &MessageRef<'_>,
@@ -127,7 +131,7 @@ fn hold<P: Spools>(
     }
 }
 
-/// What is confirmed behind a keepalive: its end, where it stands outside pairs and blocks.
+// The confirmed position after a keepalive: its end counts only outside pairs and blocks.
 fn confirmed_by(outside: bool, confirmed: Lsn, end: Lsn) -> Lsn
     ensures { result ≡ (if outside then max confirmed end else confirmed) }
 {
@@ -138,7 +142,7 @@ fn confirmed_by(outside: bool, confirmed: Lsn, end: Lsn) -> Lsn
     }
 }
 
-/// Appends the status where a reply is asked.
+// Appends a status if a reply is asked for. After an error the replies are unchanged.
 fn append_reply(asks: bool, status: &Status, replies: &mut BytesMut) -> Result<(), Fault>
     ensures ok { OnOk result (replies.new.items ≡ (if asks then replies.old.items ++ status_frame status.now else replies.old.items)) }
     ensures err { OnErr result (replies.new.items ≡ replies.old.items) }
@@ -154,7 +158,7 @@ fn append_reply(asks: bool, status: &Status, replies: &mut BytesMut) -> Result<(
 }
 
 impl<P: Spools + Drop, C: ReplicaStore + Drop> Applier<P, C> {
-    /// Over a store, from a disconnection on.
+    /// Over a store, as after a disconnection.
     pub fn new(alloc: Global, store: C, spools: P, version: Version) -> Applier<P, C>
         ensures store { result.store ≡ store }
         ensures confirmed { result.confirmed ≡ C.place store }
@@ -181,7 +185,7 @@ impl<P: Spools + Drop, C: ReplicaStore + Drop> Applier<P, C> {
         }
     }
 
-    /// Forgets what belongs to the session.
+    /// Forgets the session: the order of messages, the relation cache, buffered items and unsent replies.
     pub fn disconnect(&mut self)
         ensures store { self.new.store ≡ self.old.store }
         ensures confirmed { self.new.confirmed ≡ self.old.confirmed }
@@ -200,14 +204,14 @@ impl<P: Spools + Drop, C: ReplicaStore + Drop> Applier<P, C> {
         self.replies.clear();
     }
 
-    /// The position up to which the rows stand.
+    /// The position up to which the stored rows are complete.
     pub fn position(&self) -> Lsn
         ensures { result ≡ C.place self.now.store }
     {
         self.store.position()
     }
 
-    /// A commit of a transaction, whose items are held no longer.
+    // Commits a transaction, whose items are buffered no longer.
     fn commit(&mut self, xid: u32, end: Lsn) -> Result<(), Fault>
         ensures taken { C.serves self.new.store → OnOk result (Commits C.holds C.place end (items_of (held_of self.old.held xid)) self.old.store self.old.confirmed self.old.relations self.new.store self.new.confirmed self.new.relations) }
         ensures refused { C.serves self.new.store → IfErr result (RefusesCommit C.holds C.place end (items_of (held_of self.old.held xid)) self.old.store self.old.confirmed self.old.relations self.new.store) }
@@ -231,7 +235,7 @@ impl<P: Spools + Drop, C: ReplicaStore + Drop> Applier<P, C> {
         Ok(())
     }
 
-    /// Goes through with an event of the order of messages.
+    // Applies what a message means where it comes.
     fn take_event(&mut self, message: &MessageRef<'_>, event: Event) -> Result<(), Fault>
         requires fits { Fits self.old.held event }
         requires spellable { IsSpellableMessage (message_value message.now) }
@@ -262,7 +266,7 @@ impl<P: Spools + Drop, C: ReplicaStore + Drop> Applier<P, C> {
         }
     }
 
-    /// Takes a logical message, which came with these start and end fields.
+    /// Applies a logical message. `start` and `end` are the fields of its XLogData.
     pub fn take_message(
         &mut self,
         message: &MessageRef<'_>,
@@ -288,7 +292,7 @@ impl<P: Spools + Drop, C: ReplicaStore + Drop> Applier<P, C> {
         Ok(())
     }
 
-    /// Takes the payload of a frame: XLogData with a logical message, or a keepalive.
+    /// Applies the payload of a CopyData frame: XLogData with a logical message, or a keepalive. `now` is the clock of a reply.
     pub fn take_payload(&mut self, payload: &[u8], now: i64) -> Result<(), Fault>
         requires opened { AreOpened self.old.order self.old.held }
         ensures takes { C.serves self.new.store → OnOk result (FramesGo C.holds C.place now (CopyData payload.now ∷ []) self.old self.new) }
@@ -313,6 +317,7 @@ impl<P: Spools + Drop, C: ReplicaStore + Drop> Applier<P, C> {
         }
     }
 
+    // Decodes the logical message in an XLogData in place, and applies it.
     fn take_body(&mut self, body: &[u8], start: Lsn, end: Lsn) -> Result<(), Fault>
         requires opened { AreOpened self.old.order self.old.held }
         ensures takes { C.serves self.new.store → OnOk result ((m : Message) × (message_at (is_in_block self.old.order.context) body.now ≡ Ok m) × ((now clock : ℤ) → Goes C.holds C.place (λ s. take now s (Data start end clock m)) self.old self.new)) }
@@ -328,6 +333,7 @@ impl<P: Spools + Drop, C: ReplicaStore + Drop> Applier<P, C> {
         }
     }
 
+    // Confirms the end of a quiet keepalive, and appends the status that it asks for.
     fn take_keepalive(&mut self, end: Lsn, reply: bool, now: i64) -> Result<(), Fault>
         requires opened { AreOpened self.old.order self.old.held }
         ensures takes { OnOk result ((clock : ℤ) → Goes C.holds C.place (λ s. take now s (Keepalive end clock reply)) self.old self.new) }
@@ -351,35 +357,35 @@ impl<P: Spools + Drop, C: ReplicaStore + Drop> Applier<P, C> {
         Ok(())
     }
 
-    /// What is confirmed.
+    /// The position that the server may forget up to.
     pub fn confirmed(&self) -> Lsn
         ensures { result ≡ self.now.confirmed }
     {
         self.confirmed
     }
 
-    /// What is received.
+    /// The greatest position that the session has named.
     pub fn received(&self) -> Lsn
         ensures { result ≡ self.now.received }
     {
         self.received
     }
 
-    /// The bytes that wait to be sent.
+    /// The status frames that wait to be sent.
     pub fn replies(&self) -> &[u8]
         ensures { result.now ≡ self.now.replies }
     {
         self.replies.as_slice()
     }
 
-    /// The bytes that waited were sent.
+    /// Drops the status frames, once they were sent.
     pub fn clear_replies(&mut self)
         ensures { self.new ≡ record self.old { replies = [] } }
     {
         self.replies.clear();
     }
 
-    /// Appends a status of what is received and confirmed to the bytes that wait to be sent.
+    /// Appends a status of what is received and confirmed to the frames that wait to be sent.
     pub fn append_status(&mut self, now: i64, ask: bool) -> Result<(), Fault>
         ensures ok { OnOk result (self.new ≡ record self.old { replies = self.old.replies ++ status_frame (record { written = self.old.received; flushed = self.old.confirmed; applied = self.old.confirmed; clock = now; ask = ask }) }) }
         ensures err { OnErr result (self.new ≡ self.old) }
@@ -395,7 +401,7 @@ impl<P: Spools + Drop, C: ReplicaStore + Drop> Applier<P, C> {
         append_reply(true, &status, &mut self.replies)
     }
 
-    /// All rows of the store.
+    /// All rows of the store. Nothing changes.
     pub fn rows(&mut self) -> Result<Vec<DumpRow>, Fault>
         ensures rows { C.serves self.new.store → IfOk result (λ rows. Shows C.holds self.old.store rows.items) }
         ensures unchanged { C.serves self.new.store → Stays C.holds self.old.store self.new.store }
@@ -411,7 +417,7 @@ impl<P: Spools + Drop, C: ReplicaStore + Drop> Applier<P, C> {
         }
     }
 
-    /// The store alone.
+    /// Gives the store back, and drops the rest.
     pub fn into_store(self) -> C
         ensures { result ≡ self.store }
     {

@@ -1,4 +1,4 @@
-//! The changes of a commit, each with the definition that the relation cache has where it stands.
+//! The changes of a commit, each with the definition that the relation cache has when its turn comes.
 //!
 //! PostgreSQL documentation, Logical Replication Message Formats, Relation.
 
@@ -21,15 +21,15 @@ use pgrel::Book;
 use pgspool::Spools;
 use std::alloc::Global;
 
-/// The changes of a commit that were described so far. `numbers` has, by OID, the number of the definition in the work that the
-/// relation cache has now.
+/// The changes of a commit that were described so far. `numbers` gives, by OID, the number in `work` of the definition that the
+/// relation cache has now: so a definition is copied once each time that a relation is described and then used.
 #[derive(Drop)]
 pub(crate) struct Draft<'a> {
     pub work: Work<'a>,
     pub numbers: IndexMap<u32, usize>,
 }
 
-/// A Relation message: the cache knows it from here on.
+// Puts the definition of a Relation message into the cache.
 fn describe_relation(
     alloc: Global,
     book: &mut Book,
@@ -52,7 +52,7 @@ fn describe_relation(
     }
 }
 
-/// The number of the definition that the cache has of a relation: the work is given it where it hasn't got it yet.
+// The number of the definition that the cache has of a relation. It is copied into the work if it isn't there yet.
 fn number_of(alloc: Global, book: &Book, draft: &mut Draft<'_>, oid: u32) -> Result<usize, Fault>
     requires { AreNumbered book.now draft.old.work.definitions (get nat_eq draft.old.numbers) }
     ensures number { IfOk result (IsNumbered book.now draft.new.work.definitions oid) }
@@ -79,7 +79,7 @@ fn number_of(alloc: Global, book: &Book, draft: &mut Draft<'_>, oid: u32) -> Res
     }
 }
 
-/// One change of a relation, with the definition that the cache has.
+// Adds one change of a relation, with the definition that the cache has.
 fn describe_change<'a>(
     alloc: Global,
     book: &Book,
@@ -99,7 +99,7 @@ fn describe_change<'a>(
     }
 }
 
-/// A Truncate of these relations, as one change for each.
+// Adds the Truncate of these relations, as one change for each.
 fn describe_truncate(
     alloc: Global,
     book: &Book,
@@ -117,7 +117,7 @@ fn describe_truncate(
     Ok(())
 }
 
-/// One item of a commit: a Relation goes into the cache, a change gets its definition from there.
+// Adds one item of a commit: a Relation goes into the cache, a change gets its definition from there.
 fn describe_item<'a>(
     alloc: Global,
     book: &mut Book,
@@ -146,8 +146,11 @@ fn describe_item<'a>(
     }
 }
 
-/// The changes of a transaction whose commit has come, in the order of its items. The Relation messages among them go into the
-/// cache.
+/// The changes of a transaction that commits, in the order of its items. The Relation messages among them go into the cache.
+///
+/// # Errors
+///
+/// `Fault::Relation` for a change of a relation that the cache doesn't have, and out of memory.
 pub(crate) fn describe<'a, P: Spools>(
     alloc: Global,
     book: &mut Book,
@@ -169,7 +172,7 @@ pub(crate) fn describe<'a, P: Spools>(
     Ok(draft.work)
 }
 
-/// One item of a repeat, of which the Relations alone count.
+// Caches an item of a repeat if it is a Relation.
 fn cache_item(alloc: Global, book: &mut Book, item: &ItemRef<'_>) -> Result<(), Fault>
     requires { IsSpellable item.now }
     ensures cached { OnOk result (book.new ≡ cached item.now book.old) }
@@ -187,7 +190,7 @@ fn cache_item(alloc: Global, book: &mut Book, item: &ItemRef<'_>) -> Result<(), 
     }
 }
 
-/// The Relation messages of a repeat go into the cache, its changes aren't looked at.
+/// Puts the Relation messages of a repeat into the cache. Its changes aren't looked at.
 pub(crate) fn cache_relations<P: Spools>(
     alloc: Global,
     book: &mut Book,

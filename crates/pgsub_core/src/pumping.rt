@@ -1,4 +1,4 @@
-//! Feeding a subscriber what a reader gives.
+//! Feeds a subscriber the bytes of a reader.
 //!
 //! PostgreSQL documentation, Streaming Replication Protocol.
 
@@ -12,7 +12,7 @@ use pgapply::ReplicaStore;
 use pgspool::Spools;
 use std::io::Read;
 
-/// The most bytes that are read and fed at once.
+/// The most bytes that are read at once.
 const PIECE_LEN: usize = 4096;
 
 /// A reader of one session's bytes, which knows whether one of its reads failed.
