@@ -1,20 +1,7 @@
 //! The program: applies recorded sessions of a server, and prints the rows that they leave.
 #![tactic(auto)]
 
-pub mod dump;
-pub mod fault_text;
-pub mod files;
-pub mod plain_session;
-pub mod plain_store;
-pub mod plain_table;
-pub mod plain_tables;
-pub mod relations;
-#[cfg(test)]
-mod rows;
-pub mod run;
-pub mod subscriber;
-
-use run::{Task, run};
+use pgsub_cli::{Task, run};
 use std::alloc::AllocError;
 use std::env;
 use std::fs::File;
@@ -22,9 +9,9 @@ use std::io::ErrorKind;
 use std::process::ExitCode;
 
 /// The status where memory has run out.
-const NO_MEMORY: u8 = 1;
+const OUT_OF_MEMORY: u8 = 1;
 
-/// The status of a command that isn't one.
+/// The status of a usage error.
 const USAGE: u8 = 2;
 
 /// The task that the words of the command line ask for: `apply FILE`. Words that aren't UTF-8 ask for none.
@@ -54,11 +41,10 @@ fn main(rt: HostRuntime) -> ExitCode {
         }
         Err(AllocError) => {
             let _ = eprintln!(rt; "pgsub: memory");
-            return ExitCode::from(NO_MEMORY);
+            return ExitCode::from(OUT_OF_MEMORY);
         }
     };
     let Task::Apply { file: path } = &task;
     let file = File::open(&rt, path.as_str()).ok();
-    let status = run(rt.alloc(), &task, file, &mut rt.stdout(), &mut rt.stderr());
-    ExitCode::from(status)
+    ExitCode::from(run(rt.alloc(), &task, file, &mut rt.stdout(), &mut rt.stderr()))
 }

@@ -1,0 +1,3 @@
+pub mod AppliedLines
+pub mod DumpLines
+pub mod Reading

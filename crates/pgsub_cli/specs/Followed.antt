@@ -1,0 +1,40 @@
+-- What following sessions leaves of a new subscriber, and what is printed of it.
+use Rattle.std.specs.Prelude.{◌≡◌, ℕ, List, Option}
+use Rattle.std.specs.FinMap as map
+use Rattle.pgorder.specs.declared.Version.{Version}
+use Rattle.pgapply.specs.Dump.{dump}
+use Rattle.pgapply.specs.Value.{Tables}
+use Rattle.pgsub_core.specs.declared.fault.Fault.{Fault}
+use Rattle.pgsub_core.specs.History.{Transaction}
+use Rattle.pgsub_core.specs.Stream.{Sent}
+use Rattle.pgsub_core.specs.Subscribed.{Subscribed, newly}
+use Rattle.pgsub_core.specs.Handled.{IsSent, IsFollowed}
+use Rattle.pgsub_core.specs.Following.{AreFed, Becomes}
+use Rattle.pgsub_core.specs.SubscriberValue.{SubscriberValue, seen}
+use Rattle.pgsub_cli.specs.DumpText.{dump_of}
+use Rattle.pgsub_cli.specs.Limits.{longest_payload, most_buffered, clock}
+
+-- over an empty store, with the program's limits
+abbrev pub new_subscriber : Version → Subscribed
+new_subscriber version = newly map.empty 0 version longest_payload most_buffered
+
+-- The bytes of these sessions leave this state of a new subscriber, and this fault stopped them, if one did. Of whatever history
+-- they are the sessions, they were followed.
+pub record Leaves (version : Version) (sessions : List (List ℕ)) (stopped : Option Fault) (state : Subscribed) : Type 0 where
+  pub fed : AreFed clock (new_subscriber version) sessions state stopped
+  pub followed :
+      (history : List Transaction) (all_complete : List (List Sent)) → IsSent history (new_subscriber version) sessions all_complete
+      → IsFollowed clock history sessions all_complete (new_subscriber version) state stopped
+
+-- the lines of the rows and the position
+abbrev pub lines_of : Subscribed → List ℕ
+lines_of state = dump_of (dump state.tables) state.position
+
+module _ {C : Type 0} (holds : C → Tables → Type 0) (place : C → ℕ) where
+  -- whatever tables the store holds, these are the lines of its rows and its position
+  abbrev pub Shows : SubscriberValue C → List ℕ → Type 0
+  Shows s lines = (tables : Tables) → holds s.applied.store tables → lines ≡ lines_of (seen place s tables)
+
+  -- whatever tables the store held, it holds others, with which the sessions were fed and these are the lines
+  abbrev pub ShowsFed : SubscriberValue C → List (List ℕ) → SubscriberValue C → Option Fault → List ℕ → Type 0
+  ShowsFed old sessions new stopped lines = Becomes holds place clock (λ s s'. AreFed clock s sessions s' stopped × (lines ≡ lines_of s')) old new

@@ -1,0 +1,28 @@
+-- The program's store: in memory, and empty at first.
+use Rattle.std.specs.Prelude.{◌≡◌, ℕ}
+use Rattle.std.specs.FinMap as map
+use Rattle.sqlite.specs.Files.{over_files}
+use Rattle.sqlite_store.specs.declared.store.FileStore.{FileStore}
+use Rattle.pgmemory.specs.declared.disk.MemoryDisk.{MemoryDisk}
+use Rattle.pgmemory.specs.contracts.disk.MemoryDiskDisk.TheImpl as memory_disk
+use Rattle.pgorder.specs.declared.Version.{Version}
+use Rattle.pgtables.specs.Kept.{tables_of}
+use Rattle.pgapply.specs.Value.{Tables}
+use Rattle.pgstore.specs.Spelled.{IsStored}
+use Rattle.pgstore.specs.StoreValue.{StoreValue}
+use Rattle.pgsub_core.specs.SubscriberValue.{SubscriberValue, seen}
+use Rattle.pgsub_cli.specs.Followed.{new_subscriber}
+
+abbrev pub InMemory : Type 0
+InMemory = StoreValue (FileStore MemoryDisk memory_disk.ghosts)
+
+abbrev pub holds_tables : InMemory → Tables → Type 0
+holds_tables store tables = IsStored tables (tables_of over_files store.conn)
+
+abbrev pub position_of : InMemory → ℕ
+position_of store = store.position
+
+-- a new subscriber over an empty store
+pub record IsNew (version : Version) (s : SubscriberValue InMemory) : Type 0 where
+  pub empty : holds_tables s.applied.store map.empty
+  pub state : seen position_of s map.empty ≡ new_subscriber version

@@ -1,0 +1,184 @@
+//! The texts of faults, each with the number and the name of its kind.
+
+ghost use Rattle.std.specs.Prelude.{Some};
+ghost use Rattle.std.specs.Fmt.{DisplaysOnOk};
+ghost use Rattle.pgsub_cli.specs.FaultTexts.{fault_text, stop_line, stop_text, wire_text, reason_text, tuple_text, order_text, relation_text, spool_text, store_text};
+
+use crate::fault::RunFault;
+use pgapply::StoreFault;
+use pglogical::{DecodeFault, Reason};
+use pgorder::OrderFault;
+use pgrel::RelFault;
+use pgspool::SpoolFault;
+use pgsub_core::Fault;
+use pgtuple::TupleFault;
+use pgwire::WireFault;
+use std::fmt;
+
+/// A fault of following, as it is printed.
+#[derive(Drop)]
+struct FaultText(Fault);
+
+impl fmt::Display for FaultText {
+    ghost output = { λ text. Some (fault_text text.0) };
+
+    fn fmt<W: fmt::Write>(&self, f: &mut fmt::Formatter<W>) -> fmt::Result {
+        match self.0 {
+            Fault::Wire(fault) => write_wire(f, fault),
+            Fault::Decode(fault) => write_decode(f, fault),
+            Fault::Order(fault) => write_order(f, fault),
+            Fault::Relation(fault) => write_relation(f, fault),
+            Fault::Spool(fault) => write_spool(f, fault),
+            Fault::Store(fault) => write_store(f, fault),
+            Fault::Read => f.write_str("read"),
+            Fault::Closed => f.write_str("closed"),
+            Fault::Memory => f.write_str("memory"),
+        }
+    }
+}
+
+/// The line on standard error of a run that stopped. A file that can't be read stands by its path.
+#[derive(Drop)]
+pub struct StopLine<'t> {
+    pub fault: RunFault,
+    pub path: &'t str,
+}
+
+impl fmt::Display for StopLine<'_> {
+    ghost output = { λ line. Some (stop_line line.fault line.path.now) };
+
+    fn fmt<W: fmt::Write>(&self, f: &mut fmt::Formatter<W>) -> fmt::Result {
+        let (fault, path) = (self.fault, self.path);
+        writeln!(f, "pgsub: {}", StopText { fault, path })
+    }
+}
+
+/// What stands in that line behind the program's name.
+#[derive(Drop)]
+struct StopText<'t> {
+    fault: RunFault,
+    path: &'t str,
+}
+
+impl fmt::Display for StopText<'_> {
+    ghost output = { λ text. Some (stop_text text.fault text.path.now) };
+
+    fn fmt<W: fmt::Write>(&self, f: &mut fmt::Formatter<W>) -> fmt::Result {
+        let path = self.path;
+        match self.fault {
+            RunFault::Stream(fault) => write!(f, "{}", FaultText(fault)),
+            RunFault::NotHexadecimal(line) => write!(f, "capture line {line}: not hexadecimal"),
+            RunFault::TooLong => f.write_str("capture too long"),
+            RunFault::CannotRead => write!(f, "cannot read {path}"),
+            RunFault::CannotWrite => f.write_str("cannot write"),
+        }
+    }
+}
+
+fn write_wire<W: fmt::Write>(f: &mut fmt::Formatter<W>, fault: WireFault) -> fmt::Result
+    ensures { DisplaysOnOk W.write_str_gives f.old result (Some (wire_text fault)) f.new }
+{
+    match fault {
+        WireFault::UnknownFrame(byte) => write!(f, "wire 1 UnknownFrame {byte}"),
+        WireFault::BadLength => f.write_str("wire 2 BadLength"),
+        WireFault::TooLarge => f.write_str("wire 3 TooLarge"),
+        WireFault::AfterDone => f.write_str("wire 4 AfterDone"),
+        WireFault::UnknownServerMessage(byte) => write!(f, "wire 5 UnknownServerMessage {byte}"),
+        WireFault::Short => f.write_str("wire 6 Short"),
+        WireFault::Trailing => f.write_str("wire 7 Trailing"),
+        WireFault::BadReplyByte => f.write_str("wire 8 BadReplyByte"),
+        WireFault::Memory => f.write_str("memory"),
+    }
+}
+
+fn write_decode<W: fmt::Write>(f: &mut fmt::Formatter<W>, fault: DecodeFault) -> fmt::Result
+    ensures { DisplaysOnOk W.write_str_gives f.old result (Some (reason_text fault.reason fault.place)) f.new }
+{
+    let place = fault.place;
+    match fault.reason {
+        Reason::UnknownMessage => write!(f, "decode 1 UnknownMessage at {place}"),
+        Reason::Short => write!(f, "decode 2 Short at {place}"),
+        Reason::Trailing => write!(f, "decode 3 Trailing at {place}"),
+        Reason::BadFlag => write!(f, "decode 4 BadFlag at {place}"),
+        Reason::BadLetter => write!(f, "decode 5 BadLetter at {place}"),
+        Reason::NotUtf8 => write!(f, "decode 6 NotUtf8 at {place}"),
+        Reason::BadCount => write!(f, "decode 7 BadCount at {place}"),
+        Reason::Tuple(inner) => write_tuple(f, inner, place),
+        Reason::Memory => f.write_str("memory"),
+    }
+}
+
+fn write_tuple<W: fmt::Write>(
+    f: &mut fmt::Formatter<W>,
+    fault: TupleFault,
+    place: usize,
+) -> fmt::Result
+    ensures { DisplaysOnOk W.write_str_gives f.old result (Some (tuple_text fault place)) f.new }
+{
+    match fault {
+        TupleFault::Short(_) => write!(f, "decode 8 Tuple 1 Short at {place}"),
+        TupleFault::BadKind(_) => write!(f, "decode 8 Tuple 2 BadKind at {place}"),
+        TupleFault::BadLength(_) => write!(f, "decode 8 Tuple 3 BadLength at {place}"),
+        TupleFault::NotUtf8(_) => write!(f, "decode 8 Tuple 4 NotUtf8 at {place}"),
+        TupleFault::TooManyColumns(_) => write!(f, "decode 8 Tuple 5 TooManyColumns at {place}"),
+        TupleFault::Memory => f.write_str("memory"),
+    }
+}
+
+fn write_order<W: fmt::Write>(f: &mut fmt::Formatter<W>, fault: OrderFault) -> fmt::Result
+    ensures { DisplaysOnOk W.write_str_gives f.old result (Some (order_text fault)) f.new }
+{
+    f.write_str(match fault {
+        OrderFault::OutsideTransaction => "order 1 OutsideTransaction",
+        OrderFault::NestedBegin => "order 2 NestedBegin",
+        OrderFault::CommitWithoutBegin => "order 3 CommitWithoutBegin",
+        OrderFault::CommitLsnDiffers => "order 4 CommitLsnDiffers",
+        OrderFault::NestedStart => "order 5 NestedStart",
+        OrderFault::StopWithoutStart => "order 6 StopWithoutStart",
+        OrderFault::FirstFlagOnOpen => "order 7 FirstFlagOnOpen",
+        OrderFault::LaterFlagOnUnknown => "order 8 LaterFlagOnUnknown",
+        OrderFault::CommitOfUnknown => "order 9 CommitOfUnknown",
+        OrderFault::StreamInVersion1 => "order 10 StreamInVersion1",
+        OrderFault::CommitMisplaced => "order 11 CommitMisplaced",
+        OrderFault::AbortMisplaced => "order 12 AbortMisplaced",
+        OrderFault::Memory => "memory",
+    })
+}
+
+fn write_relation<W: fmt::Write>(f: &mut fmt::Formatter<W>, fault: RelFault) -> fmt::Result
+    ensures { DisplaysOnOk W.write_str_gives f.old result (Some (relation_text fault)) f.new }
+{
+    match fault {
+        RelFault::Width => f.write_str("relation 1 Width"),
+        RelFault::UnknownIdentity => f.write_str("relation 2 UnknownIdentity"),
+        RelFault::UnchangedInInsert => f.write_str("relation 3 UnchangedInInsert"),
+        RelFault::NoIdentity => f.write_str("relation 4 NoIdentity"),
+        RelFault::UnknownRelation(oid) => write!(f, "relation 5 UnknownRelation {oid}"),
+        RelFault::Memory => f.write_str("memory"),
+    }
+}
+
+fn write_spool<W: fmt::Write>(f: &mut fmt::Formatter<W>, fault: SpoolFault) -> fmt::Result
+    ensures { DisplaysOnOk W.write_str_gives f.old result (Some (spool_text fault)) f.new }
+{
+    f.write_str(match fault {
+        SpoolFault::SpoolFull => "spool 1 SpoolFull",
+        SpoolFault::Memory => "memory",
+    })
+}
+
+fn write_store<W: fmt::Write>(f: &mut fmt::Formatter<W>, fault: StoreFault) -> fmt::Result
+    ensures { DisplaysOnOk W.write_str_gives f.old result (Some (store_text fault)) f.new }
+{
+    f.write_str(match fault {
+        StoreFault::Clash => "store 1 Clash",
+        StoreFault::NoIdentity => "store 2 NoIdentity",
+        StoreFault::UnknownIdentity => "store 3 UnknownIdentity",
+        StoreFault::UnchangedInInsert => "store 4 UnchangedInInsert",
+        StoreFault::Width => "store 5 Width",
+        StoreFault::SchemaChanged => "store 6 SchemaChanged",
+        StoreFault::TooManyCopies => "store 7 TooManyCopies",
+        StoreFault::Refused => "store 8 Refused",
+        StoreFault::Memory => "memory",
+    })
+}

@@ -1,0 +1,65 @@
+//! What a run reads its recordings from, and what it writes its lines to.
+//!
+//! That a read or a write failed is a fact that only a failure gives. So a function over any input and output is proved to
+//! return a fault of theirs only where it met one.
+ghost use Rattle.std.specs.Prelude.{◌≡◌, ◌≤◌, ◌<◌, ℕ, List, None, Ok, length, IfSome, IfOk, OnOk, OnErr, ⊤};
+ghost use Rattle.std.specs.Io.KnownBytes.{Appends};
+
+use std::alloc::Global;
+use std::io;
+use std::io::{Read, Write};
+
+/// What a recording is read from.
+pub trait Input {
+    /// That these are all its bytes.
+    ghost gives: { Self → List ℕ → Type 0 };
+
+    /// What holds of it where reading it failed.
+    ghost failed: { Self → Type 0 };
+
+    /// All its bytes, or None where they are more than `longest`. Not more than one byte after that is read.
+    fn read_whole(self, alloc: Global, longest: u32) -> io::Result<Option<Vec<u8>>>
+        ensures whole { IfOk result (λ read. IfSome read (λ text. gives self text.items × (length text.items ≤ longest))) }
+        ensures longer { result ≡ Ok None → (bytes : List ℕ) × gives self bytes × (longest < length bytes) }
+        ensures failed { OnErr result (failed self) };
+}
+
+impl<R: Read + Drop> Input for R {
+    ghost gives = { λ reader bytes. IfSome (R.remaining reader) (λ known. bytes ≡ known) };
+
+    ghost failed = { λ _. ⊤ };
+
+    fn read_whole(self, alloc: Global, longest: u32) -> io::Result<Option<Vec<u8>>> {
+        let mut text = Vec::new(alloc);
+        self.take(u64::from(longest) + 1).read_to_end(&mut text)?;
+        if text.len() > longest as usize {
+            return Ok(None);
+        }
+        Ok(Some(text))
+    }
+}
+
+/// What lines are written to.
+pub trait Output {
+    /// That these bytes took it from one state to another.
+    ghost takes: { Self → List ℕ → Self → Type 0 };
+
+    /// What holds of it where writing to it failed.
+    ghost failed: { Self → Type 0 };
+
+    /// Writes the lines, and everything that a buffer still holds.
+    fn write_lines(&mut self, lines: &str) -> io::Result<()>
+        ensures written { OnOk result (takes self.old lines.now self.new) }
+        ensures failed { OnErr result (failed self.old) };
+}
+
+impl<W: Write> Output for W {
+    ghost takes = { λ old bytes new. Appends (W.contents old) (W.contents new) bytes };
+
+    ghost failed = { λ _. ⊤ };
+
+    fn write_lines(&mut self, lines: &str) -> io::Result<()> {
+        self.write_all(lines.as_bytes())?;
+        self.flush()
+    }
+}
