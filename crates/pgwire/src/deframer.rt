@@ -292,9 +292,12 @@ mod tests {
         for piece in frame.chunks(step.max(1)) {
             assert!(rt; deframer.feed(piece) == Ok(piece.len()));
         }
-        match deframer.whole() {
-            Some(Frame::Data(payload)) => decode_server(payload).err(),
-            _ => None,
+        let Some(Frame::Data(payload)) = deframer.whole() else {
+            return None;
+        };
+        match decode_server(payload) {
+            Ok(_) => None,
+            Err(fault) => Some(fault),
         }
     }
 
