@@ -13,7 +13,7 @@ use Rattle.pgsub_core.specs.declared.fault.Fault.TheVariants as fault
 use Rattle.pgsub_core.specs.Described.{described_from}
 use Rattle.pgsub_core.specs.Drafts.{known_to, LacksDefinition}
 use Rattle.pgsub_core.specs.Replica.{Replica, RelationCache, UnknownRelation, StoreRefuses, Running, Stopped, GoesOrStops, IsOfStore, stored, all_cached, on_commit}
-use Rattle.pgsub_core.specs.Handled.{cause}
+use Rattle.pgsub_core.specs.Causes.{cause}
 use Rattle.pgsub_core.specs.Faults.{fault_of_store}
 use Rattle.pgsub_core.specs.Committing.{replica_with, StopsAtCommit, Commits, RefusesCommit}
 

@@ -12,7 +12,7 @@ use Rattle.pgsub_core.specs.declared.fault.Fault.{Fault}
 use Rattle.pgsub_core.specs.Stream.{Kind, BeginsPair, CommitsPair, Holds, StartsBlock, StopsBlock, CommitsStream, AbortsStream, ChangesNothing}
 use Rattle.pgsub_core.specs.Replica.{Replica, Running, on_commit, Outcome, GoesOrStops, IsOfStore, Halt, Stopped}
 use Rattle.pgsub_core.specs.ApplyState.{ApplyState, ApplyResult, pushed, committed, on_event}
-use Rattle.pgsub_core.specs.Handled.{Cause, OutOfMemory, StatementRefused, HeaderTooLarge, ForeignBytes, NextMessage, NeverAnswered, cause}
+use Rattle.pgsub_core.specs.Causes.{Cause, OutOfMemory, StatementRefused, HeaderTooLarge, ForeignBytes, NextMessage, NeverAnswered, cause}
 use Rattle.pgsub_core.specs.Committing.{replica_with, StopsAtCommit, Commits, RefusesCommit}
 use Rattle.pgsub_core.specs.Applied.{Applied}
 use Rattle.pgsub_core.specs.Events.{state_with, event_end, StopsAtEvent, EventGoes, EventStops, StaysBeside}

@@ -12,7 +12,8 @@ use Rattle.pgsub_core.specs.declared.fault.Fault.{Fault}
 use Rattle.pgsub_core.specs.declared.fault.Fault.TheVariants as fault
 use Rattle.pgsub_core.specs.Subscribed.{Subscribed}
 use Rattle.pgsub_core.specs.Reached.{Progress}
-use Rattle.pgsub_core.specs.Handled.{Cause, OutOfMemory, StatementRefused, HeaderTooLarge, ForeignBytes, NextMessage, NeverAnswered, cause, IsLeft}
+use Rattle.pgsub_core.specs.Handled.{IsLeft}
+use Rattle.pgsub_core.specs.Causes.{Cause, OutOfMemory, StatementRefused, HeaderTooLarge, ForeignBytes, NextMessage, NeverAnswered, cause}
 use Rattle.pgsub_core.specs.Feeding.{StopsIn, BeginsWith}
 use Rattle.pgsub_core.specs.Applied.{Applied, Framing, subscribed, IsKept}
 use Rattle.pgsub_core.specs.Framing.{framing_behind, framing_of, done_of, Releases, StopsAt, StopsAtFrame, IsStopped, FramesGo, IsFedTo, IsTakenTo, FeedStops}

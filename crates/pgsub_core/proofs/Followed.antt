@@ -12,7 +12,9 @@ use Rattle.pgsub_core.specs.Confirming.{AreSafeReplies}
 use Rattle.pgsub_core.proofs.Confirmed.{status_is_safe}
 use Rattle.pgsub_core.proofs.SessionCuts.{sent_front}
 use Rattle.pgsub_core.specs.Taking.{take_all, take_sessions}
-use Rattle.pgsub_core.specs.Handled.{IsSent, IsHandled, IsFollowed, IsLeft, StopsBy, Cause, OutOfMemory, StatementRefused, HeaderTooLarge, ForeignBytes, NextMessage, NeverAnswered, cause, NoneForeign}
+use Rattle.pgsub_core.specs.Handled.{IsSent, IsHandled, IsFollowed, IsLeft, NoneForeign}
+use Rattle.pgsub_core.specs.Causes.{Cause, OutOfMemory, StatementRefused, HeaderTooLarge, ForeignBytes, NextMessage, NeverAnswered, cause}
+use Rattle.pgsub_core.specs.HandledLaws.{StopsBy}
 use Rattle.pgsub_core.specs.Feeding.{IsFedWhole, IsFedUntil}
 use Rattle.pgsub_core.specs.Following.{AreFedWhole, AreFedUntil, AreFed}
 use Rattle.pgsub_core.proofs.ReadAgain.{read_again}

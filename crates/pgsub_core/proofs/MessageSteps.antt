@@ -20,7 +20,8 @@ use Rattle.pgsub_core.specs.Replica.{Replica, Halt, UnknownRelation, StoreRefuse
 use Rattle.pgsub_core.specs.ApplyState.{ApplyState, ApplyResult, committed, on_event}
 use Rattle.pgsub_core.specs.Subscribed.{Subscribed}
 use Rattle.pgsub_core.specs.Taking.{with_state, receive, passes_limit, fault_of, take, IsStoreFault, ReachesStore}
-use Rattle.pgsub_core.specs.Handled.{Cause, OutOfMemory, StatementRefused, HeaderTooLarge, ForeignBytes, NextMessage, NeverAnswered, cause, end_by_kind}
+use Rattle.pgsub_core.specs.Handled.{end_by_kind}
+use Rattle.pgsub_core.specs.Causes.{Cause, OutOfMemory, StatementRefused, HeaderTooLarge, ForeignBytes, NextMessage, NeverAnswered, cause}
 use Rattle.pgsub_core.specs.Applied.{Applied, Framing, subscribed, StopsAtMessage, IsKept, Goes, Stops}
 use Rattle.pgsub_core.specs.Events.{state_with, FindsRoom, FindsNoRoom, event_end, StopsAtEvent, EventGoes, EventStops, StaysBeside}
 use Rattle.pgsub_core.specs.Faults.{fault_of_order}

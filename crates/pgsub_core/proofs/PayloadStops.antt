@@ -17,7 +17,7 @@ use Rattle.pgsub_core.specs.declared.fault.Fault.{Fault}
 use Rattle.pgsub_core.specs.declared.fault.Fault.TheVariants as fault
 use Rattle.pgsub_core.specs.Stream.{Data}
 use Rattle.pgsub_core.specs.Subscribed.{Subscribed}
-use Rattle.pgsub_core.specs.Handled.{Cause, OutOfMemory, StatementRefused, HeaderTooLarge, ForeignBytes, NextMessage, NeverAnswered, cause}
+use Rattle.pgsub_core.specs.Causes.{Cause, OutOfMemory, StatementRefused, HeaderTooLarge, ForeignBytes, NextMessage, NeverAnswered, cause}
 use Rattle.pgsub_core.specs.Applied.{Applied, subscribed, StopsAtMessage, IsKept, Stops}
 use Rattle.pgsub_core.specs.Framing.{StopsAtBody, StopsAtFrame, StopsAt, IsStopped}
 

@@ -18,7 +18,8 @@ use Rattle.pgsub_core.specs.Subscribed.{Subscribed, apply_state_of}
 use Rattle.pgsub_core.specs.Taking.{take, taken_with, take_message, take_payload, take_frame, take_frames, handled, passes_limit, message_passes_limit, ReachesStore}
 use Rattle.pgsub_core.proofs.FedSessions.{take_frames-append}
 use Rattle.std.specs.Prelude.{if◌then◌else◌}
-use Rattle.pgsub_core.specs.Handled.{IsLeft, Cause, OutOfMemory, StatementRefused, HeaderTooLarge, ForeignBytes, NextMessage, NeverAnswered, cause}
+use Rattle.pgsub_core.specs.Handled.{IsLeft}
+use Rattle.pgsub_core.specs.Causes.{Cause, OutOfMemory, StatementRefused, HeaderTooLarge, ForeignBytes, NextMessage, NeverAnswered, cause}
 use Rattle.pgwire.specs.declared.fault.WireFault.TheVariants as wire_fault
 use Rattle.pgwire.specs.Frames.{IsFramingFault}
 use Rattle.pgwire.proofs.Holding.{fault-append}

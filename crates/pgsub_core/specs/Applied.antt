@@ -12,7 +12,8 @@ use Rattle.pgsub_core.specs.Stream.{Sent}
 use Rattle.pgsub_core.specs.Replica.{RelationCache, Outcome, Running, Stopped}
 use Rattle.pgsub_core.specs.Subscribed.{Subscribed}
 use Rattle.pgsub_core.specs.Taking.{take, ReachesStore}
-use Rattle.pgsub_core.specs.Handled.{Cause, OutOfMemory, StatementRefused, HeaderTooLarge, ForeignBytes, NextMessage, NeverAnswered, cause, commit_end}
+use Rattle.pgsub_core.specs.Handled.{commit_end}
+use Rattle.pgsub_core.specs.Causes.{Cause, OutOfMemory, StatementRefused, HeaderTooLarge, ForeignBytes, NextMessage, NeverAnswered, cause}
 use Rattle.pgsub_core.specs.Codes.{held_code, relations_code}
 
 pub record Applied (C : Type 0) : Type 0 where

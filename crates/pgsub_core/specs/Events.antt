@@ -12,7 +12,7 @@ use Rattle.pgsub_core.specs.Stream.{Kind, Holds, kind as kind_of}
 use Rattle.pgsub_core.specs.Replica.{Halt, Running, Stopped, GoesOrStops, IsOfStore}
 use Rattle.pgsub_core.specs.ApplyState.{ApplyState, on_event}
 use Rattle.pgsub_core.specs.Taking.{fault_of}
-use Rattle.pgsub_core.specs.Handled.{Cause, OutOfMemory, StatementRefused, HeaderTooLarge, ForeignBytes, NextMessage, NeverAnswered, cause}
+use Rattle.pgsub_core.specs.Causes.{Cause, OutOfMemory, StatementRefused, HeaderTooLarge, ForeignBytes, NextMessage, NeverAnswered, cause}
 use Rattle.pgsub_core.specs.Committing.{replica_with}
 use Rattle.pgsub_core.specs.Applied.{Applied}
 

@@ -73,3 +73,9 @@ module _ {C : Type 0} (holds : C → Tables → Type 0) (place : C → ℕ) (now
   FollowsSessions old sessions new answered =
       (history : List Transaction) (all_complete : List (List Sent)) (tables : Tables) → holds old.applied.store tables → IsSent history (seen place old tables) sessions all_complete
       → (tables' : Tables) × holds new.applied.store tables' × IsFollowed now history sessions all_complete (seen place old tables) (seen place new tables') answered
+
+-- What waited to be sent of a state that is safe for a history confirmed no more than is stored, and so it is again.
+abbrev pub ConfirmsSafely : {C : Type 0} → (C → ℕ) → SubscriberValue C → SubscriberValue C → Type 0
+ConfirmsSafely place old new =
+    (history : List Transaction) (tables : Tables) → IsSafeFor history (seen place old tables) → AreSafeReplies history (seen place old tables)
+    → AreSafeReplies history (seen place new tables)

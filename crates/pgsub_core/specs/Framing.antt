@@ -13,7 +13,8 @@ use Rattle.pgorder.specs.States.{is_in_block}
 use Rattle.pgsub_core.specs.Stream.{Data}
 use Rattle.pgsub_core.specs.Taking.{take_frame, take_frames, take_message, ReachesStore}
 use Rattle.pgsub_core.specs.Feeding.{IsCommitFrame, IsFedWhole, IsFedUntil}
-use Rattle.pgsub_core.specs.Handled.{Cause, OutOfMemory, StatementRefused, HeaderTooLarge, ForeignBytes, NextMessage, NeverAnswered, cause, commit_end}
+use Rattle.pgsub_core.specs.Handled.{commit_end}
+use Rattle.pgsub_core.specs.Causes.{Cause, OutOfMemory, StatementRefused, HeaderTooLarge, ForeignBytes, NextMessage, NeverAnswered, cause}
 use Rattle.pgsub_core.specs.Applied.{Applied, Framing, subscribed, IsKept}
 
 -- why a frame isn't taken
