@@ -1,1 +1,3 @@
+mod Answering
 mod Building
+mod Meeting

@@ -1,9 +1,9 @@
 -- What the words of a command line ask for.
-use Rattle.std.specs.Prelude.{◌≡◌, ◌↔◌, List, [], ◌∷◌, Some, true, codes, string_bytes, Bool, false, Option, unwrap_or, pos}
+use Rattle.std.specs.Prelude.{◌≡◌, ◌≢◌, ◌↔◌, ◌⊎◌, List, [], ◌∷◌, Some, true, codes, string_bytes, Bool, false, Option, unwrap_or, pos}
 use Rattle.std.specs.Str.Parse.{IsNumeral, digits_value, without_leading_plus}
 use Rattle.clap.specs.declared.builder.command.Command.{Command}
 use Rattle.clap.specs.declared.builder.command.Command.TheViews.{out-Command}
-use Rattle.clap.specs.Words.{App, app_of, Row, Rule, Text, first_of, one_of, new_app, new_rule, subcommand_of, with_rule, with_subcommand, kind_of}
+use Rattle.clap.specs.Words.{App, app_of, Row, Rule, Text, IsAmong, fault_of, first_of, one_of, new_app, new_rule, subcommand_of, with_rule, with_subcommand, kind_of}
 use Rattle.clap.specs.Simple.{on_top}
 use Rattle.clap.specs.declared.error.Error.{Error}
 use Rattle.clap.specs.declared.error.kind.ErrorKind.TheVariants.{OutOfMemory}
@@ -80,11 +80,20 @@ IsAsked name rows (Same version left right) = (name ≡ codes "same") × IsVersi
 IsAsked name rows (Resume file) = (name ≡ codes "resume") × (string_bytes file ≡ text_in (codes "FILE") rows)
 IsAsked name rows (Lsn text) = (name ≡ codes "lsn") × (string_bytes text ≡ text_in (codes "TEXT") rows)
 
--- the parse of the words meets a subcommand that asks for the task
-abbrev pub IsTaskOf : List Text → Task → Type 0
-IsTaskOf words task = (name : Text) × (rows : List Row) × (subcommand_of pgsub_app words ≡ Some (name, rows)) × IsAsked name rows task
+-- the name of a subcommand
+abbrev pub IsCommandName : Text → Type 0
+IsCommandName name = (name ≡ codes "show") ⊎ ((name ≡ codes "apply") ⊎ ((name ≡ codes "same") ⊎ ((name ≡ codes "resume") ⊎ (name ≡ codes "lsn"))))
 
--- want of memory is told apart from the other kinds
+-- The words have no fault, and their subcommand asks for the task.
+abbrev pub IsTaskOf : List Text → Task → Type 0
+IsTaskOf words task = (fault_of pgsub_app words ≡ []) × (name : Text) × (rows : List Row) × (subcommand_of pgsub_app words ≡ Some (name, rows)) × IsAsked name rows task
+
+-- Why no task is given: an error of one of the kinds that the command line has at these words, or memory ran out.
+abbrev pub IsRefusalOf : List Text → CommandFault → Type 0
+IsRefusalOf words (Usage error) = IsAmong (kind_of error) (fault_of pgsub_app words)
+IsRefusalOf words Memory = Unit {0}
+
+-- out of memory is told apart from the other kinds
 abbrev pub IsUsage : Error → CommandFault → Type 0
-IsUsage error (Usage told) = told ≡ error
+IsUsage error (Usage told) = (told ≡ error) × (kind_of error ≢ OutOfMemory)
 IsUsage error Memory = kind_of error ≡ OutOfMemory

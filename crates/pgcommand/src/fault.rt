@@ -4,6 +4,7 @@ ghost use Rattle.pgcommand.specs.Asked.{IsUsage};
 
 use clap::Error;
 use clap::error::ErrorKind;
+use std::alloc::AllocError;
 use thiserror::Error as ErrorMacro;
 
 /// Why the words of a command line name no task.
@@ -15,6 +16,17 @@ pub enum CommandFault {
     /// Memory has run out.
     #[error("memory")]
     Memory,
+}
+
+impl From<AllocError> for CommandFault {
+    ghost use Rattle.std.specs.Prelude.{◌≡◌};
+    ghost use Rattle.pgcommand.specs.declared.fault.CommandFault.TheVariants as fault;
+
+    ghost from_gives = { λ _ told. told ≡ fault.Memory };
+
+    fn from(_error: AllocError) -> CommandFault {
+        CommandFault::Memory
+    }
 }
 
 /// Tells out of memory from all other errors of `clap`.

@@ -18,8 +18,8 @@
 //! ```
 #![tactic(auto)]
 
-ghost use Rattle.std.specs.Prelude.{IfOk, map, string_bytes};
-ghost use Rattle.pgcommand.specs.Asked.{IsTaskOf};
+ghost use Rattle.std.specs.Prelude.{IfOk, IfErr, map, string_bytes};
+ghost use Rattle.pgcommand.specs.Asked.{IsRefusalOf, IsTaskOf};
 
 mod commands;
 pub mod fault;
@@ -27,23 +27,13 @@ pub mod task;
 #[cfg(test)]
 mod tests;
 
-use clap::Command;
-use clap::error::ErrorKind;
 pub use commands::VERSION;
 use commands::program;
 pub use fault::CommandFault;
 use fault::usage_fault;
-use std::alloc::{AllocError, Global};
+use std::alloc::Global;
 pub use task::Task;
 use task::task_of;
-
-/// No parse leads here: a command line without a subcommand is rejected, and one with an unknown name too.
-fn no_task(command: &mut Command<'_>) -> CommandFault {
-    match command.error(ErrorKind::InvalidSubcommand, "a command is needed") {
-        Ok(error) => usage_fault(error),
-        Err(AllocError) => CommandFault::Memory,
-    }
-}
 
 /// Returns the task that the words ask for.
 ///
@@ -51,22 +41,17 @@ fn no_task(command: &mut Command<'_>) -> CommandFault {
 ///
 /// `Usage` where they ask for none, or for help or the version; `Memory` where memory has run out.
 pub fn command_of(alloc: Global, words: &[String]) -> Result<Task, CommandFault>
-    ensures { IfOk result (IsTaskOf (map string_bytes words.now)) }
+    ensures asked { IfOk result (IsTaskOf (map string_bytes words.now)) }
+    ensures refused { IfErr result (IsRefusalOf (map string_bytes words.now)) }
 {
-    let mut command = match program(alloc) {
-        Ok(command) => command,
-        Err(AllocError) => return Err(CommandFault::Memory),
-    };
-    let matches = match command.try_get_matches_from_mut(words) {
+    let command = program(alloc)?;
+    let matches = match command.try_get_matches_from(words) {
         Ok(matches) => matches,
         Err(error) => return Err(usage_fault(error)),
     };
+    // a command line without a subcommand, or with an unknown one, is such an error
     let Some((name, found)) = matches.subcommand() else {
-        return Err(no_task(&mut command));
+        unreachable!()
     };
-    match task_of(alloc, name, found) {
-        Ok(Some(task)) => Ok(task),
-        Ok(None) => Err(no_task(&mut command)),
-        Err(AllocError) => Err(CommandFault::Memory),
-    }
+    Ok(task_of(alloc, name, found)?)
 }

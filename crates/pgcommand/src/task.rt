@@ -1,8 +1,8 @@
 //! The tasks of the program, and how the parsed words ask for them.
 
-ghost use Rattle.std.specs.Prelude.{◌≡◌, ◌↔◌, IfOk, IfSome, true, codes, string_bytes};
+ghost use Rattle.std.specs.Prelude.{◌≡◌, ◌↔◌, IfOk, true, codes, string_bytes};
 ghost use Rattle.clap.specs.Words.{found_of, one_of, rows_of};
-ghost use Rattle.pgcommand.specs.Asked.{IsAsked, IsRaw, ReadsAsOne, IsVersion, text_in};
+ghost use Rattle.pgcommand.specs.Asked.{IsAsked, IsCommandName, IsRaw, ReadsAsOne, IsVersion, text_in};
 
 use clap::ArgMatches;
 use pgorder::Version;
@@ -71,13 +71,10 @@ fn value_of(alloc: Global, found: &ArgMatches<'_>, name: &str) -> Result<String,
     String::from_str(alloc, found.get_str(name).unwrap_or(""))
 }
 
-/// The task that a subcommand of this name asks for by these matches, None for an unknown name.
-pub(crate) fn task_of(
-    alloc: Global,
-    name: &str,
-    found: &ArgMatches<'_>,
-) -> Result<Option<Task>, AllocError>
-    ensures { IfOk result (λ task. IfSome task (IsAsked name.now (rows_of (found_of found.now)))) }
+/// The task that the subcommand of this name asks for by these matches.
+pub(crate) fn task_of(alloc: Global, name: &str, found: &ArgMatches<'_>) -> Result<Task, AllocError>
+    requires { IsCommandName name.now }
+    ensures { IfOk result (IsAsked name.now (rows_of (found_of found.now))) }
 {
     let task = match name {
         "show" => {
@@ -110,7 +107,7 @@ pub(crate) fn task_of(
         "lsn" => Task::Lsn {
             text: value_of(alloc, found, "TEXT")?,
         },
-        _ => return Ok(None),
+        _ => unreachable!(),
     };
-    Ok(Some(task))
+    Ok(task)
 }

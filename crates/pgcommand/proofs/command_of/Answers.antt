@@ -1,21 +1,17 @@
-use Rattle.std.proofs.Common.{◌≡◌, ◌∙◌, refl, sym, ap, true, map, string_bytes}
-use Rattle.clap.specs.Words.{App, found_of, is_simple, rows_of, subcommand_of}
-use Rattle.clap.proofs.OnLiterals.{clap_on_literals}
-use Rattle.pgcommand.specs.Asked.{pgsub_app}
+use Rattle.std.proofs.Common.{map, string_bytes}
+use Rattle.clap.specs.Words.{app_of, found_of, rows_of}
+use Rattle.pgcommand.proofs.Answering.{is_named, parsed}
 use Rattle.pgcommand.proofs.Building.{pair_of}
 use Rattle.pgcommand.proofs.command_of.Goals as goal
 
-simple_pgsub : is_simple pgsub_app ≡ true
-unfolding clap_on_literals
-simple_pgsub = refl
+pub task_of-requires : goal.task_of-requires
+task_of-requires c =
+    let p = parsed (map string_bytes c.args.words.now) (app_of c.in_ok-command.command) c.in-Ok.matches c.in_ok-command.ensures.0 c.in-Ok.ensures.matches c.in-Ok.ensures.kinds in
+    (is_named _ c.in-Ok.matches c.in-Some.name.now (rows_of (found_of c.in-Some.found.now)) p (pair_of _ _ _ _ _ c.in-Some.ensures.name c.in-Some.ensures.rows)).1
 
-pub returns-in-Ok-Some : goal.returns-in-Ok-Some
-returns-in-Ok-Some c =
-    let app = c.in-Ok.ensures.0 in
-    let met = (c.in-Ok-try_get_matches_from_mut.ensures.ok.2 (ap is_simple app ∙ simple_pgsub)).1 in
-    let pair = pair_of _ _ _ _ _ c.in-Some.ensures.name c.in-Some.ensures.rows in (
-      c.in-Some.name.now,
-      rows_of (found_of c.in-Some.found.now),
-      sym (ap (λ (a : App). subcommand_of a (map string_bytes c.args.words.now)) app) ∙ sym met ∙ pair,
-      rw c.in-Ok-Some.field-0-is at c.in-Ok-Some.ensures,
-    )
+pub returns-clause-asked : goal.returns-clause-asked
+returns-clause-asked c =
+    let p = parsed (map string_bytes c.args.words.now) (app_of c.in_ok-command.command) c.in-Ok.matches c.in_ok-command.ensures.0 c.in-Ok.ensures.matches c.in-Ok.ensures.kinds in
+    let name = c.in-Some.name.now in
+    let rows = rows_of (found_of c.in-Some.found.now) in
+    (p.none, name, rows, (is_named _ c.in-Ok.matches name rows p (pair_of _ _ _ _ _ c.in-Some.ensures.name c.in-Some.ensures.rows)).0, c.in_ok-task_of.ensures)
