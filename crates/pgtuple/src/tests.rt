@@ -57,7 +57,7 @@ fn goes_both_ways(rt: &impl Abort, alloc: Global, bytes: &[u8], width: usize) ->
     assert_eq!(rt; &out[..6], b"before".as_slice());
     assert!(rt; out[6..].starts_with(bytes));
     assert!(rt; out[6..].ends_with(bytes));
-    assert_eq!(rt; out.len(), 6 + 2 * bytes.len());
+    assert_eq!(rt; out.len(), bytes.len().saturating_mul(2).saturating_add(6));
     assert!(rt; tuple.clone()? == tuple);
     assert_eq!(rt; tuple.into_cells().capacity(), width);
     Ok(())
@@ -97,11 +97,19 @@ fn tuples_at_the_limits(rt: HostRuntime) -> Result<(), Fail> {
     goes_both_ways(&rt, alloc, &longest, 1)
 }
 
+/// The fault that the bytes have by the decoder that borrows.
+fn borrowed_fault(bytes: &[u8]) -> Option<TupleFault> {
+    match decode_ref(bytes) {
+        Ok(_) => None,
+        Err(fault) => Some(fault),
+    }
+}
+
 /// What can't be read has this fault by either decoder, which asks for no memory: so also with every request refused.
 #[test]
 fn faults_and_their_offsets(rt: HostRuntime) {
     for (bytes, fault) in FAULTS {
-        assert!(rt; decode_ref(bytes).err() == Some(fault), "{bytes:?}");
+        assert!(rt; borrowed_fault(bytes) == Some(fault), "{bytes:?}");
         assert!(rt; decode(rt.alloc(), bytes).err() == Some(fault), "{bytes:?}");
     }
 }
@@ -138,9 +146,11 @@ fn cells_of_rows(rt: HostRuntime) -> Result<(), Fail> {
         (KEPT, &[CellRef::Text("2"), CellRef::Unchanged]),
         (BINARY, &[CellRef::Binary(&[255, 0])]),
     ] {
-        has_cells(&rt, &decode_ref(bytes)?.0, cells);
-        has_cells(&rt, &decode_ref(bytes)?.0.lend(), cells);
-        has_cells(&rt, &decode(rt.alloc(), bytes)?.0.borrowed(), cells);
+        let (row, _) = decode_ref(bytes)?;
+        has_cells(&rt, &row, cells);
+        has_cells(&rt, &row.lend(), cells);
+        let (tuple, _) = decode(rt.alloc(), bytes)?;
+        has_cells(&rt, &tuple.borrowed(), cells);
     }
     Ok(())
 }
