@@ -1,8 +1,8 @@
 -- A line decodes where it is an even number of hexadecimal digits.
-use Rattle.std.proofs.Common.{◌≡◌, ◌%◌, ℕ, ◌-◌, List, [], ◌∷◌, length, true, false, Some, None, refl, sym, ◌∙◌, ap, subst}
-use Rattle.std.specs.Prelude.{Bool, ◌||◌, ◌&&◌, nat_le, ◌↔◌, ◌==◌, IsOk, IsTrue, Ok, Err, Result, is_some, if◌then◌else◌}
+use Rattle.std.proofs.Common.{◌≡◌, ◌%◌, ℕ, ◌-◌, List, [], ◌∷◌, length, true, false, Some, None, refl, sym, ◌∙◌}
+use Rattle.std.specs.Prelude.{Bool, ◌||◌, ◌&&◌, nat_le, ◌↔◌, IsOk, IsTrue, Ok, Err, Result, is_some, if◌then◌else◌}
 use Rattle.std.specs.Char.{is_ascii_hexdigit}
-use Rattle.std.specs.List.{list_all, AllPass}
+use Rattle.std.specs.List.{list_all}
 use Rattle.std.proofs.lemmas.List.Sums.{AllPass-from_list_all, list_all-from_AllPass}
 use Rattle.hex.specs.Hex.{decode_of, is_hex_digit}
 use Rattle.hex.specs.declared.error.FromHexError.{FromHexError}
