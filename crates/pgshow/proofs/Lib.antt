@@ -1,0 +1,4 @@
+mod Joined
+mod Messages
+mod Pieces
+mod Stops
