@@ -1,0 +1,83 @@
+//! A store that notes which relations its commits change, as a cache beside it needs.
+
+ghost use Rattle.std.specs.Prelude.{◌≡◌, ◌++◌, [], map, OnOk};
+ghost use Rattle.pglogical.specs.declared.item.RelationDef.{RelationDef};
+
+use crate::replica_store::ReplicaStore;
+use crate::rows::{DumpRow, StoreFault};
+use crate::work::Work;
+use pglsn::Lsn;
+use std::alloc::{AllocError, Global};
+
+/// A store with a note of the relations that commits changed. Who keeps something that was made of the rows, as a cache of
+/// query results, asks `changed` which relations to read anew, and then calls `forget`.
+///
+/// A rejected commit may be noted too: then a relation is read anew that is as it was.
+#[derive(Drop)]
+pub struct Watched<C: ReplicaStore + Drop> {
+    store: C,
+    changed: Vec<u32>,
+}
+
+impl<C: ReplicaStore + Drop> Watched<C> {
+    /// A store around this one, with nothing noted.
+    pub fn new(alloc: Global, store: C) -> Watched<C>
+        ensures store { result.store ≡ store }
+        ensures changed { result.changed.items ≡ [] }
+    {
+        Watched {
+            store,
+            changed: Vec::new(alloc),
+        }
+    }
+
+    /// The OIDs of the relations that were described for changes since the last `forget`, oldest first. One may come more
+    /// than once.
+    pub fn changed(&self) -> &[u32]
+        ensures { result.now ≡ self.now.changed.items }
+    {
+        self.changed.as_slice()
+    }
+
+    /// Forgets what is noted.
+    pub fn forget(&mut self)
+        ensures store { self.new.store ≡ self.old.store }
+        ensures changed { self.new.changed.items ≡ [] }
+    {
+        self.changed.clear();
+    }
+
+    /// Notes the relations of a work.
+    pub fn note(&mut self, work: &Work<'_>) -> Result<(), AllocError>
+        ensures store { self.new.store ≡ self.old.store }
+        ensures noted { OnOk result (self.new.changed.items ≡ self.old.changed.items ++ map (λ (def : RelationDef). def.oid) work.now.definitions) }
+    {
+        for def in work.definitions() {
+            self.changed.push(def.oid)?;
+        }
+        Ok(())
+    }
+}
+
+impl<C: ReplicaStore + Drop> ReplicaStore for Watched<C> {
+    ghost serves = { λ s. C.serves s.store };
+
+    ghost is_honest = { λ s. C.is_honest s.store };
+
+    ghost holds = { λ s tables. C.holds s.store tables };
+
+    ghost place = { λ s. C.place s.store };
+
+    fn position(&self) -> Lsn {
+        self.store.position()
+    }
+
+    fn take(&mut self, end: Lsn, work: &Work<'_>) -> Result<(), StoreFault> {
+        self.note(work)?;
+        self.store.take(end, work)
+    }
+
+    fn rows(&mut self) -> Result<Vec<DumpRow>, StoreFault> {
+        self.store.rows()
+    }
+}
