@@ -1,96 +1,71 @@
+//! A disk by its calls. `pgstore`'s tests run a whole store on such disks.
+
 use crate::disk::MemoryDisk;
-use crate::opening::open;
-use sqlite::{Alter, Connection, Error, params};
 use sqlite_disk::Disk;
 use std::test::Fail;
 
+/// A call of a disk.
+#[derive(Clone, Copy)]
+enum Call {
+    Write(usize, &'static [u8]),
+    SetLen(usize),
+    /// Reads so many bytes from an offset on.
+    Read(usize, usize, &'static [u8]),
+    Sync,
+}
+
+use Call::{Read, SetLen, Sync, Write};
+
+/// The calls one after the other, each with whether it is Ok, and with the bytes that the disk then has.
+const CALLS: &[(Call, bool, &[u8])] = &[
+    (Write(2, b"abcd"), true, b"\0\0abcd"),
+    (Write(4, b"XYZ"), true, b"\0\0abXYZ"),
+    (Sync, true, b"\0\0abXYZ"),
+    (Read(3, 3, b"bXY"), true, b"\0\0abXYZ"),
+    (Read(7, 0, b""), true, b"\0\0abXYZ"),
+    // Behind the end nothing is read.
+    (Read(4, 4, b"----"), false, b"\0\0abXYZ"),
+    (Read(7, 1, b"-"), false, b"\0\0abXYZ"),
+    (Read(8, 0, b""), false, b"\0\0abXYZ"),
+    (Read(usize::MAX, 1, b"-"), false, b"\0\0abXYZ"),
+    (SetLen(4), true, b"\0\0ab"),
+    (SetLen(6), true, b"\0\0ab\0\0"),
+    // No memory holds so much, and the rest stays.
+    (Write(usize::MAX, b"xy"), false, b"\0\0ab\0\0"),
+    (Write(usize::MAX / 2, b"xy"), false, b"\0\0ab\0\0"),
+    (SetLen(usize::MAX), false, b"\0\0ab\0\0"),
+    (SetLen(usize::MAX / 2), false, b"\0\0ab\0\0"),
+    (Write(6, b"e"), true, b"\0\0ab\0\0e"),
+    (SetLen(0), true, b""),
+];
+
+/// Whether a read is Ok, with the bytes of a buffer that had hyphens.
+fn read_some(disk: &mut MemoryDisk, at: usize, width: usize, want: &[u8]) -> Option<bool> {
+    let mut buffer = [b'-'; 8];
+    let part = buffer.get_mut(..width)?;
+    let is_ok = disk.read_at(at, part).is_ok();
+    if &*part != want {
+        return None;
+    }
+    Some(is_ok)
+}
+
+fn make_call(disk: &mut MemoryDisk, call: Call) -> Option<bool> {
+    match call {
+        Write(at, bytes) => Some(disk.write_at(at, bytes).is_ok()),
+        SetLen(len) => Some(disk.set_len(len).is_ok()),
+        Read(at, width, want) => read_some(disk, at, width, want),
+        Sync => Some(disk.sync().is_ok()),
+    }
+}
+
 #[test]
-fn what_is_written_is_read_back(rt: HostRuntime) -> Result<(), Fail> {
+fn a_disk_by_its_calls(rt: HostRuntime) -> Result<(), Fail> {
     let mut disk = MemoryDisk::new(rt.alloc());
-    disk.write_at(2, b"abcd")?;
-    disk.write_at(4, b"XYZ")?;
-    disk.sync()?;
-    assert_eq!(rt; disk.bytes(), b"\0\0abXYZ".as_slice());
-    assert_eq!(rt; disk.len()?, 7);
-
-    let mut read = [0; 3];
-    disk.read_at(3, &mut read)?;
-    assert_eq!(rt; read.as_slice(), b"bXY".as_slice());
-
-    disk.set_len(4)?;
-    assert_eq!(rt; disk.bytes(), b"\0\0ab".as_slice());
-    disk.set_len(6)?;
-    assert_eq!(rt; disk.bytes(), b"\0\0ab\0\0".as_slice());
-    Ok(())
-}
-
-#[test]
-fn a_read_past_the_end_is_refused(rt: HostRuntime) -> Result<(), Fail> {
-    let mut disk = MemoryDisk::new(rt.alloc());
-    disk.write_at(0, b"abcd")?;
-    for (at, width) in [(0, 5), (3, 2), (4, 1), (5, 0), (usize::MAX, 1)] {
-        let mut buf = [b'-'; 8];
-        assert!(rt; width <= 8);
-        assert!(rt;
-            disk.read_at(at, &mut buf[..width]).is_err(),
-            "{width} bytes at {at}"
-        );
-        assert_eq!(rt; buf.as_slice(), b"--------".as_slice());
+    for (step, is_ok, bytes) in CALLS {
+        assert_eq!(rt; make_call(&mut disk, *step), Some(*is_ok));
+        assert_eq!(rt; disk.bytes(), *bytes);
+        assert!(rt; disk.may_be_used());
     }
-    let mut last = [0; 1];
-    disk.read_at(3, &mut last)?;
-    assert_eq!(rt; last.as_slice(), b"d".as_slice());
-    disk.read_at(4, &mut [])?;
-    Ok(())
-}
-
-#[test]
-fn a_write_without_memory_leaves_the_rest(rt: HostRuntime) -> Result<(), Fail> {
-    let mut disk = MemoryDisk::new(rt.alloc());
-    disk.write_at(0, b"abcd")?;
-    for at in [usize::MAX, usize::MAX / 2] {
-        assert!(rt; disk.write_at(at, b"xy").is_err(), "at {at}");
-        assert!(rt; disk.set_len(at).is_err(), "at {at}");
-        assert_eq!(rt; disk.bytes(), b"abcd".as_slice());
-    }
-    assert!(rt; disk.may_be_used());
-    disk.write_at(4, b"e")?;
-    assert_eq!(rt; disk.bytes(), b"abcde".as_slice());
-    Ok(())
-}
-
-fn keep_or_undo<S: Alter>(conn: &mut Connection<S>, name: &str, keep: bool) -> Result<(), Error> {
-    if !conn.is_autocommit() {
-        return Ok(());
-    }
-    let mut tx = conn.transaction();
-    tx.execute("INSERT INTO town (name) VALUES (?1)", params![name])?;
-    if keep {
-        return tx.commit();
-    }
-    tx.rollback();
-    Ok(())
-}
-
-fn count<S: Alter>(conn: &mut Connection<S>) -> Result<i64, Error> {
-    conn.query_row("SELECT count(*) FROM town", &[])?.get(0)
-}
-
-#[test]
-fn rows_of_commits_stand(rt: HostRuntime) -> Result<(), Fail> {
-    let mut conn = open(rt.alloc())?;
-    conn.execute_batch("CREATE TABLE town (id INTEGER PRIMARY KEY, name TEXT NOT NULL) STRICT")?;
-    keep_or_undo(&mut conn, "Myrtle", true)?;
-    keep_or_undo(&mut conn, "Sago", false)?;
-    assert_eq!(rt; count(&mut conn)?, 1);
-    // More than the log holds before it is copied.
-    for _ in 0..600 {
-        keep_or_undo(&mut conn, "Palm", true)?;
-    }
-    assert_eq!(rt; count(&mut conn)?, 601);
-    let first: String = conn
-        .query_row("SELECT name FROM town WHERE id = 1", &[])?
-        .get(0)?;
-    assert_eq!(rt; first.as_str(), "Myrtle");
     Ok(())
 }
