@@ -10,6 +10,7 @@ pub mod found;
 pub mod put;
 pub mod rows;
 pub mod schema;
+pub mod settled;
 
 pub use dumped::{DumpReader, dump};
 pub use find::{find_definition, find_row, has_rows};
@@ -17,6 +18,7 @@ pub use found::{has_no_tables, has_our_tables};
 pub use put::{add_row, delete_row, delete_rows, put_definition, put_position, put_row};
 pub use rows::{StoredDefinition, StoredRow};
 pub use schema::create_tables;
+pub use settled::see_committed;
 
 #[cfg(test)]
 mod tests;
