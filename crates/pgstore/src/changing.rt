@@ -8,7 +8,7 @@ ghost use Rattle.sqlite.specs.Held.{state};
 ghost use Rattle.sqlite.specs.State.{HasCleanDisk};
 ghost use Rattle.pgtuple.specs.declared.cell.Cell.{Cell};
 ghost use Rattle.pgrel.specs.Identity.{has_unchanged, resolved};
-ghost use Rattle.pgtables.specs.Kept.{IfServing, IsUnderWay, Makes, Goes, tables_of};
+ghost use Rattle.pgtables.specs.Kept.{Goes, InTransaction, Makes, tables_of};
 ghost use Rattle.pgapply.specs.declared.op.Op.TheVariants as op;
 ghost use Rattle.pgapply.specs.Value.{Row, Rows, Tables};
 ghost use Rattle.pgapply.specs.Apply.{with_row, without_row, rows_after};
@@ -17,8 +17,8 @@ ghost use Rattle.pgstore.specs.Spelled.{IsChanging};
 ghost use Rattle.pgapply.specs.Stored.{IsOwnFault};
 ghost use Rattle.pgstore.specs.Acts.{IsNewRow, Adds, Changes, Refuses, Moves, RefusesToMove, Replaces, RefusesToReplace, AddsCopy, RefusesCopy, taken_row};
 
+use crate::encoded::{encode, encode_identity, encode_searched, lend_prior, read_tuple};
 use crate::fault::Refusal;
-use crate::spelling::{lend_prior, read_tuple, spell, spell_identity, spell_searched};
 use pgapply::{Op, StoreFault};
 use pglogical::{OldKind, RelationDef};
 use pgrel::{check_insert, keyed, resolve};
@@ -37,7 +37,7 @@ fn take_row<S: Alter>(
     place: &[u8],
     row: &StoredRow,
 ) -> Result<(), Refusal>
-    requires { IfServing S.Store tx.old.conn.now (IsUnderWay S.Store tx.old.conn.now) }
+    requires { InTransaction S.Store tx.old.conn.now }
     ensures same_reference { tx.new.conn.ghost_name ≡ tx.old.conn.ghost_name }
     ensures made { HasCleanDisk (state S.Store tx.new.conn.now) → OnOk result (Makes S.Store (taken_row oid place.now row.now) tx.old.conn.now tx.new.conn.now) }
     ensures fault { IfErr result IsOwnFault }
@@ -60,7 +60,7 @@ fn add_copy<S: Alter>(
     body: &[u8],
     there: &StoredRow,
 ) -> Result<(), Refusal>
-    requires { IfServing S.Store tx.old.conn.now (IsUnderWay S.Store tx.old.conn.now) }
+    requires { InTransaction S.Store tx.old.conn.now }
     ensures same_reference { tx.new.conn.ghost_name ≡ tx.old.conn.ghost_name }
     ensures made { HasCleanDisk (state S.Store tx.new.conn.now) → OnOk result (AddsCopy S.Store def.now place.now body.now there.now tx.old.conn.now tx.new.conn.now) }
     ensures fault { IfErr result (RefusesCopy def.now there.now) }
@@ -84,7 +84,7 @@ fn add_again<S: Alter>(
     place: &[u8],
     body: &[u8],
 ) -> Result<(), Refusal>
-    requires { IfServing S.Store tx.old.conn.now (IsUnderWay S.Store tx.old.conn.now) }
+    requires { InTransaction S.Store tx.old.conn.now }
     ensures same_reference { tx.new.conn.ghost_name ≡ tx.old.conn.ghost_name }
     ensures made { HasCleanDisk (state S.Store tx.new.conn.now) → OnOk result (Adds S.Store tx.old.conn.now tx.new.conn.now def.now place.now body.now) }
     ensures fault { HasCleanDisk (state S.Store tx.new.conn.now) → IfErr result (λ fault. (cells : List Cell) → IsNewRow def.now cells place.now body.now → Refuses S.Store tx.old.conn.now def.now (with_row def.now cells) fault) }
@@ -103,7 +103,7 @@ fn add_row<S: Alter>(
     place: &[u8],
     body: &[u8],
 ) -> Result<(), Refusal>
-    requires { IfServing S.Store tx.old.conn.now (IsUnderWay S.Store tx.old.conn.now) }
+    requires { InTransaction S.Store tx.old.conn.now }
     ensures same_reference { tx.new.conn.ghost_name ≡ tx.old.conn.ghost_name }
     ensures made { HasCleanDisk (state S.Store tx.new.conn.now) → OnOk result (Adds S.Store tx.old.conn.now tx.new.conn.now def.now place.now body.now) }
     ensures fault { HasCleanDisk (state S.Store tx.new.conn.now) → IfErr result (λ fault. (cells : List Cell) → IsNewRow def.now cells place.now body.now → Refuses S.Store tx.old.conn.now def.now (with_row def.now cells) fault) }
@@ -124,16 +124,15 @@ fn move_row<S: Alter>(
     there: &StoredRow,
     row: &TupleRef<'_>,
 ) -> Result<(), Refusal>
-    requires serving { IfServing S.Store tx.old.conn.now (IsUnderWay S.Store tx.old.conn.now) }
+    requires serving { InTransaction S.Store tx.old.conn.now }
     requires width { length row.now ≡ length def.now.columns }
     ensures same_reference { tx.new.conn.ghost_name ≡ tx.old.conn.ghost_name }
     ensures made { HasCleanDisk (state S.Store tx.new.conn.now) → OnOk result (Moves S.Store tx.old.conn.now tx.new.conn.now def.now place.now there.now row.now) }
     ensures fault { HasCleanDisk (state S.Store tx.new.conn.now) → IfErr result (RefusesToMove S.Store tx.old.conn.now def.now place.now there.now row.now) }
     ensures goes { Goes S.Store tx.old.conn.now tx.new.conn.now }
 {
-    let _width = row.width();
-    let next = spell_identity(alloc, def, row)?;
-    let body = spell(alloc, row)?;
+    let next = encode_identity(alloc, def, row)?;
+    let body = encode(alloc, row)?;
     if next.as_slice() == place {
         put_row(tx, def.oid, place, body.as_slice(), there.copies())?;
         return Ok(());
@@ -151,18 +150,18 @@ fn replace_row<S: Alter>(
     there: &StoredRow,
     row: &TupleRef<'_>,
 ) -> Result<(), Refusal>
-    requires serving { IfServing S.Store tx.old.conn.now (IsUnderWay S.Store tx.old.conn.now) }
+    requires serving { InTransaction S.Store tx.old.conn.now }
     requires width { length row.now ≡ length def.now.columns }
     ensures same_reference { tx.new.conn.ghost_name ≡ tx.old.conn.ghost_name }
     ensures made { HasCleanDisk (state S.Store tx.new.conn.now) → OnOk result (Replaces S.Store tx.old.conn.now tx.new.conn.now def.now place.now there.now row.now) }
     ensures fault { HasCleanDisk (state S.Store tx.new.conn.now) → IfErr result (RefusesToReplace S.Store tx.old.conn.now def.now place.now there.now row.now) }
     ensures goes { Goes S.Store tx.old.conn.now tx.new.conn.now }
 {
-    let was = read_tuple(alloc, there.body())?;
+    let was = read_tuple(there.body())?;
     if was.width() != row.width() {
         return Err(Refusal::new(StoreFault::Refused));
     }
-    let next = resolve(alloc, row, &was.borrowed())?;
+    let next = resolve(alloc, row, &was)?;
     move_row(tx, alloc, def, place, there, &next.borrowed())
 }
 
@@ -173,16 +172,15 @@ fn insert<S: Alter>(
     def: &RelationDef,
     row: &TupleRef<'_>,
 ) -> Result<(), Refusal>
-    requires { IfServing S.Store tx.old.conn.now (IsUnderWay S.Store tx.old.conn.now) }
+    requires { InTransaction S.Store tx.old.conn.now }
     ensures same_reference { tx.new.conn.ghost_name ≡ tx.old.conn.ghost_name }
     ensures made { HasCleanDisk (state S.Store tx.new.conn.now) → OnOk result (Changes S.Store tx.old.conn.now tx.new.conn.now def.now (rows_after def.now (op.Insert row.now))) }
     ensures fault { HasCleanDisk (state S.Store tx.new.conn.now) → IfErr result (Refuses S.Store tx.old.conn.now def.now (rows_after def.now (op.Insert row.now))) }
     ensures goes { Goes S.Store tx.old.conn.now tx.new.conn.now }
 {
     check_insert(def, row)?;
-    let _width = row.width();
-    let place = spell_identity(alloc, def, row)?;
-    let body = spell(alloc, row)?;
+    let place = encode_identity(alloc, def, row)?;
+    let body = encode(alloc, row)?;
     add_row(tx, def, place.as_slice(), body.as_slice())
 }
 
@@ -194,14 +192,14 @@ fn update<S: Alter>(
     prior: &Option<(OldKind, TupleRef<'_>)>,
     row: &TupleRef<'_>,
 ) -> Result<(), Refusal>
-    requires { IfServing S.Store tx.old.conn.now (IsUnderWay S.Store tx.old.conn.now) }
+    requires { InTransaction S.Store tx.old.conn.now }
     ensures same_reference { tx.new.conn.ghost_name ≡ tx.old.conn.ghost_name }
     ensures made { HasCleanDisk (state S.Store tx.new.conn.now) → OnOk result (Changes S.Store tx.old.conn.now tx.new.conn.now def.now (rows_after def.now (op.Update prior.now row.now))) }
     ensures fault { HasCleanDisk (state S.Store tx.new.conn.now) → IfErr result (Refuses S.Store tx.old.conn.now def.now (rows_after def.now (op.Update prior.now row.now))) }
     ensures goes { Goes S.Store tx.old.conn.now tx.new.conn.now }
 {
-    let spelled = spell_searched(alloc, def, lend_prior(prior), Some(row.lend()))?;
-    let place = spelled.as_slice();
+    let identity = encode_searched(alloc, def, lend_prior(prior), Some(row.lend()))?;
+    let place = identity.as_slice();
     match find_row(tx, def.oid, place)? {
         None => Ok(()),
         Some(there) => replace_row(tx, alloc, def, place, &there, row),
@@ -216,14 +214,14 @@ fn delete<S: Alter>(
     kind: OldKind,
     row: &TupleRef<'_>,
 ) -> Result<(), Refusal>
-    requires { IfServing S.Store tx.old.conn.now (IsUnderWay S.Store tx.old.conn.now) }
+    requires { InTransaction S.Store tx.old.conn.now }
     ensures same_reference { tx.new.conn.ghost_name ≡ tx.old.conn.ghost_name }
     ensures made { HasCleanDisk (state S.Store tx.new.conn.now) → OnOk result (Changes S.Store tx.old.conn.now tx.new.conn.now def.now (rows_after def.now (op.Delete kind row.now))) }
     ensures fault { HasCleanDisk (state S.Store tx.new.conn.now) → IfErr result (Refuses S.Store tx.old.conn.now def.now (rows_after def.now (op.Delete kind row.now))) }
     ensures goes { Goes S.Store tx.old.conn.now tx.new.conn.now }
 {
-    let spelled = spell_searched(alloc, def, Some((kind, row.lend())), None)?;
-    let place = spelled.as_slice();
+    let identity = encode_searched(alloc, def, Some((kind, row.lend())), None)?;
+    let place = identity.as_slice();
     match find_row(tx, def.oid, place)? {
         None => Ok(()),
         Some(there) => take_row(tx, def.oid, place, &there),
@@ -232,7 +230,7 @@ fn delete<S: Alter>(
 
 /// A truncated table.
 fn truncate<S: Alter>(tx: &mut Transaction<'_, S>, def: &RelationDef) -> Result<(), Refusal>
-    requires { IfServing S.Store tx.old.conn.now (IsUnderWay S.Store tx.old.conn.now) }
+    requires { InTransaction S.Store tx.old.conn.now }
     ensures same_reference { tx.new.conn.ghost_name ≡ tx.old.conn.ghost_name }
     ensures made { HasCleanDisk (state S.Store tx.new.conn.now) → OnOk result (Changes S.Store tx.old.conn.now tx.new.conn.now def.now (rows_after def.now op.Truncate)) }
     ensures fault { HasCleanDisk (state S.Store tx.new.conn.now) → IfErr result (Refuses S.Store tx.old.conn.now def.now (rows_after def.now op.Truncate)) }
@@ -249,7 +247,7 @@ pub(crate) fn change_rows<S: Alter>(
     def: &RelationDef,
     op: &Op<'_>,
 ) -> Result<(), Refusal>
-    requires { IfServing S.Store tx.old.conn.now (IsUnderWay S.Store tx.old.conn.now) }
+    requires { InTransaction S.Store tx.old.conn.now }
     ensures same_reference { tx.new.conn.ghost_name ≡ tx.old.conn.ghost_name }
     ensures made { HasCleanDisk (state S.Store tx.new.conn.now) → OnOk result (Changes S.Store tx.old.conn.now tx.new.conn.now def.now (rows_after def.now op.now)) }
     ensures fault { HasCleanDisk (state S.Store tx.new.conn.now) → IfErr result (Refuses S.Store tx.old.conn.now def.now (rows_after def.now op.now)) }

@@ -1,4 +1,4 @@
-use Rattle.std.proofs.Common.{◌≡◌, IfOk, not, subst, ap, ◌∙◌}
+use Rattle.std.proofs.Common.{◌≡◌, IfOk, subst}
 use Rattle.sqlite.specs.Held.{state}
 use Rattle.sqlite.specs.State.{HasCleanDisk, Survives}
 use Rattle.pgapply.specs.Stored.{Stored}
@@ -13,7 +13,7 @@ invariant_of-self g c =
     let settled = c.dump_rows-rows.ensures.settled in
     stays_store g.S.Store c.self.inside.conn c.dump_rows-rows.new.conn c.self.inside.position c.dump_rows-rows.ensures.clean c.dump_rows-rows.ensures.unchanged c.self.invariant
     (read_left g.S.Store c.self.inside.conn c.dump_rows-rows.new.conn c.self.inside.position c.dump_rows-rows.ensures.crash) g.met.S.Store.settled
-    (c.is_autocommit-settled.ensures.settled (c.is_autocommit-settled.ensures.value ∙ ap not settled)) settled
+    c.see_committed.ensures settled
 
 pub returns-clause-rows : goal.returns-clause-rows
 returns-clause-rows g c =
