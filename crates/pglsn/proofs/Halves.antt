@@ -73,10 +73,6 @@ part_parsed part (Err e) short plain h = λ is.
     let P : List ℕ → Type 0 = λ ds. IsNumeral 16 ds × (digits_value 16 ds < 2 ^ 32) in
     h (subst P (sym same) (((omega (arith, is.some)), is.digits), part_fits part is))
 
--- a sign isn't part of a half
-pub signed_no_part : (part : List ℕ) → get_or part 0 0 ≡ 43 → IsPart part → ⊥
-signed_no_part part e is = no_plus part is.digits e
-
 -- a text reads as one number
 pub one_reading : (text : List ℕ) (m n : ℕ) → ReadsAs text m → ReadsAs text n → m ≡ n
 one_reading text m n x y =
