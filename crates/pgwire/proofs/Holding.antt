@@ -7,11 +7,11 @@ use Rattle.std.specs.Int.{w32, to_be_bytes}
 use Rattle.pgwire.specs.declared.fault.WireFault.{WireFault}
 use Rattle.pgwire.specs.declared.fault.WireFault.TheVariants.{UnknownFrame, BadLength, TooLarge, AfterDone, UnknownServerMessage, Short, Trailing, BadReplyByte, Memory}
 use Rattle.pgwire.specs.declared.header.Header.{Header}
-use Rattle.pgwire.specs.Frames.{Frame, CopyData, CopyDone, tag_of, length_of, IsTag, IsPartial, BreaksLength, IsFramingFault, HasPayloadLen}
+use Rattle.pgwire.specs.Frames.{Frame, CopyData, CopyDone, frame, tag_of, length_of, IsTag, IsPartial, BreaksLength, IsFramingFault, HasPayloadLen}
 use Rattle.pgwire.specs.Deframed.{Deframed, Stands, Waits, IsFed, payload_come}
 use Rattle.pgwire.specs.Held.{come, IsSound, IsHeaderWith}
 use Rattle.pgwire.proofs.Headers.{IsBytes, IsBytes-take, header_spelled}
-use Rattle.pgwire.proofs.Readings.{tag-append, length-of-append}
+use Rattle.pgwire.proofs.Readings.{tag-append, length-of-append, partial_is_short}
 
 pub length-come : (h : Header) → length (come h) ≡ h.len
 length-come h = length-take-le h.len h.bytes (omega (arith, h.within, h.five))
@@ -33,6 +33,13 @@ fault-append max bytes more TooLarge breaks =
     let n = length-of-append bytes more breaks.1 in
     (refl, omega (arith, breaks.1, length-append bytes more), t ∙ breaks.2, omega (arith, n, breaks.3), omega (arith, n, breaks.4))
 fault-append max bytes more _ breaks = absurd breaks
+
+-- a complete frame isn't waited for
+pub not_both : (d : Deframed) (f : Frame) → Stands d f → Waits d → ⊥
+not_both d f stands waits =
+    let short = partial_is_short d.max d.max f d.held [] [] stands.allowed waits.partial (append-nil d.held ∙ stands.whole ∙ sym (append-nil (frame f))) in
+    let same = ap length stands.whole in
+    omega arith
 
 some_byte : (max : ℕ) (bytes : List ℕ) (fault : WireFault) → IsFramingFault max false bytes fault → 1 ≤ length bytes
 some_byte max bytes AfterDone breaks = breaks.1
@@ -282,28 +289,6 @@ payload_counted max old new payload piece done before after k step some =
     let bytes : length ((come old ++ payload) ++ piece) ≡ old.len + length payload + length piece = omega (arith, length-append (come old ++ payload) piece, length-append (come old) payload, length-come old) in
     let fits = fits_behind max old new payload piece done before after k step in
     omega (arith, size, bytes, (step.is.counted long).0, step.count, taken)
-
--- the header is not whole where the piece shows a fault
-short_header : (max n : ℕ) (h : Header) (piece : List ℕ) (done : Bool) (x : WireFault) → HasPayloadLen max (come h) n → (done ≡ true → h.len ≡ 0) → IsFramingFault max done (come h ++ piece) x → h.len < 5
-short_header max n h piece true x good last breaks = omega (arith, last refl)
-short_header max n h piece false x good last breaks =
-    elim (cases_lt h.len 5) [ inl short ↦ short | inr whole ↦ absurd (good_header max n (come h) piece x good (omega (arith, length-come h, h.within)) breaks) ]
-
-faulted : (d : Deframed) (piece : List ℕ) (x : WireFault) → d.fault ≡ None → Waits d → IsFramingFault d.max d.done (d.held ++ piece) x → IsFed d piece (Err x) (record d { fault = Some x })
-faulted d piece AfterDone none waits breaks = (refl, waits, inr (none, breaks))
-faulted d piece (UnknownFrame byte) none waits breaks = (refl, waits, inr (none, breaks))
-faulted d piece BadLength none waits breaks = (refl, waits, inr (none, breaks))
-faulted d piece TooLarge none waits breaks = (refl, waits, inr (none, breaks))
-faulted d piece _ none waits breaks = absurd breaks
-
-pub fed_fault : (max n : ℕ) (h : Header) (payload piece : List ℕ) (done : Bool) (fault : Option WireFault) (room : ℕ) (x : WireFault) → fault ≡ None → HasPayloadLen max (come h) n → length payload ≤ n → (done ≡ true → h.len ≡ 0)
-    → IsFramingFault max done (come h ++ piece) x
-    → IsFed (record { max = max; held = come h ++ payload; done = done; fault = fault; room = room }) piece (Err x) (record { max = max; held = come h ++ payload; done = done; fault = Some x; room = room })
-fed_fault max n h payload piece done fault room x none good within last breaks =
-    let short = short_header max n h piece done x good last breaks in
-    let same : come h ++ payload ≡ come h = ap (λ behind. come h ++ behind) (no_payload max n h payload good within short) ∙ append-nil (come h) in
-    faulted (record { max = max; held = come h ++ payload; done = done; fault = fault; room = room }) piece x none (waits_now max n h payload done fault room good within last (λ five. absurd (omega arith)))
-    (subst (λ front. IsFramingFault max done (front ++ piece) x) (sym same) breaks)
 
 -- a fault is returned again
 again : (d : Deframed) (piece : List ℕ) (x : WireFault) → d.fault ≡ Some x → x ≢ Memory → Waits d → IsFed d piece (Err x) d

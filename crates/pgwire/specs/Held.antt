@@ -9,7 +9,7 @@ use Rattle.pgwire.specs.Frames.{HasPayloadLen}
 abbrev pub come : Header → List ℕ
 come h = take h.len h.bytes
 
--- Behind a whole header is as much of the payload as it says or less. Nothing is held behind CopyDone, and no whole frame beside
+-- After a whole header is as much of the payload as it says or less. Nothing is held after CopyDone, and no whole frame beside
 -- a fault.
 pub record IsSound (max : ℕ) (header : Header) (payload : List ℕ) (done : Bool) (fault : Option WireFault) : Type 0 where
   pub payload_len : ℕ

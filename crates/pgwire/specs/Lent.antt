@@ -1,4 +1,4 @@
--- What a lent frame and a lent message say.
+-- What a borrowed frame and a borrowed message say.
 use Rattle.std.specs.Prelude.{◌≡◌, ℕ, List, Result, Ok, Err, MatchResult}
 use Rattle.pgwire.specs.declared.fault.WireFault.{WireFault}
 use Rattle.pgwire.specs.declared.frame.Frame.{Frame}

@@ -6,7 +6,7 @@ ghost use Rattle.pgwire.specs.Lent.{frame_value};
 ghost use Rattle.pgwire.specs.Deframed.{fresh, Stands, Waits, IsFed, IsReleased, payload_come};
 ghost use Rattle.pgwire.specs.Held.{come, IsHeaderWith};
 
-use crate::frame::HEADER_LEN;
+use crate::frame::{COPY_DONE_TAG, HEADER_LEN};
 use crate::header::Header;
 use crate::{Frame, WireFault};
 use std::alloc::{AllocError, Global};
@@ -97,7 +97,7 @@ impl Deframer {
         if self.payload.len() < payload_len {
             return None;
         }
-        if self.header.bytes[0] == b'c' {
+        if self.header.bytes[0] == COPY_DONE_TAG {
             return Some(Frame::Done);
         }
         Some(Frame::Data(&self.payload))
@@ -108,7 +108,7 @@ impl Deframer {
         ensures { IsReleased self.old self.new }
     {
         if self.whole().is_some() {
-            self.done = self.header.bytes[0] == b'c';
+            self.done = self.header.bytes[0] == COPY_DONE_TAG;
             self.header = Header::new();
             self.payload.clear();
         }
@@ -143,7 +143,7 @@ fn make_room(payload: &mut Vec<u8>, bytes: &[u8], payload_len: usize) -> Result<
     payload.reserve_exact((2 * come).min(payload_len) - payload.len())
 }
 
-// Appends the next bytes of a payload of `payload_len` bytes. A refusal changes nothing.
+// Appends the next bytes of a payload of `payload_len` bytes. An error changes nothing.
 fn append(payload: &mut Vec<u8>, bytes: &[u8], payload_len: usize) -> Result<(), AllocError>
     requires fits { vec_len payload.old + length bytes.now ≤ payload_len }
     requires small { payload_len ≤ max_length }

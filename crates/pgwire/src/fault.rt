@@ -9,7 +9,7 @@ pub enum WireFault {
     BadLength,
     /// A payload is longer than the limit.
     TooLarge,
-    /// A byte behind CopyDone.
+    /// A byte after CopyDone.
     AfterDone,
     /// The first byte of a payload is neither `w` nor `k`.
     UnknownServerMessage(u8),

@@ -1,7 +1,7 @@
 //! One frame at the front of bytes.
 
 ghost use Rattle.std.specs.Prelude.{◌≡◌, ◌+◌, ◌≤◌, ◌<◌, ◌⊎◌, false, length, MatchResult, MatchOption};
-ghost use Rattle.pgwire.specs.Frames.{IsPartial, IsFront, IsFramingFault, IsTag, BreaksLength, max_length};
+ghost use Rattle.pgwire.specs.Frames.{IsPartial, IsFront, IsFramingFault, IsTag, BreaksLength, copy_data_tag, copy_done_tag, max_length};
 ghost use Rattle.pgwire.specs.Lent.{frame_value};
 ghost use Rattle.pgwire.specs.declared.fault.WireFault.TheVariants.{BadLength, TooLarge};
 
@@ -17,7 +17,13 @@ pub enum Frame<'a> {
     Done,
 }
 
-/// The bytes of a frame's header: its letter and its length.
+/// The first byte of a CopyData frame.
+pub const COPY_DATA_TAG: u8 = b'd';
+
+/// The first byte of a CopyDone frame.
+pub const COPY_DONE_TAG: u8 = b'c';
+
+/// The bytes of a frame's header: its first byte and its length.
 pub const HEADER_LEN: usize = 5;
 
 // The greatest length that the four bytes of a header tell, an Int32.
@@ -33,14 +39,14 @@ pub fn front(bytes: &[u8], max_frame: u32) -> Result<Option<(Frame<'_>, usize)>,
         return Ok(None);
     }
     let tag = bytes[0];
-    if tag != b'd' && tag != b'c' {
+    if tag != COPY_DATA_TAG && tag != COPY_DONE_TAG {
         return Err(WireFault::UnknownFrame(tag));
     }
     if bytes.len() < HEADER_LEN {
         return Ok(None);
     }
     let payload_len = payload_len(tag, BigEndian::read_u32(&bytes[1..]), max_frame)?;
-    if tag == b'c' {
+    if tag == COPY_DONE_TAG {
         return Ok(Some((Frame::Done, HEADER_LEN)));
     }
     let end = HEADER_LEN + payload_len;
@@ -50,14 +56,14 @@ pub fn front(bytes: &[u8], max_frame: u32) -> Result<Option<(Frame<'_>, usize)>,
     Ok(Some((Frame::Data(&bytes[HEADER_LEN..end]), end)))
 }
 
-/// How many bytes of payload follow a header with this letter, `d` or `c`, and this length.
+/// How many bytes of payload follow a header with this first byte and this length.
 pub fn payload_len(tag: u8, length: u32, max_frame: u32) -> Result<usize, WireFault>
     requires { IsTag tag }
     ensures { MatchResult result
-        (λ n. (n + 4 ≡ length) × (n ≤ max_frame) × (length ≤ max_length) × (tag ≡ 99 → n ≡ 0))
-        (λ fault. ((fault ≡ BadLength) × BreaksLength tag length) ⊎ ((fault ≡ TooLarge) × (tag ≡ 100) × (max_frame + 4 < length) × (length ≤ max_length))) }
+        (λ n. (n + 4 ≡ length) × (n ≤ max_frame) × (length ≤ max_length) × (tag ≡ copy_done_tag → n ≡ 0))
+        (λ fault. ((fault ≡ BadLength) × BreaksLength tag length) ⊎ ((fault ≡ TooLarge) × (tag ≡ copy_data_tag) × (max_frame + 4 < length) × (length ≤ max_length))) }
 {
-    if length < 4 || length > MAX_LENGTH || (tag == b'c' && length != 4) {
+    if length < 4 || length > MAX_LENGTH || (tag == COPY_DONE_TAG && length != 4) {
         return Err(WireFault::BadLength);
     }
     let payload_len = length - 4;

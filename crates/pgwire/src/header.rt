@@ -4,13 +4,13 @@ ghost use Rattle.std.specs.Prelude.{◌≡◌, ◌≤◌, ◌<◌, ℕ, false, l
 ghost use Rattle.pgwire.specs.Frames.{IsFramingFault, HasPayloadLen};
 
 use crate::WireFault;
-use crate::frame::{HEADER_LEN, payload_len};
+use crate::frame::{COPY_DATA_TAG, COPY_DONE_TAG, HEADER_LEN, payload_len};
 use byteorder::{BigEndian, ByteOrder};
 
 /// The first `len` bytes of a header.
 #[derive(Clone, Copy)]
 pub struct Header {
-    /// The header's bytes; those behind `len` mean nothing.
+    /// The header's bytes; those after `len` mean nothing.
     pub bytes: [u8; 5],
     /// How many of them have come, at most 5.
     pub len: usize,
@@ -51,7 +51,7 @@ impl Header {
             return Ok(0);
         }
         let tag = self.bytes[0];
-        if tag != b'd' && tag != b'c' {
+        if tag != COPY_DATA_TAG && tag != COPY_DONE_TAG {
             return Err(WireFault::UnknownFrame(tag));
         }
         if self.len < HEADER_LEN {

@@ -9,6 +9,12 @@ use crate::WireFault;
 use byteorder::{BigEndian, ByteOrder};
 use pglsn::Lsn;
 
+/// The first byte of XLogData.
+const XLOG_DATA_TAG: u8 = b'w';
+
+/// The first byte of a primary keepalive.
+const KEEPALIVE_TAG: u8 = b'k';
+
 /// A message of a server, as a part of its payload.
 #[derive(Clone, Copy, Debug, PartialEq, Eq)]
 pub enum ServerMsg<'a> {
@@ -27,12 +33,12 @@ pub enum ServerMsg<'a> {
     },
 }
 
-/// The message that a payload spells, or the first fault: a keepalive's length is looked at before its reply byte.
+/// The message that a payload encodes, or the first fault: a keepalive's length is looked at before its reply byte.
 pub fn decode_server(bytes: &[u8]) -> Result<ServerMsg<'_>, WireFault>
     ensures gives { Gives result bytes.now }
-    // What is read is spelled so.
+    // What is read is encoded so.
     ensures found { IfOk result (λ m. IsServerMessage (message_value m) × (bytes.now ≡ payload (message_value m))) }
-    // What is spelled so is read.
+    // What is encoded so is read.
     ensures only { (m : ServerMessage) → IsServerMessage m → bytes.now ≡ payload m → IsOkAnd result (λ x. message_value x ≡ m) }
     // Which fault it is.
     ensures first { IfErr result (λ fault. HasPayloadFault bytes.now fault) }
@@ -46,8 +52,8 @@ fn read(bytes: &[u8]) -> Result<ServerMsg<'_>, WireFault>
 {
     match bytes {
         [] => Err(WireFault::Short),
-        [b'w', fields @ ..] => decode_data(fields),
-        [b'k', fields @ ..] => decode_keepalive(fields),
+        [XLOG_DATA_TAG, fields @ ..] => decode_data(fields),
+        [KEEPALIVE_TAG, fields @ ..] => decode_keepalive(fields),
         [tag, ..] => Err(WireFault::UnknownServerMessage(*tag)),
     }
 }

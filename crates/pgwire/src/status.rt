@@ -6,6 +6,7 @@ ghost use Rattle.pgwire.specs.Statuses.{status_frame};
 ghost use Rattle.pgwire.specs.declared.fault.WireFault.TheVariants.{Memory};
 
 use crate::WireFault;
+use crate::frame::COPY_DATA_TAG;
 use bytes::{BufMut, BytesMut};
 use pglsn::Lsn;
 
@@ -16,7 +17,7 @@ use pglsn::Lsn;
 pub struct Status {
     /// Up to where the WAL was received and written.
     pub written: Lsn,
-    /// Up to where it stands on disk: the server may forget what lies below.
+    /// Up to where it is on disk: the server may forget what lies below.
     pub flushed: Lsn,
     /// Up to where it was applied.
     pub applied: Lsn,
@@ -26,7 +27,10 @@ pub struct Status {
     pub ask: bool,
 }
 
-// The frame's header, the letter and the fields.
+/// The first byte of a standby status update.
+const STATUS_TAG: u8 = b'r';
+
+// The frame's header, the first byte and the fields.
 const FRAME_LEN: usize = 39;
 
 /// Appends the CopyData frame of a status. Out of memory, which is the only error, leaves the buffer as it was.
@@ -34,15 +38,15 @@ pub fn encode_status(status: &Status, out: &mut BytesMut) -> Result<(), WireFaul
     ensures appended { MatchResult result
         (λ _. out.new.items ≡ out.old.items ++ status_frame status.now)
         (λ fault. (fault ≡ Memory) × (out.new.items ≡ out.old.items)) }
-    // Where there is room it isn't refused.
+    // Where there is room there is no error.
     ensures full { OnErr result (out.old.spare < 39) }
 {
     if out.reserve(FRAME_LEN).is_err() {
         return Err(WireFault::Memory);
     }
-    out.put_u8(b'd').unwrap();
+    out.put_u8(COPY_DATA_TAG).unwrap();
     out.put_u32(38).unwrap();
-    out.put_u8(b'r').unwrap();
+    out.put_u8(STATUS_TAG).unwrap();
     put_lsn(out, status.written);
     put_lsn(out, status.flushed);
     put_lsn(out, status.applied);
