@@ -15,7 +15,7 @@ use Rattle.pgtuple.specs.Cells.{cell_spelling}
 abbrev pub IsCounted : ℕ → Type 0
 IsCounted kind = (kind ≡ 116) ⊎ (kind ≡ 98)
 
--- The bytes where a cell should stand, the offset there, and the fault.
+-- The bytes where a cell should be, the offset there, and the fault.
 pub data HasCellFault (bytes : List ℕ) (place : ℕ) (f : TupleFault) : Type 0 where
   no_kind : bytes ≡ [] → f ≡ fault.Short place → HasCellFault bytes place f
   bad_kind : (kind : ℕ) (more : List ℕ) → bytes ≡ kind ∷ more → kind ≢ 110 → kind ≢ 117 → kind ≢ 116 → kind ≢ 98 → f ≡ fault.BadKind place → HasCellFault bytes place f

@@ -1,4 +1,4 @@
--- What a lent tuple is made of: cells, or the bytes that spell it.
+-- What a borrowed tuple is made of: cells, or the bytes that encode it.
 -- PostgreSQL documentation, Logical Replication Message Formats, TupleData.
 use Rattle.std.specs.Prelude.{List}
 use Rattle.pgtuple.specs.declared.cell.Cell.{Cell}

@@ -1,4 +1,4 @@
--- Bytes that spell a tuple, all of them.
+-- Bytes that encode a tuple, all of them.
 -- PostgreSQL documentation, Logical Replication Message Formats, TupleData.
 use Rattle.std.specs.Prelude.{◌≡◌, ⊤, ℕ, List, [], Ok, Err}
 use Rattle.pgtuple.specs.declared.cell.Cell.{Cell}
@@ -16,7 +16,7 @@ abbrev pub IsRead : Read (List Cell) → Type 0
 IsRead (Ok x) = ⊤
 IsRead (Err f) = ⊥
 
--- there are cells there, and behind them reading stands here
+-- there are cells there, and after them reading is here
 abbrev pub IsReadTo : Read (List Cell) → At → Type 0
 IsReadTo read at = (cells : List Cell) × (read ≡ Ok (cells, at))
 
@@ -24,7 +24,7 @@ IsReadTo read at = (cells : List Cell) × (read ≡ Ok (cells, at))
 abbrev pub spelled_cells : List ℕ → List Cell
 spelled_cells bytes = cells_read (tuple_at bytes)
 
--- the bytes spell a tuple, all of them
+-- the bytes encode a tuple, all of them
 pub record IsSpelledTuple (bytes : List ℕ) : Type 0 where
   pub fits : IsWireTuple (spelled_cells bytes)
   pub spelled : bytes ≡ tuple_spelling (spelled_cells bytes)

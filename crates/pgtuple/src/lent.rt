@@ -1,4 +1,4 @@
-//! Cells and tuples that are lent: by cells that someone owns, or by the bytes that spell them.
+//! Cells and tuples that are borrowed: by cells that someone owns, or by the bytes that encode them.
 //!
 //! PostgreSQL documentation, Logical Replication Message Formats, TupleData.
 
@@ -13,7 +13,7 @@ use crate::text::Text;
 use std::alloc::Global;
 use std::marker::Model;
 
-/// A cell that is lent.
+/// A cell that is borrowed.
 #[derive(Clone, Copy, Debug)]
 pub enum CellRef<'a> {
     /// The null value.
@@ -29,7 +29,7 @@ pub enum CellRef<'a> {
 impl<'a> CellRef<'a> {
     ghost use Rattle.pgtuple.specs.Lent.{cell_value};
 
-    /// The same cell with memory of its own. It refuses for want of memory alone.
+    /// The same cell with memory of its own. Its only error is out of memory.
     pub fn to_cell(&self, alloc: Global) -> Result<Cell, TupleFault>
         ensures same { IfOk result (λ cell. cell ≡ cell_value self.now) }
         ensures memory { IfErr result (λ fault. fault ≡ TupleFault.Memory) }
@@ -52,7 +52,7 @@ impl<'a> CellRef<'a> {
 impl Cell {
     ghost use Rattle.pgtuple.specs.Lent.{cell_value};
 
-    /// The cell, lent. It takes no memory.
+    /// The cell, borrowed. It asks for no memory.
     pub fn borrowed(&self) -> CellRef<'_>
         ensures { cell_value result ≡ self.now }
     {
@@ -65,16 +65,16 @@ impl Cell {
     }
 }
 
-/// What a lent tuple is made of.
+/// What a borrowed tuple is made of.
 #[derive(Clone, Copy, Debug)]
 pub(crate) enum Form<'a> {
     /// Cells that someone owns.
     Owned(&'a [Cell]),
-    /// The bytes that spell it, all of them.
+    /// The bytes that encode it, all of them.
     Spelled(&'a [u8]),
 }
 
-/// A tuple that is lent, seen as the list of its cells.
+/// A tuple that is borrowed, seen as the list of its cells.
 #[derive(Debug, Drop)]
 pub struct TupleRef<'a> {
     form: Form<'a>,
@@ -109,7 +109,7 @@ impl<'a> TupleRef<'a> {
         }
     }
 
-    /// A tuple of the bytes that spell it.
+    /// A tuple of the bytes that encode it.
     pub(crate) fn of_bytes(bytes: &'a [u8]) -> TupleRef<'a>
         requires { IsSpelledTuple bytes.now }
         ensures { result ≡ spelled_cells bytes.now }
@@ -127,7 +127,7 @@ impl<'a> TupleRef<'a> {
         self.form
     }
 
-    /// The bytes that spell it, where they are what lends it.
+    /// The bytes that encode it, where it is borrowed from them.
     pub fn spelled(&self) -> Option<&'a [u8]>
         ensures { IfSome result (λ bytes. bytes.now ≡ tuple_spelling self.now) }
     {
@@ -160,7 +160,7 @@ impl<'a> TupleRef<'a> {
         self.cells().len()
     }
 
-    /// The same tuple, lent once more.
+    /// The same tuple, borrowed once more.
     pub fn lend(&self) -> TupleRef<'a>
         ensures { result ≡ self.now }
     {
@@ -177,7 +177,7 @@ impl<'a> TupleRef<'a> {
         }
     }
 
-    /// How many bytes it takes in TupleData. It takes no memory.
+    /// How many bytes it takes in TupleData. It asks for no memory.
     pub fn spelled_len(&self) -> u64
         ensures { result ≡ length (tuple_spelling self.now) }
     {
@@ -197,7 +197,7 @@ impl<'a> TupleRef<'a> {
         }
     }
 
-    /// The same tuple with memory of its own. It refuses for want of memory alone.
+    /// The same tuple with memory of its own. Its only error is out of memory.
     pub fn to_tuple(&self, alloc: Global) -> Result<Tuple, TupleFault>
         ensures same { IfOk result (λ t. t ≡ self.now) }
         ensures memory { IfErr result (λ fault. fault ≡ TupleFault.Memory) }
@@ -210,14 +210,14 @@ impl<'a> TupleRef<'a> {
     }
 }
 
-/// What is left of a lent tuple.
+/// What is left of a borrowed tuple.
 #[derive(Drop)]
 enum Rest<'a> {
     Owned(&'a [Cell]),
     Spelled(SpelledCells<'a>),
 }
 
-/// The cells of a lent tuple that are still to come, seen as their list.
+/// The cells of a borrowed tuple that are still to come, seen as their list.
 #[derive(Drop)]
 pub struct Cells<'a> {
     rest: Rest<'a>,

@@ -32,7 +32,7 @@ impl<T> Seq<T> {
         self.items
     }
 
-    /// The values, lent.
+    /// The values, borrowed.
     pub fn as_slice(&self) -> &[T]
         ensures { result.now ≡ self.now }
     {

@@ -1,4 +1,4 @@
-//! The cells that bytes spell, one after the other.
+//! The cells that bytes encode, one after the other.
 //!
 //! PostgreSQL documentation, Logical Replication Message Formats, TupleData.
 
@@ -10,7 +10,7 @@ use crate::lent::CellRef;
 use crate::reader::Reader;
 use std::marker::Model;
 
-/// Cells that are read from the bytes that spell them, seen as their list.
+/// Cells that are read from the bytes that encode them, seen as their list.
 #[derive(Drop)]
 pub(crate) struct SpelledCells<'a> {
     left: usize,
@@ -35,7 +35,7 @@ impl<'a> SpelledCells<'a> {
     ghost use Rattle.pgtuple.specs.Lent.{cell_value};
     ghost use Rattle.pgtuple.specs.Spelled.{IsSpelledTuple, spelled_cells};
 
-    /// The cells of a tuple that these bytes spell.
+    /// The cells of a tuple that these bytes encode.
     pub(crate) fn of(bytes: &'a [u8]) -> SpelledCells<'a>
         requires { IsSpelledTuple bytes.now }
         ensures { result ≡ spelled_cells bytes.now }

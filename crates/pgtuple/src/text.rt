@@ -33,7 +33,7 @@ impl Text {
         self.text
     }
 
-    /// The text, lent.
+    /// The text, borrowed.
     pub fn as_str(&self) -> &str
         ensures value { result.now ≡ self.now }
         ensures utf8 { is_utf8 self.now ≡ true }
