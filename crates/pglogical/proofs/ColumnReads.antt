@@ -16,9 +16,6 @@ read_is (Err f) h = absurd h
 pub is_read : (read : Read (List Column)) (columns : List Column) (at : At) → read ≡ Ok (columns, at) → IsRead read × (columns_read read ≡ columns)
 is_read read columns at e = rw e (tt, refl)
 
-pub read_to : (read : Read (List Column)) (at : At) → IsReadTo read at → IsRead read × (read ≡ Ok (columns_read read, at))
-read_to read at to = let is = is_read read to.0 at to.1 in (is.0, to.1 ∙ ap (λ (columns : List Column). Ok (columns, at)) (sym is.1))
-
 -- the first column, and the others
 record IsFirstRead (n : ℕ) (at : At) (first : Column × At) : Type 0 where
   pub here : column_at at ≡ Ok first

@@ -13,6 +13,6 @@ abbrev pub IsRead : Read (List Column) → Type 0
 IsRead (Ok x) = ⊤
 IsRead (Err f) = ⊥
 
--- there are columns there, and behind them reading stands here
+-- there are columns there, and after them reading is here
 abbrev pub IsReadTo : Read (List Column) → At → Type 0
 IsReadTo read at = (columns : List Column) × (read ≡ Ok (columns, at))

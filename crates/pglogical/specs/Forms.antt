@@ -1,4 +1,4 @@
--- What lent columns and OIDs are made of: a list that someone owns, or the bytes that spell it.
+-- What borrowed columns and OIDs are made of: a list that someone owns, or the bytes that encode it.
 -- PostgreSQL documentation, Logical Replication Message Formats, Relation, Truncate.
 use Rattle.std.specs.Prelude.{ℕ, List}
 use Rattle.pglogical.specs.declared.item.Column.{Column}

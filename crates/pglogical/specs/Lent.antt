@@ -1,4 +1,4 @@
--- The message that is lent.
+-- The message that is borrowed.
 -- PostgreSQL documentation, Logical Replication Message Formats.
 use Rattle.pglogical.specs.declared.lent.MessageRef.{MessageRef}
 use Rattle.pglogical.specs.declared.lent.MessageRef.TheVariants as lent

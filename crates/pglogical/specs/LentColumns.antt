@@ -1,4 +1,4 @@
--- The column that is lent.
+-- The column that is borrowed.
 -- PostgreSQL documentation, Logical Replication Message Formats, Relation.
 use Rattle.pglogical.specs.declared.item.Column.{Column}
 use Rattle.pglogical.specs.declared.column_ref.ColumnRef.{ColumnRef}

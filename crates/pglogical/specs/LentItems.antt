@@ -1,4 +1,4 @@
--- The item that is lent, by its parts.
+-- The item that is borrowed, by its parts.
 -- PostgreSQL documentation, Logical Replication Message Formats, Relation, Insert, Update, Delete, Truncate.
 use Rattle.pglogical.specs.declared.item.RelationDef.{RelationDef}
 use Rattle.pglogical.specs.declared.item.Item.{Item}

@@ -1,4 +1,4 @@
-//! A column that is lent.
+//! A column that is borrowed.
 //!
 //! PostgreSQL documentation, Logical Replication Message Formats, Relation.
 
@@ -9,7 +9,7 @@ use crate::item::Column;
 use pgtuple::Text;
 use std::alloc::{AllocError, Global};
 
-/// One column of a relation that is lent, with the fields of `Column`.
+/// One column of a relation that is borrowed, with the fields of `Column`.
 ///
 /// PostgreSQL documentation, Logical Replication Message Formats, Relation.
 #[derive(Clone, Copy, Debug)]
@@ -35,7 +35,7 @@ impl<'a> ColumnRef<'a> {
 }
 
 impl Column {
-    /// The column, lent. It takes no memory.
+    /// The column, borrowed. It asks for no memory.
     ///
     /// PostgreSQL documentation, Logical Replication Message Formats, Relation.
     pub fn borrowed(&self) -> ColumnRef<'_>

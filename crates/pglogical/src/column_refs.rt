@@ -1,4 +1,4 @@
-//! Columns that are lent.
+//! Columns that are borrowed.
 //!
 //! PostgreSQL documentation, Logical Replication Message Formats, Relation.
 
@@ -13,16 +13,16 @@ use pgtuple::Seq;
 use std::alloc::Global;
 use std::marker::Model;
 
-/// What lent columns are made of.
+/// What borrowed columns are made of.
 #[derive(Drop)]
 enum Columns<'a> {
     /// Columns that someone owns.
     Owned(&'a [Column]),
-    /// Bytes that spell them.
+    /// Bytes that encode them.
     Spelled(SpelledColumns<'a>),
 }
 
-/// The columns of a lent relation that are still to come, seen as their list.
+/// The columns of a borrowed relation that are still to come, seen as their list.
 ///
 /// PostgreSQL documentation, Logical Replication Message Formats, Relation.
 #[derive(Drop)]
@@ -41,7 +41,7 @@ impl<'a> Model for ColumnRefs<'a> {
 }
 
 impl<'a> ColumnRefs<'a> {
-    /// Columns that someone owns, lent. It takes no memory.
+    /// Columns that someone owns, borrowed. It asks for no memory.
     pub fn of(columns: &'a [Column]) -> ColumnRefs<'a>
         ensures { result ≡ columns.now }
     {
@@ -50,7 +50,7 @@ impl<'a> ColumnRefs<'a> {
         }
     }
 
-    /// Columns that bytes spell.
+    /// Columns that bytes encode.
     pub(crate) fn read(columns: SpelledColumns<'a>) -> ColumnRefs<'a>
         ensures { result ≡ columns.entry }
     {
@@ -59,7 +59,7 @@ impl<'a> ColumnRefs<'a> {
         }
     }
 
-    /// The same columns, lent once more.
+    /// The same columns, borrowed once more.
     pub fn lend(&self) -> ColumnRefs<'a>
         ensures { result ≡ self.now }
     {
@@ -83,7 +83,7 @@ impl<'a> ColumnRefs<'a> {
         }
     }
 
-    /// The same columns with memory of their own. It refuses for want of memory alone, at place 0.
+    /// The same columns with memory of their own. It returns an error only where memory runs out, at place 0.
     pub fn to_columns(&self, alloc: Global) -> Result<Seq<Column>, DecodeFault>
         ensures same { IfOk result (λ columns. columns ≡ self.now) }
         ensures memory { IfErr result (λ fault. fault ≡ out_of_memory) }

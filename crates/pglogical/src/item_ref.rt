@@ -1,4 +1,4 @@
-//! Items that are lent.
+//! Items that are borrowed.
 //!
 //! PostgreSQL documentation, Logical Replication Message Formats, Relation, Insert, Update, Delete, Truncate.
 
@@ -13,7 +13,7 @@ use crate::parts::ItemParts;
 use std::alloc::Global;
 use std::marker::Model;
 
-/// An item that is lent, seen as the item.
+/// An item that is borrowed, seen as the item.
 ///
 /// PostgreSQL documentation, Logical Replication Message Formats, Relation, Insert, Update, Delete, Truncate.
 #[derive(Drop)]
@@ -31,7 +31,7 @@ impl<'a> Model for ItemRef<'a> {
 }
 
 impl<'a> ItemRef<'a> {
-    /// An item, lent. It takes no memory.
+    /// An item, borrowed. It asks for no memory.
     ///
     /// PostgreSQL documentation, Logical Replication Message Formats, Relation, Insert, Update, Delete, Truncate.
     pub fn of(item: &'a Item) -> ItemRef<'a>
@@ -49,14 +49,14 @@ impl<'a> ItemRef<'a> {
         ItemRef { parts }
     }
 
-    /// Its parts, lent. It takes no memory.
+    /// Its parts, borrowed. It asks for no memory.
     pub fn parts(&self) -> ItemParts<'a>
         ensures { item_value result ≡ self.now }
     {
         self.parts.lend()
     }
 
-    /// The OID that a change names, of a Truncate the first; None for a relation and for a Truncate of none. It takes no
+    /// The OID that a change names, of a Truncate the first; None for a relation and for a Truncate of none. It asks for no
     /// memory.
     ///
     /// PostgreSQL documentation, Logical Replication Message Formats, Insert, Update, Delete, Truncate.
@@ -75,7 +75,7 @@ impl<'a> ItemRef<'a> {
         }
     }
 
-    /// The same item with memory of its own. It refuses for want of memory alone, at place 0.
+    /// The same item with memory of its own. It returns an error only where memory runs out, at place 0.
     ///
     /// PostgreSQL documentation, Logical Replication Message Formats, Relation, Insert, Update, Delete, Truncate.
     pub fn to_item(&self, alloc: Global) -> Result<Item, DecodeFault>

@@ -20,6 +20,7 @@ mod reader;
 mod spellable;
 mod spelled;
 mod spelled_columns;
+mod tags;
 mod typed;
 
 pub use column_ref::ColumnRef;

@@ -1,4 +1,4 @@
-//! OIDs that are lent.
+//! OIDs that are borrowed.
 //!
 //! PostgreSQL documentation, Logical Replication Message Formats, Truncate.
 
@@ -11,16 +11,16 @@ use pgtuple::Seq;
 use std::alloc::Global;
 use std::marker::Model;
 
-/// What lent OIDs are made of.
+/// What borrowed OIDs are made of.
 #[derive(Clone, Copy, Debug)]
 enum Oids<'a> {
     /// OIDs that someone owns.
     Owned(&'a [u32]),
-    /// Bytes that spell them, four for each.
+    /// Bytes that encode them, four for each.
     Spelled(&'a [u8]),
 }
 
-/// The OIDs of a lent Truncate that are still to come, seen as their list.
+/// The OIDs of a borrowed Truncate that are still to come, seen as their list.
 ///
 /// PostgreSQL documentation, Logical Replication Message Formats, Truncate.
 #[derive(Drop)]
@@ -38,7 +38,7 @@ impl<'a> Model for OidRefs<'a> {
 }
 
 impl<'a> OidRefs<'a> {
-    /// OIDs that someone owns, lent. It takes no memory.
+    /// OIDs that someone owns, borrowed. It asks for no memory.
     pub fn of(oids: &'a [u32]) -> OidRefs<'a>
         ensures { result ≡ oids.now }
     {
@@ -47,7 +47,7 @@ impl<'a> OidRefs<'a> {
         }
     }
 
-    /// The OIDs that these bytes spell.
+    /// The OIDs that these bytes encode.
     pub(crate) fn read(bytes: &'a [u8]) -> OidRefs<'a>
         ensures { result ≡ oids_in bytes.now }
     {
@@ -56,7 +56,7 @@ impl<'a> OidRefs<'a> {
         }
     }
 
-    /// The same OIDs, lent once more.
+    /// The same OIDs, borrowed once more.
     pub fn lend(&self) -> OidRefs<'a>
         ensures { result ≡ self.now }
     {
@@ -73,7 +73,7 @@ impl<'a> OidRefs<'a> {
         }
     }
 
-    /// The same OIDs with memory of their own. It refuses for want of memory alone, at place 0.
+    /// The same OIDs with memory of their own. It returns an error only where memory runs out, at place 0.
     pub fn to_oids(&self, alloc: Global) -> Result<Seq<u32>, DecodeFault>
         ensures same { IfOk result (λ oids. oids ≡ self.now) }
         ensures memory { IfErr result (λ fault. fault ≡ out_of_memory) }

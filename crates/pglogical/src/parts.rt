@@ -1,4 +1,4 @@
-//! The parts of a lent item.
+//! The parts of a borrowed item.
 //!
 //! PostgreSQL documentation, Logical Replication Message Formats, Relation, Insert, Update, Delete, Truncate.
 
@@ -13,7 +13,7 @@ use crate::oid_refs::OidRefs;
 use pgtuple::{Text, Tuple, TupleRef};
 use std::alloc::Global;
 
-/// The definition of a relation that is lent, with the fields of `RelationDef`.
+/// The definition of a relation that is borrowed, with the fields of `RelationDef`.
 ///
 /// PostgreSQL documentation, Logical Replication Message Formats, Relation.
 #[derive(Drop)]
@@ -25,7 +25,7 @@ pub struct DefRef<'a> {
     pub columns: ColumnRefs<'a>,
 }
 
-/// A relation or a change that is lent, with the fields of `Item`.
+/// A relation or a change that is borrowed, with the fields of `Item`.
 ///
 /// PostgreSQL documentation, Logical Replication Message Formats, Relation, Insert, Update, Delete, Truncate.
 #[derive(Drop)]
@@ -52,7 +52,7 @@ pub enum ItemParts<'a> {
 }
 
 impl RelationDef {
-    /// The definition, lent. It takes no memory.
+    /// The definition, borrowed. It asks for no memory.
     ///
     /// PostgreSQL documentation, Logical Replication Message Formats, Relation.
     pub fn borrowed(&self) -> DefRef<'_>
@@ -84,7 +84,7 @@ fn tuple(alloc: Global, row: &TupleRef<'_>) -> Result<Tuple, DecodeFault>
 }
 
 impl<'a> DefRef<'a> {
-    /// The same definition, lent once more.
+    /// The same definition, borrowed once more.
     pub fn lend(&self) -> DefRef<'a>
         ensures { def_value result ≡ def_value self.now }
     {
@@ -97,7 +97,7 @@ impl<'a> DefRef<'a> {
         }
     }
 
-    /// The same definition with memory of its own. It refuses for want of memory alone, at place 0.
+    /// The same definition with memory of its own. It returns an error only where memory runs out, at place 0.
     ///
     /// PostgreSQL documentation, Logical Replication Message Formats, Relation.
     pub fn to_def(&self, alloc: Global) -> Result<RelationDef, DecodeFault>
@@ -173,7 +173,7 @@ impl<'a> ItemParts<'a> {
         }
     }
 
-    /// The same parts, lent once more.
+    /// The same parts, borrowed once more.
     pub fn lend(&self) -> ItemParts<'a>
         ensures { item_value result ≡ item_value self.now }
     {

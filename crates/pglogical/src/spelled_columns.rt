@@ -1,4 +1,4 @@
-//! The columns that bytes spell, one after the other.
+//! The columns that bytes encode, one after the other.
 //!
 //! PostgreSQL documentation, Logical Replication Message Formats, Relation.
 
@@ -10,7 +10,7 @@ use crate::decoding;
 use crate::reader::Reader;
 use std::marker::Model;
 
-/// Columns that are read from the bytes that spell them, seen as their list.
+/// Columns that are read from the bytes that encode them, seen as their list.
 #[derive(Drop)]
 pub(crate) struct SpelledColumns<'a> {
     left: u16,
@@ -36,7 +36,7 @@ impl<'a> SpelledColumns<'a> {
     ghost use Rattle.pglogical.specs.Columns.{columns_read, IsRead};
     ghost use Rattle.pglogical.specs.LentColumns.{column_value};
 
-    /// So many columns, the first of which stands where the reader does.
+    /// So many columns, the first of which is where the reader is.
     pub(crate) fn of(left: u16, reader: Reader<'a>) -> SpelledColumns<'a>
         requires { IsRead (columns_at left reader) }
         ensures { result ≡ columns_read (columns_at left reader.entry) }

@@ -1,4 +1,4 @@
-//! What the types of a lent item's parts say of it. These functions do nothing but show it.
+//! What the types of a borrowed item's parts say of it. These functions do nothing but show it.
 //!
 //! PostgreSQL documentation, Logical Replication Message Formats, Relation, Insert, Update, Delete, Truncate.
 
@@ -59,7 +59,7 @@ fn prior(prior: &Option<(OldKind, TupleRef<'_>)>)
 }
 
 impl<'a> ItemRef<'a> {
-    /// Where it is spellable it is within the limits of the wire, so that its spelling is read as it: its numbers and texts are what
+    /// Where it is spellable it is within the limits of the wire, so that its encoding is read as it: its numbers and texts are what
     /// their types have. It does nothing but show it.
     ///
     /// PostgreSQL documentation, Logical Replication Message Formats, Relation, Insert, Update, Delete, Truncate.
