@@ -5,7 +5,6 @@
 
 pub mod column_ref;
 pub mod column_refs;
-mod copying;
 mod decoding;
 mod encoding;
 pub mod fault;

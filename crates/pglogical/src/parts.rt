@@ -66,9 +66,20 @@ impl RelationDef {
             columns: ColumnRefs::of(self.columns.as_slice()),
         }
     }
+
+    /// The same definition with memory of its own. Its only error is out of memory, at place 0.
+    ///
+    /// PostgreSQL documentation, Logical Replication Message Formats, Relation.
+    pub fn copy(&self, alloc: Global) -> Result<RelationDef, DecodeFault>
+        ensures same { IfOk result (λ d. d ≡ self.now) }
+        ensures memory { IfErr result (λ fault. fault ≡ out_of_memory) }
+    {
+        self.borrowed().to_def(alloc)
+    }
 }
 
-fn text(alloc: Global, text: &str) -> Result<Text, DecodeFault>
+/// A text with memory of its own.
+pub(crate) fn text(alloc: Global, text: &str) -> Result<Text, DecodeFault>
     ensures same { IfOk result (λ t. t ≡ text.now) }
     ensures memory { IfErr result (λ fault. fault ≡ out_of_memory) }
 {
