@@ -1,10 +1,8 @@
 -- A header as it is spelled.
 use Rattle.std.proofs.Common.{◌≡◌, ◌<◌, ◌≤◌, ◌+◌, ℕ, zero, suc, List, [], ◌∷◌, ◌++◌, length, get_or, take, drop, refl, ap, sym, ◌∙◌, arith}
-use Rattle.std.proofs.lemmas.List.{length-take, length-drop, take-append-drop}
-use Rattle.std.proofs.Math.Seq.{drop-drop}
 use Rattle.std.proofs.lemmas.Nat.{be_bytes_4}
 use Rattle.std.specs.Int.{w32, to_be_bytes, from_be_bytes}
-use Rattle.pgwire.specs.Frames.{CopyData, IsFront, tag_of, length_of}
+use Rattle.pgwire.specs.Frames.{tag_of, length_of}
 
 abbrev pub IsBytes : List ℕ → Type 0
 IsBytes bytes = (i : ℕ) → get_or bytes i 0 < 256
@@ -43,19 +41,3 @@ header_spelled (t ∷ a ∷ b ∷ c ∷ d ∷ rest) fits long =
     let same : n ≡ from_be_bytes w32 (a ∷ b ∷ c ∷ d ∷ []) = omega arith in
     let spelled = be_bytes_4 (a ∷ b ∷ c ∷ d ∷ []) n refl (four a b c d (fits 1) (fits 2) (fits 3) (fits 4)) same in
     ap (λ header. t ∷ (header ++ rest)) (sym spelled)
-
--- the frame of a header whose payload is there
-pub data_front : (max : ℕ) (bytes : List ℕ) (n : ℕ) → IsBytes bytes → tag_of bytes ≡ 100 → n + 4 ≡ length_of bytes → n ≤ max → length_of bytes ≤ 2147483647 → 5 + n ≤ length bytes → IsFront max bytes (CopyData (take n (drop 5 bytes))) (5 + n)
-data_front max bytes n fits tag len most limit long =
-    let payload_len : length (take n (drop 5 bytes)) ≡ n = omega (arith, length-take n (drop 5 bytes), length-drop 5 bytes) in
-    let split : drop 5 bytes ≡ take n (drop 5 bytes) ++ drop (5 + n) bytes = sym (take-append-drop n (drop 5 bytes)) ∙ ap (λ behind. take n (drop 5 bytes) ++ behind) (drop-drop n 5 bytes) in
-    let counted : length_of bytes ≡ length (take n (drop 5 bytes)) + 4 = omega arith in
-    record {
-      allowed = (omega arith, omega arith);
-      whole = header_spelled bytes fits (omega arith)
-          ∙ ap (λ t. t ∷ (to_be_bytes w32 (length_of bytes) ++ drop 5 bytes)) tag
-          ∙ ap (λ k. 100 ∷ (to_be_bytes w32 k ++ drop 5 bytes)) counted
-          ∙ ap (λ behind. 100 ∷ (to_be_bytes w32 (length (take n (drop 5 bytes)) + 4) ++ behind)) split;
-      count = omega arith;
-      within = long;
-    }

@@ -88,13 +88,6 @@ pub record HasFramingFault (max : ℕ) (bytes : List ℕ) (fault : WireFault) : 
   pub each : AreFrames max fs
   pub breaks : IsFramingFault max (has_copy_done fs) rest fault
 
--- the bytes begin with this frame of n bytes
-pub record IsFront (max : ℕ) (bytes : List ℕ) (f : Frame) (n : ℕ) : Type 0 where
-  pub allowed : IsAllowed max f
-  pub whole : bytes ≡ frame f ++ drop n bytes
-  pub count : n ≡ length (frame f)
-  pub within : n ≤ length bytes
-
 -- what a header that keeps the rules says of its payload: nothing yet, or its length
 pub record HasPayloadLen (max : ℕ) (header : List ℕ) (n : ℕ) : Type 0 where
   pub tag : 1 ≤ length header → IsTag (tag_of header)

@@ -13,6 +13,6 @@ mod status;
 
 pub use deframer::Deframer;
 pub use fault::WireFault;
-pub use frame::{Frame, front};
+pub use frame::Frame;
 pub use message::{ServerMsg, decode_server};
 pub use status::{Status, encode_status};
