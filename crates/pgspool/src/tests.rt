@@ -108,7 +108,7 @@ fn take<P: Spools>(rt: &impl Abort, alloc: Global, spools: &mut P, step: Step) -
         Step::Push(xid, subxid, sample) => push(rt, spools, xid, subxid, &item(alloc, sample)?)?,
         Step::Full(xid, subxid, sample) => {
             let found = push(rt, spools, xid, subxid, &item(alloc, sample)?);
-            assert_eq!(rt; found, Err(SpoolFault::SpoolFull));
+            assert!(rt; found == Err(SpoolFault::SpoolFull));
         }
         Step::Cut(xid, subxid) => spools.cut(xid, subxid),
         Step::DropXid(xid) => spools.drop_xid(xid),
@@ -131,12 +131,11 @@ fn take_all<P: Spools>(
     let limit = spools.limit();
     for (place, &(step, bytes, count)) in steps.iter().enumerate() {
         take(rt, alloc, spools, step)?;
-        assert_eq!(rt;
-            (spools.bytes(), spools.count(xid)),
-            (bytes, count),
+        assert!(rt;
+            spools.bytes() == bytes && spools.count(xid) == count,
             "step {place}"
         );
-        assert_eq!(rt; spools.limit(), limit);
+        assert!(rt; spools.limit() == limit);
     }
     Ok(())
 }
@@ -167,14 +166,9 @@ fn holds<P: Spools>(
     left: &[Sample],
 ) -> Result<(), Fail> {
     let held = copy_items(alloc, spools, xid)?;
-    assert_eq!(rt; held.len(), left.len());
+    assert!(rt; held.len() == left.len());
     for (index, (found, sample)) in held.iter().zip(left).enumerate() {
-        let wanted = item(alloc, *sample)?;
-        assert_eq!(rt;
-            format!(in alloc; "{found:?}")?,
-            format!(in alloc; "{wanted:?}")?,
-            "item {index}"
-        );
+        assert!(rt; *found == item(alloc, *sample)?, "item {index}");
         assert!(rt; spools.item(xid, index).is_some());
     }
     assert!(rt; spools.item(xid, left.len()).is_none());
@@ -193,117 +187,123 @@ const W_1PQ: Sample = Sample::Insert(16385, &["1", "p", "q"]);
 
 const W_2RS: Sample = Sample::Insert(16385, &["2", "r", "s"]);
 
+static ROLLED_BACK: [Row; 12] = [
+    (Step::Open(20), 0, 0),
+    (Step::Push(20, 20, REL_T), 48, 1),
+    (Step::Push(20, 20, T_1A), 76, 2),
+    (Step::Push(20, 21, REL_W), 135, 3),
+    (Step::Push(20, 21, W_1PQ), 169, 4),
+    (Step::Push(20, 21, T_2B), 197, 5),
+    (Step::Push(20, 22, T_3C), 225, 6),
+    (Step::Push(20, 21, T_4D), 253, 7),
+    (Step::Cut(20, 22), 197, 5),
+    (Step::Cut(20, 21), 76, 2),
+    (Step::Push(20, 20, REL_W), 135, 3),
+    (Step::Push(20, 20, W_2RS), 169, 4),
+];
+
 // The transaction 20 with the subtransactions 21 and 22, which are both rolled back before two more items come.
 #[test]
 fn bytes_follow_pushes_cuts_and_drops(rt: HostRuntime) -> Result<(), Fail> {
-    let steps: &[Row] = &[
-        (Step::Open(20), 0, 0),
-        (Step::Push(20, 20, REL_T), 48, 1),
-        (Step::Push(20, 20, T_1A), 76, 2),
-        (Step::Push(20, 21, REL_W), 135, 3),
-        (Step::Push(20, 21, W_1PQ), 169, 4),
-        (Step::Push(20, 21, T_2B), 197, 5),
-        (Step::Push(20, 22, T_3C), 225, 6),
-        (Step::Push(20, 21, T_4D), 253, 7),
-        (Step::Cut(20, 22), 197, 5),
-        (Step::Cut(20, 21), 76, 2),
-        (Step::Push(20, 20, REL_W), 135, 3),
-        (Step::Push(20, 20, W_2RS), 169, 4),
-    ];
     both_hold(
         &rt,
         rt.alloc(),
         253,
         20,
-        steps,
+        &ROLLED_BACK,
         &[REL_T, T_1A, REL_W, W_2RS],
     )
 }
 
+static FULL: [Row; 11] = [
+    (Step::Open(20), 0, 0),
+    (Step::Push(20, 20, REL_T), 48, 1),
+    (Step::Push(20, 20, T_1A), 76, 2),
+    (Step::Push(20, 21, REL_W), 135, 3),
+    (Step::Push(20, 21, W_1PQ), 169, 4),
+    (Step::Push(20, 21, T_2B), 197, 5),
+    (Step::Push(20, 22, T_3C), 225, 6),
+    (Step::Full(20, 21, T_4D), 225, 6),
+    (Step::Cut(20, 22), 197, 5),
+    (Step::Push(20, 21, T_4D), 225, 6),
+    (Step::DropXid(20), 0, 0),
+];
+
 #[test]
 fn full_one_byte_below(rt: HostRuntime) -> Result<(), Fail> {
-    let steps: &[Row] = &[
-        (Step::Open(20), 0, 0),
-        (Step::Push(20, 20, REL_T), 48, 1),
-        (Step::Push(20, 20, T_1A), 76, 2),
-        (Step::Push(20, 21, REL_W), 135, 3),
-        (Step::Push(20, 21, W_1PQ), 169, 4),
-        (Step::Push(20, 21, T_2B), 197, 5),
-        (Step::Push(20, 22, T_3C), 225, 6),
-        (Step::Full(20, 21, T_4D), 225, 6),
-        (Step::Cut(20, 22), 197, 5),
-        (Step::Push(20, 21, T_4D), 225, 6),
-        (Step::DropXid(20), 0, 0),
-    ];
-    both_hold(&rt, rt.alloc(), 252, 20, steps, &[])
+    both_hold(&rt, rt.alloc(), 252, 20, &FULL, &[])
 }
+
+static SMALL: [Row; 2] = [(Step::Open(20), 0, 0), (Step::Full(20, 20, T_1A), 0, 0)];
 
 #[test]
 fn full_below_one_overhead(rt: HostRuntime) -> Result<(), Fail> {
-    let steps: &[Row] = &[(Step::Open(20), 0, 0), (Step::Full(20, 20, T_1A), 0, 0)];
-    both_hold(&rt, rt.alloc(), 7, 20, steps, &[])
+    both_hold(&rt, rt.alloc(), 7, 20, &SMALL, &[])
 }
+
+static RETURNING: [Row; 12] = [
+    (Step::Open(50), 0, 0),
+    (Step::Push(50, 51, T_1A), 28, 1),
+    (Step::Push(50, 52, T_2B), 56, 2),
+    (Step::Push(50, 51, T_3C), 84, 3),
+    (Step::Cut(50, 53), 84, 3),
+    (Step::Cut(60, 51), 84, 3),
+    (Step::DropXid(60), 84, 3),
+    (Step::Cut(50, 52), 28, 1),
+    (Step::Cut(50, 52), 28, 1),
+    (Step::Push(50, 52, T_4D), 56, 2),
+    (Step::Cut(50, 51), 0, 0),
+    (Step::Push(50, 50, T_2B), 28, 1),
+];
 
 #[test]
 fn a_cut_starts_at_the_first_item_of_its_subtransaction(rt: HostRuntime) -> Result<(), Fail> {
-    let steps: &[Row] = &[
-        (Step::Open(50), 0, 0),
-        (Step::Push(50, 51, T_1A), 28, 1),
-        (Step::Push(50, 52, T_2B), 56, 2),
-        (Step::Push(50, 51, T_3C), 84, 3),
-        (Step::Cut(50, 53), 84, 3),
-        (Step::Cut(60, 51), 84, 3),
-        (Step::DropXid(60), 84, 3),
-        (Step::Cut(50, 52), 28, 1),
-        (Step::Cut(50, 52), 28, 1),
-        (Step::Push(50, 52, T_4D), 56, 2),
-        (Step::Cut(50, 51), 0, 0),
-        (Step::Push(50, 50, T_2B), 28, 1),
-    ];
-    both_hold(&rt, rt.alloc(), 1000, 50, steps, &[T_2B])
+    both_hold(&rt, rt.alloc(), 1000, 50, &RETURNING, &[T_2B])
 }
+
+static APART: [Row; 10] = [
+    (Step::Open(4294967295), 0, 0),
+    (Step::Open(0), 0, 0),
+    (Step::Push(0, 4294967294, T_1A), 28, 0),
+    (
+        Step::Push(4294967295, 4294967295, Sample::Truncate(4294967295)),
+        50,
+        1,
+    ),
+    (
+        Step::Push(4294967295, 4294967294, Sample::Insert(4294967295, &[])),
+        66,
+        2,
+    ),
+    (Step::Push(4294967295, 0, T_2B), 94, 3),
+    (Step::Full(0, 0, T_1A), 94, 3),
+    (Step::Cut(0, 4294967294), 66, 3),
+    (Step::DropXid(0), 66, 3),
+    (Step::Cut(4294967295, 0), 38, 2),
+];
 
 // Xids and OIDs up to the largest; the limit is over all transactions, and no transaction touches another one's items.
 #[test]
 fn each_transaction_has_its_own_items(rt: HostRuntime) -> Result<(), Fail> {
-    let steps: &[Row] = &[
-        (Step::Open(4294967295), 0, 0),
-        (Step::Open(0), 0, 0),
-        (Step::Push(0, 4294967294, T_1A), 28, 0),
-        (
-            Step::Push(4294967295, 4294967295, Sample::Truncate(4294967295)),
-            50,
-            1,
-        ),
-        (
-            Step::Push(4294967295, 4294967294, Sample::Insert(4294967295, &[])),
-            66,
-            2,
-        ),
-        (Step::Push(4294967295, 0, T_2B), 94, 3),
-        (Step::Full(0, 0, T_1A), 94, 3),
-        (Step::Cut(0, 4294967294), 66, 3),
-        (Step::DropXid(0), 66, 3),
-        (Step::Cut(4294967295, 0), 38, 2),
-    ];
     let left: &[Sample] = &[
         Sample::Truncate(4294967295),
         Sample::Insert(4294967295, &[]),
     ];
-    both_hold(&rt, rt.alloc(), 121, 4294967295, steps, left)
+    both_hold(&rt, rt.alloc(), 121, 4294967295, &APART, left)
 }
+
+static CLEARED: [Row; 6] = [
+    (Step::Open(1), 0, 0),
+    (Step::Push(1, 1, T_1A), 28, 1),
+    (Step::Open(2), 28, 1),
+    (Step::Clear, 0, 0),
+    (Step::Open(1), 0, 0),
+    (Step::Push(1, 1, T_1A), 28, 1),
+];
 
 #[test]
 fn clear_forgets_all(rt: HostRuntime) -> Result<(), Fail> {
-    let steps: &[Row] = &[
-        (Step::Open(1), 0, 0),
-        (Step::Push(1, 1, T_1A), 28, 1),
-        (Step::Open(2), 28, 1),
-        (Step::Clear, 0, 0),
-        (Step::Open(1), 0, 0),
-        (Step::Push(1, 1, T_1A), 28, 1),
-    ];
-    both_hold(&rt, rt.alloc(), 56, 1, steps, &[T_1A])
+    both_hold(&rt, rt.alloc(), 56, 1, &CLEARED, &[T_1A])
 }
 
 /// Holds one item of a new transaction.
@@ -323,11 +323,9 @@ fn hold<P: Spools>(
 fn one_item_opens_its_transaction(rt: HostRuntime) -> Result<(), Fail> {
     let mut spools = ByteSpools::new(rt.alloc(), 28);
     hold(&rt, rt.alloc(), &mut spools, 7)??;
-    assert_eq!(rt; (spools.bytes(), spools.count(7)), (28, 1));
-    assert_eq!(rt;
-        hold(&rt, rt.alloc(), &mut spools, 8)?,
-        Err(SpoolFault::SpoolFull)
-    );
+    assert!(rt; spools.bytes() == 28 && spools.count(7) == 1);
+    let found = hold(&rt, rt.alloc(), &mut spools, 8)?;
+    assert!(rt; found == Err(SpoolFault::SpoolFull));
     assert!(rt; !spools.is_open(8));
     Ok(())
 }
@@ -340,14 +338,14 @@ fn roll_back_many<P: Spools>(rt: &impl Abort, alloc: Global, spools: &mut P) -> 
         push(rt, spools, 1, subxid, &item)?;
         push(rt, spools, 1, subxid, &item)?;
     }
-    assert_eq!(rt; (spools.bytes(), spools.count(1)), (560000, 20000));
+    assert!(rt; spools.bytes() == 560000 && spools.count(1) == 20000);
     assert!(rt; spools.item(1, 19999).is_some());
     for subxid in (12..10002u32).rev() {
         spools.cut(1, subxid);
     }
-    assert_eq!(rt; (spools.bytes(), spools.count(1)), (560, 20));
+    assert!(rt; spools.bytes() == 560 && spools.count(1) == 20);
     push(rt, spools, 1, 12, &item)?;
-    assert_eq!(rt; (spools.bytes(), spools.count(1)), (588, 21));
+    assert!(rt; spools.bytes() == 588 && spools.count(1) == 21);
     Ok(())
 }
 
@@ -361,7 +359,7 @@ fn many_subtransactions_are_cut(rt: HostRuntime) -> Result<(), Fail> {
 fn open_in_the_end<P: Spools>(rt: &impl Abort, spools: &mut P, xid: u32) {
     if open(rt, spools, xid) == Err(SpoolFault::Memory) {
         assert!(rt; !spools.is_open(xid));
-        assert_eq!(rt; open(rt, spools, xid), Ok(()));
+        assert!(rt; open(rt, spools, xid).is_ok());
     }
 }
 
@@ -369,8 +367,8 @@ fn open_in_the_end<P: Spools>(rt: &impl Abort, spools: &mut P, xid: u32) {
 fn push_in_the_end<P: Spools>(rt: &impl Abort, spools: &mut P, xid: u32, subxid: u32, item: &Item) {
     let before = (spools.bytes(), spools.count(xid));
     if push(rt, spools, xid, subxid, item) == Err(SpoolFault::Memory) {
-        assert_eq!(rt; (spools.bytes(), spools.count(xid)), before);
-        assert_eq!(rt; push(rt, spools, xid, subxid, item), Ok(()));
+        assert!(rt; (spools.bytes(), spools.count(xid)) == before);
+        assert!(rt; push(rt, spools, xid, subxid, item).is_ok());
     }
 }
 
@@ -384,14 +382,14 @@ fn refuse_one<P: Spools>(rt: &impl Abort, spools: &mut P, item: &Item) {
             push_in_the_end(rt, spools, xid, xid + round, item);
         }
     }
-    assert_eq!(rt; spools.bytes(), 40 * 9 * 28);
+    assert!(rt; spools.bytes() == 40 * 9 * 28);
     for xid in 1..10u32 {
         spools.cut(xid, xid + 3);
         push_in_the_end(rt, spools, xid, xid + 3, item);
         spools.cut(xid, xid + 3);
-        assert_eq!(rt; spools.count(xid), 3);
+        assert!(rt; spools.count(xid) == 3);
     }
-    assert_eq!(rt; spools.bytes(), 3 * 9 * 28);
+    assert!(rt; spools.bytes() == 3 * 9 * 28);
 }
 
 // Run it with each allocation failing in turn: a call that is refused changes nothing, and succeeds when it comes once more.
