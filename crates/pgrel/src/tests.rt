@@ -1,3 +1,4 @@
+//! Identities, shapes and definitions of a few tables.
 ghost use Rattle.std.specs.Prelude.{◌≡◌, IfOk};
 
 use super::*;
@@ -23,44 +24,54 @@ struct Table {
     columns: Columns,
 }
 
+const T_COLUMNS: Columns = &[(true, "id", 23), (false, "v", 25)];
+
 /// Replica identity DEFAULT, with the primary key id.
 const T: Table = Table {
     oid: 16384,
     name: "t",
     letter: b'd',
-    columns: &[(true, "id", 23), (false, "v", 25)],
+    columns: T_COLUMNS,
 };
+
+const T_WITH_Z_COLUMNS: Columns = &[(true, "id", 23), (false, "v", 25), (false, "z", 25)];
 
 /// The table t with a third column.
 const T_WITH_Z: Table = Table {
     oid: 16384,
     name: "t",
     letter: b'd',
-    columns: &[(true, "id", 23), (false, "v", 25), (false, "z", 25)],
+    columns: T_WITH_Z_COLUMNS,
 };
+
+const F_COLUMNS: Columns = &[(true, "v", 25)];
 
 /// Replica identity FULL.
 const F: Table = Table {
     oid: 16386,
     name: "f",
     letter: b'f',
-    columns: &[(true, "v", 25)],
+    columns: F_COLUMNS,
 };
+
+const N_COLUMNS: Columns = &[(false, "v", 25)];
 
 /// Replica identity NOTHING.
 const N: Table = Table {
     oid: 16387,
     name: "n",
     letter: b'n',
-    columns: &[(false, "v", 25)],
+    columns: N_COLUMNS,
 };
+
+const BY_INDEX_COLUMNS: Columns = &[(true, "a", 23), (false, "b", 25), (true, "c", 25)];
 
 /// Replica identity USING INDEX, over the first and the last column.
 const BY_INDEX: Table = Table {
     oid: 16388,
     name: "i",
     letter: b'i',
-    columns: &[(true, "a", 23), (false, "b", 25), (true, "c", 25)],
+    columns: BY_INDEX_COLUMNS,
 };
 
 /// What a Relation message says of the table.
@@ -199,15 +210,6 @@ fn searched(alloc: Global, table: &Table, sent: Sent) -> Result<Result<Tuple, Re
 /// A change of a table, and the identity that it searches or why there is none.
 type Search = (Table, Sent, Result<Cells, RelFault>);
 
-/// Stops unless each change searches its identity.
-fn finds_all(rt: &impl Abort, alloc: Global, searches: &[Search]) -> Result<(), Fail> {
-    for (place, (table, sent, wanted)) in searches.iter().enumerate() {
-        let answer = searched(alloc, table, *sent)?;
-        assert!(rt; answers(answer, *wanted)?, "search {place}");
-    }
-    Ok(())
-}
-
 /// Whether a table with this letter and these columns is keyed.
 fn is_keyed(alloc: Global, letter: u8, columns: Columns) -> Result<bool, AllocError> {
     let table = Table {
@@ -219,22 +221,22 @@ fn is_keyed(alloc: Global, letter: u8, columns: Columns) -> Result<bool, AllocEr
     Ok(keyed(&relation(alloc, &table)?))
 }
 
+static KEYED: [(u8, Columns, bool); 8] = [
+    (b'd', T_COLUMNS, true),
+    (b'i', BY_INDEX_COLUMNS, true),
+    (b'f', F_COLUMNS, false),
+    (b'n', N_COLUMNS, false),
+    (b'd', N_COLUMNS, false),
+    (b'i', N_COLUMNS, false),
+    (b'd', &[], false),
+    (b'n', F_COLUMNS, false),
+];
+
 #[test]
 fn keyed_tables_and_bags(rt: HostRuntime) -> Result<(), Fail> {
-    let tables: &[(u8, Columns, bool)] = &[
-        (b'd', T.columns, true),
-        (b'i', BY_INDEX.columns, true),
-        (b'f', F.columns, false),
-        (b'n', N.columns, false),
-        (b'd', N.columns, false),
-        (b'i', N.columns, false),
-        (b'd', &[], false),
-        (b'n', F.columns, false),
-    ];
-    for (place, &(letter, columns, found)) in tables.iter().enumerate() {
-        assert_eq!(rt;
-            is_keyed(rt.alloc(), letter, columns)?,
-            found,
+    for (place, &(letter, columns, found)) in KEYED.iter().enumerate() {
+        assert!(rt;
+            is_keyed(rt.alloc(), letter, columns)? == found,
             "table {place}"
         );
     }
@@ -254,20 +256,21 @@ fn has_shape_of_t(alloc: Global, letter: u8, columns: Columns) -> Result<(bool, 
     Ok((same_shape(&t, &other), same_shape(&other, &t)))
 }
 
+static SHAPES: [(u8, Columns, bool); 7] = [
+    (b'd', T_COLUMNS, true),
+    (b'd', T_WITH_Z_COLUMNS, false),
+    (b'd', &[(true, "id", 20), (false, "v", 1043)], true),
+    (b'i', &[(true, "id", 23), (false, "v", 25)], false),
+    (b'd', &[(true, "id", 23), (true, "v", 25)], false),
+    (b'd', &[(true, "id", 23), (false, "w", 25)], false),
+    (b'd', &[(false, "v", 25), (true, "id", 23)], false),
+];
+
 #[test]
 fn shapes(rt: HostRuntime) -> Result<(), Fail> {
-    let tables: &[(u8, Columns, bool)] = &[
-        (b'd', T.columns, true),
-        (b'd', T_WITH_Z.columns, false),
-        (b'd', &[(true, "id", 20), (false, "v", 1043)], true),
-        (b'i', &[(true, "id", 23), (false, "v", 25)], false),
-        (b'd', &[(true, "id", 23), (true, "v", 25)], false),
-        (b'd', &[(true, "id", 23), (false, "w", 25)], false),
-        (b'd', &[(false, "v", 25), (true, "id", 23)], false),
-    ];
-    for (place, &(letter, columns, same)) in tables.iter().enumerate() {
+    for (place, &(letter, columns, same)) in SHAPES.iter().enumerate() {
         let found = has_shape_of_t(rt.alloc(), letter, columns)?;
-        assert_eq!(rt; found, (same, same), "table {place}");
+        assert!(rt; found == (same, same), "table {place}");
     }
     Ok(())
 }
@@ -286,69 +289,65 @@ const NULL: CellRef<'static> = CellRef::Null;
 
 const UNSENT: CellRef<'static> = CellRef::Unchanged;
 
-#[test]
-fn searched_in_a_keyed_table(rt: HostRuntime) -> Result<(), Fail> {
-    let searches: &[Search] = &[
-        (
-            T,
-            Sent::OldAndNew(OldKind::Key, &[ONE, NULL], &[TWO, UNSENT]),
-            Ok(&[ONE]),
-        ),
-        (T, Sent::New(&[TWO, UNSENT]), Ok(&[TWO])),
-        (T, Sent::Old(OldKind::Full, &[TWO, X]), Ok(&[TWO])),
-        (T, Sent::Old(OldKind::Key, &[NULL, NULL]), Ok(&[NULL])),
-        (
-            BY_INDEX,
-            Sent::Old(OldKind::Key, &[ONE, NULL, BYTES]),
-            Ok(&[ONE, BYTES]),
-        ),
-    ];
-    finds_all(&rt, rt.alloc(), searches)
-}
+static SEARCHES: [Search; 17] = [
+    (
+        T,
+        Sent::OldAndNew(OldKind::Key, &[ONE, NULL], &[TWO, UNSENT]),
+        Ok(&[ONE]),
+    ),
+    (T, Sent::New(&[TWO, UNSENT]), Ok(&[TWO])),
+    (T, Sent::Old(OldKind::Full, &[TWO, X]), Ok(&[TWO])),
+    (T, Sent::Old(OldKind::Key, &[NULL, NULL]), Ok(&[NULL])),
+    (
+        BY_INDEX,
+        Sent::Old(OldKind::Key, &[ONE, NULL, BYTES]),
+        Ok(&[ONE, BYTES]),
+    ),
+    (
+        T,
+        Sent::OldAndNew(OldKind::Key, &[UNSENT], &[ONE, X]),
+        Err(RelFault::Width),
+    ),
+    (
+        T,
+        Sent::OldAndNew(OldKind::Key, &[UNSENT, NULL], &[ONE]),
+        Err(RelFault::Width),
+    ),
+    (
+        T,
+        Sent::OldAndNew(OldKind::Key, &[UNSENT, NULL], &[ONE, X]),
+        Err(RelFault::UnknownIdentity),
+    ),
+    (T, Sent::New(&[UNSENT, X]), Err(RelFault::UnknownIdentity)),
+    (F, Sent::OldAndNew(OldKind::Full, &[X], &[Y]), Ok(&[X])),
+    (F, Sent::New(&[X]), Err(RelFault::NoIdentity)),
+    (
+        F,
+        Sent::OldAndNew(OldKind::Key, &[X], &[Y]),
+        Err(RelFault::NoIdentity),
+    ),
+    (
+        F,
+        Sent::Old(OldKind::Full, &[UNSENT]),
+        Err(RelFault::UnknownIdentity),
+    ),
+    (N, Sent::New(&[X]), Err(RelFault::NoIdentity)),
+    (N, Sent::Old(OldKind::Full, &[X]), Err(RelFault::NoIdentity)),
+    (N, Sent::New(&[X, Y]), Err(RelFault::Width)),
+    (
+        N,
+        Sent::OldAndNew(OldKind::Key, &[X, Y], &[X]),
+        Err(RelFault::Width),
+    ),
+];
 
 #[test]
-fn refused_in_a_keyed_table(rt: HostRuntime) -> Result<(), Fail> {
-    let searches: &[Search] = &[
-        (
-            T,
-            Sent::OldAndNew(OldKind::Key, &[UNSENT], &[ONE, X]),
-            Err(RelFault::Width),
-        ),
-        (
-            T,
-            Sent::OldAndNew(OldKind::Key, &[UNSENT, NULL], &[ONE]),
-            Err(RelFault::Width),
-        ),
-        (
-            T,
-            Sent::OldAndNew(OldKind::Key, &[UNSENT, NULL], &[ONE, X]),
-            Err(RelFault::UnknownIdentity),
-        ),
-        (T, Sent::New(&[UNSENT, X]), Err(RelFault::UnknownIdentity)),
-    ];
-    finds_all(&rt, rt.alloc(), searches)
-}
-
-#[test]
-fn searched_in_a_bag(rt: HostRuntime) -> Result<(), Fail> {
-    let searches: &[Search] = &[
-        (F, Sent::OldAndNew(OldKind::Full, &[X], &[Y]), Ok(&[X])),
-        (F, Sent::New(&[X]), Err(RelFault::NoIdentity)),
-        (
-            F,
-            Sent::OldAndNew(OldKind::Key, &[X], &[Y]),
-            Err(RelFault::NoIdentity),
-        ),
-        (
-            F,
-            Sent::Old(OldKind::Full, &[UNSENT]),
-            Err(RelFault::UnknownIdentity),
-        ),
-        (N, Sent::New(&[X]), Err(RelFault::NoIdentity)),
-        (N, Sent::Old(OldKind::Full, &[X]), Err(RelFault::NoIdentity)),
-        (N, Sent::New(&[X, Y]), Err(RelFault::Width)),
-    ];
-    finds_all(&rt, rt.alloc(), searches)
+fn searched_identities(rt: HostRuntime) -> Result<(), Fail> {
+    for (place, (table, sent, wanted)) in SEARCHES.iter().enumerate() {
+        let answer = searched(rt.alloc(), table, *sent)?;
+        assert!(rt; answers(answer, *wanted)?, "search {place}");
+    }
+    Ok(())
 }
 
 /// The identity of a row of the table.
@@ -370,15 +369,16 @@ const UNFLAGGED: Table = Table {
     columns: &[(false, "v", 25), (false, "w", 25)],
 };
 
+static IDENTITIES: [(Table, Cells, Result<Cells, RelFault>); 4] = [
+    (T, &[UNSENT, X], Ok(&[UNSENT])),
+    (F, &[UNSENT], Ok(&[UNSENT])),
+    (UNFLAGGED, &[UNSENT, X], Ok(&[UNSENT, X])),
+    (T, &[UNSENT], Err(RelFault::Width)),
+];
+
 #[test]
 fn identities_of_rows(rt: HostRuntime) -> Result<(), Fail> {
-    let rows: &[(Table, Cells, Result<Cells, RelFault>)] = &[
-        (T, &[UNSENT, X], Ok(&[UNSENT])),
-        (F, &[UNSENT], Ok(&[UNSENT])),
-        (UNFLAGGED, &[UNSENT, X], Ok(&[UNSENT, X])),
-        (T, &[UNSENT], Err(RelFault::Width)),
-    ];
-    for (place, (table, cells, wanted)) in rows.iter().enumerate() {
+    for (place, (table, cells, wanted)) in IDENTITIES.iter().enumerate() {
         let answer = identity_of(rt.alloc(), table, *cells)?;
         assert!(rt; answers(answer, *wanted)?, "row {place}");
     }
@@ -392,15 +392,16 @@ fn inserted(alloc: Global, cells: Cells) -> Result<Result<(), RelFault>, Fail> {
     Ok(check_insert(&def, &row.borrowed()))
 }
 
+static INSERTED: [(Cells, Result<(), RelFault>); 3] = [
+    (&[ONE, NULL], Ok(())),
+    (&[ONE, UNSENT], Err(RelFault::UnchangedInInsert)),
+    (&[UNSENT], Err(RelFault::Width)),
+];
+
 #[test]
 fn inserted_rows(rt: HostRuntime) -> Result<(), Fail> {
-    let rows: &[(Cells, Result<(), RelFault>)] = &[
-        (&[ONE, NULL], Ok(())),
-        (&[ONE, UNSENT], Err(RelFault::UnchangedInInsert)),
-        (&[UNSENT], Err(RelFault::Width)),
-    ];
-    for (place, (cells, wanted)) in rows.iter().enumerate() {
-        assert_eq!(rt; inserted(rt.alloc(), *cells)?, *wanted, "row {place}");
+    for (place, (cells, wanted)) in INSERTED.iter().enumerate() {
+        assert!(rt; inserted(rt.alloc(), *cells)? == *wanted, "row {place}");
     }
     Ok(())
 }
@@ -414,20 +415,71 @@ fn resolved(
 ) -> Result<Result<Tuple, RelFault>, Fail> {
     let new = row(alloc, new)?;
     let old = row(alloc, old)?;
-    assert_eq!(rt; new.width(), old.width());
+    assert!(rt; new.width() == old.width());
     Ok(resolve(alloc, &new.borrowed(), &old.borrowed()))
 }
 
+static RESOLVED: [(Cells, Cells, Cells); 3] = [
+    (&[ONE, Y, UNSENT], &[ONE, X, BYTES], &[ONE, Y, BYTES]),
+    (&[NULL], &[BYTES], &[NULL]),
+    (&[UNSENT, UNSENT], &[NULL, X], &[NULL, X]),
+];
+
 #[test]
 fn unsent_cells_are_the_old_rows(rt: HostRuntime) -> Result<(), Fail> {
-    let rows: &[(Cells, Cells, Cells)] = &[
-        (&[ONE, Y, UNSENT], &[ONE, X, BYTES], &[ONE, Y, BYTES]),
-        (&[NULL], &[BYTES], &[NULL]),
-        (&[UNSENT, UNSENT], &[NULL, X], &[NULL, X]),
-    ];
-    for (place, &(new, old, whole)) in rows.iter().enumerate() {
+    for (place, &(new, old, whole)) in RESOLVED.iter().enumerate() {
         let answer = resolved(&rt, rt.alloc(), new, old)?;
         assert!(rt; gives(answer, whole)?, "row {place}");
+    }
+    Ok(())
+}
+
+/// A row as it stands under another definition.
+fn carried(
+    rt: &impl Abort,
+    alloc: Global,
+    old: &Table,
+    new: &Table,
+    cells: Cells,
+) -> Result<Result<Tuple, RelFault>, Fail> {
+    let old = relation(alloc, old)?;
+    let new = relation(alloc, new)?;
+    let row = row(alloc, cells)?;
+    assert!(rt; row.width() == old.columns.len());
+    assert!(rt; new.spellable());
+    Ok(carry(alloc, &old, &new, &row.borrowed()))
+}
+
+/// The table t with its two columns in the other order, of other types and under other flags.
+const SWAPPED: Table = Table {
+    oid: 16384,
+    name: "u",
+    letter: b'f',
+    columns: &[(true, "v", 17), (true, "id", 20)],
+};
+
+/// The table t with its columns renamed.
+const RENAMED: Table = Table {
+    oid: 16384,
+    name: "t",
+    letter: b'd',
+    columns: &[(true, "ID", 23), (false, "vv", 25)],
+};
+
+static CARRIED: [(Table, Table, Cells, Cells); 6] = [
+    (T, T, &[ONE, BYTES], &[ONE, BYTES]),
+    (T, T_WITH_Z, &[ONE, X], &[ONE, X, NULL]),
+    (T_WITH_Z, T, &[ONE, X, Y], &[ONE, X]),
+    (T, SWAPPED, &[ONE, X], &[X, ONE]),
+    (T, RENAMED, &[ONE, X], &[NULL, NULL]),
+    (T, BY_INDEX, &[ONE, X], &[NULL, NULL, NULL]),
+];
+
+#[test]
+fn rows_carried_to_another_shape(rt: HostRuntime) -> Result<(), Fail> {
+    for (place, (old, new, cells, whole)) in CARRIED.iter().enumerate() {
+        let answer = carried(&rt, rt.alloc(), old, new, *cells)?;
+        assert!(rt; gives(answer, *whole)?, "row {place}");
     }
     Ok(())
 }
@@ -446,10 +498,7 @@ fn columns(book: &Book, oid: u32) -> Result<usize, RelFault> {
 
 /// Stops unless the last definition of this OID has so many columns, or none is known.
 fn has_columns(rt: &impl Abort, book: &Book, oid: u32, wanted: Option<usize>) {
-    assert_eq!(rt;
-        columns(book, oid),
-        wanted.ok_or(RelFault::UnknownRelation(oid))
-    );
+    assert!(rt; columns(book, oid) == wanted.ok_or(RelFault::UnknownRelation(oid)));
 }
 
 #[test]
@@ -465,7 +514,7 @@ fn book_is_a_map(rt: HostRuntime) -> Result<(), Fail> {
     put(&rt, alloc, &mut book, &T_WITH_Z)?;
     has_columns(&rt, &book, 16384, Some(3));
     has_columns(&rt, &book, 16386, Some(1));
-    assert_eq!(rt; book.get(16386)?.name.as_str(), "f");
+    assert!(rt; book.get(16386)?.name.as_str() == "f");
     book.clear();
     has_columns(&rt, &book, 16384, None);
     has_columns(&rt, &book, 16386, None);
