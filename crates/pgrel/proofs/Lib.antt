@@ -5,4 +5,4 @@ pub mod Loops
 pub mod Limits
 pub mod Lookups
 pub mod Samples
-mod CarriedRows
+pub mod CarriedRows

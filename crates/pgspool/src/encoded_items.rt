@@ -20,6 +20,9 @@ use std::marker::Model;
 ///
 /// Beside them stands where each subtransaction's first item is, in the order of these places, so that a cut finds its place at
 /// once.
+///
+/// A push asks for memory only to move to less room after a cut, and for the growth of its three collections, before it changes any
+/// of them: the encoding is written right into the room that the buffer then has.
 #[derive(Debug, Drop)]
 pub struct EncodedItems {
     buffer: Vec<u8>,
@@ -125,7 +128,7 @@ impl TransactionItems for EncodedItems {
         read_item(part(self.buffer.as_slice(), start, end))
     }
 
-    // All growths come first. Behind them the encoding alone could want memory, and then it leaves the buffer as it was.
+    // All growths come first. After them no memory is asked for: the buffer has room for the encoding.
     fn push(
         &mut self,
         _alloc: Global,

@@ -5,6 +5,7 @@ pub mod Reading
 pub mod Spelled
 pub mod Forms
 pub mod Faults
+pub mod FaultTexts
 pub mod Equal
 pub mod Writing
 pub mod Laws
