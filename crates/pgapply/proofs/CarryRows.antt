@@ -1,25 +1,11 @@
 -- Rows carried to a definition of another shape, as the definitions give it.
-use Rattle.std.proofs.Common.{◌≡◌, ◌∷◌, [], Ok, Err, List, true, false}
+use Rattle.std.proofs.Common.{◌≡◌, ◌∷◌, [], Ok, Err, true, false}
 use Rattle.std.specs.FinMap as map
 use Rattle.pgtuple.specs.Cells.{tuple_spelling}
-use Rattle.pgtuple.specs.declared.cell.Cell.{Cell}
 use Rattle.pgtuple.specs.declared.cell.Cell.TheVariants.{Null}
-use Rattle.pglogical.specs.declared.item.RelationDef.{RelationDef}
 use Rattle.pgapply.specs.declared.rows.StoreFault.TheVariants as fault
-use Rattle.pgapply.specs.Value.{Row}
-use Rattle.pgapply.specs.CarriedRows.{carry_rows}
-use Rattle.pgapply.proofs.Relations.{text, column, t, t3, f, x, place, row_of, lookups}
-
--- f with a key
-abbrev fk : RelationDef
-fk = record f { letter = 100 }
-
--- t without its key, a bag of the second column
-abbrev tv : RelationDef
-tv = record t { letter = 102; columns = column true 118 ∷ [] }
-
-abbrev of_cells : List Cell → Row
-of_cells cells = record { cells = cells; copies = 1 }
+use Rattle.pgapply.specs.Apply.{carry_rows}
+use Rattle.pgapply.proofs.Relations.{text, column, t, t3, tv, f, fk, x, of_cells, place, row_of, lookups}
 
 -- a column that comes is null
 new_column : carry_rows t t3 ((place 49, row_of 49 97) ∷ []) map.empty ≡ Ok (map.insert map.empty (place 49) (of_cells (text 49 ∷ text 97 ∷ Null ∷ [])))

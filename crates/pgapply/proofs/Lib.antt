@@ -5,4 +5,8 @@ mod EffectRows
 mod WorkRows
 mod DumpRows
 pub mod Causes
+pub mod Entries
+pub mod ChangedShapes
 mod CarryRows
+pub mod AddingUp
+pub mod Exceeding

@@ -6,4 +6,4 @@ pub mod Works
 pub mod Codes
 pub mod Laws
 pub mod Taken
-pub mod CarriedRows
+pub mod CarriedCopies

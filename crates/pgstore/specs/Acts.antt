@@ -103,20 +103,12 @@ RefusesToReplace g old def place there row e =
 abbrev pub IsGiven : Tables → RelationDef → Type 0
 IsGiven v def = (rows : Rows) × (map.get v def.oid ≡ Some (record { definition = def; rows = rows }))
 
-abbrev pub Gives : {S : Type 0} → Ghosts S → Held S → Held S → RelationDef → Type 0
-Gives g old new def =
-    GoesOpen g old new × ((v : Tables) (op : Op) → IsStored v (tables_of g old) → (rows : Rows) × (found_rows (map.get v def.oid) def op ≡ Ok rows) × IsChanging v def rows (tables_of g new))
+abbrev pub Gives : {S : Type 0} → Ghosts S → Held S → Held S → RelationDef → Op → Type 0
+Gives g old new def op =
+    GoesOpen g old new × ((v : Tables) → IsStored v (tables_of g old) → (rows : Rows) × (found_rows (map.get v def.oid) def op ≡ Ok rows) × IsChanging v def rows (tables_of g new))
 
-abbrev pub RefusesToGive : {S : Type 0} → Ghosts S → Held S → RelationDef → StoreFault → Type 0
-RefusesToGive g old def e = (v : Tables) (op : Op) → IsStored v (tables_of g old) → IsFault e (found_rows (map.get v def.oid) def op)
-
--- the rows that stand under the stored definition can stand under this one
-abbrev pub ShapeHolds : {S : Type 0} → Ghosts S → Held S → Held S → stored.Definition → RelationDef → Type 0
-ShapeHolds g old new there def =
-    (tables_of g new ≡ tables_of g old) × ((v : Tables) (op : Op) → IsStored v (tables_of g old) → map.get (tables_of g old).defined def.oid ≡ Some there → (rows : Rows) × (found_rows (map.get v def.oid) def op ≡ Ok rows))
-
-abbrev pub RefusesShape : {S : Type 0} → Ghosts S → Held S → stored.Definition → RelationDef → StoreFault → Type 0
-RefusesShape g old there def e = (v : Tables) (op : Op) → IsStored v (tables_of g old) → map.get (tables_of g old).defined def.oid ≡ Some there → IsFault e (found_rows (map.get v def.oid) def op)
+abbrev pub RefusesToGive : {S : Type 0} → Ghosts S → Held S → RelationDef → Op → StoreFault → Type 0
+RefusesToGive g old def op e = (v : Tables) → IsStored v (tables_of g old) → IsFault e (found_rows (map.get v def.oid) def op)
 
 -- ---- one change
 

@@ -28,7 +28,7 @@ use sqlite::{Alter, Transaction};
 use std::alloc::Global;
 
 /// The greatest number of copies of a row.
-const MOST_COPIES: u32 = 2147483647;
+pub(crate) const MOST_COPIES: u32 = 2147483647;
 
 /// A row goes; of several copies one.
 fn take_row<S: Alter>(

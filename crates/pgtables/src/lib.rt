@@ -13,7 +13,7 @@ pub mod schema;
 pub mod settled;
 
 pub use dumped::{DumpReader, dump};
-pub use find::{find_definition, find_row, has_rows};
+pub use find::{find_definition, find_row, rows_of};
 pub use found::{has_no_tables, has_our_tables};
 pub use put::{add_row, delete_row, delete_rows, put_definition, put_position, put_row};
 pub use rows::{StoredDefinition, StoredRow};

@@ -1,0 +1,39 @@
+use Rattle.std.proofs.Common.{sym, ap, ◌∙◌, arith, ◌+◌}
+use Rattle.pgtables.specs.Kept as stored
+use Rattle.pgtables.specs.Kept.{tables_of}
+use Rattle.pgstore.proofs.Acting.{on_ok, if_err, then_open}
+use Rattle.pgstore.proofs.Joining.{joined_first, joined_again, joined_not, joined_clash}
+use Rattle.pgstore.proofs.carrying.add_carried.Goals as goal
+
+pub returns-then-clashes-clause-fault : goal.returns-then-clashes-clause-fault
+returns-then-clashes-clause-fault g c clean =
+    rw c.new.ensures (λ row is v rows h. joined_clash v c.args.def.now rows (tables_of g.S.Store c.args.tx.now.conn.now) h row c.args.place.now c.args.body.now c.args.copies is (sym c.clashes.ensures ∙ c.if-clashes.true))
+
+pub returns-in_ok-put_row-in-None-clause-made : goal.returns-in_ok-put_row-in-None-clause-made
+returns-in_ok-put_row-in-None-clause-made g c clean =
+    let before = c.put_row.ensures.survives.clean in
+    let found = c.in_ok-find_row.ensures.made (omega (arith, before)) in
+    let none = sym (c.in_ok-find_row.ensures.found (omega (arith, before))) ∙ c.in-None.is in
+    let put = c.in_ok-put_row-in-None.ensures.made clean in (
+      then_open g.S.Store c.args.tx.now.conn.now c.find_row.new.tx.conn.now c.put_row.new.tx.conn.now _ _ found put,
+      λ row is v rows h. joined_first v c.args.def.now rows (tables_of g.S.Store c.args.tx.now.conn.now) h row c.args.place.now c.args.body.now c.args.copies is (tables_of g.S.Store c.put_row.new.tx.conn.now) none
+          (sym c.clashes.ensures ∙ c.if-clashes.false) (put.made ∙ ap (stored.with_row c.args.def.now.oid c.args.place.now (record { body = c.args.body.now; copies = c.args.copies })) found.made),
+    )
+
+pub returns-in-Some-clause-made : goal.returns-in-Some-clause-made
+returns-in-Some-clause-made g c clean =
+    let before = c.join_copies.ensures.goes.survives.clean in
+    let found = c.in_ok-find_row.ensures.made (omega (arith, before)) in
+    let some = sym (c.in_ok-find_row.ensures.found (omega (arith, before))) ∙ c.in-Some.is in
+    on_ok c.join_copies.result (c.join_copies.ensures.made clean) (λ join. (
+      then_open g.S.Store c.args.tx.now.conn.now c.find_row.new.tx.conn.now c.join_copies.new.tx.conn.now _ _ found join.made,
+      λ row is v rows h. joined_again v c.args.def.now rows (tables_of g.S.Store c.args.tx.now.conn.now) h row c.args.place.now c.args.body.now c.args.copies is c.in-Some.there some (tables_of g.S.Store c.join_copies.new.tx.conn.now) join.bag join.few
+          (join.made.made ∙ ap (stored.with_row c.args.def.now.oid c.args.place.now (record { body = c.args.body.now; copies = c.in-Some.there.copies + c.args.copies })) found.made),
+    ))
+
+pub returns-in-Some-clause-fault : goal.returns-in-Some-clause-fault
+returns-in-Some-clause-fault g c clean =
+    let before = c.join_copies.ensures.goes.survives.clean in
+    let some = sym (c.in_ok-find_row.ensures.found (omega (arith, before))) ∙ c.in-Some.is in
+    if_err c.join_copies.result c.join_copies.ensures.fault (λ e refuses row is v rows h.
+    joined_not v c.args.def.now rows (tables_of g.S.Store c.args.tx.now.conn.now) h row c.args.place.now c.args.body.now c.args.copies is c.in-Some.there some e refuses)

@@ -1,0 +1,23 @@
+use Rattle.std.proofs.Common.{ap, ◌∙◌}
+use Rattle.pgtables.specs.Kept as stored
+use Rattle.pgapply.specs.Apply.{moved}
+use Rattle.pgstore.proofs.Acting.{on_ok, if_err}
+use Rattle.pgstore.proofs.Joining.{carried_row_is}
+use Rattle.pgstore.proofs.carrying.carry_row.Goals as goal
+
+pub returns-clause-made : goal.returns-clause-made
+returns-clause-made g c clean = on_ok c.add_carried.result (c.add_carried.ensures.made clean) (λ joins. (
+  joins.0,
+  λ row kept v rows h.
+      let read = c.in_ok-was.ensures.ok row.cells kept.tuple (c.body.ensures ∙ ap (λ (k : stored.Copies). k.body) kept.is) in
+      joins.1 (moved c.args.old.now c.args.def.now row)
+      (carried_row_is c.args.old.now c.args.def.now row c.args.kept.now _ _ _ _ _ kept read (c.borrowed-row.ensures ∙ c.in_ok-next.ensures.ok) (c.as_slice.ensures ∙ c.in_ok-place.ensures.ok) (c.as_slice-2.ensures ∙ c.in_ok-body.ensures.ok) c.copies.ensures c.encode.ensures.limits)
+      v rows h,
+))
+
+pub returns-clause-fault : goal.returns-clause-fault
+returns-clause-fault g c clean = if_err c.add_carried.result (c.add_carried.ensures.fault clean) (λ e refuses row kept v rows h.
+    let read = c.in_ok-was.ensures.ok row.cells kept.tuple (c.body.ensures ∙ ap (λ (k : stored.Copies). k.body) kept.is) in
+    refuses (moved c.args.old.now c.args.def.now row)
+    (carried_row_is c.args.old.now c.args.def.now row c.args.kept.now _ _ _ _ _ kept read (c.borrowed-row.ensures ∙ c.in_ok-next.ensures.ok) (c.as_slice.ensures ∙ c.in_ok-place.ensures.ok) (c.as_slice-2.ensures ∙ c.in_ok-body.ensures.ok) c.copies.ensures c.encode.ensures.limits)
+    v rows h)
