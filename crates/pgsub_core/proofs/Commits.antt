@@ -46,7 +46,6 @@ module _ (tables : Tables) (position confirmed end : ℕ) (relations : RelationC
     refuses_changes less changes store.UnknownIdentity described is = (StoreRefuses end store.UnknownIdentity, refused_by changes store.UnknownIdentity described is, refl)
     refuses_changes less changes store.UnchangedInInsert described is = (StoreRefuses end store.UnchangedInInsert, refused_by changes store.UnchangedInInsert described is, refl)
     refuses_changes less changes store.Width described is = (StoreRefuses end store.Width, refused_by changes store.Width described is, refl)
-    refuses_changes less changes store.SchemaChanged described is = (StoreRefuses end store.SchemaChanged, refused_by changes store.SchemaChanged described is, refl)
     refuses_changes less changes store.TooManyCopies described is = (StoreRefuses end store.TooManyCopies, refused_by changes store.TooManyCopies described is, refl)
     refuses_changes less changes store.Refused described is = (less, reaches_store changes described)
     refuses_changes less changes store.Memory described is = tt

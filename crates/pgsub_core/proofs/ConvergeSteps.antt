@@ -21,7 +21,7 @@ use Rattle.pgsub_core.specs.Handled.{IsFollowed}
 use Rattle.pgsub_core.specs.SubscriberValue.{SubscriberValue, seen}
 use Rattle.pgsub_core.specs.Following.{AreFed, FeedsSessions}
 use Rattle.pgsub_core.specs.Verdicts.{IsVerdictOf, IsVerdict, SideIsFollowed, SideFails}
-use Rattle.pgsub_core.specs.Converging.{ShowsFed, FailsFed, Converges, Agree, agreed, position_reached}
+use Rattle.pgsub_core.specs.Converging.{ShowsFed, FailsFed, Converges, Agree, FollowsLeft, FollowsRight, agreed, position_reached}
 use Rattle.pgsub_core.proofs.Verdicts.{one_history}
 use Rattle.pgsub_core.proofs.Followed.{fed_followed}
 
@@ -66,6 +66,22 @@ module _ {C : Type 0} (holds : C → Tables → Type 0) (place : C → ℕ) (now
   fails_rows (Err f) old mid new sessions fed stays same fault = λ tables h.
       let a = fed tables h in
       (a.0, stays a.0 a.1, inr (fault, subst (λ (s : Subscribed). AreFed now (seen place old tables) sessions s None) (sym (same a.0)) a.2))
+
+  -- one side alone, whatever became of the other
+  pub left_stopped : (old new : SubscriberValue C) (sessions : List (List ℕ)) (f : Fault) → FailsFed holds place now old sessions new f → FollowsLeft holds place now old sessions new (Some (Left, f))
+  left_stopped old new sessions f fails tables h = let a = fails tables h in (a.0, a.1, side_fails now sessions (seen place old tables) (seen place new a.0) f a.2)
+
+  pub left_read : (old new : SubscriberValue C) (sessions : List (List ℕ)) (rows : List DumpRow) → ShowsFed holds place now old sessions new rows → FollowsLeft holds place now old sessions new None
+  left_read old new sessions rows shows tables h = let a = shows tables h in (a.0, a.1, side_followed now sessions (seen place old tables) (seen place new a.0) None a.2)
+
+  pub right_stopped : (old new : SubscriberValue C) (sessions : List (List ℕ)) (f : Fault) → FailsFed holds place now old sessions new f → FollowsRight holds place now old sessions new (Some (Right, f))
+  right_stopped = left_stopped
+
+  pub right_read : (old new : SubscriberValue C) (sessions : List (List ℕ)) (rows : List DumpRow) → ShowsFed holds place now old sessions new rows → FollowsRight holds place now old sessions new None
+  right_read = left_read
+
+  pub right_untouched : (s : SubscriberValue C) (sessions : List (List ℕ)) (f : Fault) → FollowsRight holds place now s sessions s (Some (Left, f))
+  right_untouched s sessions f tables h = (tables, h, refl)
 
 module _ {C D : Type 0} (holds : C → Tables → Type 0) (place : C → ℕ) (holds' : D → Tables → Type 0) (place' : D → ℕ) (now : ℤ) where
   pub left_fails : (left left' : SubscriberValue C) (right : SubscriberValue D) (sessions others : List (List ℕ)) (f : Fault) → FailsFed holds place now left sessions left' f

@@ -70,7 +70,6 @@ store_cause store.NoIdentity = NextMessage
 store_cause store.UnknownIdentity = NextMessage
 store_cause store.UnchangedInInsert = NextMessage
 store_cause store.Width = NextMessage
-store_cause store.SchemaChanged = NextMessage
 store_cause store.TooManyCopies = NextMessage
 store_cause store.Refused = StatementRefused
 store_cause store.Memory = NeverAnswered

@@ -8,6 +8,7 @@ use Rattle.pgapply.specs.Dump.{dump}
 use Rattle.pgapply.specs.declared.rows.DumpRow.{DumpRow}
 use Rattle.pgsub_core.specs.declared.converging.ConvergeFault.{ConvergeFault}
 use Rattle.pgsub_core.specs.declared.converging.Side.{Side}
+use Rattle.pgsub_core.specs.declared.converging.Side.TheVariants.{Left, Right}
 use Rattle.pgsub_core.specs.declared.converging.Verdict.{Verdict}
 use Rattle.pgsub_core.specs.declared.converging.Verdict.TheVariants.{Same, Positions}
 use Rattle.pgsub_core.specs.declared.fault.Fault.{Fault}
@@ -28,6 +29,17 @@ same_row a b = (a.oid == b.oid) && (pointwise nat_eq a.namespace b.namespace && 
 abbrev pub failed_side : Result Verdict ConvergeFault → Option (Side × Fault)
 failed_side (Ok v) = None
 failed_side (Err f) = Some (f.side, f.fault)
+
+-- what holds where the comparison came to the right side: it ends with no fault, or with one of the right
+abbrev pub OnceLeftIsRead : Type 0 → Option (Side × Fault) → Type 0
+OnceLeftIsRead P None = P
+OnceLeftIsRead P (Some (Left, f)) = Unit {0}
+OnceLeftIsRead P (Some (Right, f)) = P
+
+-- what holds where it ends with no fault
+abbrev pub OnceBothAreRead : Type 0 → Option (Side × Fault) → Type 0
+OnceBothAreRead P None = P
+OnceBothAreRead P (Some f) = Unit {0}
 
 -- how two replicas of one history compare that stand at these positions
 abbrev pub agreed : ℕ → ℕ → Verdict
@@ -50,6 +62,17 @@ module _ {C : Type 0} (holds : C → Tables → Type 0) (place : C → ℕ) (now
       (tables : Tables) → holds old.applied.store tables
       → (tables' : Tables) × holds new.applied.store tables'
       × (AreFed now (seen place old tables) sessions (seen place new tables') (Some f) ⊎ (IsReadFault f × AreFed now (seen place old tables) sessions (seen place new tables') None))
+
+  -- Whatever tables a side's store held, it holds others, with which this side was followed, where the comparison ends with this fault.
+  abbrev pub FollowsLeft : SubscriberValue C → List (List ℕ) → SubscriberValue C → Option (Side × Fault) → Type 0
+  FollowsLeft old sessions new answered =
+      (tables : Tables) → holds old.applied.store tables
+      → (tables' : Tables) × holds new.applied.store tables' × LeftIsFollowed now sessions (seen place old tables) (seen place new tables') answered
+
+  abbrev pub FollowsRight : SubscriberValue C → List (List ℕ) → SubscriberValue C → Option (Side × Fault) → Type 0
+  FollowsRight old sessions new answered =
+      (tables : Tables) → holds old.applied.store tables
+      → (tables' : Tables) × holds new.applied.store tables' × RightIsFollowed now sessions (seen place old tables) (seen place new tables') answered
 
 module _ {C D : Type 0} (holds : C → Tables → Type 0) (place : C → ℕ) (holds' : D → Tables → Type 0) (place' : D → ℕ) (now : ℤ) where
   -- Whatever tables both stores held, they hold others, with which each side was followed and the answer is the verdict.

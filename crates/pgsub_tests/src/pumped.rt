@@ -1,0 +1,131 @@
+//! A session that a reader gives.
+
+use crate::row::Step::{At, Rows};
+use crate::row::{AMPLE, Row, T_1_A};
+use crate::steps::{MAX_FRAME, NOW, bytes_of, take_steps};
+use pgapply::ReplicaStore;
+use pglsn::Lsn;
+use pgorder::{OrderFault, Version};
+use pgspool::{ByteSpools, ListSpools, Spools};
+use pgstore::Store;
+use pgsub_core::{Fault, Source, Subscriber, pump};
+use std::io;
+use std::io::{ErrorKind, Read};
+use std::process::Abort;
+use std::test::Fail;
+
+/// Gives at most so many bytes a call, and after the last one an error or the end.
+#[derive(Clone, Copy, Drop)]
+struct Reader<'t> {
+    rest: &'t [u8],
+    at_once: usize,
+    fails: bool,
+}
+
+impl<'t> Read for Reader<'t> {
+    fn read(&mut self, buf: &mut [u8]) -> io::Result<usize> {
+        if self.rest.is_empty() && self.fails {
+            return Err(io::Error::from(ErrorKind::Other));
+        }
+        let count = buf.len().min(self.at_once);
+        self.rest.read(&mut buf[..count])
+    }
+}
+
+/// What the transaction of the reader leaves.
+static STORED: Row = Row {
+    shows: "a session of a reader",
+    limit: AMPLE,
+    steps: &[At(0x130, 0x130, 0x130), Rows(&[T_1_A])],
+};
+
+/// Pumps the first bytes from a reader that then fails, and feeds the others.
+fn pump_and_feed<P: Spools + Drop, C: ReplicaStore + Drop>(
+    rt: &(impl Abort + AllocGlobal),
+    subscriber: &mut Subscriber<P, C>,
+    front: &[u8],
+    rest: &[u8],
+) -> Result<(), Fail> {
+    let mut source = Source::new(Reader {
+        rest: front,
+        at_once: 5,
+        fails: true,
+    });
+    assert!(rt; !source.failed());
+    assert!(rt; pump(&mut source, subscriber, NOW) == Err(Fault::Read));
+    assert!(rt; source.failed());
+    let position = if rest.is_empty() { 0x130 } else { 0 };
+    assert!(rt;
+        subscriber.position() == Lsn(position),
+        "after {} bytes",
+        front.len()
+    );
+    assert!(rt; subscriber.feed(rest, NOW).is_ok());
+    take_steps(rt, subscriber, &STORED, 1)
+}
+
+/// Pumps the bytes of a reader that gives so many a call.
+fn pump_all<P: Spools + Drop, C: ReplicaStore + Drop>(
+    rt: &impl Abort,
+    subscriber: &mut Subscriber<P, C>,
+    rest: &[u8],
+    at_once: usize,
+) -> Result<(), Fault> {
+    let mut source = Source::new(Reader {
+        rest,
+        at_once,
+        fails: false,
+    });
+    assert!(rt; !source.failed());
+    let pumped = pump(&mut source, subscriber, NOW);
+    assert!(rt; !source.failed());
+    pumped
+}
+
+/// Pumps the first bytes over a new store, and feeds the others.
+fn fail_after<C: ReplicaStore + Drop>(
+    rt: &(impl Abort + AllocGlobal),
+    store: C,
+    front: &[u8],
+    rest: &[u8],
+) -> Result<(), Fail> {
+    let alloc = rt.alloc();
+    let spools = ByteSpools::new(alloc, AMPLE);
+    let mut subscriber = Subscriber::new(alloc, store, spools, Version::Two, MAX_FRAME);
+    pump_and_feed(rt, &mut subscriber, front, rest)
+}
+
+#[test]
+fn a_reader_that_fails_after_each_byte(rt: HostRuntime) -> Result<(), Fail> {
+    let alloc = rt.alloc();
+    let bytes = bytes_of(alloc, "t1")?;
+    assert!(rt; bytes.len() == 227);
+    for count in 0..=bytes.len() {
+        let (front, rest) = bytes.as_slice().split_at(count);
+        fail_after(&rt, Store::in_memory(alloc)?, front, rest)?;
+    }
+    Ok(())
+}
+
+/// Pumps readers over a new store: one of a transaction, a byte at each call, and one of a Commit in a session of its own.
+fn read_to_the_end<C: ReplicaStore + Drop>(
+    rt: &(impl Abort + AllocGlobal),
+    store: C,
+) -> Result<(), Fail> {
+    let alloc = rt.alloc();
+    let spools = ListSpools::new(alloc, AMPLE);
+    let mut subscriber = Subscriber::new(alloc, store, spools, Version::Two, MAX_FRAME);
+    let bytes = bytes_of(alloc, "t1")?;
+    assert!(rt; pump_all(rt, &mut subscriber, bytes.as_slice(), 1).is_ok());
+    take_steps(rt, &mut subscriber, &STORED, 1)?;
+    subscriber.disconnect();
+    let bytes = bytes_of(alloc, "commit:130")?;
+    let pumped = pump_all(rt, &mut subscriber, bytes.as_slice(), 4096);
+    assert!(rt; pumped == Err(Fault::Order(OrderFault::CommitWithoutBegin)));
+    take_steps(rt, &mut subscriber, &STORED, 1)
+}
+
+#[test]
+fn a_reader_is_read_to_its_end(rt: HostRuntime) -> Result<(), Fail> {
+    read_to_the_end(&rt, Store::in_memory(rt.alloc())?)
+}

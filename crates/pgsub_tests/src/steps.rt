@@ -1,0 +1,276 @@
+//! Takes the steps of a row.
+
+use crate::messages::{BLOCK_ITEMS, BOUNDS, FRAMES, ITEMS};
+use crate::row::{Row, Step, Stored};
+use pgapply::{DumpRow, ReplicaStore};
+use pglsn::Lsn;
+use pgorder::Version;
+use pgspool::{ByteSpools, ListSpools, Spools};
+use pgsub_core::{Fault, Session, Subscriber, follow};
+use pgtuple::{Bytes, Cell, Seq};
+use std::alloc::Global;
+use std::process::Abort;
+use std::test::Fail;
+
+/// The clock of the replies.
+pub(crate) const NOW: i64 = 7;
+
+/// The longest payload of a frame.
+pub(crate) const MAX_FRAME: u32 = 64000;
+
+/// The bytes of hexadecimal digits in groups.
+pub(crate) fn unhex(alloc: Global, digits: &str) -> Result<Vec<u8>, Fail> {
+    let mut bytes = Vec::new(alloc);
+    for word in digits.split_whitespace() {
+        let part = hex::decode(alloc, word)?;
+        bytes.extend_from_slice(part.as_slice())?;
+    }
+    Ok(bytes)
+}
+
+/// Appends the CopyData frame of a message, in XLogData from 0/0 to 0/0; of digits after `=` their bytes alone.
+fn append_message(alloc: Global, bytes: &mut Vec<u8>, message: &str) -> Result<(), Fail> {
+    if let Some(digits) = message.strip_prefix('=') {
+        bytes.extend_from_slice(unhex(alloc, digits)?.as_slice())?;
+        return Ok(());
+    }
+    let body = unhex(alloc, message)?;
+    let length = u32::try_from(body.len().saturating_add(29))?;
+    bytes.push(b'd')?;
+    bytes.extend_from_slice(&length.to_be_bytes())?;
+    bytes.push(b'w')?;
+    bytes.extend_from_slice(&[0; 24])?;
+    bytes.extend_from_slice(body.as_slice())?;
+    Ok(())
+}
+
+/// The digits of a word in a table.
+fn found(table: &[(&'static str, &'static str)], word: &str) -> Option<&'static str> {
+    for &(name, digits) in table {
+        if name == word {
+            return Some(digits);
+        }
+    }
+    None
+}
+
+/// The digits of a word.
+fn digits_of(word: &str) -> Option<&'static str> {
+    for table in [BOUNDS, ITEMS, BLOCK_ITEMS, FRAMES] {
+        if let Some(digits) = found(table, word) {
+            return Some(digits);
+        }
+    }
+    None
+}
+
+/// The bytes of a session.
+pub(crate) fn bytes_of(alloc: Global, session: &str) -> Result<Vec<u8>, Fail> {
+    let mut bytes = Vec::new(alloc);
+    for word in session.split_whitespace() {
+        let digits = digits_of(word).ok_or("a word that isn't known")?;
+        append_message(alloc, &mut bytes, digits)?;
+    }
+    Ok(bytes)
+}
+
+/// Bytes in chunks of so many.
+fn chunks_of(alloc: Global, bytes: &[u8], chunk_len: usize) -> Result<Vec<Bytes>, Fail> {
+    let mut chunks = Vec::new(alloc);
+    for chunk in bytes.chunks(chunk_len.max(1)) {
+        chunks.push(Bytes::from_vec(Vec::from_slice(alloc, chunk)?))?;
+    }
+    Ok(chunks)
+}
+
+/// A session in chunks of so many bytes.
+fn session_of(alloc: Global, session: &str, chunk_len: usize) -> Result<Session, Fail> {
+    let bytes = bytes_of(alloc, session)?;
+    let pieces = Seq::from_vec(chunks_of(alloc, bytes.as_slice(), chunk_len)?);
+    Ok(Session { pieces })
+}
+
+/// Sessions in chunks of so many bytes.
+pub(crate) fn sessions_of(
+    alloc: Global,
+    sessions: &[&str],
+    chunk_len: usize,
+) -> Result<Vec<Session>, Fail> {
+    let mut all = Vec::new(alloc);
+    for session in sessions {
+        all.push(session_of(alloc, session, chunk_len)?)?;
+    }
+    Ok(all)
+}
+
+/// Feeds bytes in chunks.
+fn feed_chunks<P: Spools + Drop, C: ReplicaStore + Drop>(
+    subscriber: &mut Subscriber<P, C>,
+    bytes: &[u8],
+    chunk_len: usize,
+) -> Result<(), Fault> {
+    for chunk in bytes.chunks(chunk_len.max(1)) {
+        subscriber.feed(chunk, NOW)?;
+    }
+    Ok(())
+}
+
+/// Whether a stored row is this one.
+fn is_row(row: &DumpRow, stored: Stored) -> bool {
+    let (oid, name, cells, copies) = stored;
+    if row.oid != oid || row.copies != copies || row.cells.width() != cells.len() {
+        return false;
+    }
+    if row.namespace.as_str() != "public" || row.name.as_str() != name {
+        return false;
+    }
+    for (cell, text) in row.cells.as_slice().iter().zip(cells) {
+        if !matches!(cell, Cell::Text(found) if found.as_str() == *text) {
+            return false;
+        }
+    }
+    true
+}
+
+/// Whether these are all rows.
+fn are_rows(rows: &[DumpRow], stored: &[Stored]) -> bool {
+    for (row, stored) in rows.iter().zip(stored) {
+        if !is_row(row, *stored) {
+            return false;
+        }
+    }
+    rows.len() == stored.len()
+}
+
+/// Whether following sessions gives this result.
+fn follows<P: Spools + Drop, C: ReplicaStore + Drop>(
+    alloc: Global,
+    subscriber: &mut Subscriber<P, C>,
+    sessions: &[&str],
+    chunk_len: usize,
+    wanted: Result<(), Fault>,
+) -> Result<bool, Fail> {
+    let sessions = sessions_of(alloc, sessions, chunk_len)?;
+    Ok(follow(subscriber, sessions.as_slice(), NOW) == wanted)
+}
+
+/// Whether feeding messages gives this result.
+fn feeds<P: Spools + Drop, C: ReplicaStore + Drop>(
+    alloc: Global,
+    subscriber: &mut Subscriber<P, C>,
+    messages: &str,
+    chunk_len: usize,
+    wanted: Result<(), Fault>,
+) -> Result<bool, Fail> {
+    let bytes = bytes_of(alloc, messages)?;
+    Ok(feed_chunks(subscriber, bytes.as_slice(), chunk_len) == wanted)
+}
+
+/// Whether these are the bytes of hexadecimal digits.
+fn are_bytes(alloc: Global, bytes: &[u8], digits: &str) -> Result<bool, Fail> {
+    let wanted = unhex(alloc, digits)?;
+    Ok(bytes == wanted.as_slice())
+}
+
+/// Whether position, confirmed and received are these.
+fn is_at<P: Spools + Drop, C: ReplicaStore + Drop>(
+    subscriber: &Subscriber<P, C>,
+    position: u64,
+    confirmed: u64,
+    received: u64,
+) -> bool {
+    subscriber.position() == Lsn(position)
+        && subscriber.confirmed() == Lsn(confirmed)
+        && subscriber.received() == Lsn(received)
+}
+
+/// Whether these are all stored rows.
+fn has_rows<P: Spools + Drop, C: ReplicaStore + Drop>(
+    subscriber: &mut Subscriber<P, C>,
+    stored: &[Stored],
+) -> Result<bool, Fault> {
+    let rows = subscriber.rows()?;
+    Ok(are_rows(rows.as_slice(), stored))
+}
+
+/// Takes a step. Returns whether its result is the one that it names.
+fn take<P: Spools + Drop, C: ReplicaStore + Drop>(
+    alloc: Global,
+    subscriber: &mut Subscriber<P, C>,
+    step: Step,
+    chunk_len: usize,
+) -> Result<bool, Fail> {
+    match step {
+        Step::Follow(sessions, wanted) => follows(alloc, subscriber, sessions, chunk_len, wanted),
+        Step::Feed(messages, wanted) => feeds(alloc, subscriber, messages, chunk_len, wanted),
+        Step::Disconnect => {
+            subscriber.disconnect();
+            Ok(true)
+        }
+        Step::Status(now, ask) => Ok(subscriber.status(now, ask).is_ok()),
+        Step::ClearReplies => {
+            subscriber.clear_replies();
+            Ok(true)
+        }
+        Step::Replies(digits) => are_bytes(alloc, subscriber.replies(), digits),
+        Step::At(position, confirmed, received) => {
+            Ok(is_at(subscriber, position, confirmed, received))
+        }
+        Step::Rows(stored) => Ok(has_rows(subscriber, stored)?),
+    }
+}
+
+/// Takes the steps of a row, each chunk of a session of so many bytes.
+pub(crate) fn take_steps<P: Spools + Drop, C: ReplicaStore + Drop>(
+    rt: &(impl Abort + AllocGlobal),
+    subscriber: &mut Subscriber<P, C>,
+    row: &Row,
+    chunk_len: usize,
+) -> Result<(), Fail> {
+    for (index, step) in row.steps.iter().enumerate() {
+        let is_met = take(rt.alloc(), subscriber, *step, chunk_len)?;
+        assert!(rt;
+            is_met,
+            "{}: step {index} in chunks of {chunk_len}",
+            row.shows
+        );
+    }
+    Ok(())
+}
+
+/// How a row is taken.
+#[derive(Clone, Copy)]
+pub(crate) struct Way {
+    pub(crate) version: Version,
+    /// Whether items are kept encoded.
+    pub(crate) is_encoded: bool,
+    pub(crate) chunk_len: usize,
+}
+
+/// Takes the steps of a row by a new subscriber.
+fn check_over<P: Spools + Drop, C: ReplicaStore + Drop>(
+    rt: &(impl Abort + AllocGlobal),
+    store: C,
+    spools: P,
+    row: &Row,
+    way: Way,
+) -> Result<(), Fail> {
+    let mut subscriber = Subscriber::new(rt.alloc(), store, spools, way.version, MAX_FRAME);
+    take_steps(rt, &mut subscriber, row, way.chunk_len)
+}
+
+/// Takes the steps of a row over a new store.
+pub(crate) fn check<C: ReplicaStore + Drop>(
+    rt: &(impl Abort + AllocGlobal),
+    store: C,
+    row: &Row,
+    way: Way,
+) -> Result<(), Fail> {
+    if way.is_encoded {
+        let spools = ByteSpools::new(rt.alloc(), row.limit);
+        check_over(rt, store, spools, row, way)
+    } else {
+        let spools = ListSpools::new(rt.alloc(), row.limit);
+        check_over(rt, store, spools, row, way)
+    }
+}
