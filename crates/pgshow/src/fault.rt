@@ -6,17 +6,22 @@ use pglogical::DecodeFault;
 use pgorder::OrderFault;
 use pgwire::WireFault;
 use std::alloc::AllocError;
+use thiserror::Error;
 
 /// Why a session can't be shown further. Out of memory in any part is `Memory`.
-#[derive(Clone, Copy, Debug, PartialEq, Eq)]
+#[derive(Clone, Copy, Debug, PartialEq, Eq, Error)]
 pub enum Fault {
     /// A frame, its header or its payload.
+    #[error(transparent)]
     Wire(WireFault),
     /// A logical message.
+    #[error(transparent)]
     Decode(DecodeFault),
     /// The order of the messages.
+    #[error(transparent)]
     Order(OrderFault),
     /// Memory has run out.
+    #[error("memory")]
     Memory,
 }
 

@@ -1,50 +1,98 @@
-//! The program: applies recorded sessions of a server, and prints the rows that they leave.
+//! The program: shows, applies and compares recorded sessions of a server.
 #![tactic(auto)]
 
-use pgsub_cli::{Task, run};
+ghost use Rattle.std.specs.Prelude.{◌≡◌, ◌≢◌, ◌⊎◌};
+ghost use Rattle.clap.specs.Values.{kind_of};
+ghost use Rattle.clap.specs.declared.error.kind.ErrorKind.TheVariants as kind;
+
+use pgcommand::{CommandFault, Task, command_of};
+use pgsub_cli::run;
 use std::alloc::AllocError;
 use std::env;
 use std::fs::File;
 use std::io::ErrorKind;
 use std::process::ExitCode;
 
-/// The status where memory has run out.
-const OUT_OF_MEMORY: u8 = 1;
-
 /// The status of a usage error.
 const USAGE: u8 = 2;
 
-/// The task that the words of the command line ask for: `apply FILE`. Words that aren't UTF-8 ask for none.
-fn task_of(rt: &HostRuntime) -> Result<Option<Task>, AllocError> {
-    let mut words = match env::args(rt) {
-        Ok(words) => words,
-        Err(error) if error.kind() == ErrorKind::OutOfMemory => return Err(AllocError),
-        Err(_) => return Ok(None),
-    };
-    let _program = words.next();
-    let (Some(command), Some(file), None) = (words.next(), words.next(), words.next()) else {
-        return Ok(None);
-    };
-    if command.as_str() != "apply" {
-        return Ok(None);
+/// The status of a fault of a file.
+const FILE: u8 = 3;
+
+/// The words of the command line, the program's name first. None where they aren't UTF-8.
+fn words(rt: &HostRuntime) -> Result<Option<Vec<String>>, AllocError> {
+    match env::args(rt) {
+        Ok(words) => Ok(Some(words.collect(rt.alloc())?)),
+        Err(error) if error.kind() == ErrorKind::OutOfMemory => Err(AllocError),
+        Err(_) => Ok(None),
     }
-    Ok(Some(Task::Apply { file }))
 }
 
-// where standard error can't be written, the status alone tells
-fn main(rt: HostRuntime) -> ExitCode {
-    let task = match task_of(&rt) {
-        Ok(Some(task)) => task,
-        Ok(None) => {
-            let _ = eprintln!(rt; "usage: pgsub apply FILE");
-            return ExitCode::from(USAGE);
+/// Prints help or the version, or tells on standard error why the words ask for no task. Where standard error can't be written, the
+/// status alone tells.
+fn tell_usage(rt: &HostRuntime, error: &clap::Error) -> u8
+    ensures usage { kind_of error.now ≢ kind.DisplayHelp → kind_of error.now ≢ kind.DisplayVersion → result ≡ 2 }
+    ensures asked { (kind_of error.now ≡ kind.DisplayHelp) ⊎ (kind_of error.now ≡ kind.DisplayVersion) → (result ≡ 0) ⊎ (result ≡ 3) }
+{
+    if error.use_stderr() {
+        let _ = error.print(rt);
+        return USAGE;
+    }
+    if error.print(rt).is_err() {
+        let _ = eprintln!(rt; "pgsub: cannot write");
+        return FILE;
+    }
+    0
+}
+
+/// The file with this path, None where it can't be opened.
+fn opened(rt: &HostRuntime, path: &str) -> Option<File> {
+    File::open(rt, path).ok()
+}
+
+/// The files that a task names, of which the first is the left one.
+fn files_of(rt: &HostRuntime, task: &Task) -> (Option<File>, Option<File>) {
+    match task {
+        Task::Show { file, .. } | Task::Apply { file, .. } | Task::Resume { file } => {
+            (opened(rt, file.as_str()), None)
         }
+        Task::Same { left, right, .. } => {
+            let left = opened(rt, left.as_str());
+            (left, opened(rt, right.as_str()))
+        }
+        Task::Lsn { .. } => (None, None),
+    }
+}
+
+/// Runs the task that the words ask for.
+fn run_words(rt: &HostRuntime, words: &[String]) -> Result<u8, AllocError> {
+    let task = match command_of(rt.alloc(), words) {
+        Ok(task) => task,
+        Err(CommandFault::Usage(error)) => return Ok(tell_usage(rt, &error)),
+        Err(CommandFault::Memory) => return Err(AllocError),
+    };
+    let (left, right) = files_of(rt, &task);
+    let (mut out, mut err) = (rt.stdout(), rt.stderr());
+    Ok(run(rt.alloc(), &task, left, right, &mut out, &mut err))
+}
+
+/// The exit status of the program, which it runs.
+fn status(rt: &HostRuntime) -> Result<u8, AllocError> {
+    match words(rt)? {
+        Some(words) => run_words(rt, words.as_slice()),
+        None => {
+            let _ = eprintln!(rt; "error: the command line is not UTF-8");
+            Ok(USAGE)
+        }
+    }
+}
+
+fn main(rt: HostRuntime) -> ExitCode {
+    match status(&rt) {
+        Ok(status) => ExitCode::from(status),
         Err(AllocError) => {
             let _ = eprintln!(rt; "pgsub: memory");
-            return ExitCode::from(OUT_OF_MEMORY);
+            ExitCode::from(1)
         }
-    };
-    let Task::Apply { file: path } = &task;
-    let file = File::open(&rt, path.as_str()).ok();
-    ExitCode::from(run(rt.alloc(), &task, file, &mut rt.stdout(), &mut rt.stderr()))
+    }
 }

@@ -1,5 +1,6 @@
 -- What following leaves of a subscriber, and the lines of what is stored then.
-use Rattle.std.proofs.Common.{◌≡◌, ℕ, List, Option, Result, Ok, Err, IfOk, sym, ap, subst, refl, ◌∙◌}
+use Rattle.std.proofs.Common.{◌≡◌, ℕ, List, [], ◌∷◌, Option, Result, Ok, Err, IfOk, sym, ap, subst, refl, ◌∙◌}
+use Rattle.std.specs.FinMap as map
 use Rattle.std.specs.Result.{result_err}
 use Rattle.pgapply.specs.Value.{Tables}
 use Rattle.pgapply.specs.Taken.{Stays}
@@ -10,13 +11,14 @@ use Rattle.pgsub_core.specs.declared.fault.Fault.{Fault}
 use Rattle.pgsub_core.specs.Handled.{fault_in}
 use Rattle.pgsub_core.specs.Subscribed.{Subscribed}
 use Rattle.pgsub_core.specs.SubscriberValue.{SubscriberValue, seen}
-use Rattle.pgsub_core.specs.Following.{AreFed, FeedsSessions}
-use Rattle.pgsub_cli.specs.DumpText.{dump_of}
+use Rattle.pgsub_core.specs.Following.{AreFed, Becomes, FedSessionsAreFollowed, FeedsSessions}
+use Rattle.pgsub_cli.specs.DumpText.{dump_of, resumed_of}
+use Rattle.pgsub_cli.specs.Fed.{FeedsFile, ShowsFile, ShowsProgress}
 use Rattle.pgsub_cli.specs.Limits.{clock}
 use Rattle.pgorder.specs.declared.Version.{Version}
 use Rattle.pgsub_core.specs.declared.session.Session.{Session}
-use Rattle.pgsub_cli.specs.Followed.{Shows, ShowsFed, lines_of}
-use Rattle.pgsub_cli.specs.Runs.{PrintsApplied}
+use Rattle.pgsub_cli.specs.Followed.{Leaves, Shows, lines_of, new_subscriber}
+use Rattle.pgsub_cli.specs.Runs.{PrintsApplied, fault_of_feeding}
 
 pub fault_is : {A : Type 0} (r : Result A Fault) → fault_in r ≡ result_err r
 fault_is (Ok done) = refl
@@ -31,23 +33,54 @@ prints_same version fed sessions stopped told lines same is prints =
     subst (λ (o : Option Fault). PrintsApplied version sessions o lines) is (subst (λ (ss : List Session). PrintsApplied version ss stopped lines) same prints)
 
 module _ {C : Type 0} (holds : C → Tables → Type 0) (place : C → ℕ) where
+  abbrev pub TellsFed : (Subscribed → List ℕ) → SubscriberValue C → List (List ℕ) → SubscriberValue C → Option Fault → List ℕ → Type 0
+  TellsFed tells old sessions new stopped lines = Becomes holds place clock (λ s s'. AreFed clock s sessions s' stopped × (lines ≡ tells s')) old new
+
   pub shows_lines : (s : SubscriberValue C) (rows shown : List DumpRow) (position : ℕ) (lines : List ℕ) → taken.Shows holds s.applied.store rows → shown ≡ rows → position ≡ place s.applied.store
       → lines ≡ dump_of shown position → Shows holds place s lines
   shows_lines s rows shown position lines shows are at is tables h =
       is ∙ ap (λ (rs : List DumpRow). dump_of rs position) (are ∙ shows tables h) ∙ ap (dump_of (dump tables)) at
 
-  pub shows_fed : (old mid new : SubscriberValue C) (sessions : List (List ℕ)) {A : Type 0} (r : Result A Fault) (stopped : Option Fault) (lines : List ℕ)
-      → FeedsSessions holds place clock old sessions mid (fault_in r) → stopped ≡ result_err r
+  pub shows_progress : (s : SubscriberValue C) (position confirmed : ℕ) (lines : List ℕ) → position ≡ place s.applied.store → confirmed ≡ s.applied.confirmed → lines ≡ resumed_of position confirmed → ShowsProgress place s lines
+  shows_progress s position confirmed lines at sure is tables = is ∙ ap (λ (n : ℕ). resumed_of n confirmed) at ∙ ap (resumed_of (place s.applied.store)) sure
+
+  -- lines of a subscriber that was fed sessions, and that stays as it is
+  pub lines_of_fed : (tells : Subscribed → List ℕ) (old mid new : SubscriberValue C) (sessions : List (List ℕ)) (stopped : Option Fault) (lines : List ℕ) → FeedsSessions holds place clock old sessions mid stopped
       → Stays holds mid.applied.store new.applied.store → ((tables : Tables) → seen place new tables ≡ seen place mid tables)
-      → Shows holds place mid lines → ShowsFed holds place old sessions new stopped lines
-  shows_fed old mid new sessions r stopped lines fed is stays same shows tables h =
-      let a = fed tables h in
-      let stops : AreFed clock (seen place old tables) sessions (seen place mid a.0) stopped =
-      subst (λ (o : Option Fault). AreFed clock (seen place old tables) sessions (seen place mid a.0) o) (fault_is r ∙ sym is) a.2 in (
+      → ((tables : Tables) → holds mid.applied.store tables → lines ≡ tells (seen place mid tables)) → TellsFed tells old sessions new stopped lines
+  lines_of_fed tells old mid new sessions stopped lines fed stays same shows tables h =
+      let a = fed tables h in (
         a.0,
         stays a.0 a.1,
-        (
-          subst (λ (s : Subscribed). AreFed clock (seen place old tables) sessions s stopped) (sym (same a.0)) stops,
-          shows a.0 a.1 ∙ ap lines_of (sym (same a.0)),
-        ),
+        (subst (λ (s : Subscribed). AreFed clock (seen place old tables) sessions s stopped) (sym (same a.0)) a.2, shows a.0 a.1 ∙ ap tells (sym (same a.0))),
+      )
+
+  -- of sessions that were followed
+  pub lines_of_followed : (tells : Subscribed → List ℕ) (old mid new : SubscriberValue C) (sessions : List (List ℕ)) {A : Type 0} (r : Result A Fault) (stopped : Option Fault) (lines : List ℕ)
+      → FeedsSessions holds place clock old sessions mid (fault_in r) → stopped ≡ result_err r
+      → Stays holds mid.applied.store new.applied.store → ((tables : Tables) → seen place new tables ≡ seen place mid tables)
+      → ((tables : Tables) → holds mid.applied.store tables → lines ≡ tells (seen place mid tables)) → TellsFed tells old sessions new stopped lines
+  lines_of_followed tells old mid new sessions r stopped lines fed is stays same shows =
+      lines_of_fed tells old mid new sessions stopped lines (subst (FeedsSessions holds place clock old sessions mid) (fault_is r ∙ sym is) fed) stays same shows
+
+  -- of a file that was fed
+  pub lines_of_file : {R : Type 0} (gives begins : R → List ℕ → Type 0) (failed : R → Type 0) (file : R) (old mid new : SubscriberValue C) {A : Type 0} (r : Result A Fault) (stopped : Option Fault) (lines : List ℕ)
+      → FeedsFile gives begins failed holds place file old mid (fault_in r) → stopped ≡ result_err r
+      → Stays holds mid.applied.store new.applied.store → ((tables : Tables) → seen place new tables ≡ seen place mid tables)
+      → Shows holds place mid lines → ShowsFile gives begins failed holds place file old new stopped lines
+  lines_of_file gives begins failed file old mid new r stopped lines fed is stays same shows =
+      let a : FeedsFile gives begins failed holds place file old mid stopped = subst (FeedsFile gives begins failed holds place file old mid) (fault_is r ∙ sym is) fed in
+      (a.0, a.1, lines_of_fed lines_of old mid new (a.0 ∷ []) (fault_of_feeding stopped) lines a.2 stays same shows)
+
+  -- of a new subscriber
+  pub lines_of_new : (tells : Subscribed → List ℕ) (old new : SubscriberValue C) (version : Version) (sessions : List (List ℕ)) (stopped : Option Fault) (lines : List ℕ) → FedSessionsAreFollowed
+      → holds old.applied.store map.empty → seen place old map.empty ≡ new_subscriber version → TellsFed tells old sessions new stopped lines
+      → (state : Subscribed) × Leaves version sessions stopped state × (lines ≡ tells state)
+  lines_of_new tells old new version sessions stopped lines followed empty is told =
+      let a = told map.empty empty in
+      let state = seen place new a.0 in
+      let fed : AreFed clock (new_subscriber version) sessions state stopped = subst (λ (s : Subscribed). AreFed clock s sessions state stopped) is a.2.0 in (
+        state,
+        record { fed = fed; followed = λ history all_complete sent. followed clock history sessions all_complete (new_subscriber version) state stopped sent fed },
+        a.2.1,
       )

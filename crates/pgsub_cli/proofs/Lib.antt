@@ -1,3 +1,8 @@
 pub mod AppliedLines
 pub mod DumpLines
+pub mod FedBytes
 pub mod Reading
+pub mod Writing
+pub mod ComparedSides
+pub mod ShownLines
+pub mod BothRead

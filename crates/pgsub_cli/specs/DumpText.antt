@@ -32,3 +32,7 @@ position_line lsn = codes "position " ++ (lsn_text lsn ++ 10 ∷ [])
 
 abbrev pub dump_of : List DumpRow → ℕ → List ℕ
 dump_of rows position = flat_map row_line rows ++ position_line position
+
+-- the position, and the LSN up to which it may be confirmed
+abbrev pub resumed_of : ℕ → ℕ → List ℕ
+resumed_of position confirmed = position_line position ++ (codes "confirmed " ++ (lsn_text confirmed ++ 10 ∷ []))

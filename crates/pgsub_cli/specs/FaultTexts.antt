@@ -16,6 +16,7 @@ use Rattle.pgapply.specs.declared.rows.StoreFault.{StoreFault}
 use Rattle.pgapply.specs.declared.rows.StoreFault.TheVariants as store
 use Rattle.pgsub_core.specs.declared.fault.Fault.{Fault}
 use Rattle.pgsub_core.specs.declared.fault.Fault.TheVariants as fault
+use Rattle.pgsub_core.specs.declared.converging.Side.TheVariants.{Left, Right}
 use Rattle.pgsub_cli.specs.declared.fault.RunFault.{RunFault}
 use Rattle.pgsub_cli.specs.declared.fault.RunFault.TheVariants as run
 
@@ -91,7 +92,6 @@ store_text store.NoIdentity = codes "store 2 NoIdentity"
 store_text store.UnknownIdentity = codes "store 3 UnknownIdentity"
 store_text store.UnchangedInInsert = codes "store 4 UnchangedInInsert"
 store_text store.Width = codes "store 5 Width"
-store_text store.SchemaChanged = codes "store 6 SchemaChanged"
 store_text store.TooManyCopies = codes "store 7 TooManyCopies"
 store_text store.Refused = codes "store 8 Refused"
 store_text store.Memory = memory_text
@@ -108,17 +108,21 @@ fault_text fault.Read = codes "read"
 fault_text fault.Closed = codes "closed"
 fault_text fault.Memory = memory_text
 
--- what a run that stopped says behind the program's name: lines are counted from 1, and the file stands by its path
-abbrev pub stop_text : RunFault → List ℕ → List ℕ
-stop_text (run.Stream f) path = fault_text f
-stop_text (run.NotHexadecimal line) path = codes "capture line " ++ (decimal line ++ codes ": not hexadecimal")
-stop_text run.TooLong path = codes "capture too long"
-stop_text run.CannotRead path = codes "cannot read " ++ path
-stop_text run.CannotWrite path = codes "cannot write"
+-- what a run that stopped says behind the program's name: lines are counted from 1, and a file is named by its path
+abbrev pub stop_text : RunFault → List ℕ → List ℕ → List ℕ
+stop_text (run.Stream f) left right = fault_text f
+stop_text (run.OfSide Left f) left right = codes "left: " ++ fault_text f
+stop_text (run.OfSide Right f) left right = codes "right: " ++ fault_text f
+stop_text (run.NotHexadecimal line) left right = codes "capture line " ++ (decimal line ++ codes ": not hexadecimal")
+stop_text run.TooLong left right = codes "capture too long"
+stop_text (run.CannotRead Left) left right = codes "cannot read " ++ left
+stop_text (run.CannotRead Right) left right = codes "cannot read " ++ right
+stop_text run.CannotWrite left right = codes "cannot write"
+stop_text run.NotAnLsn left right = codes "not an LSN"
 
 -- the whole line, with its line feed
-abbrev pub stop_line : RunFault → List ℕ → List ℕ
-stop_line f path = codes "pgsub: " ++ (stop_text f path ++ 10 ∷ [])
+abbrev pub stop_line : RunFault → List ℕ → List ℕ → List ℕ
+stop_line f left right = codes "pgsub: " ++ (stop_text f left right ++ 10 ∷ [])
 
 -- where memory runs out
 abbrev pub memory_line : List ℕ

@@ -1,5 +1,5 @@
 -- What following sessions leaves of a new subscriber, and what is printed of it.
-use Rattle.std.specs.Prelude.{◌≡◌, ℕ, List, Option}
+use Rattle.std.specs.Prelude.{◌≡◌, ◌++◌, ℕ, List, [], ◌∷◌, Option, codes}
 use Rattle.std.specs.FinMap as map
 use Rattle.pgorder.specs.declared.Version.{Version}
 use Rattle.pgapply.specs.Dump.{dump}
@@ -11,7 +11,8 @@ use Rattle.pgsub_core.specs.Subscribed.{Subscribed, newly}
 use Rattle.pgsub_core.specs.Handled.{IsSent, IsFollowed}
 use Rattle.pgsub_core.specs.Following.{AreFed, Becomes}
 use Rattle.pgsub_core.specs.SubscriberValue.{SubscriberValue, seen}
-use Rattle.pgsub_cli.specs.DumpText.{dump_of}
+use Rattle.pglsn.specs.Texts.{lsn_text}
+use Rattle.pgsub_cli.specs.DumpText.{dump_of, position_line}
 use Rattle.pgsub_cli.specs.Limits.{longest_payload, most_buffered, clock}
 
 -- over an empty store, with the program's limits
@@ -29,6 +30,10 @@ pub record Leaves (version : Version) (sessions : List (List ℕ)) (stopped : Op
 -- the lines of the rows and the position
 abbrev pub lines_of : Subscribed → List ℕ
 lines_of state = dump_of (dump state.tables) state.position
+
+-- the position, and the LSN up to which it may be confirmed
+abbrev pub resumed_lines_of : Subscribed → List ℕ
+resumed_lines_of state = position_line state.position ++ (codes "confirmed " ++ (lsn_text state.confirmed ++ 10 ∷ []))
 
 module _ {C : Type 0} (holds : C → Tables → Type 0) (place : C → ℕ) where
   -- whatever tables the store holds, these are the lines of its rows and its position

@@ -1,7 +1,10 @@
 pub mod Limits
 pub mod DumpText
 pub mod FaultTexts
+pub mod Fed
 pub mod Followed
 pub mod Recorded
+pub mod Shown
 pub mod Runs
 pub mod Stores
+pub mod Compared

@@ -2,6 +2,7 @@
 use Rattle.std.specs.Prelude.{◌≡◌, ◌≤◌, ◌<◌, ℕ, List, length, Ok, Err, Option, Some, IfSome, IsSome}
 use Rattle.pgsub_core.specs.declared.fault.Fault.TheVariants as fault
 use Rattle.pgsub_core.specs.declared.session.Session.{Session}
+use Rattle.pgsub_core.specs.declared.converging.Side.{Side}
 use Rattle.pgcapture.specs.Capture.{sessions_of}
 use Rattle.pgsub_cli.specs.declared.fault.RunFault.{RunFault}
 use Rattle.pgsub_cli.specs.declared.fault.RunFault.TheVariants as run
@@ -20,11 +21,13 @@ module _ {R : Type 0} (gives : R → List ℕ → Type 0) where
   abbrev pub Records : Option R → List Session → Type 0
   Records file sessions = (text : List ℕ) × ReadsRecording file text × (sessions_of text ≡ Ok sessions)
 
-  -- Why they aren't read: memory ran out, a line isn't hexadecimal, the text is longer than the limit, or the file can't be opened
-  -- or read.
-  abbrev pub IsUnread : (R → Type 0) → Option R → RunFault → Type 0
-  IsUnread failed file (run.Stream f) = (f ≡ fault.Memory) × IsSome file
-  IsUnread failed file (run.NotHexadecimal line) = (text : List ℕ) × ReadsRecording file text × (sessions_of text ≡ Err line)
-  IsUnread failed file run.TooLong = (text : List ℕ) × Reads file text × (longest_recording < length text)
-  IsUnread failed file run.CannotRead = IfSome file failed
-  IsUnread failed file run.CannotWrite = ⊥
+  -- Why the sessions on a side aren't read: memory ran out, a line isn't hexadecimal, the text is longer than the limit, or the file
+  -- can't be opened or read.
+  abbrev pub IsUnread : (R → Type 0) → Side → Option R → RunFault → Type 0
+  IsUnread failed side file (run.Stream f) = (f ≡ fault.Memory) × IsSome file
+  IsUnread failed side file (run.OfSide s f) = ⊥
+  IsUnread failed side file (run.NotHexadecimal line) = (text : List ℕ) × ReadsRecording file text × (sessions_of text ≡ Err line)
+  IsUnread failed side file run.TooLong = (text : List ℕ) × Reads file text × (longest_recording < length text)
+  IsUnread failed side file (run.CannotRead s) = (s ≡ side) × IfSome file failed
+  IsUnread failed side file run.CannotWrite = ⊥
+  IsUnread failed side file run.NotAnLsn = ⊥

@@ -1,52 +1,231 @@
 -- How a run ends, and what was printed then.
-use Rattle.std.specs.Prelude.{◌≡◌, ◌⊎◌, ℕ, List, Option, None, Some, string_bytes}
+use Rattle.std.specs.Prelude.{◌≡◌, ◌⊎◌, ◌++◌, ◌≤◌, ◌-◌, ◌^◌, ℕ, List, [], ◌∷◌, Bool, true, false, Option, None, Some, Result, Ok, Err, codes, decimal, length, IsSome, String, string_bytes}
+use Rattle.std.specs.declared.alloc.AllocError.{AllocError}
+use Rattle.std.specs.declared.alloc.Global.{Global}
+use Rattle.pglsn.specs.Texts.{ReadsAs, lsn_text}
 use Rattle.pgorder.specs.declared.Version.{Version}
+use Rattle.pgorder.specs.declared.Version.TheVariants.{Two}
+use Rattle.pgcommand.specs.declared.task.Task.{Task}
+use Rattle.pgcommand.specs.declared.task.Task.TheVariants as task
+use Rattle.pgsub_core.specs.declared.converging.ConvergeFault.{ConvergeFault}
+use Rattle.pgsub_core.specs.declared.converging.Side.{Side}
+use Rattle.pgsub_core.specs.declared.converging.Side.TheVariants.{Left, Right}
+use Rattle.pgsub_core.specs.declared.converging.Verdict.{Verdict}
+use Rattle.pgsub_core.specs.declared.converging.Verdict.TheVariants as verdict
 use Rattle.pgsub_core.specs.declared.fault.Fault.{Fault}
+use Rattle.pgsub_core.specs.declared.fault.Fault.TheVariants as fault
 use Rattle.pgsub_core.specs.declared.session.Session.{Session}
 use Rattle.pgsub_core.specs.Faults.{IsReadFault}
 use Rattle.pgsub_core.specs.Subscribed.{Subscribed, bytes_of}
+use Rattle.pgsub_core.specs.Verdicts.{IsVerdict}
+use Rattle.pgsub_cli.specs.declared.fault.Ending.{Ending}
+use Rattle.pgsub_cli.specs.declared.fault.Ending.TheVariants.{Done, Differs}
 use Rattle.pgsub_cli.specs.declared.fault.RunFault.{RunFault}
 use Rattle.pgsub_cli.specs.declared.fault.RunFault.TheVariants as run
-use Rattle.pgsub_cli.specs.declared.running.Task.{Task}
-use Rattle.pgsub_cli.specs.declared.running.Task.TheVariants as task
+use Rattle.pgsub_cli.specs.declared.printed.Printed.{Printed}
 use Rattle.pgsub_cli.specs.FaultTexts.{stop_line, memory_line}
-use Rattle.pgsub_cli.specs.Followed.{Leaves, lines_of}
+use Rattle.pgsub_cli.specs.Followed.{Leaves, lines_of, resumed_lines_of}
 use Rattle.pgsub_cli.specs.Recorded.{Records, IsUnread}
+use Rattle.pgsub_cli.specs.Shown.{AreShown}
 
--- the exit status: 0 done, 1 a stream that is rejected or memory that ran out, 3 a fault of a file
-abbrev pub status_of : Option RunFault → ℕ
-status_of None = 0
-status_of (Some (run.Stream f)) = 1
-status_of (Some (run.NotHexadecimal line)) = 3
-status_of (Some run.TooLong) = 3
-status_of (Some run.CannotRead) = 3
-status_of (Some run.CannotWrite) = 3
+-- ---- the exit status: 0 done, 1 a stream that is rejected or memory that ran out, 2 usage, 3 a fault of a file, 4 a difference
 
--- the lines of what these sessions leave of an empty store, where this stops them
-abbrev pub PrintsApplied : Version → List Session → Option Fault → List ℕ → Type 0
-PrintsApplied version sessions stopped lines = (state : Subscribed) × Leaves version (bytes_of sessions) stopped state × (lines ≡ lines_of state)
+abbrev pub status_of_stream : Fault → ℕ
+status_of_stream (fault.Wire f) = 1
+status_of_stream (fault.Decode f) = 1
+status_of_stream (fault.Order f) = 1
+status_of_stream (fault.Relation f) = 1
+status_of_stream (fault.Spool f) = 1
+status_of_stream (fault.Store f) = 1
+status_of_stream fault.Read = 3
+status_of_stream fault.Closed = 1
+status_of_stream fault.Memory = 1
 
--- the path that the command line names
-abbrev pub path_of : Task → List ℕ
-path_of (task.Apply file) = string_bytes file
+abbrev pub status_of : Result Ending RunFault → ℕ
+status_of (Ok Done) = 0
+status_of (Ok Differs) = 4
+status_of (Err (run.Stream f)) = status_of_stream f
+status_of (Err (run.OfSide side f)) = 1
+status_of (Err (run.NotHexadecimal line)) = 3
+status_of (Err run.TooLong) = 3
+status_of (Err (run.CannotRead side)) = 3
+status_of (Err run.CannotWrite) = 3
+status_of (Err run.NotAnLsn) = 2
+
+-- ---- the line of the fault on standard error
+
+-- the paths that the command line names
+abbrev pub left_path : Task → List ℕ
+left_path (task.Show version file) = string_bytes file
+left_path (task.Apply version raw file) = string_bytes file
+left_path (task.Same version left right) = string_bytes left
+left_path (task.Resume file) = string_bytes file
+left_path (task.Lsn text) = []
+
+abbrev pub right_path : Task → List ℕ
+right_path (task.Show version file) = []
+right_path (task.Apply version raw file) = []
+right_path (task.Same version left right) = string_bytes right
+right_path (task.Resume file) = []
+right_path (task.Lsn text) = []
 
 -- Standard error gets the line of the fault, and nothing where there is none. Where there is no memory for that line, it gets the one
 -- that says so.
-abbrev pub Tells : {E : Type 0} → (E → List ℕ → E → Type 0) → (E → Type 0) → List ℕ → Option RunFault → E → E → Type 0
-Tells takes failed path None old new = new ≡ old
-Tells takes failed path (Some f) old new = takes old (stop_line f path) new ⊎ (takes old memory_line new ⊎ failed old)
+abbrev pub Tells : {E : Type 0} → (E → List ℕ → E → Type 0) → (E → Type 0) → Task → Result Ending RunFault → E → E → Type 0
+Tells takes failed asked (Ok ending) old new = new ≡ old
+Tells takes failed asked (Err f) old new = takes old (stop_line f (left_path asked) (right_path asked)) new ⊎ (takes old memory_line new ⊎ failed old)
 
-module _ {R W : Type 0} (gives : R → List ℕ → Type 0) (read_failed : R → Type 0) (takes : W → List ℕ → W → Type 0) (write_failed : W → Type 0) where
-  -- Following the sessions ends so: what is stored then is written, whatever stopped them, and nothing where it can't be read.
-  abbrev pub AppliesSessions : Version → List Session → W → W → Option RunFault → Type 0
-  AppliesSessions version sessions old new None = (lines : List ℕ) × PrintsApplied version sessions None lines × takes old lines new
-  AppliesSessions version sessions old new (Some (run.Stream f)) =
-      (IsReadFault f × (new ≡ old)) ⊎ ((lines : List ℕ) × PrintsApplied version sessions (Some f) lines × takes old lines new)
-  AppliesSessions version sessions old new (Some run.CannotWrite) = write_failed old
-  AppliesSessions version sessions old new (Some _) = ⊥
+-- ---- the lines on standard output
 
-  -- So does `apply`: a recording that can't be read ends it before anything is written.
-  abbrev pub Applies : Version → Option R → W → W → Option RunFault → Type 0
-  Applies version file old new ended =
-      ((f : RunFault) × (ended ≡ Some f) × IsUnread gives read_failed file f × (new ≡ old))
-      ⊎ ((sessions : List Session) × Records gives file sessions × AppliesSessions version sessions old new ended)
+-- what these sessions leave of an empty store, where this stops them
+abbrev pub PrintsApplied : Version → List Session → Option Fault → List ℕ → Type 0
+PrintsApplied version sessions stopped lines = (state : Subscribed) × Leaves version (bytes_of sessions) stopped state × (lines ≡ lines_of state)
+
+-- the position, and what may be confirmed
+abbrev pub PrintsResumed : List Session → Option Fault → List ℕ → Type 0
+PrintsResumed sessions stopped lines = (state : Subscribed) × Leaves Two (bytes_of sessions) stopped state × (lines ≡ resumed_lines_of state)
+
+abbrev pub PrintsShown : Version → List Session → Option Fault → List ℕ → Type 0
+PrintsShown version sessions stopped lines = AreShown version (bytes_of sessions) lines stopped
+
+-- the fault of feeding, where a read that failed is none
+abbrev pub fault_of_feeding : Option Fault → Option Fault
+fault_of_feeding None = None
+fault_of_feeding (Some (fault.Wire f)) = Some (fault.Wire f)
+fault_of_feeding (Some (fault.Decode f)) = Some (fault.Decode f)
+fault_of_feeding (Some (fault.Order f)) = Some (fault.Order f)
+fault_of_feeding (Some (fault.Relation f)) = Some (fault.Relation f)
+fault_of_feeding (Some (fault.Spool f)) = Some (fault.Spool f)
+fault_of_feeding (Some (fault.Store f)) = Some (fault.Store f)
+fault_of_feeding (Some fault.Read) = None
+fault_of_feeding (Some fault.Closed) = Some fault.Closed
+fault_of_feeding (Some fault.Memory) = Some fault.Memory
+
+module _ {R : Type 0} (gives begins : R → List ℕ → Type 0) (failed : R → Type 0) where
+  -- Which bytes of a file were read where this stopped: all of them, or its first ones. Nothing stops it after 2^64 - 1 bytes either.
+  abbrev pub AreRead : R → List ℕ → Option Fault → Type 0
+  AreRead file bytes None = gives file bytes ⊎ (begins file bytes × (2 ^ 64 - 1 ≤ length bytes))
+  AreRead file bytes (Some fault.Read) = begins file bytes × failed file
+  AreRead file bytes (Some f) = begins file bytes
+
+  -- what a file's bytes, as one session, leave of an empty store
+  abbrev pub PrintsBytes : Version → R → Option Fault → List ℕ → Type 0
+  PrintsBytes version file stopped lines =
+      (bytes : List ℕ) × AreRead file bytes stopped
+      × (state : Subscribed) × Leaves version (bytes ∷ []) (fault_of_feeding stopped) state × (lines ≡ lines_of state)
+
+abbrev pub verdict_line : Verdict → List ℕ
+verdict_line (verdict.Same p) = codes "same " ++ (lsn_text p ++ 10 ∷ [])
+verdict_line (verdict.Positions p q) = codes "positions " ++ (lsn_text p ++ (codes " " ++ (lsn_text q ++ 10 ∷ [])))
+verdict_line (verdict.Rows p) = codes "rows differ at " ++ (lsn_text p ++ 10 ∷ [])
+
+abbrev pub ending_of : Verdict → Ending
+ending_of (verdict.Same p) = Done
+ending_of (verdict.Positions p q) = Differs
+ending_of (verdict.Rows p) = Differs
+
+-- an LSN as a number and as text
+abbrev pub number_line : ℕ → List ℕ
+number_line n = decimal n ++ (codes " " ++ (lsn_text n ++ 10 ∷ []))
+
+-- ---- how tasks end
+
+-- these lines were made, and this stopped them
+abbrev pub IsPrinted : Result Printed Fault → Option Fault → List ℕ → Type 0
+IsPrinted printed stopped lines = (made : Printed) × (printed ≡ Ok made) × (made.stopped ≡ stopped) × (lines ≡ string_bytes made.lines)
+
+-- no lines could be made
+abbrev pub IsLost : Result Printed Fault → Fault → Type 0
+IsLost printed f = printed ≡ Err f
+
+module _ {W : Type 0} (takes : W → List ℕ → W → Type 0) (failed : W → Type 0) where
+  -- Lines are written, whatever stopped what they are of, and nothing where there are none.
+  abbrev pub Writes : (Fault → Type 0) → (Option Fault → List ℕ → Type 0) → W → W → Result Ending RunFault → Type 0
+  Writes lost prints old new (Ok Done) = (lines : List ℕ) × prints None lines × takes old lines new
+  Writes lost prints old new (Ok Differs) = ⊥
+  Writes lost prints old new (Err (run.Stream f)) =
+      (lost f × (new ≡ old)) ⊎ ((lines : List ℕ) × prints (Some f) lines × takes old lines new)
+  Writes lost prints old new (Err run.CannotWrite) = failed old
+  Writes lost prints old new (Err _) = ⊥
+
+  -- a line is written, and this is how a run ends then
+  abbrev pub WritesLine : Result (String Global) AllocError → Ending → W → W → Result Ending RunFault → Type 0
+  WritesLine line ending old new (Ok e) = (e ≡ ending) × ((text : String Global) × (line ≡ Ok text) × takes old (string_bytes text) new)
+  WritesLine line ending old new (Err (run.Stream f)) = (f ≡ fault.Memory) × (new ≡ old)
+  WritesLine line ending old new (Err run.CannotWrite) = failed old
+  WritesLine line ending old new (Err _) = ⊥
+
+  -- an LSN is read from a text
+  abbrev pub WritesNumber : List ℕ → W → W → Result Ending RunFault → Type 0
+  WritesNumber text old new (Ok Done) = (n : ℕ) × ReadsAs text n × takes old (number_line n) new
+  WritesNumber text old new (Ok Differs) = ⊥
+  WritesNumber text old new (Err (run.Stream f)) = (f ≡ fault.Memory) × (new ≡ old)
+  WritesNumber text old new (Err run.CannotWrite) = failed old
+  WritesNumber text old new (Err run.NotAnLsn) = ((n : ℕ) → ReadsAs text n → ⊥) × (new ≡ old)
+  WritesNumber text old new (Err _) = ⊥
+
+-- what both sides' sessions leave has this verdict
+abbrev pub AreComparedAs : Version → List Session → List Session → Verdict → Type 0
+AreComparedAs version left right v =
+    (state : Subscribed) × (other : Subscribed) × Leaves version (bytes_of left) None state × Leaves version (bytes_of right) None other × IsVerdict state other v
+
+-- the sessions of a side were stopped by this, or what they leave can't be read
+abbrev pub SideStops : Version → List Session → Fault → Type 0
+SideStops version sessions f = IsReadFault f ⊎ ((state : Subscribed) × Leaves version (bytes_of sessions) (Some f) state)
+
+-- The left one's sessions are followed and its rows read, and then the right one's.
+abbrev pub Uncompared : Version → List Session → List Session → Side → Fault → Type 0
+Uncompared version left right Left f = SideStops version left f
+Uncompared version left right Right f = ((state : Subscribed) × Leaves version (bytes_of left) None state) × SideStops version right f
+
+abbrev pub IsUncompared : Version → List Session → List Session → ConvergeFault → Type 0
+IsUncompared version left right f = Uncompared version left right f.side f.fault
+
+module _ {W : Type 0} (takes : W → List ℕ → W → Type 0) (failed : W → Type 0) where
+  -- a verdict is written
+  abbrev pub WritesVerdict : Verdict → W → W → Result Ending RunFault → Type 0
+  WritesVerdict v old new (Ok ending) = (ending ≡ ending_of v) × takes old (verdict_line v) new
+  WritesVerdict v old new (Err (run.Stream f)) = (f ≡ fault.Memory) × (new ≡ old)
+  WritesVerdict v old new (Err run.CannotWrite) = failed old
+  WritesVerdict v old new (Err _) = ⊥
+
+  -- The sessions of both sides are compared: the left one's are followed first, and its fault comes first.
+  abbrev pub ComparesSessions : Version → List Session → List Session → W → W → Result Ending RunFault → Type 0
+  ComparesSessions version left right old new ended =
+      ((v : Verdict) × AreComparedAs version left right v × WritesVerdict v old new ended)
+      ⊎ ((side : Side) × (f : Fault) × (ended ≡ Err (run.OfSide side f)) × Uncompared version left right side f × (new ≡ old))
+
+module _ {R W : Type 0} (gives begins : R → List ℕ → Type 0) (read_failed : R → Type 0) (takes : W → List ℕ → W → Type 0) (write_failed : W → Type 0) where
+  -- A recording is read, and then lines are written that its sessions give. Where it can't be read, nothing is.
+  abbrev pub Prints : (Fault → Type 0) → (List Session → Option Fault → List ℕ → Type 0) → Option R → W → W → Result Ending RunFault → Type 0
+  Prints lost prints file old new ended =
+      ((f : RunFault) × (ended ≡ Err f) × IsUnread gives read_failed Left file f × (new ≡ old))
+      ⊎ ((sessions : List Session) × Records gives file sessions × Writes takes write_failed lost (prints sessions) old new ended)
+
+  -- The bytes of a file are fed as they are read, and the lines of what they leave are written.
+  abbrev pub PrintsFile : Version → Option R → W → W → Result Ending RunFault → Type 0
+  PrintsFile version None old new ended = (ended ≡ Err (run.CannotRead Left)) × (new ≡ old)
+  PrintsFile version (Some file) old new ended =
+      Writes takes write_failed IsReadFault (PrintsBytes gives begins read_failed version file) old new ended
+
+  -- Why two recordings aren't read: both are opened first, and then the left one is read before the right one.
+  abbrev pub AreUnread : Option R → Option R → RunFault → Type 0
+  AreUnread None right f = f ≡ run.CannotRead Left
+  AreUnread (Some left) None f = f ≡ run.CannotRead Right
+  AreUnread (Some left) (Some right) f =
+      IsUnread gives read_failed Left (Some left) f ⊎ ((sessions : List Session) × Records gives (Some left) sessions × IsUnread gives read_failed Right (Some right) f)
+
+  abbrev pub Compares : Version → Option R → Option R → W → W → Result Ending RunFault → Type 0
+  Compares version left right old new ended =
+      ((f : RunFault) × (ended ≡ Err f) × AreUnread left right f × (new ≡ old))
+      ⊎ ((sessions : List Session) × (others : List Session) × Records gives left sessions × Records gives right others
+      × ComparesSessions takes write_failed version sessions others old new ended)
+
+  -- How each task ends. Of `show` no line is lost; the others lose theirs where the store can't be read or memory runs out.
+  abbrev pub Ends : Task → Option R → Option R → W → W → Result Ending RunFault → Type 0
+  Ends (task.Show version file) left right old new ended = Prints (λ f. ⊥) (PrintsShown version) left old new ended
+  Ends (task.Apply version false file) left right old new ended = Prints IsReadFault (PrintsApplied version) left old new ended
+  Ends (task.Apply version true file) left right old new ended = PrintsFile version left old new ended
+  Ends (task.Same version file other) left right old new ended = Compares version left right old new ended
+  Ends (task.Resume file) left right old new ended = Prints IsReadFault PrintsResumed left old new ended
+  Ends (task.Lsn text) left right old new ended = WritesNumber takes write_failed (string_bytes text) old new ended

@@ -4,12 +4,16 @@ ghost use Rattle.std.specs.Prelude.{◌≡◌, OnOk, IfOk, IfErr, string_bytes};
 ghost use Rattle.pgapply.specs.Taken.{Stays};
 ghost use Rattle.pgapply.specs.Value.{Tables};
 ghost use Rattle.pgsub_core.specs.Faults.{IsReadFault};
-ghost use Rattle.pgsub_core.specs.Subscribed.{Subscribed, bytes_of};
+ghost use Rattle.pgsub_core.specs.Subscribed.{bytes_of};
 ghost use Rattle.pgsub_core.specs.SubscriberValue.{seen};
-ghost use Rattle.pgsub_cli.specs.Followed.{Leaves, Shows, ShowsFed, lines_of};
+ghost use Rattle.pgsub_cli.specs.Fed.{ResumesFed, ShowsFile, ShowsProgress};
+ghost use Rattle.pgsub_cli.specs.Followed.{Shows, ShowsFed};
+ghost use Rattle.pgsub_cli.specs.Runs.{PrintsApplied, PrintsBytes, PrintsResumed};
 
-use crate::dump::dump_text;
+use crate::dump::{dump_text, resume_text};
+use crate::files::Input;
 use crate::limits::CLOCK;
+use crate::printed::Printed;
 use crate::stores::new_subscriber;
 use pgapply::ReplicaStore;
 use pgorder::Version;
@@ -17,15 +21,6 @@ use pgspool::Spools;
 use pgstore::laws::stores_on_memory_disks_are_honest;
 use pgsub_core::{Fault, Session, Subscriber, fed_sessions_are_followed, follow};
 use std::alloc::{AllocError, Global};
-
-/// What applying a recording comes to.
-#[derive(Drop)]
-pub struct Applied {
-    /// A line for each stored row, and the line of the position.
-    pub lines: String,
-    /// The fault that stopped it, if one did. What was stored before is stored still.
-    pub stopped: Option<Fault>,
-}
 
 /// The lines of the stored rows and the position. Nothing changes.
 fn stored_lines<P: Spools + Drop, C: ReplicaStore + Drop>(
@@ -52,13 +47,66 @@ fn apply_sessions<P: Spools + Drop, C: ReplicaStore + Drop>(
     alloc: Global,
     subscriber: &mut Subscriber<P, C>,
     sessions: &[Session],
-) -> Result<Applied, Fault>
+) -> Result<Printed, Fault>
     ensures applied { C.is_honest subscriber.new.applied.store → IfOk result (λ applied. ShowsFed C.holds C.place subscriber.old (bytes_of sessions.now) subscriber.new applied.stopped (string_bytes applied.lines)) }
     ensures fault { IfErr result IsReadFault }
 {
     let stopped = follow(subscriber, sessions, CLOCK).err();
     let lines = stored_lines(alloc, subscriber)?;
-    Ok(Applied { lines, stopped })
+    Ok(Printed { lines, stopped })
+}
+
+/// Feeds the bytes of a file as one session, and reads what is stored then, whatever stopped them.
+fn apply_input<R: Input + Drop, P: Spools + Drop, C: ReplicaStore + Drop>(
+    alloc: Global,
+    subscriber: &mut Subscriber<P, C>,
+    file: R,
+) -> Result<Printed, Fault>
+    ensures applied { C.is_honest subscriber.new.applied.store → IfOk result (λ printed. ShowsFile R.gives R.begins R.failed C.holds C.place file subscriber.old subscriber.new printed.stopped (string_bytes printed.lines)) }
+    ensures fault { IfErr result IsReadFault }
+{
+    let stopped = file.feed_to(subscriber).err();
+    Ok(Printed {
+        lines: stored_lines(alloc, subscriber)?,
+        stopped,
+    })
+}
+
+/// The lines of the position and of what may be confirmed. Nothing changes.
+///
+/// The rows are read only because a store that still gives them is known to stand at its position.
+fn progress_lines<P: Spools + Drop, C: ReplicaStore + Drop>(
+    alloc: Global,
+    subscriber: &mut Subscriber<P, C>,
+) -> Result<String, Fault>
+    ensures lines { IfOk result (λ lines. ShowsProgress C.place subscriber.new (string_bytes lines)) }
+    ensures stays { C.serves subscriber.new.applied.store → Stays C.holds subscriber.old.applied.store subscriber.new.applied.store }
+    ensures same { (tables : Tables) → seen C.place subscriber.new tables ≡ seen C.place subscriber.old tables }
+    ensures fault { IfErr result IsReadFault }
+    ensures served { C.serves subscriber.new.applied.store → C.serves subscriber.old.applied.store }
+    ensures open { C.is_honest subscriber.new.applied.store → OnOk result (C.serves subscriber.new.applied.store) }
+{
+    subscriber.rows()?;
+    match resume_text(alloc, subscriber.position(), subscriber.confirmed()) {
+        Ok(lines) => Ok(lines),
+        Err(AllocError) => Err(Fault::Memory),
+    }
+}
+
+/// Follows sessions, and tells what is reached then, whatever stopped them.
+fn resume_sessions<P: Spools + Drop, C: ReplicaStore + Drop>(
+    alloc: Global,
+    subscriber: &mut Subscriber<P, C>,
+    sessions: &[Session],
+) -> Result<Printed, Fault>
+    ensures resumed { C.is_honest subscriber.new.applied.store → IfOk result (λ printed. ResumesFed C.holds C.place subscriber.old (bytes_of sessions.now) subscriber.new printed.stopped (string_bytes printed.lines)) }
+    ensures fault { IfErr result IsReadFault }
+{
+    let followed = follow(subscriber, sessions, CLOCK);
+    Ok(Printed {
+        lines: progress_lines(alloc, subscriber)?,
+        stopped: followed.err(),
+    })
 }
 
 /// Follows sessions from an empty store on. The lines are those of the rows and the position that the bytes of the sessions leave,
@@ -66,12 +114,44 @@ fn apply_sessions<P: Spools + Drop, C: ReplicaStore + Drop>(
 /// transactions up to the position.
 ///
 /// It fails where there is no memory for a store, or its rows can't be read.
-pub fn apply(alloc: Global, version: Version, sessions: &[Session]) -> Result<Applied, Fault>
-    ensures applied { IfOk result (λ applied. (state : Subscribed) × Leaves version (bytes_of sessions.now) applied.stopped state × (string_bytes applied.lines ≡ lines_of state)) }
+pub fn apply(alloc: Global, version: Version, sessions: &[Session]) -> Result<Printed, Fault>
+    ensures applied { IfOk result (λ printed. PrintsApplied version sessions.now printed.stopped (string_bytes printed.lines)) }
     ensures fault { IfErr result IsReadFault }
 {
     stores_on_memory_disks_are_honest();
     fed_sessions_are_followed();
     let mut subscriber = new_subscriber(alloc, version)?;
     apply_sessions(alloc, &mut subscriber, sessions)
+}
+
+/// Feeds the bytes of a file from an empty store on, as one session. The lines are those of the rows and the position that they
+/// leave, whatever stopped them.
+///
+/// It fails where there is no memory for a store, or its rows can't be read.
+pub fn apply_bytes<R: Input + Drop>(
+    alloc: Global,
+    version: Version,
+    file: R,
+) -> Result<Printed, Fault>
+    ensures applied { IfOk result (λ printed. PrintsBytes R.gives R.begins R.failed version file printed.stopped (string_bytes printed.lines)) }
+    ensures fault { IfErr result IsReadFault }
+{
+    stores_on_memory_disks_are_honest();
+    fed_sessions_are_followed();
+    let mut subscriber = new_subscriber(alloc, version)?;
+    apply_input(alloc, &mut subscriber, file)
+}
+
+/// Follows sessions from an empty store on. The lines are the position that their bytes leave and the LSN up to which it may be
+/// confirmed to the server, whatever stopped them.
+///
+/// It fails where there is no memory for a store or the lines, or the store's rows can't be read.
+pub fn resume(alloc: Global, sessions: &[Session]) -> Result<Printed, Fault>
+    ensures resumed { IfOk result (λ printed. PrintsResumed sessions.now printed.stopped (string_bytes printed.lines)) }
+    ensures fault { IfErr result IsReadFault }
+{
+    stores_on_memory_disks_are_honest();
+    fed_sessions_are_followed();
+    let mut subscriber = new_subscriber(alloc, Version::Two)?;
+    resume_sessions(alloc, &mut subscriber, sessions)
 }

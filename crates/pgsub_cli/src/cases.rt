@@ -266,8 +266,8 @@ pub(crate) const TRANSACTIONS: &[Row] = &[
             INSERT_2_B_C,
             COMMIT_230,
         ],
-        out: ROW_AT_130,
-        err: "pgsub: store 6 SchemaChanged\n",
+        out: "[\"public\",\"t\",[\"1\",\"a\",null],1]\n[\"public\",\"t\",[\"2\",\"b\",\"c\"],1]\nposition 0/230\n",
+        err: "",
     },
     Row {
         shows: "rows by the bytes of their identity",
@@ -452,8 +452,8 @@ pub(crate) const TRANSACTIONS: &[Row] = &[
             INSERT_5_G,
             COMMIT_230,
         ],
-        out: ROW_AT_130,
-        err: "pgsub: store 6 SchemaChanged\n",
+        out: "[\"public\",\"t\",[\"1\",\"a\"],1]\n[\"public\",\"t\",[\"2\",\"g\"],1]\n[\"public\",\"t\",[\"3\",\"g\"],1]\n[\"public\",\"t\",[\"4\",\"g\"],1]\n[\"public\",\"t\",[\"5\",\"g\"],1]\n[\"public\",\"t\",[\"9\",\"b\"],1]\nposition 0/230\n",
+        err: "",
     },
     Row {
         shows: "a commit of several changes",

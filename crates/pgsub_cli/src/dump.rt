@@ -3,7 +3,7 @@ ghost use Rattle.std.specs.Prelude.{◌≡◌, ◌++◌, IfOk, OnOk, map, string
 ghost use Rattle.serde_json.specs.View.{view, items_view, items_of};
 ghost use Rattle.serde_json.specs.Written.{compact_text, has_float};
 ghost use Rattle.pgtuple.specs.Lent.{cell_value};
-ghost use Rattle.pgsub_cli.specs.DumpText.{cell_data, cells_data, row_data, row_line, position_line, dump_of};
+ghost use Rattle.pgsub_cli.specs.DumpText.{cell_data, cells_data, row_data, row_line, position_line, dump_of, resumed_of};
 
 use pgapply::DumpRow;
 use pglsn::Lsn;
@@ -71,6 +71,16 @@ fn write_position(position: Lsn, out: &mut String) -> Result<(), AllocError>
     ensures { OnOk result (string_bytes out.new ≡ string_bytes out.old ++ position_line position) }
 {
     writeln!(out, "position {position}")
+}
+
+/// The line of the position, and that of the LSN up to which it may be confirmed.
+pub fn resume_text(alloc: Global, position: Lsn, confirmed: Lsn) -> Result<String, AllocError>
+    ensures { IfOk result (λ text. string_bytes text ≡ resumed_of position confirmed) }
+{
+    let mut lines = String::new(alloc);
+    write_position(position, &mut lines)?;
+    writeln!(&mut lines, "confirmed {confirmed}")?;
+    Ok(lines)
 }
 
 /// The rows, a line each, and the position behind them.

@@ -10,7 +10,7 @@ use pglogical::{DecodeFault, Reason};
 use pgorder::OrderFault;
 use pgrel::RelFault;
 use pgspool::SpoolFault;
-use pgsub_core::Fault;
+use pgsub_core::{Fault, Side};
 use pgtuple::TupleFault;
 use pgwire::WireFault;
 use std::fmt;
@@ -37,40 +37,46 @@ impl fmt::Display for FaultText {
     }
 }
 
-/// The line on standard error of a run that stopped. A file that can't be read stands by its path.
+/// The line on standard error of a run that stopped. A file that can't be read is named by its path.
 #[derive(Drop)]
 pub struct StopLine<'t> {
     pub fault: RunFault,
-    pub path: &'t str,
+    pub left: &'t str,
+    pub right: &'t str,
 }
 
 impl fmt::Display for StopLine<'_> {
-    ghost output = { λ line. Some (stop_line line.fault line.path.now) };
+    ghost output = { λ line. Some (stop_line line.fault line.left.now line.right.now) };
 
     fn fmt<W: fmt::Write>(&self, f: &mut fmt::Formatter<W>) -> fmt::Result {
-        let (fault, path) = (self.fault, self.path);
-        writeln!(f, "pgsub: {}", StopText { fault, path })
+        let (fault, left, right) = (self.fault, self.left, self.right);
+        writeln!(f, "pgsub: {}", StopText { fault, left, right })
     }
 }
 
-/// What stands in that line behind the program's name.
+/// That line without the program's name.
 #[derive(Drop)]
 struct StopText<'t> {
     fault: RunFault,
-    path: &'t str,
+    left: &'t str,
+    right: &'t str,
 }
 
 impl fmt::Display for StopText<'_> {
-    ghost output = { λ text. Some (stop_text text.fault text.path.now) };
+    ghost output = { λ text. Some (stop_text text.fault text.left.now text.right.now) };
 
     fn fmt<W: fmt::Write>(&self, f: &mut fmt::Formatter<W>) -> fmt::Result {
-        let path = self.path;
+        let (left, right) = (self.left, self.right);
         match self.fault {
             RunFault::Stream(fault) => write!(f, "{}", FaultText(fault)),
+            RunFault::OfSide(Side::Left, fault) => write!(f, "left: {}", FaultText(fault)),
+            RunFault::OfSide(Side::Right, fault) => write!(f, "right: {}", FaultText(fault)),
             RunFault::NotHexadecimal(line) => write!(f, "capture line {line}: not hexadecimal"),
             RunFault::TooLong => f.write_str("capture too long"),
-            RunFault::CannotRead => write!(f, "cannot read {path}"),
+            RunFault::CannotRead(Side::Left) => write!(f, "cannot read {left}"),
+            RunFault::CannotRead(Side::Right) => write!(f, "cannot read {right}"),
             RunFault::CannotWrite => f.write_str("cannot write"),
+            RunFault::NotAnLsn => f.write_str("not an LSN"),
         }
     }
 }
@@ -176,7 +182,6 @@ fn write_store<W: fmt::Write>(f: &mut fmt::Formatter<W>, fault: StoreFault) -> f
         StoreFault::UnknownIdentity => "store 3 UnknownIdentity",
         StoreFault::UnchangedInInsert => "store 4 UnchangedInInsert",
         StoreFault::Width => "store 5 Width",
-        StoreFault::SchemaChanged => "store 6 SchemaChanged",
         StoreFault::TooManyCopies => "store 7 TooManyCopies",
         StoreFault::Refused => "store 8 Refused",
         StoreFault::Memory => "memory",

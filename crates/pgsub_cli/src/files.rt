@@ -2,9 +2,15 @@
 //!
 //! That a read or a write failed is a fact that only a failure gives. So a function over any input and output is proved to
 //! return a fault of theirs only where it met one.
-ghost use Rattle.std.specs.Prelude.{◌≡◌, ◌≤◌, ◌<◌, ℕ, List, None, Ok, length, IfSome, IfOk, OnOk, OnErr, ⊤};
+ghost use Rattle.std.specs.Prelude.{◌≡◌, ◌≤◌, ◌<◌, ◌++◌, ℕ, List, None, Ok, length, IfSome, IfOk, OnOk, OnErr, ⊤};
 ghost use Rattle.std.specs.Io.KnownBytes.{Appends};
+ghost use Rattle.pgsub_core.specs.Handled.{fault_in};
+ghost use Rattle.pgsub_cli.specs.Fed.{FeedsFile};
 
+use crate::limits::CLOCK;
+use pgapply::ReplicaStore;
+use pgspool::Spools;
+use pgsub_core::{Fault, Source, Subscriber, pump};
 use std::alloc::Global;
 use std::io;
 use std::io::{Read, Write};
@@ -14,6 +20,9 @@ pub trait Input {
     /// That these are all its bytes.
     ghost gives: { Self → List ℕ → Type 0 };
 
+    /// That these are its first bytes, or all.
+    ghost begins: { Self → List ℕ → Type 0 };
+
     /// What holds of it where reading it failed.
     ghost failed: { Self → Type 0 };
 
@@ -22,10 +31,20 @@ pub trait Input {
         ensures whole { IfOk result (λ read. IfSome read (λ text. gives self text.items × (length text.items ≤ longest))) }
         ensures longer { result ≡ Ok None → (bytes : List ℕ) × gives self bytes × (longest < length bytes) }
         ensures failed { OnErr result (failed self) };
+
+    /// Feeds all its bytes as they are read to a subscriber, as one session from a disconnection on. What comes before a read that
+    /// fails is fed, and so is what comes before the first fault.
+    fn feed_to<P: Spools + Drop, C: ReplicaStore + Drop>(
+        self,
+        subscriber: &mut Subscriber<P, C>,
+    ) -> Result<(), Fault>
+        ensures { C.serves subscriber.new.applied.store → FeedsFile gives begins failed C.holds C.place self subscriber.old subscriber.new (fault_in result) };
 }
 
 impl<R: Read + Drop> Input for R {
     ghost gives = { λ reader bytes. IfSome (R.remaining reader) (λ known. bytes ≡ known) };
+
+    ghost begins = { λ reader bytes. IfSome (R.remaining reader) (λ known. (rest : List ℕ) × (known ≡ bytes ++ rest)) };
 
     ghost failed = { λ _. ⊤ };
 
@@ -36,6 +55,15 @@ impl<R: Read + Drop> Input for R {
             return Ok(None);
         }
         Ok(Some(text))
+    }
+
+    fn feed_to<P: Spools + Drop, C: ReplicaStore + Drop>(
+        self,
+        subscriber: &mut Subscriber<P, C>,
+    ) -> Result<(), Fault> {
+        subscriber.disconnect();
+        let mut source = Source::new(self);
+        pump(&mut source, subscriber, CLOCK)
     }
 }
 

@@ -7,20 +7,21 @@ use crate::fault::RunFault;
 use crate::files::Input;
 use crate::limits::MAX_RECORDING;
 use pgcapture::{CaptureFault, read_capture};
-use pgsub_core::{Fault, Session};
+use pgsub_core::{Fault, Session, Side};
 use std::alloc::Global;
 use std::io::ErrorKind;
 
-/// The sessions of a recording, of which all is read before any is followed.
+/// The sessions of the recording on this side, of which all is read before any is followed.
 pub(crate) fn read_sessions<R: Input + Drop>(
     alloc: Global,
+    side: Side,
     file: Option<R>,
 ) -> Result<Vec<Session>, RunFault>
     ensures sessions { IfOk result (λ sessions. Records R.gives file sessions.items) }
-    ensures unread { IfErr result (IsUnread R.gives R.failed file) }
+    ensures unread { IfErr result (IsUnread R.gives R.failed side file) }
 {
     let Some(file) = file else {
-        return Err(RunFault::CannotRead);
+        return Err(RunFault::CannotRead(side));
     };
     let text = match file.read_whole(alloc, MAX_RECORDING) {
         Ok(Some(text)) => text,
@@ -28,7 +29,7 @@ pub(crate) fn read_sessions<R: Input + Drop>(
         Err(error) if error.kind() == ErrorKind::OutOfMemory => {
             return Err(RunFault::Stream(Fault::Memory));
         }
-        Err(_) => return Err(RunFault::CannotRead),
+        Err(_) => return Err(RunFault::CannotRead(side)),
     };
     match read_capture(alloc, text.as_slice()) {
         Ok(sessions) => Ok(sessions),

@@ -1,53 +1,87 @@
 //! Runs a task over readers and writers.
 
-ghost use Rattle.std.specs.Prelude.{◌≡◌, ◌≤◌, Option, IfOk, string_bytes};
-ghost use Rattle.std.specs.Result.{result_err};
-ghost use Rattle.pgorder.specs.declared.Version.TheVariants.{One};
+ghost use Rattle.std.specs.Prelude.{◌≡◌, ◌≤◌, Result, IfOk, string_bytes};
+ghost use Rattle.pgsub_core.specs.Faults.{IsReadFault};
+ghost use Rattle.pgsub_cli.specs.declared.fault.Ending.{Ending};
+ghost use Rattle.pgsub_cli.specs.declared.fault.RunFault.{RunFault};
 ghost use Rattle.pgsub_cli.specs.FaultTexts.{stop_line};
-ghost use Rattle.pgsub_cli.specs.Runs.{Applies, Tells, path_of, status_of};
+ghost use Rattle.pgsub_cli.specs.Runs.{Compares, ComparesSessions, Ends, Prints, PrintsApplied, PrintsFile, PrintsResumed, PrintsShown, Tells, WritesVerdict, left_path, right_path, status_of, status_of_stream};
 
-use crate::applying::apply;
-use crate::fault::RunFault;
+use crate::applying::{apply, apply_bytes, resume};
+use crate::comparing::compare;
+use crate::fault::{Ending, RunFault};
 use crate::fault_text::StopLine;
 use crate::files::{Input, Output};
+use crate::numbering::write_number;
+use crate::printed::{write_line, write_printed};
 use crate::recorded::read_sessions;
+use crate::showing::show;
+use pgcommand::Task;
 use pgorder::Version;
+use pgsub_core::{Fault, Session, Side, Verdict};
 use std::alloc::{AllocError, Global};
 
-/// What the program is asked for.
-#[derive(Drop)]
-pub enum Task {
-    /// Apply the sessions of a recording, and print the rows that they leave and their position.
-    Apply { file: String },
+/// The exit status of a fault of a stream.
+fn stream_status(fault: Fault) -> u8
+    ensures { result ≡ status_of_stream fault }
+{
+    match fault {
+        Fault::Read => 3,
+        _ => 1,
+    }
 }
 
-/// The exit status: 0 done, 1 a stream that is rejected or memory that ran out, 3 a fault of a file.
-fn status(stopped: Option<RunFault>) -> u8
-    ensures range { result ≤ 3 }
-    ensures status { result ≡ status_of stopped }
+/// The exit status: 0 done, 1 a stream that is rejected or memory that ran out, 2 usage, 3 a fault of a file, 4 a difference.
+fn status(ended: Result<Ending, RunFault>) -> u8
+    ensures range { result ≤ 4 }
+    ensures status { result ≡ status_of ended }
 {
-    match stopped {
-        None => 0,
-        Some(RunFault::Stream(_)) => 1,
-        Some(_) => 3,
+    match ended {
+        Ok(Ending::Done) => 0,
+        Ok(Ending::Differs) => 4,
+        Err(RunFault::Stream(fault)) => stream_status(fault),
+        Err(RunFault::OfSide(..)) => 1,
+        Err(RunFault::NotAnLsn) => 2,
+        Err(_) => 3,
+    }
+}
+
+/// The path of the first file that a task names.
+fn left_path(task: &Task) -> &str
+    ensures { result.now ≡ left_path task.now }
+{
+    match task {
+        Task::Show { file, .. } | Task::Apply { file, .. } | Task::Resume { file } => file.as_str(),
+        Task::Same { left, .. } => left.as_str(),
+        Task::Lsn { .. } => "",
+    }
+}
+
+/// The path of the second file that a task names.
+fn right_path(task: &Task) -> &str
+    ensures { result.now ≡ right_path task.now }
+{
+    match task {
+        Task::Same { right, .. } => right.as_str(),
+        _ => "",
     }
 }
 
 /// The line of a fault on standard error.
-fn fault_line(alloc: Global, fault: RunFault, path: &str) -> Result<String, AllocError>
-    ensures { IfOk result (λ line. string_bytes line ≡ stop_line fault path.now) }
+fn fault_line(alloc: Global, fault: RunFault, left: &str, right: &str) -> Result<String, AllocError>
+    ensures { IfOk result (λ line. string_bytes line ≡ stop_line fault left.now right.now) }
 {
-    format!(in alloc; "{}", StopLine { fault, path })
+    format!(in alloc; "{}", StopLine { fault, left, right })
 }
 
 /// Writes the line of a fault. Where standard error can't be written, the status alone tells.
-fn tell<E: Output>(alloc: Global, stopped: Option<RunFault>, path: &str, err: &mut E)
-    ensures { Tells E.takes E.failed path.now stopped err.old err.new }
+fn tell<E: Output>(alloc: Global, task: &Task, ended: Result<Ending, RunFault>, err: &mut E)
+    ensures { Tells E.takes E.failed task.now ended err.old err.new }
 {
-    let Some(fault) = stopped else {
+    let Err(fault) = ended else {
         return;
     };
-    match fault_line(alloc, fault, path) {
+    match fault_line(alloc, fault, left_path(task), right_path(task)) {
         Ok(line) => {
             let _ = err.write_lines(line.as_str());
         }
@@ -57,47 +91,160 @@ fn tell<E: Output>(alloc: Global, stopped: Option<RunFault>, path: &str, err: &m
     }
 }
 
-/// Applies the sessions of a recording, and writes the lines of what is stored then, whatever stopped them.
+/// Prints the frames of a recording.
+fn show_recording<R: Input + Drop, W: Output>(
+    alloc: Global,
+    version: Version,
+    file: Option<R>,
+    out: &mut W,
+) -> Result<Ending, RunFault>
+    ensures { Prints R.gives R.begins R.failed W.takes W.failed (λ _. ⊥) (PrintsShown version) file out.old out.new result }
+{
+    let sessions = read_sessions(alloc, Side::Left, file)?;
+    write_printed(Ok(show(alloc, version, sessions.as_slice())), out)
+}
+
+/// Applies the sessions of a recording, and prints what is stored then.
 fn apply_recording<R: Input + Drop, W: Output>(
     alloc: Global,
     version: Version,
     file: Option<R>,
     out: &mut W,
-) -> Result<(), RunFault>
-    ensures { Applies R.gives R.failed W.takes W.failed version file out.old out.new (result_err result) }
+) -> Result<Ending, RunFault>
+    ensures { Prints R.gives R.begins R.failed W.takes W.failed IsReadFault (PrintsApplied version) file out.old out.new result }
 {
-    let sessions = read_sessions(alloc, file)?;
-    let applied = match apply(alloc, version, sessions.as_slice()) {
-        Ok(applied) => applied,
-        Err(fault) => return Err(RunFault::Stream(fault)),
+    let sessions = read_sessions(alloc, Side::Left, file)?;
+    write_printed(apply(alloc, version, sessions.as_slice()), out)
+}
+
+/// Feeds the bytes of a file, and prints what is stored then.
+fn apply_file<R: Input + Drop, W: Output>(
+    alloc: Global,
+    version: Version,
+    file: Option<R>,
+    out: &mut W,
+) -> Result<Ending, RunFault>
+    ensures { PrintsFile R.gives R.begins R.failed W.takes W.failed version file out.old out.new result }
+{
+    let Some(file) = file else {
+        return Err(RunFault::CannotRead(Side::Left));
     };
-    if out.write_lines(applied.lines.as_str()).is_err() {
-        return Err(RunFault::CannotWrite);
-    }
-    match applied.stopped {
-        None => Ok(()),
-        Some(fault) => Err(RunFault::Stream(fault)),
+    write_printed(apply_bytes(alloc, version, file), out)
+}
+
+/// Applies the sessions of a recording, and prints where a server would be asked to go on.
+fn resume_recording<R: Input + Drop, W: Output>(
+    alloc: Global,
+    file: Option<R>,
+    out: &mut W,
+) -> Result<Ending, RunFault>
+    ensures { Prints R.gives R.begins R.failed W.takes W.failed IsReadFault PrintsResumed file out.old out.new result }
+{
+    let sessions = read_sessions(alloc, Side::Left, file)?;
+    write_printed(resume(alloc, sessions.as_slice()), out)
+}
+
+/// Writes the line of a verdict.
+fn write_verdict<W: Output>(
+    alloc: Global,
+    verdict: Verdict,
+    out: &mut W,
+) -> Result<Ending, RunFault>
+    ensures { WritesVerdict W.takes W.failed verdict out.old out.new result }
+{
+    match verdict {
+        Verdict::Same(at) => write_line(format!(in alloc; "same {at}\n"), Ending::Done, out),
+        Verdict::Positions(left, right) => write_line(
+            format!(in alloc; "positions {left} {right}\n"),
+            Ending::Differs,
+            out,
+        ),
+        Verdict::Rows(at) => write_line(
+            format!(in alloc; "rows differ at {at}\n"),
+            Ending::Differs,
+            out,
+        ),
     }
 }
 
-/// Runs a task: `file` is the file that it names, None where that can't be opened. Returns the exit status: 0 done, 1 a stream that
-/// is rejected or memory that ran out, 3 a fault of a file.
+/// Compares what the sessions of two recordings leave, and prints how.
+fn compare_sessions<W: Output>(
+    alloc: Global,
+    version: Version,
+    left: &[Session],
+    right: &[Session],
+    out: &mut W,
+) -> Result<Ending, RunFault>
+    ensures { ComparesSessions W.takes W.failed version left.now right.now out.old out.new result }
+{
+    match compare(alloc, version, left, right) {
+        Ok(verdict) => write_verdict(alloc, verdict, out),
+        Err(fault) => Err(RunFault::OfSide(fault.side, fault.fault)),
+    }
+}
+
+/// Compares what two recordings leave, and prints how. Both are opened before one is read.
+fn compare_recordings<R: Input + Drop, W: Output>(
+    alloc: Global,
+    version: Version,
+    left: Option<R>,
+    right: Option<R>,
+    out: &mut W,
+) -> Result<Ending, RunFault>
+    ensures { Compares R.gives R.begins R.failed W.takes W.failed version left right out.old out.new result }
+{
+    if left.is_some() && right.is_none() {
+        return Err(RunFault::CannotRead(Side::Right));
+    }
+    let sessions = read_sessions(alloc, Side::Left, left)?;
+    let others = read_sessions(alloc, Side::Right, right)?;
+    compare_sessions(alloc, version, sessions.as_slice(), others.as_slice(), out)
+}
+
+/// Runs a task up to its end, and tells nothing of a fault.
+fn run_task<R: Input + Drop, W: Output>(
+    alloc: Global,
+    task: &Task,
+    left: Option<R>,
+    right: Option<R>,
+    out: &mut W,
+) -> Result<Ending, RunFault>
+    ensures { Ends R.gives R.begins R.failed W.takes W.failed task.now left right out.old out.new result }
+{
+    match task {
+        Task::Show { version, .. } => show_recording(alloc, *version, left, out),
+        Task::Apply { version, raw, .. } => {
+            if *raw {
+                apply_file(alloc, *version, left, out)
+            } else {
+                apply_recording(alloc, *version, left, out)
+            }
+        }
+        Task::Same { version, .. } => compare_recordings(alloc, *version, left, right, out),
+        Task::Resume { .. } => resume_recording(alloc, left, out),
+        Task::Lsn { text } => write_number(alloc, text.as_str(), out),
+    }
+}
+
+/// Runs a task. `left` is the first file that it names and `right` the second one, None where it can't be opened or none is named.
+/// Returns the exit status: 0 done, 1 a stream that is rejected or memory that ran out, 2 a text that isn't an LSN, 3 a fault of a file,
+/// 4 two recordings that differ.
 ///
-/// There is a way in which the task ends, with this status. All of the file was read, and what is printed are the rows and the
-/// position that the bytes of its sessions leave, whatever they are; also where a fault stopped them, which is then the
-/// task's. A recording that can't be read leaves standard output as it was. Standard error gets the line of the fault.
+/// There is a way in which the task ends, with this status: what is printed are the lines that the files' bytes lead to, also where a
+/// fault stopped them, which is then the task's. A recording that can't be read leaves standard output as it was. Standard error
+/// gets the line of the fault.
 pub fn run<R: Input + Drop, W: Output, E: Output>(
     alloc: Global,
     task: &Task,
-    file: Option<R>,
+    left: Option<R>,
+    right: Option<R>,
     out: &mut W,
     err: &mut E,
 ) -> u8
-    ensures status { result ≤ 3 }
-    ensures ends { (ended : Option RunFault) × (result ≡ status_of ended) × Applies R.gives R.failed W.takes W.failed One file out.old out.new ended × Tells E.takes E.failed (path_of task.now) ended err.old err.new }
+    ensures status { result ≤ 4 }
+    ensures ends { (ended : Result Ending RunFault) × (result ≡ status_of ended) × Ends R.gives R.begins R.failed W.takes W.failed task.now left right out.old out.new ended × Tells E.takes E.failed task.now ended err.old err.new }
 {
-    let Task::Apply { file: path } = task;
-    let stopped = apply_recording(alloc, Version::One, file, out).err();
-    tell(alloc, stopped, path.as_str(), err);
-    status(stopped)
+    let ended = run_task(alloc, task, left, right, out);
+    tell(alloc, task, ended, err);
+    status(ended)
 }

@@ -1,7 +1,9 @@
 //! Whole runs over recordings in memory.
 
 use crate::cases::{BEFORE, DISCONNECTION, FAULTS, NOTHING, ROW_BEFORE, TRANSACTIONS};
-use crate::running::{Task, run};
+use crate::running::run;
+use pgcommand::Task;
+use pgorder::Version;
 use std::alloc::{AllocError, Global};
 use std::fmt::Write as _;
 use std::io;
@@ -64,6 +66,15 @@ fn push_lines(
     Ok(())
 }
 
+/// To apply this recording in version 1.
+fn applying(file: String) -> Task {
+    Task::Apply {
+        version: Version::One,
+        raw: false,
+        file,
+    }
+}
+
 /// Runs `apply` over this file, which gives this answer.
 fn check<R: Read + Drop>(
     rt: &(impl Abort + AllocGlobal),
@@ -73,9 +84,9 @@ fn check<R: Read + Drop>(
 ) -> Result<(), Fail> {
     let alloc = rt.alloc();
     let file_name = String::from_str(alloc, "in.pgx")?;
-    let task = Task::Apply { file: file_name };
+    let task = applying(file_name);
     let (mut out, mut err) = (Vec::new(alloc), Vec::new(alloc));
-    let status = run(alloc, &task, file, &mut out, &mut err);
+    let status = run(alloc, &task, file, None, &mut out, &mut err);
     assert!(rt; out.as_slice() == answer.out.as_bytes(), "{shows}: {out:?}");
     assert!(rt; err.as_slice() == answer.err.as_bytes(), "{shows}: {err:?}");
     assert!(rt; status == answer.status, "{shows}: {status}");
@@ -208,11 +219,18 @@ fn an_output_that_fails_has_status_3(rt: HostRuntime) -> Result<(), Fail> {
     let alloc = rt.alloc();
     let text = recording(alloc, &[], BEFORE, false)?;
     let file = String::from_str(alloc, "in.pgx")?;
-    let task = Task::Apply { file };
+    let task = applying(file);
     for room in [0usize, 5, 43] {
         let mut out = Closing { room };
         let mut err = Vec::new(alloc);
-        let status = run(alloc, &task, Some(text.as_bytes()), &mut out, &mut err);
+        let status = run(
+            alloc,
+            &task,
+            Some(text.as_bytes()),
+            None,
+            &mut out,
+            &mut err,
+        );
         assert_eq!(rt; status, 3, "after {room} bytes");
         assert!(rt;
             err.as_slice() == b"pgsub: cannot write\n".as_slice(),
@@ -220,7 +238,14 @@ fn an_output_that_fails_has_status_3(rt: HostRuntime) -> Result<(), Fail> {
         );
         let mut out = Closing { room };
         let mut err = Closing { room: 7 };
-        let status = run(alloc, &task, Some(text.as_bytes()), &mut out, &mut err);
+        let status = run(
+            alloc,
+            &task,
+            Some(text.as_bytes()),
+            None,
+            &mut out,
+            &mut err,
+        );
         assert_eq!(rt; status, 3, "after {room} bytes, and standard error fails");
     }
     Ok(())

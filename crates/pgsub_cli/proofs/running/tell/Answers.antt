@@ -1,10 +1,12 @@
-use Rattle.std.proofs.Common.{Option, inr, sym, subst}
+use Rattle.std.proofs.Common.{Result, inr, subst, sym}
+use Rattle.pgsub_cli.specs.declared.fault.Ending.{Ending}
 use Rattle.pgsub_cli.specs.declared.fault.RunFault.{RunFault}
 use Rattle.pgsub_cli.specs.Runs.{Tells}
 use Rattle.pgsub_cli.proofs.Reading.{written_or_failed}
 use Rattle.pgsub_cli.proofs.running.tell.Goals as goal
 
-pub returns-in-Err : goal.returns-in-Err
-returns-in-Err g c =
-    subst (λ (stopped : Option RunFault). Tells g.E.Output.takes g.E.Output.failed c.args.path.now stopped c.args.err.now c.write_lines-in-Err.new.self) (sym c.in-Some.is)
-    (inr (written_or_failed c.write_lines-in-Err.result _ _ c.write_lines-in-Err.ensures.written c.write_lines-in-Err.ensures.failed))
+pub returns-in-Err-fault_line : goal.returns-in-Err-fault_line
+returns-in-Err-fault_line g c =
+    let wrote = c.write_lines-in-Err-fault_line in
+    subst (λ (ended : Result Ending RunFault). Tells g.E.Output.takes g.E.Output.failed c.args.task.now ended c.args.err.now wrote.new.self) (sym c.in-Err.is)
+    (inr (written_or_failed wrote.result _ _ wrote.ensures.written wrote.ensures.failed))

@@ -1,0 +1,17 @@
+use Rattle.std.proofs.Common.{[], ◌∷◌}
+use Rattle.pgsub_cli.specs.Followed.{lines_of}
+use Rattle.pgsub_cli.specs.Runs.{fault_of_feeding}
+use Rattle.pgsub_cli.specs.Stores.{holds_tables, position_of}
+use Rattle.pgsub_cli.proofs.AppliedLines.{if_ok, lines_of_new}
+use Rattle.std.specs.String.{string_bytes}
+use Rattle.pgsub_cli.proofs.applying.apply_bytes.Goals as goal
+
+pub returns-clause-applied : goal.returns-clause-applied
+returns-clause-applied g c =
+    let new = c.in_ok-subscriber.ensures.new in
+    let fed = c.apply_input.ensures.applied (c.stores_on_memory_disks_are_honest.ensures c.apply_input.new.subscriber.applied.store) in
+    if_ok c.apply_input.result _ _ fed (λ printed shows.
+    let told =
+    lines_of_new holds_tables position_of lines_of c.in_ok-subscriber.subscriber c.apply_input.new.subscriber c.args.version (shows.0 ∷ []) (fault_of_feeding printed.stopped) (string_bytes printed.lines)
+    c.fed_sessions_are_followed.ensures.followed new.empty new.state shows.2 in
+    (shows.0, shows.1, told.0, told.1, told.2))

@@ -1,0 +1,9 @@
+use Rattle.std.proofs.Common.{subst, sym}
+use Rattle.pgcommand.specs.declared.task.Task.{Task}
+use Rattle.pgsub_cli.specs.Runs.{Ends}
+use Rattle.pgsub_cli.proofs.running.run_task.Goals as goal
+
+pub returns-in-Same : goal.returns-in-Same
+returns-in-Same g c =
+    subst (λ (asked : Task). Ends g.R.Input.gives g.R.Input.begins g.R.Input.failed g.W.Output.takes g.W.Output.failed asked c.args.left c.args.right c.args.out.now c.compare_recordings.new.out c.compare_recordings.result)
+    (sym c.in-Same.is) c.compare_recordings.ensures

@@ -1,0 +1,284 @@
+//! Files whose bytes are fed as they are, and recordings from which a server would be asked to go on.
+
+use crate::running::run;
+use pgcommand::Task;
+use pgorder::Version;
+use std::alloc::{AllocError, Global};
+use std::io;
+use std::io::{ErrorKind, Read};
+use std::process::Abort;
+use std::test::Fail;
+
+/// The bytes of a transaction that stores a row.
+const TRANSACTION: &[u8] =
+    b"\x64\x00\x00\x00\x32\x77\x00\x00\x00\x00\x00\x00\x00\x00\x00\x00\x00\x00\x00\x00\x00\x00\x00\x00\x00\x00\x00\x00\x00\x00\x42\x00\x00\x00\x00\x00\x00\x01\x00\x00\x00\x00\x00\x00\x00\x00\x00\x00\x00\x00\x0a\x64\x00\x00\x00\x45\x77\x00\x00\x00\x00\x00\x00\x00\x00\x00\x00\x00\x00\x00\x00\x00\x00\x00\x00\x00\x00\x00\x00\x00\x00\x52\x00\x00\x40\x00\x70\x75\x62\x6c\x69\x63\x00\x74\x00\x64\x00\x02\x01\x69\x64\x00\x00\x00\x00\x17\xff\xff\xff\xff\x00\x76\x00\x00\x00\x00\x19\xff\xff\xff\xff\x64\x00\x00\x00\x31\x77\x00\x00\x00\x00\x00\x00\x00\x00\x00\x00\x00\x00\x00\x00\x00\x00\x00\x00\x00\x00\x00\x00\x00\x00\x49\x00\x00\x40\x00\x4e\x00\x02\x74\x00\x00\x00\x01\x31\x74\x00\x00\x00\x01\x61\x64\x00\x00\x00\x37\x77\x00\x00\x00\x00\x00\x00\x00\x00\x00\x00\x00\x00\x00\x00\x00\x00\x00\x00\x00\x00\x00\x00\x00\x00\x43\x00\x00\x00\x00\x00\x00\x00\x01\x00\x00\x00\x00\x00\x00\x00\x01\x30\x00\x00\x00\x00\x00\x00\x00\x00";
+
+/// A Commit of another LSN than its Begin, and a frame of a length that no frame has.
+const TWO_FAULTS: &[u8] =
+    b"\x64\x00\x00\x00\x37\x77\x00\x00\x00\x00\x00\x00\x00\x00\x00\x00\x00\x00\x00\x00\x00\x00\x00\x00\x00\x00\x00\x00\x00\x00\x43\x00\x00\x00\x00\x00\x00\x00\x01\x01\x00\x00\x00\x00\x00\x00\x01\x30\x00\x00\x00\x00\x00\x00\x00\x00\x64\x00\x00\x00\x03";
+
+/// The bytes before the transaction's Commit.
+const BEFORE_COMMIT: usize = 171;
+
+const NOTHING: &str = "position 0/0\n";
+
+const ROW: &str = "[\"public\",\"t\",[\"1\",\"a\"],1]\nposition 0/130\n";
+
+const BEGIN_100: &str =
+    "64000000327700000000000000000000000000000000000000000000000042000000000000010000000000000000000000000a";
+
+const RELATION_T: &str =
+    "64000000457700000000000000000000000000000000000000000000000052000040007075626c69630074006400020169640000000017ffffffff00760000000019ffffffff";
+
+const INSERT_1_A: &str =
+    "64000000317700000000000000000000000000000000000000000000000049000040004e0002740000000131740000000161";
+
+const COMMIT_130: &str =
+    "6400000037770000000000000000000000000000000000000000000000004300000000000000010000000000000001300000000000000000";
+
+const BEGIN_200: &str =
+    "64000000327700000000000000000000000000000000000000000000000042000000000000020000000000000000000000000b";
+
+const INSERT_2_B: &str =
+    "64000000317700000000000000000000000000000000000000000000000049000040004e0002740000000132740000000162";
+
+const COMMIT_230: &str =
+    "6400000037770000000000000000000000000000000000000000000000004300000000000000020000000000000002300000000000000000";
+
+const KEEPALIVE_180: &str = "64000000166b0000000000000180000000000000000001";
+
+const KEEPALIVE_280: &str = "64000000166b0000000000000280000000000000000001";
+
+const START_40: &str = "640000002377000000000000000000000000000000000000000000000000530000002801";
+
+const OF_40_RELATION_T: &str =
+    "6400000049770000000000000000000000000000000000000000000000005200000028000040007075626c69630074006400020169640000000017ffffffff00760000000019ffffffff";
+
+const STOP: &str = "640000001e7700000000000000000000000000000000000000000000000045";
+/// What a run prints, and its status.
+#[derive(Clone, Copy, Drop)]
+struct Answer {
+    out: &'static str,
+    err: &'static str,
+    status: u8,
+}
+
+/// Runs a task over this file, which gives this answer.
+fn check<R: Read + Drop>(
+    rt: &(impl Abort + AllocGlobal),
+    task: &Task,
+    shows: &str,
+    file: Option<R>,
+    answer: Answer,
+) -> Result<(), Fail> {
+    let alloc = rt.alloc();
+    let (mut out, mut err) = (Vec::new(alloc), Vec::new(alloc));
+    let status = run(alloc, task, file, None, &mut out, &mut err);
+    assert!(rt; out.as_slice() == answer.out.as_bytes(), "{shows}: {out:?}");
+    assert!(rt; err.as_slice() == answer.err.as_bytes(), "{shows}: {err:?}");
+    assert!(rt; status == answer.status, "{shows}: {status}");
+    Ok(())
+}
+
+/// The task that feeds a file's bytes.
+fn raw_task(alloc: Global) -> Result<Task, AllocError> {
+    Ok(Task::Apply {
+        version: Version::Two,
+        raw: true,
+        file: String::from_str(alloc, "in.bin")?,
+    })
+}
+
+/// Gives its bytes five at a call, and then fails.
+#[derive(Clone, Copy, Drop)]
+struct Failing<'t> {
+    rest: &'t [u8],
+}
+
+impl<'t> Read for Failing<'t> {
+    fn read(&mut self, buf: &mut [u8]) -> io::Result<usize> {
+        if self.rest.is_empty() {
+            return Err(io::Error::from(ErrorKind::Other));
+        }
+        let count = buf.len().min(5);
+        self.rest.read(&mut buf[..count])
+    }
+}
+
+/// So many bytes of the transaction, and the rows that they leave.
+const FRONTS: [(usize, &str); 5] = [
+    (0, NOTHING),
+    (3, NOTHING),
+    (BEFORE_COMMIT, NOTHING),
+    (226, NOTHING),
+    (227, ROW),
+];
+
+#[test]
+fn the_first_bytes_of_a_file_are_fed(rt: HostRuntime) -> Result<(), Fail> {
+    let task = raw_task(rt.alloc())?;
+    let (err, status) = ("", 0);
+    for (count, out) in FRONTS {
+        let front = TRANSACTION.get(..count);
+        check(&rt, &task, out, front, Answer { out, err, status })?;
+    }
+    Ok(())
+}
+
+#[test]
+fn a_read_that_fails_leaves_what_was_fed(rt: HostRuntime) -> Result<(), Fail> {
+    let task = raw_task(rt.alloc())?;
+    let (err, status) = ("pgsub: read\n", 3);
+    for (count, out) in FRONTS {
+        let rest = TRANSACTION.get(..count).unwrap_or(b"");
+        let file = Some(Failing { rest });
+        check(&rt, &task, out, file, Answer { out, err, status })?;
+    }
+    Ok(())
+}
+
+/// So many bytes of the transaction and these behind them, and how they are answered.
+const FAULTS: [(usize, &[u8], &str, &str); 2] = [
+    (
+        BEFORE_COMMIT,
+        TWO_FAULTS,
+        NOTHING,
+        "pgsub: order 4 CommitLsnDiffers\n",
+    ),
+    (227, b"--\n", ROW, "pgsub: wire 1 UnknownFrame 45\n"),
+];
+
+#[test]
+fn a_file_of_bytes_stops_at_its_first_fault(rt: HostRuntime) -> Result<(), Fail> {
+    let task = raw_task(rt.alloc())?;
+    let status = 1;
+    for (count, later, out, err) in FAULTS {
+        let front = TRANSACTION.get(..count).unwrap_or(b"");
+        let mut bytes = Vec::from_slice(rt.alloc(), front)?;
+        bytes.extend_from_slice(later)?;
+        let file = Some(bytes.as_slice());
+        check(&rt, &task, err, file, Answer { out, err, status })?;
+    }
+    Ok(())
+}
+
+#[test]
+fn a_file_that_is_not_there(rt: HostRuntime) -> Result<(), Fail> {
+    let task = raw_task(rt.alloc())?;
+    let (out, err, status) = ("", "pgsub: cannot read in.bin\n", 3);
+    let missing: Option<&[u8]> = None;
+    check(&rt, &task, "no file", missing, Answer { out, err, status })
+}
+
+/// A recording, and what is reached by it.
+struct Resumed {
+    shows: &'static str,
+    lines: &'static [&'static str],
+    answer: Answer,
+}
+
+static RESUMED: &[Resumed] = &[
+    Resumed {
+        shows: "an empty recording",
+        lines: &[],
+        answer: Answer {
+            out: "position 0/0\nconfirmed 0/0\n",
+            err: "",
+            status: 0,
+        },
+    },
+    Resumed {
+        shows: "a keepalive between commits confirms its end, and one inside a pair doesn't",
+        lines: &[
+            BEGIN_100,
+            RELATION_T,
+            INSERT_1_A,
+            COMMIT_130,
+            BEGIN_200,
+            INSERT_2_B,
+            KEEPALIVE_180,
+            COMMIT_230,
+            KEEPALIVE_280,
+        ],
+        answer: Answer {
+            out: "position 0/230\nconfirmed 0/280\n",
+            err: "",
+            status: 0,
+        },
+    },
+    Resumed {
+        shows: "a keepalive behind the block of a running transaction",
+        lines: &[START_40, OF_40_RELATION_T, STOP, KEEPALIVE_180],
+        answer: Answer {
+            out: "position 0/0\nconfirmed 0/180\n",
+            err: "",
+            status: 0,
+        },
+    },
+    Resumed {
+        shows: "a keepalive inside the block",
+        lines: &[START_40, OF_40_RELATION_T, KEEPALIVE_180, STOP],
+        answer: Answer {
+            out: "position 0/0\nconfirmed 0/0\n",
+            err: "",
+            status: 0,
+        },
+    },
+    Resumed {
+        shows: "a disconnection inside a pair",
+        lines: &[
+            BEGIN_100,
+            RELATION_T,
+            INSERT_1_A,
+            COMMIT_130,
+            KEEPALIVE_180,
+            BEGIN_200,
+            "--",
+        ],
+        answer: Answer {
+            out: "position 0/130\nconfirmed 0/180\n",
+            err: "",
+            status: 0,
+        },
+    },
+    Resumed {
+        shows: "a fault",
+        lines: &[BEGIN_100, RELATION_T, INSERT_1_A, COMMIT_130, "65"],
+        answer: Answer {
+            out: "position 0/130\nconfirmed 0/130\n",
+            err: "pgsub: wire 1 UnknownFrame 101\n",
+            status: 1,
+        },
+    },
+    Resumed {
+        shows: "a line that isn't hexadecimal",
+        lines: &[BEGIN_100, "6g"],
+        answer: Answer {
+            out: "",
+            err: "pgsub: capture line 2: not hexadecimal\n",
+            status: 3,
+        },
+    },
+];
+
+/// The recording of these lines.
+fn recording(alloc: Global, lines: &[&str]) -> Result<String, AllocError> {
+    let mut text = String::new(alloc);
+    for line in lines {
+        text.push_str(line)?;
+        text.push('\n')?;
+    }
+    Ok(text)
+}
+
+#[test]
+fn what_is_reached_is_printed(rt: HostRuntime) -> Result<(), Fail> {
+    let alloc = rt.alloc();
+    let file = String::from_str(alloc, "in.pgx")?;
+    let task = Task::Resume { file };
+    for row in RESUMED {
+        let text = recording(alloc, row.lines)?;
+        check(&rt, &task, row.shows, Some(text.as_bytes()), row.answer)?;
+    }
+    Ok(())
+}

@@ -1,0 +1,130 @@
+//! Comparing what two recordings leave.
+
+ghost use Rattle.std.specs.Prelude.{◌≡◌, ◌⊎◌, IfOk, IfErr, string_bytes};
+ghost use Rattle.pgsub_core.specs.declared.converging.Side.TheVariants.{Left};
+ghost use Rattle.pgsub_core.specs.Faults.{IsReadFault};
+ghost use Rattle.pgsub_core.specs.Subscribed.{bytes_of};
+ghost use Rattle.pgsub_cli.specs.Compared.{EndsBesideNew, EndsOver};
+ghost use Rattle.pgsub_cli.specs.Runs.{AreComparedAs, IsUncompared, ending_of, verdict_line};
+ghost use Rattle.pgsub_cli.specs.Stores.{IsNew};
+
+use crate::fault::Ending;
+use crate::limits::CLOCK;
+use crate::stores::{MemoryStore, new_subscriber};
+use pgapply::ReplicaStore;
+use pgorder::Version;
+use pgspool::{ByteSpools, Spools};
+use pgstore::laws::stores_on_memory_disks_are_honest;
+use pgsub_core::{ConvergeFault, Fault, Session, Side, Subscriber, Verdict, converge};
+use std::alloc::{AllocError, Global};
+
+/// The fault of a side, or, where its rows can't be read any more, the one of reading them. So what is told as the fault of a stream
+/// isn't that of a store that has shut meanwhile.
+fn confirmed_fault<P: Spools + Drop, C: ReplicaStore + Drop>(
+    subscriber: &mut Subscriber<P, C>,
+    fault: Fault,
+) -> Fault
+    ensures fault { C.is_honest subscriber.new.applied.store → IsReadFault result ⊎ ((result ≡ fault) × C.serves subscriber.old.applied.store) }
+{
+    match subscriber.rows() {
+        Ok(_) => fault,
+        Err(lost) => lost,
+    }
+}
+
+/// Compares two subscribers behind these sessions, the left one's first.
+fn compare_subscribers<
+    P: Spools + Drop,
+    C: ReplicaStore + Drop,
+    Q: Spools + Drop,
+    D: ReplicaStore + Drop,
+>(
+    left: &mut Subscriber<P, C>,
+    left_sessions: &[Session],
+    right: &mut Subscriber<Q, D>,
+    right_sessions: &[Session],
+) -> Result<Verdict, ConvergeFault>
+    ensures ends { ((s : C) → C.is_honest s) → ((s : D) → D.is_honest s) → EndsOver C.holds C.place D.holds D.place left.old (bytes_of left_sessions.now) right.old (bytes_of right_sessions.now) result }
+{
+    let stopped = match converge(left, left_sessions, right, right_sessions, CLOCK) {
+        Ok(verdict) => return Ok(verdict),
+        Err(stopped) => stopped,
+    };
+    let side = stopped.side;
+    let fault = match side {
+        Side::Left => confirmed_fault(left, stopped.fault),
+        Side::Right => confirmed_fault(right, stopped.fault),
+    };
+    Err(ConvergeFault { side, fault })
+}
+
+/// The subscriber of a side. Where there is no memory for it, nothing was followed yet, so the fault is the left one's.
+fn new_side(
+    alloc: Global,
+    version: Version,
+) -> Result<Subscriber<ByteSpools, MemoryStore>, ConvergeFault>
+    ensures new { IfOk result (IsNew version) }
+    ensures fault { IfErr result (λ stopped. (stopped.side ≡ Left) × IsReadFault stopped.fault) }
+{
+    match new_subscriber(alloc, version) {
+        Ok(subscriber) => Ok(subscriber),
+        Err(fault) => Err(ConvergeFault {
+            side: Side::Left,
+            fault,
+        }),
+    }
+}
+
+/// Compares a subscriber with a new one. The left one's store is of any type, since the proof of a function that holds two stores of the
+/// program's type gets too large.
+fn compare_with_new<P: Spools + Drop, C: ReplicaStore + Drop>(
+    alloc: Global,
+    version: Version,
+    left: &mut Subscriber<P, C>,
+    left_sessions: &[Session],
+    right_sessions: &[Session],
+) -> Result<Verdict, ConvergeFault>
+    ensures { ((s : C) → C.is_honest s) → EndsBesideNew C.holds C.place version left.old (bytes_of left_sessions.now) (bytes_of right_sessions.now) result }
+{
+    stores_on_memory_disks_are_honest();
+    let mut right = new_side(alloc, version)?;
+    compare_subscribers(left, left_sessions, &mut right, right_sessions)
+}
+
+/// How the rows and positions compare that the sessions of two recordings leave of empty stores.
+///
+/// It fails with the first fault of a side, of its sessions or of reading its rows, or where there is no memory for a store.
+pub fn compare(
+    alloc: Global,
+    version: Version,
+    left: &[Session],
+    right: &[Session],
+) -> Result<Verdict, ConvergeFault>
+    ensures compared { IfOk result (AreComparedAs version left.now right.now) }
+    ensures stopped { IfErr result (IsUncompared version left.now right.now) }
+{
+    stores_on_memory_disks_are_honest();
+    let mut subscriber = new_side(alloc, version)?;
+    compare_with_new(alloc, version, &mut subscriber, left, right)
+}
+
+/// The line of a verdict.
+pub(crate) fn verdict_text(alloc: Global, verdict: Verdict) -> Result<String, AllocError>
+    ensures { IfOk result (λ line. string_bytes line ≡ verdict_line verdict) }
+{
+    match verdict {
+        Verdict::Same(at) => format!(in alloc; "same {at}\n"),
+        Verdict::Positions(left, right) => format!(in alloc; "positions {left} {right}\n"),
+        Verdict::Rows(at) => format!(in alloc; "rows differ at {at}\n"),
+    }
+}
+
+/// How a run ends with this verdict.
+pub(crate) fn ending(verdict: Verdict) -> Ending
+    ensures { result ≡ ending_of verdict }
+{
+    match verdict {
+        Verdict::Same(_) => Ending::Done,
+        Verdict::Positions(..) | Verdict::Rows(_) => Ending::Differs,
+    }
+}
