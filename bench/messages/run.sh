@@ -1,33 +1,37 @@
 #!/usr/bin/env bash
 # Measures how fast messages are read, beside decoder.c, which does the same by hand in C: run.sh [RAW]. Without the bytes of a session
 # these are made (200,000 Inserts of four text cells of 10 bytes). Each way is run in turn, 21 times; the medians are printed, with the
-# bytes of frames a second and the ratio to C.
+# bytes of frames a second and the ratio to the same way in C; visiting each cell is compared with C's pointers to all of them.
 set -e
 here="$(cd "$(dirname "$0")" && pwd)"
 source "$here/../build.sh"
 work="$(mktemp -d)"
 trap 'rm -r "$work"' EXIT
 raw="${1:-$work/made.raw}"
-[ $# -gt 0 ] || python3 "$here/make.py" "$raw"
+[ $# -gt 0 ] || python3 "$here/../subscriber/generate.py" inserts "$raw" --changes 200000
 build "$here/main.rattle" messages "$work" pglsn pgtuple pgwire pglogical
 gcc -O2 -o "$work/decoder" "$here/decoder.c"
 size="$(stat -c %s "$raw")"
 chunks="4096 65536 1000000"
 for turn in $(seq 21); do
     for chunk in $chunks; do
-        "$work/decoder" "$raw" "$chunk" 1 >> "$work/c.$chunk"
+        for way in borrowed owned; do
+            "$work/decoder" "$raw" "$way" "$chunk" 1 >> "$work/c-$way.$chunk"
+        done
         for way in borrowed cells owned; do
             "$work/crates/messages/out/messages" "$raw" "$way" "$chunk" 1 >> "$work/$way.$chunk"
         done
     done
 done
-printf '%-10s %-9s %10s %6s %8s\n' chunks way micros GB/s 'times C'
+middle() {
+    awk '{ print $4 }' "$work/$1" | median
+}
+printf '%-10s %-11s %10s %6s %8s\n' chunks way micros GB/s 'times C'
 for chunk in $chunks; do
-    c="$(awk '{ print $4 }' "$work/c.$chunk" | median)"
-    for way in c borrowed cells owned; do
-        micros="$(awk '{ print $4 }' "$work/$way.$chunk" | median)"
-        awk -v chunk="$chunk" -v way="$way" -v t="$micros" -v c="$c" -v size="$size" \
-            'BEGIN { printf "%-10s %-9s %10d %6.2f %8.2f\n", chunk, way, t, size / t / 1000, t / c }'
+    for pair in c-borrowed:c-borrowed borrowed:c-borrowed cells:c-borrowed c-owned:c-owned owned:c-owned; do
+        way="${pair%:*}"
+        awk -v chunk="$chunk" -v way="$way" -v t="$(middle "$way.$chunk")" -v c="$(middle "${pair#*:}.$chunk")" -v size="$size" \
+            'BEGIN { printf "%-10s %-11s %10d %6.2f %8.2f\n", chunk, way, t, size / t / 1000, t / c }'
     done
 done
 uptime
