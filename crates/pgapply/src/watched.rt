@@ -68,6 +68,8 @@ impl<C: ReplicaStore + Drop> ReplicaStore for Watched<C> {
 
     ghost place = { λ s. C.place s.store };
 
+    ghost reopens = { λ s other. C.reopens s.store other.store };
+
     fn position(&self) -> Lsn {
         self.store.position()
     }
