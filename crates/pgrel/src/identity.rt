@@ -111,7 +111,8 @@ fn is_unchanged(cell: &CellRef<'_>) -> bool
     }
 }
 
-fn has_unchanged(row: &TupleRef<'_>) -> bool
+/// Whether some cell of a row wasn't sent, since it is as it was.
+pub fn has_unchanged(row: &TupleRef<'_>) -> bool
     ensures { result ≡ has_unchanged row.now }
 {
     for cell in row.cells() {

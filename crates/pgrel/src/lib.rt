@@ -22,7 +22,9 @@ pub mod laws;
 pub use book::Book;
 pub use carrying::carry;
 pub use fault::RelFault;
-pub use identity::{check_insert, keyed, resolve, row_identity, same_shape, search_identity};
+pub use identity::{
+    check_insert, has_unchanged, keyed, resolve, row_identity, same_shape, search_identity,
+};
 pub use laws::{keyed_tables_have_key_columns, resolved_rows_are_whole, shapes_are_compared_whole};
 pub use pglogical::{Column, RelationDef};
 

@@ -96,7 +96,7 @@ tied_not Less e = absurd (true≢false (sym e))
 tied_not Equal e = refl
 tied_not Greater e = absurd (true≢false (sym e))
 
-ints_differ : (m n : ℤ) → m ≢ n → differ (Int m) (Int n) ≡ true
+pub ints_differ : (m n : ℤ) → m ≢ n → differ (Int m) (Int n) ≡ true
 unfolding binary
 ints_differ m n apart =
     let other : is_eq (int_cmp m n) ≡ false = elim (cases_Bool (is_eq (int_cmp m n))) [
@@ -113,7 +113,7 @@ no_difference v = elim (cases_Bool (is_null v)) [
 ]
 
 module _ (id id' : Value) (o o' : ℕ) (i i' : List ℕ) (k k' : Copies) where
-  agree_same : ◌≡◌ {A = List ℕ} (o ∷ i) (o' ∷ i') → agree plain (1 ∷ 2 ∷ []) (held_row id o i k) (1 ∷ 2 ∷ []) (held_row id' o' i' k') ≡ true
+  pub agree_same : ◌≡◌ {A = List ℕ} (o ∷ i) (o' ∷ i') → agree plain (1 ∷ 2 ∷ []) (held_row id o i k) (1 ∷ 2 ∷ []) (held_row id' o' i' k') ≡ true
   unfolding first_key
   agree_same e = let oid : o ≡ o' = cc in let ident : i ≡ i' = cc in rw (oid, ident, int_equal (pos o'), blob_equal i')
 

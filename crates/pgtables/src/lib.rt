@@ -7,7 +7,9 @@
 pub mod dumped;
 pub mod find;
 pub mod found;
+pub mod opened;
 pub mod put;
+pub mod remains;
 pub mod rows;
 pub mod schema;
 pub mod settled;
@@ -15,10 +17,19 @@ pub mod settled;
 pub use dumped::{DumpReader, dump};
 pub use find::{find_definition, find_row, rows_of};
 pub use found::{has_no_tables, has_our_tables};
-pub use put::{add_row, delete_row, delete_rows, put_definition, put_position, put_row};
+pub use opened::{FoundPosition, RowCheck, check_rows, read_definitions, read_position};
+pub use put::{
+    add_row, delete_row, delete_rows, put_definition, put_position, put_row, update_row,
+};
+pub use remains::{
+    Remains, check_remaining_rows, drop_remains, find_remains, read_remaining_definitions,
+    read_remaining_position,
+};
 pub use rows::{StoredDefinition, StoredRow};
-pub use schema::create_tables;
+pub use schema::{create_tables, put_first_position};
 pub use settled::see_committed;
 
+#[cfg(test)]
+mod opened_tests;
 #[cfg(test)]
 mod tests;

@@ -1,0 +1,234 @@
+//! What is read of tables that others have filled.
+
+ghost use Rattle.std.specs.Prelude.{◌≤◌};
+
+use crate::{
+    FoundPosition, Remains, RowCheck, check_remaining_rows, check_rows, create_tables,
+    drop_remains, find_remains, has_our_tables, read_definitions, read_position,
+    read_remaining_definitions, read_remaining_position,
+};
+use sqlite::{Alter, Connection, Error, ErrorCode};
+use std::alloc::Global;
+use std::test::Fail;
+
+const TABLES: &str =
+    "CREATE TABLE rel (oid INTEGER PRIMARY KEY NOT NULL, nsp TEXT NOT NULL, name TEXT NOT NULL, letter INTEGER NOT NULL, cols BLOB NOT NULL) STRICT; CREATE TABLE held (oid INTEGER NOT NULL, ident BLOB NOT NULL, body BLOB NOT NULL, copies INTEGER NOT NULL, PRIMARY KEY (oid, ident)) STRICT; CREATE TABLE pos (id INTEGER PRIMARY KEY NOT NULL CHECK (id = 0), lsn BLOB NOT NULL) STRICT";
+
+/// Accepts a row that stands at most so often.
+#[derive(Drop)]
+struct UpTo {
+    copies: u32,
+}
+
+impl RowCheck for UpTo {
+    ghost accepts = { λ check oid ident kept. kept.copies ≤ check.copies };
+
+    fn check(&self, _: u32, _: &[u8], _: &[u8], copies: u32) -> Result<bool, Error> {
+        Ok(copies <= self.copies)
+    }
+}
+
+/// Rows as SQL text, and what is read of them: the OIDs of the definitions, whether rows that stand up to seven times are
+/// accepted, and the position.
+type Case = (&'static str, Option<&'static [u32]>, bool, FoundPosition);
+
+const CASES: &[Case] = &[
+    ("", Some(&[]), true, FoundPosition::Missing),
+    (
+        "INSERT INTO rel (oid, nsp, name, letter, cols) VALUES (16385, 'public', 'later', 100, x'00'); INSERT INTO rel (oid, nsp, name, letter, cols) VALUES (16384, '', 'first', 102, x'01'); INSERT INTO held (oid, ident, body, copies) VALUES (16385, x'01', x'', 1); INSERT INTO held (oid, ident, body, copies) VALUES (16384, x'01', x'02', 7); INSERT INTO pos (id, lsn) VALUES (0, x'0000000000000130')",
+        Some(&[16384, 16385]),
+        true,
+        FoundPosition::At(0x130),
+    ),
+    // The greatest numbers.
+    (
+        "INSERT INTO rel (oid, nsp, name, letter, cols) VALUES (4294967295, '', '', 4294967295, x''); INSERT INTO pos (id, lsn) VALUES (0, x'FFFFFFFFFFFFFFFF')",
+        Some(&[4294967295]),
+        true,
+        FoundPosition::At(0xFFFF_FFFF_FFFF_FFFF),
+    ),
+    // Numbers that are too large or below 0, and a row that isn't accepted.
+    (
+        "INSERT INTO rel (oid, nsp, name, letter, cols) VALUES (4294967296, '', '', 100, x''); INSERT INTO held (oid, ident, body, copies) VALUES (1, x'', x'', 4294967296)",
+        None,
+        false,
+        FoundPosition::Missing,
+    ),
+    (
+        "INSERT INTO rel (oid, nsp, name, letter, cols) VALUES (-1, '', '', 100, x''); INSERT INTO held (oid, ident, body, copies) VALUES (-1, x'', x'', 1)",
+        None,
+        false,
+        FoundPosition::Missing,
+    ),
+    (
+        "INSERT INTO rel (oid, nsp, name, letter, cols) VALUES (1, '', '', 4294967296, x''); INSERT INTO held (oid, ident, body, copies) VALUES (1, x'', x'', 1); INSERT INTO held (oid, ident, body, copies) VALUES (1, x'00', x'', 8)",
+        None,
+        false,
+        FoundPosition::Missing,
+    ),
+    // Seven bytes, and nine.
+    (
+        "INSERT INTO pos (id, lsn) VALUES (0, x'00000000000130')",
+        Some(&[]),
+        true,
+        FoundPosition::Malformed,
+    ),
+    (
+        "INSERT INTO pos (id, lsn) VALUES (0, x'000000000000000130')",
+        Some(&[]),
+        true,
+        FoundPosition::Malformed,
+    ),
+];
+
+fn oids_of<S: Alter>(conn: &mut Connection<S>, alloc: Global) -> Result<Option<Vec<u32>>, Error> {
+    if !conn.is_autocommit() || !has_our_tables(conn) {
+        return Err(Error::InvalidQuery);
+    }
+    let Some(all) = read_definitions(conn, alloc)? else {
+        return Ok(None);
+    };
+    let mut oids = Vec::new(alloc);
+    for entry in all.as_slice() {
+        oids.push(entry.0)?;
+    }
+    Ok(Some(oids))
+}
+
+fn are_accepted<S: Alter>(conn: &mut Connection<S>, most: u32) -> Result<bool, Error> {
+    if !conn.is_autocommit() || !has_our_tables(conn) {
+        return Err(Error::InvalidQuery);
+    }
+    check_rows(conn, &UpTo { copies: most })
+}
+
+fn position_of<S: Alter>(conn: &mut Connection<S>) -> Result<FoundPosition, Error> {
+    if !conn.is_autocommit() || !has_our_tables(conn) {
+        return Err(Error::InvalidQuery);
+    }
+    read_position(conn)
+}
+
+#[test]
+fn each_table_is_read(rt: HostRuntime) -> Result<(), Fail> {
+    for (rows, oids, accepted, position) in CASES {
+        let mut conn = Connection::open_in_memory(rt.alloc())?;
+        conn.execute_batch(TABLES)?;
+        conn.execute_batch(rows)?;
+        let found = oids_of(&mut conn, rt.alloc())?;
+        assert_eq!(rt; found.as_ref().map(|all| all.as_slice()), *oids, "{rows}");
+        assert_eq!(rt; are_accepted(&mut conn, 7)?, *accepted, "{rows}");
+        assert_eq!(rt; position_of(&mut conn)?, *position, "{rows}");
+    }
+    Ok(())
+}
+
+#[test]
+fn no_second_position_is_taken(rt: HostRuntime) -> Result<(), Fail> {
+    let mut conn = Connection::open_in_memory(rt.alloc())?;
+    conn.execute_batch(TABLES)?;
+    conn.execute_batch("INSERT INTO pos (id, lsn) VALUES (0, x'0000000000000130')")?;
+    let refused = conn.execute(
+        "INSERT INTO pos (id, lsn) VALUES (1, x'0000000000000131')",
+        &[],
+    );
+    assert!(rt;
+        matches!(
+            &refused,
+            Err(Error::SqliteFailure(ErrorCode::ConstraintViolation(_)))
+        )
+    );
+    assert_eq!(rt; position_of(&mut conn)?, FoundPosition::At(0x130));
+    Ok(())
+}
+
+/// Tables to be dropped, and whether `rel`, `held` and `pos` stand then.
+const DROPS: &[(&str, bool, bool, bool)] = &[
+    ("", true, true, true),
+    ("DROP TABLE rel", false, true, true),
+    ("DROP TABLE held", true, false, true),
+    ("DROP TABLE pos", true, true, false),
+    ("DROP TABLE held; DROP TABLE rel", false, false, true),
+    ("DROP TABLE rel; DROP TABLE pos", false, true, false),
+    ("DROP TABLE held; DROP TABLE pos", true, false, false),
+    (
+        "DROP TABLE held; DROP TABLE pos; DROP TABLE rel",
+        false,
+        false,
+        false,
+    ),
+];
+
+/// How many definitions stand, whether no row does, and the position.
+fn remains_of<S: Alter>(
+    conn: &mut Connection<S>,
+    left: Remains,
+    alloc: Global,
+) -> Result<(usize, bool, FoundPosition), Error> {
+    if !conn.is_autocommit() || find_remains(conn) != Some(left) {
+        return Err(Error::InvalidQuery);
+    }
+    let count = read_remaining_definitions(conn, left, alloc)?.map_or(0, |all| all.len());
+    if !conn.is_autocommit() || find_remains(conn) != Some(left) {
+        return Err(Error::InvalidQuery);
+    }
+    let has_none = check_remaining_rows(conn, left, &UpTo { copies: 0 })?;
+    if !conn.is_autocommit() || find_remains(conn) != Some(left) {
+        return Err(Error::InvalidQuery);
+    }
+    Ok((count, has_none, read_remaining_position(conn, left)?))
+}
+
+/// Makes the tables in place of those that stand.
+fn remake<S: Alter>(conn: &mut Connection<S>) -> Result<(), Error> {
+    if !conn.is_autocommit() || find_remains(conn).is_none() {
+        return Err(Error::InvalidQuery);
+    }
+    let mut tx = conn.transaction();
+    drop_remains(&mut tx)?;
+    create_tables(&mut tx)?;
+    tx.commit()
+}
+
+#[test]
+fn what_was_dropped_is_told(rt: HostRuntime) -> Result<(), Fail> {
+    for (drops, has_definitions, has_rows, has_position) in DROPS {
+        let mut conn = Connection::open_in_memory(rt.alloc())?;
+        conn.execute_batch(TABLES)?;
+        conn.execute_batch(
+            "INSERT INTO rel (oid, nsp, name, letter, cols) VALUES (1, '', '', 100, x''); INSERT INTO held (oid, ident, body, copies) VALUES (1, x'', x'', 1); INSERT INTO pos (id, lsn) VALUES (0, x'0000000000000130')",
+        )?;
+        conn.execute_batch(drops)?;
+        let left = Remains {
+            has_definitions: *has_definitions,
+            has_rows: *has_rows,
+            has_position: *has_position,
+        };
+        let found = remains_of(&mut conn, left, rt.alloc())?;
+        assert_eq!(rt;
+            found.0,
+            if left.has_definitions { 1 } else { 0 },
+            "{drops}"
+        );
+        assert_eq!(rt; found.1, !left.has_rows, "{drops}");
+        let position = if left.has_position {
+            FoundPosition::At(0x130)
+        } else {
+            FoundPosition::Missing
+        };
+        assert_eq!(rt; found.2, position, "{drops}");
+        remake(&mut conn)?;
+        assert!(rt; has_our_tables(&conn), "{drops}");
+        assert_eq!(rt; position_of(&mut conn)?, FoundPosition::At(0), "{drops}");
+    }
+    Ok(())
+}
+
+#[test]
+fn other_tables_are_no_remains(rt: HostRuntime) -> Result<(), Fail> {
+    let mut conn = Connection::open_in_memory(rt.alloc())?;
+    conn.execute_batch(TABLES)?;
+    conn.execute_batch("DROP TABLE rel; CREATE TABLE rel (oid INTEGER PRIMARY KEY)")?;
+    assert!(rt; find_remains(&conn).is_none());
+    Ok(())
+}
