@@ -1,5 +1,7 @@
 -- The SQL store as what a subscriber keeps its tables in.
-use Rattle.std.proofs.Common.{◌≡◌, List, Result, Ok, Err, OnOk, OnErr, IfOk, IfErr, refl}
+use Rattle.std.proofs.Common.{◌≡◌, ◌⊎◌, inl, inr, ℕ, List, Result, Ok, Err, OnOk, OnErr, IfOk, IfErr, refl, sym, arith}
+use Rattle.sqlite.specs.Held.{state}
+use Rattle.sqlite.specs.State.{Survives}
 use Rattle.sqlite.specs.Store.{Ghosts}
 use Rattle.pgtables.specs.Kept.{tables_of}
 use Rattle.pgapply.specs.declared.rows.DumpRow.{DumpRow}
@@ -10,7 +12,7 @@ use Rattle.pgapply.specs.Dump.{dump}
 use Rattle.pgapply.specs.Stored.{Stored}
 use Rattle.pgapply.specs.Taken as taken
 use Rattle.pgstore.specs.Spelled.{IsStored}
-use Rattle.pgstore.specs.StoreValue.{StoreValue, Holds, Takes, Stays, RefusesWork}
+use Rattle.pgstore.specs.StoreValue.{StoreValue, IsHonest, Serves, Reopens, Holds, Contains, Takes, Stays, RefusesWork, LeavesWork}
 
 module _ {S : Type 0} (g : Ghosts S) where
   abbrev pub holds_tables : StoreValue S → Tables → Type 0
@@ -32,6 +34,28 @@ module _ {S : Type 0} (g : Ghosts S) where
 
   pub shows_tables : (old : StoreValue S) (rows : List DumpRow) → ((v : Stored) → Holds g old v → rows ≡ dump v.tables) → taken.Shows holds_tables old rows
   shows_tables old rows shows tables h = shows (record { tables = tables; position = old.position }) (holds_with_position old tables h)
+
+  -- what a crash may leave of a commit is what it could leave before, or the changes of the commit folded
+  pub leaves_fold : (old new : StoreValue S) (changes : List Change) (end : ℕ) → Survives (state g old.conn) (state g new.conn) (LeavesWork g old changes end) → (Serves g old → (v : Stored) × Contains g old v) → IsHonest g new
+      → (other : StoreValue S) → Reopens g new other → Reopens g old other ⊎ (Serves g old × taken.LeavesFold holds_tables (λ s. s.position) old changes end other)
+  leaves_fold old new changes end survives contains honest other left = elim (survives.crash honest left.db left.left) [
+    | inl was ↦ inl (record { db = left.db; left = was; opened = left.opened })
+    | inr commits ↦
+        let before : IsHonest g old = omega (arith, honest, survives.clean) in
+        let serves : Serves g old = record { honest = before; is_open = commits.0 } in
+        let some = contains serves in
+        let one = commits.1 some.0 some.1.holds in
+        let at = (left.opened (record { tables = one.0; position = end }) one.2).position in
+        inr (
+          serves,
+          (
+            λ tables h.
+                let f = commits.1 (record { tables = tables; position = old.position }) (holds_with_position old tables h) in
+                (f.0, f.1, (left.opened (record { tables = f.0; position = end }) f.2).stored),
+            sym at,
+          ),
+        )
+  ]
 
 pub on_ok : {T E : Type 0} (r : Result T E) (A B : Type 0) → OnOk r A → (A → B) → OnOk r B
 on_ok (Ok t) A B h go = go h

@@ -1,5 +1,5 @@
 -- What a store contains, when it is made and when a commit is taken.
-use Rattle.std.proofs.Common.{◌≡◌, ◌≤◌, ◌<◌, inl, inr, ℕ, List, [], ◌∷◌, Ok, false, IsTrue, refl, sym, ap, subst, ◌∙◌, arith}
+use Rattle.std.proofs.Common.{◌≡◌, ◌≤◌, ◌<◌, ◌^◌, inl, inr, ℕ, List, [], ◌∷◌, Ok, false, IsTrue, refl, sym, ap, subst, ◌∙◌, arith}
 use Rattle.std.specs.Prelude.{option_map}
 use Rattle.std.specs.Int.{w64, to_be_bytes}
 use Rattle.std.specs.Ordering.{nat_cmp}
@@ -35,7 +35,7 @@ abbrev pub IsSettled : {S : Type 0} → Ghosts S → Type 0
 IsSettled {S} g = (s : S) (db : Trees) → IsTrue (g.view s).is_open → g.recovers s db → db ≡ (g.view s).committed
 
 module _ {S : Type 0} (g : Ghosts S) (law : IsSettled g) (conn : Held S) (even : IsTrue (state g conn).is_open → (state g conn).now ≡ (state g conn).committed) where
-  crash_leaves : IfServing g conn ((db : Trees) → (state g conn).may_leave db → db ≡ (state g conn).now.trees)
+  pub crash_leaves : IfServing g conn ((db : Trees) → (state g conn).may_leave db → db ≡ (state g conn).now.trees)
   crash_leaves clean still db may = law conn.store db still may ∙ sym (ap (λ (d : Database). d.trees) (even still))
 
 -- what a store contains is left
@@ -53,18 +53,20 @@ contains g conn position is now =
               kept = subst stored.IsKept whole kept;
               stored = subst (λ t. IsStored v.0 (tables_in t)) (sym same) v.1;
               position = ap (λ t. (tables_in t).place) same ∙ is.same now.honest now.is_open;
+              range = is.range;
             };
       },
     )
 
 -- the trees that a store has, where all that it says of them holds
-trees_of : {S : Type 0} (g : Ghosts S) (conn : Held S) (v : Stored) (db : Trees) → stored.IsKept (state g conn).now → IsStored v.tables (tables_of g conn) → (tables_of g conn).place ≡ to_be_bytes w64 v.position → db ≡ (state g conn).now.trees → AreOf v db
-trees_of g conn v db kept is place same =
+trees_of : {S : Type 0} (g : Ghosts S) (conn : Held S) (v : Stored) (db : Trees) → stored.IsKept (state g conn).now → IsStored v.tables (tables_of g conn) → (tables_of g conn).place ≡ to_be_bytes w64 v.position → v.position < 2 ^ 64 → db ≡ (state g conn).now.trees → AreOf v db
+trees_of g conn v db kept is place range same =
     let whole : ◌≡◌ {A = Database} (state g conn).now (record { schema = store_schema; trees = db }) = λ i. record { schema = kept.schema i; trees = sym same i } in
     record {
       kept = subst stored.IsKept whole kept;
       stored = subst (λ t. IsStored v.tables (tables_in t)) (sym same) is;
       position = ap (λ t. (tables_in t).place) same ∙ place;
+      range = range;
     }
 
 -- these very tables are at least as far
@@ -72,17 +74,17 @@ very : (v : Stored) (db : Trees) → AreOf v db → IsAtLeast v db
 very v db is = (v, is, omega arith, λ _. is)
 
 -- an open store keeps what it has
-open_keeps : {S : Type 0} (g : Ghosts S) (conn : Held S) (v : Stored) → IsSettled g → (IsTrue (state g conn).is_open → (state g conn).now ≡ (state g conn).committed) → IsTrue (state g conn).is_open → stored.IsKept (state g conn).now
-    → IsStored v.tables (tables_of g conn) → (tables_of g conn).place ≡ to_be_bytes w64 v.position → Keeps g (record { conn = conn; position = v.position }) v
-open_keeps g conn v law even still kept is place = record {
+pub open_keeps : {S : Type 0} (g : Ghosts S) (conn : Held S) (v : Stored) → IsSettled g → (IsTrue (state g conn).is_open → (state g conn).now ≡ (state g conn).committed) → IsTrue (state g conn).is_open → stored.IsKept (state g conn).now
+    → IsStored v.tables (tables_of g conn) → (tables_of g conn).place ≡ to_be_bytes w64 v.position → v.position < 2 ^ 64 → Keeps g (record { conn = conn; position = v.position }) v
+open_keeps g conn v law even still kept is place range = record {
   position = refl;
   holds = λ _. record { stored = is; position = refl };
-  left = λ db may. very v db (trees_of g conn v db kept is place (law conn.store db still may ∙ sym (ap (λ (d : Database). d.trees) (even still))));
+  left = λ db may. very v db (trees_of g conn v db kept is place range (law conn.store db still may ∙ sym (ap (λ (d : Database). d.trees) (even still))));
 }
 
 -- ---- a new store
 
-no_value : IsStored map.empty stored.no_tables
+pub no_value : IsStored map.empty stored.no_tables
 no_value = record {
   spelled = record {
     defined = λ oid. get-empty nat_cmp oid ∙ sym (ap (option_map (λ (t : Table). spelled_definition t.definition)) (get-empty nat_cmp oid));
@@ -101,10 +103,11 @@ module _ {S : Type 0} (g : Ghosts S) (conn : Held S) (made : HasCleanDisk (state
   first_store law even settled = record {
     settled = settled;
     kept = λ clean still. (made clean).kept;
+    range = omega arith;
     same = λ clean still. ap (λ (t : stored.Tables). t.place) (made clean).none;
     stored = λ clean still. (map.empty, first_stored clean);
     crash = crash_leaves g law conn even;
-    keeps = λ clean. (nothing_stored, open_keeps g conn nothing_stored law even (made clean).is_open (made clean).kept (first_stored clean) (ap (λ (t : stored.Tables). t.place) (made clean).none));
+    keeps = λ clean. (nothing_stored, open_keeps g conn nothing_stored law even (made clean).is_open (made clean).kept (first_stored clean) (ap (λ (t : stored.Tables). t.place) (made clean).none) (omega arith));
   }
 
   pub first_holds : HasCleanDisk (state g conn) → Serves g (record { conn = conn; position = 0 }) × Holds g (record { conn = conn; position = 0 }) nothing_stored
@@ -134,6 +137,7 @@ module _ {S : Type 0} (g : Ghosts S) (old new : Held S) (position : ℕ) (doubts
     stays_store was left law even settled = record {
       settled = settled;
       kept = λ clean still. let it = same clean still in subst stored.IsKept (sym it.1) (was.kept (omega arith) it.0);
+      range = was.range;
       same = λ clean still. let it = same clean still in ap (λ (d : Database). (tables_in d.trees).place) it.1 ∙ was.same (omega arith) it.0;
       stored = λ clean still.
           let it = same clean still in
@@ -152,11 +156,12 @@ module _ {S : Type 0} (g : Ghosts S) (old new : Held S) (position : ℕ) (doubts
         }
 
   -- the changes were folded
-  module _ (definitions : List RelationDef) (entries : List (ℕ × Op)) (end : ℕ) (bytes : List ℕ) (spells : bytes ≡ to_be_bytes w64 end) (taken : HasCleanDisk (state g new) → HasTaken g old new definitions entries bytes) where
+  module _ (definitions : List RelationDef) (entries : List (ℕ × Op)) (end : ℕ) (bytes : List ℕ) (spells : bytes ≡ to_be_bytes w64 end) (range : end < 2 ^ 64) (taken : HasCleanDisk (state g new) → HasTaken g old new definitions entries bytes) where
     pub taken_store : IsStore g old position → IsSettled g → (IsTrue (state g new).is_open → (state g new).now ≡ (state g new).committed) → (state g new).in_transaction ≡ false → IsStore g new end
     taken_store was law even settled = record {
       settled = settled;
       kept = λ clean still. (taken clean).kept;
+      range = range;
       same = λ clean still. (taken clean).position_is ∙ spells;
       stored = λ clean still.
           let it = taken clean in
@@ -168,7 +173,7 @@ module _ {S : Type 0} (g : Ghosts S) (old new : Held S) (position : ℕ) (doubts
           let it = taken clean in
           let v = was.stored (omega arith) it.was_open in
           let f = it.folds v.0 v.1 in
-          (record { tables = f.0; position = end }, open_keeps g new (record { tables = f.0; position = end }) law even it.is_open it.kept f.2 (it.position_is ∙ spells));
+          (record { tables = f.0; position = end }, open_keeps g new (record { tables = f.0; position = end }) law even it.is_open it.kept f.2 (it.position_is ∙ spells) range);
     }
 
     pub takes : (changes : List Change) → change_values definitions entries ≡ changes → HasCleanDisk (state g new) → Takes g (record { conn = old; position = position }) (record { conn = new; position = end }) changes end
@@ -188,14 +193,14 @@ pub refuses_work : {S : Type 0} (g : Ghosts S) (old : Held S) (position : ℕ) (
 refuses_work g old position definitions entries changes e is h v s = subst (λ cs. IsFault e (fold_changes v.tables cs)) is (h v.tables s.stored)
 
 -- what a crash inside a commit may leave
-module _ {S : Type 0} (g : Ghosts S) (old new : Held S) (position : ℕ) (definitions : List RelationDef) (entries : List (ℕ × Op)) (end : ℕ) (bytes : List ℕ) (spells : bytes ≡ to_be_bytes w64 end)
+module _ {S : Type 0} (g : Ghosts S) (old new : Held S) (position : ℕ) (definitions : List RelationDef) (entries : List (ℕ × Op)) (end : ℕ) (bytes : List ℕ) (spells : bytes ≡ to_be_bytes w64 end) (range : end < 2 ^ 64)
     (changes : List Change) (is : change_values definitions entries ≡ changes) where
   leaves_work : (db : Trees) → LeavesTaken g old definitions entries bytes db → LeavesWork g (record { conn = old; position = position }) changes end db
   leaves_work db h = (
     h.was_open,
     λ v s.
         let f = h.folds v.tables s.stored in
-        (f.0, subst (λ cs. fold_changes v.tables cs ≡ Ok f.0) is f.1, record { kept = h.kept; stored = f.2; position = h.position_is ∙ spells }),
+        (f.0, subst (λ cs. fold_changes v.tables cs ≡ Ok f.0) is f.1, record { kept = h.kept; stored = f.2; position = h.position_is ∙ spells; range = range }),
   )
 
   -- what a commit leaves that wasn't answered Ok is at least as far
@@ -205,7 +210,7 @@ module _ {S : Type 0} (g : Ghosts S) (old new : Held S) (position : ℕ) (defini
     | inl before ↦ keeps.left db before
     | inr taken ↦
         let f = taken.folds v.tables (keeps.holds taken.was_open).stored in
-        (record { tables = f.0; position = end }, record { kept = taken.kept; stored = f.2; position = taken.position_is ∙ spells }, omega (arith, later, at), λ e. absurd (let no : ⊥ = omega (arith, later, at, e) in no))
+        (record { tables = f.0; position = end }, record { kept = taken.kept; stored = f.2; position = taken.position_is ∙ spells; range = range }, omega (arith, later, at), λ e. absurd (let no : ⊥ = omega (arith, later, at, e) in no))
   ]
 
   pub survives_work : Survives (state g old) (state g new) (LeavesTaken g old definitions entries bytes) → Survives (state g old) (state g new) (LeavesWork g (record { conn = old; position = position }) changes end)

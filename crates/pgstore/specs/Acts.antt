@@ -30,6 +30,13 @@ pub record IsNewRow (def : RelationDef) (cells : List Cell) (place body : List �
   pub width : length cells ≡ length def.columns
   pub sent : has_unchanged cells ≡ false
 
+-- a row of a keyed table that was sent whole, at its own place
+pub record StaysWhole (def : RelationDef) (place : List ℕ) (cells : List Cell) : Type 0 where
+  pub keyed : keyed def ≡ true
+  pub place_is : place ≡ identity_key def cells
+  pub width : length cells ≡ length def.columns
+  pub sent : has_unchanged cells ≡ false
+
 -- a row that was found at its place
 pub record IsFound (rows : Rows) (place : List ℕ) (there : stored.Copies) (was : Row) : Type 0 where
   pub at : map.get rows place ≡ Some was

@@ -1,5 +1,5 @@
 -- What a caller sees of a store, and what holds of each.
-use Rattle.std.specs.Prelude.{◌≡◌, ◌≤◌, ℕ, false, List, IsTrue, Ok, refl}
+use Rattle.std.specs.Prelude.{◌≡◌, ◌<◌, ◌≤◌, ◌^◌, ℕ, false, List, IsTrue, Ok, refl}
 use Rattle.std.specs.Coded.{Coded, code_by, coded×, coded_ℕ}
 use Rattle.std.specs.Int.{w64, to_be_bytes}
 use Rattle.std.specs.FinMap as map
@@ -7,7 +7,7 @@ use Rattle.sqlite.specs.Tree.{Trees}
 use Rattle.sqlite.specs.Store.{Ghosts}
 use Rattle.sqlite.specs.Held.{Held, held_code, state}
 use Rattle.sqlite.specs.State.{HasCleanDisk}
-use Rattle.pgtables.specs.Schema.{store_schema}
+use Rattle.pgtables.specs.Schema.{no_schema, store_schema}
 use Rattle.pgtables.specs.Kept as stored
 use Rattle.pgtables.specs.Kept.{IfServing, IsKept, tables_in, tables_of}
 use Rattle.pgapply.specs.declared.rows.StoreFault.{StoreFault}
@@ -29,6 +29,7 @@ pub record AreOf (v : Stored) (db : Trees) : Type 0 where
   pub kept : IsKept (record { schema = store_schema; trees = db })
   pub stored : IsStored v.tables (tables_in db)
   pub position : (tables_in db).place ≡ to_be_bytes w64 v.position
+  pub range : v.position < 2 ^ 64
 
 -- trees at least as far as these tables: at a position that is no smaller, and with these very tables where it is the same
 abbrev pub IsAtLeast : Stored → Trees → Type 0
@@ -65,10 +66,17 @@ module _ {S : Type 0} (g : Ghosts S) where
     pub holds : IsTrue (state g s.conn).is_open → Holds s v
     pub left : (db : Trees) → (state g s.conn).may_leave db → IsAtLeast v db
 
+  -- the new one was opened on what a crash at this moment may leave of the old one
+  pub record Reopens (old new : StoreValue S) : Type 0 where
+    pub db : Trees
+    pub left : (state g old.conn).may_leave db
+    pub opened : (v : Stored) → AreOf v db → Holds new v
+
   -- what holds of each store
   pub record IsStore (conn : Held S) (position : ℕ) : Type 0 where
     pub settled : (state g conn).in_transaction ≡ false
     pub kept : IfServing g conn (IsKept (state g conn).now)
+    pub range : position < 2 ^ 64
     -- the position that is kept is the one that is stored
     pub same : IfServing g conn ((tables_of g conn).place ≡ to_be_bytes w64 position)
     pub stored : IfServing g conn ((v : Tables) × IsStored v (tables_of g conn))
@@ -101,3 +109,8 @@ module _ {S : Type 0} (g : Ghosts S) where
   -- what a crash may leave of a commit: the changes folded, with this position
   abbrev pub LeavesWork : StoreValue S → List Change → ℕ → Trees → Type 0
   LeavesWork old changes end db = IsTrue (state g old.conn).is_open × ((v : Stored) → Holds old v → (next : Tables) × (fold_changes v.tables changes ≡ Ok next) × AreOf (record { tables = next; position = end }) db)
+
+  -- the store holds what stands in the tables of a connection, and nothing at 0/0 where that has no tables
+  pub record Adopts (conn : Held S) (store : StoreValue S) : Type 0 where
+    pub stood : (v : Stored) → AreOf v (state g conn).now.trees → Holds store v
+    pub bare : (state g conn).now.schema ≡ no_schema → Holds store nothing_stored

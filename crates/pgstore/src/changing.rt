@@ -2,27 +2,29 @@
 //!
 //! PostgreSQL documentation, Logical Replication; ALTER TABLE, REPLICA IDENTITY.
 
-ghost use Rattle.std.specs.Prelude.{◌≡◌, false, List, length, OnOk, IfErr, Ok};
+ghost use Rattle.std.specs.Prelude.{◌≡◌, false, true, List, length, OnOk, IfOk, IfErr, Ok};
 ghost use Rattle.std.specs.FinMap.{empty};
 ghost use Rattle.sqlite.specs.Held.{state};
 ghost use Rattle.sqlite.specs.State.{HasCleanDisk};
 ghost use Rattle.pgtuple.specs.declared.cell.Cell.{Cell};
+ghost use Rattle.pgtuple.specs.Cells.{tuple_spelling};
+ghost use Rattle.pgtuple.specs.Limits.{IsTuple};
 ghost use Rattle.pgrel.specs.Identity.{has_unchanged, resolved};
-ghost use Rattle.pgtables.specs.Kept.{Goes, InTransaction, Makes, tables_of};
+ghost use Rattle.pgtables.specs.Kept.{Goes, InTransaction, Makes, tables_of, with_body};
 ghost use Rattle.pgapply.specs.declared.op.Op.TheVariants as op;
 ghost use Rattle.pgapply.specs.Value.{Row, Rows, Tables};
 ghost use Rattle.pgapply.specs.Apply.{with_row, without_row, rows_after};
 ghost use Rattle.pgapply.specs.Stored.{IsFault};
 ghost use Rattle.pgstore.specs.Spelled.{IsChanging};
 ghost use Rattle.pgapply.specs.Stored.{IsOwnFault};
-ghost use Rattle.pgstore.specs.Acts.{IsNewRow, Adds, Changes, Refuses, Moves, RefusesToMove, Replaces, RefusesToReplace, AddsCopy, RefusesCopy, taken_row};
+ghost use Rattle.pgstore.specs.Acts.{IsNewRow, Adds, Changes, Refuses, Moves, RefusesToMove, Replaces, RefusesToReplace, AddsCopy, RefusesCopy, StaysWhole, taken_row};
 
 use crate::encoded::{encode, encode_identity, encode_searched, lend_prior, read_tuple};
 use crate::fault::Refusal;
 use pgapply::{Op, StoreFault};
 use pglogical::{OldKind, RelationDef};
-use pgrel::{check_insert, keyed, resolve};
-use pgtables::{StoredRow, delete_row, delete_rows, find_row, put_row};
+use pgrel::{check_insert, has_unchanged, keyed, resolve};
+use pgtables::{StoredRow, delete_row, delete_rows, find_row, put_row, update_row};
 use pgtuple::TupleRef;
 use sqlite::{Alter, Transaction};
 use std::alloc::Global;
@@ -47,7 +49,7 @@ fn take_row<S: Alter>(
     if copies > 1 {
         put_row(tx, oid, place, row.body(), copies - 1)?;
     } else {
-        delete_row(tx, oid, place)?;
+        let _was_there = delete_row(tx, oid, place)?;
     }
     Ok(())
 }
@@ -165,6 +167,45 @@ fn replace_row<S: Alter>(
     move_row(tx, alloc, def, place, there, &next.borrowed())
 }
 
+/// Whether a row of a keyed table was sent whole and stays at its place, so that nothing of the row before it has to be read.
+fn stays_whole(
+    alloc: Global,
+    def: &RelationDef,
+    place: &[u8],
+    row: &TupleRef<'_>,
+) -> Result<bool, Refusal>
+    requires { length row.now ≡ length def.now.columns }
+    ensures stays { IfOk result (λ stays. stays ≡ true → StaysWhole def.now place.now row.now) }
+    ensures fault { IfErr result IsOwnFault }
+{
+    if !keyed(def) || has_unchanged(row) {
+        return Ok(false);
+    }
+    let own = encode_identity(alloc, def, row)?;
+    Ok(own.as_slice() == place)
+}
+
+/// A row that was sent whole is the row at its place from now on, if one stands there.
+fn set_row<S: Alter>(
+    tx: &mut Transaction<'_, S>,
+    alloc: Global,
+    oid: u32,
+    place: &[u8],
+    row: &TupleRef<'_>,
+) -> Result<(), Refusal>
+    requires { InTransaction S.Store tx.old.conn.now }
+    ensures same_reference { tx.new.conn.ghost_name ≡ tx.old.conn.ghost_name }
+    ensures made { HasCleanDisk (state S.Store tx.new.conn.now) → OnOk result (Makes S.Store (with_body oid place.now (tuple_spelling row.now)) tx.old.conn.now tx.new.conn.now) }
+    ensures tuple { IsTuple row.now }
+    ensures fault { IfErr result IsOwnFault }
+    ensures goes { Goes S.Store tx.old.conn.now tx.new.conn.now }
+{
+    let body = encode(alloc, row)?;
+    // Where no row has the identity, an update does nothing.
+    let _was_there = update_row(tx, oid, place, body.as_slice())?;
+    Ok(())
+}
+
 /// An inserted row.
 fn insert<S: Alter>(
     tx: &mut Transaction<'_, S>,
@@ -200,6 +241,9 @@ fn update<S: Alter>(
 {
     let identity = encode_searched(alloc, def, lend_prior(prior), Some(row.lend()))?;
     let place = identity.as_slice();
+    if stays_whole(alloc, def, place, row)? {
+        return set_row(tx, alloc, def.oid, place, row);
+    }
     match find_row(tx, def.oid, place)? {
         None => Ok(()),
         Some(there) => replace_row(tx, alloc, def, place, &there, row),
@@ -222,6 +266,11 @@ fn delete<S: Alter>(
 {
     let identity = encode_searched(alloc, def, Some((kind, row.lend())), None)?;
     let place = identity.as_slice();
+    if keyed(def) {
+        // One copy stands there at most.
+        let _was_there = delete_row(tx, def.oid, place)?;
+        return Ok(());
+    }
     match find_row(tx, def.oid, place)? {
         None => Ok(()),
         Some(there) => take_row(tx, def.oid, place, &there),

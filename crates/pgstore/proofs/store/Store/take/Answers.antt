@@ -1,4 +1,4 @@
-use Rattle.std.proofs.Common.{◌≡◌, ◌<◌, sym, subst, ap, ◌∙◌}
+use Rattle.std.proofs.Common.{◌≡◌, ◌<◌, ◌^◌, arith, sym, subst, ap, ◌∙◌}
 use Rattle.std.specs.Int.{w64, to_be_bytes}
 use Rattle.sqlite.specs.Held.{state}
 use Rattle.sqlite.specs.State.{Survives}
@@ -10,38 +10,43 @@ use Rattle.pgstore.proofs.store.Store.take.Goals as goal
 pub invariant_of-self : goal.invariant_of-self
 invariant_of-self g c =
     let settled = c.take_all-taken.ensures.settled in
+    let range : c.args.end < 2 ^ 64 = omega arith in
     let spells : c.to_be_bytes.result ≡ to_be_bytes w64 c.args.end = c.to_be_bytes.ensures ∙ ap (to_be_bytes w64) c.end.view_is in
     let changes : change_values c.definitions.result.now c.entries.result.now ≡ c.args.work.now.changes = ap (λ ds. change_values ds c.entries.result.now) c.definitions.ensures.definitions ∙ c.entries.ensures.changes in
     let later : c.self.inside.position < c.args.end = subst (λ (s : StoreValue g.row.S.Denot). s.position < c.args.end) (sym c.self.view_is) c.requires in
     stays_store g.S.Store c.self.inside.conn c.take_all-taken.new.conn c.self.inside.position c.take_all-taken.ensures.crash.clean c.in_err-taken.ensures.unchanged c.self.invariant
-    (refused_left g.S.Store c.self.inside.conn c.take_all-taken.new.conn c.self.inside.position c.definitions.result.now c.entries.result.now c.args.end c.to_be_bytes.result spells c.args.work.now.changes changes later c.take_all-taken.ensures.crash)
+    (refused_left g.S.Store c.self.inside.conn c.take_all-taken.new.conn c.self.inside.position c.definitions.result.now c.entries.result.now c.args.end c.to_be_bytes.result spells range c.args.work.now.changes changes later c.take_all-taken.ensures.crash)
     g.met.S.Store.settled
     c.see_committed.ensures settled
 
 pub invariant_of-self-2 : goal.invariant_of-self-2
 invariant_of-self-2 g c =
     let settled = c.take_all-taken.ensures.settled in
+    let range : c.args.end < 2 ^ 64 = omega arith in
     let spells : c.to_be_bytes.result ≡ to_be_bytes w64 c.args.end = c.to_be_bytes.ensures ∙ ap (to_be_bytes w64) c.end.view_is in
-    taken_store g.S.Store c.self.inside.conn c.take_all-taken.new.conn c.self.inside.position c.take_all-taken.ensures.crash.clean c.definitions.result.now c.entries.result.now c.args.end c.to_be_bytes.result spells c.in_ok-taken.ensures.taken
+    taken_store g.S.Store c.self.inside.conn c.take_all-taken.new.conn c.self.inside.position c.take_all-taken.ensures.crash.clean c.definitions.result.now c.entries.result.now c.args.end c.to_be_bytes.result spells range c.in_ok-taken.ensures.taken
     c.self.invariant g.met.S.Store.settled c.see_committed.ensures settled
 
 pub returns-clause-taken : goal.returns-clause-taken
 returns-clause-taken g c clean =
+    let range : c.args.end < 2 ^ 64 = omega arith in
     let spells : c.to_be_bytes.result ≡ to_be_bytes w64 c.args.end = c.to_be_bytes.ensures ∙ ap (to_be_bytes w64) c.end.view_is in
     let changes : change_values c.definitions.result.now c.entries.result.now ≡ c.args.work.now.changes = ap (λ ds. change_values ds c.entries.result.now) c.definitions.ensures.definitions ∙ c.entries.ensures.changes in
     subst (λ (s : StoreValue g.row.S.Denot). Takes g.S.Store s (record { conn = c.take_all-taken.new.conn; position = c.args.end }) c.args.work.now.changes c.args.end) c.self.view_is
-    (takes g.S.Store c.self.inside.conn c.take_all-taken.new.conn c.self.inside.position c.take_all-taken.ensures.crash.clean c.definitions.result.now c.entries.result.now c.args.end c.to_be_bytes.result spells c.in_ok-taken.ensures.taken c.args.work.now.changes changes clean)
+    (takes g.S.Store c.self.inside.conn c.take_all-taken.new.conn c.self.inside.position c.take_all-taken.ensures.crash.clean c.definitions.result.now c.entries.result.now c.args.end c.to_be_bytes.result spells range c.in_ok-taken.ensures.taken c.args.work.now.changes changes clean)
 
 pub returns-in_err-taken-clause-crash : goal.returns-in_err-taken-clause-crash
 returns-in_err-taken-clause-crash g c =
+    let range : c.args.end < 2 ^ 64 = omega arith in
     let spells : c.to_be_bytes.result ≡ to_be_bytes w64 c.args.end = c.to_be_bytes.ensures ∙ ap (to_be_bytes w64) c.end.view_is in
     let changes : change_values c.definitions.result.now c.entries.result.now ≡ c.args.work.now.changes = ap (λ ds. change_values ds c.entries.result.now) c.definitions.ensures.definitions ∙ c.entries.ensures.changes in
     subst (λ (s : StoreValue g.row.S.Denot). Survives (state g.S.Store s.conn) (state g.S.Store c.take_all-taken.new.conn) (LeavesWork g.S.Store s c.args.work.now.changes c.args.end)) c.self.view_is
-    (survives_work g.S.Store c.self.inside.conn c.take_all-taken.new.conn c.self.inside.position c.definitions.result.now c.entries.result.now c.args.end c.to_be_bytes.result spells c.args.work.now.changes changes c.take_all-taken.ensures.crash)
+    (survives_work g.S.Store c.self.inside.conn c.take_all-taken.new.conn c.self.inside.position c.definitions.result.now c.entries.result.now c.args.end c.to_be_bytes.result spells range c.args.work.now.changes changes c.take_all-taken.ensures.crash)
 
 pub returns-clause-crash : goal.returns-clause-crash
 returns-clause-crash g c =
+    let range : c.args.end < 2 ^ 64 = omega arith in
     let spells : c.to_be_bytes.result ≡ to_be_bytes w64 c.args.end = c.to_be_bytes.ensures ∙ ap (to_be_bytes w64) c.end.view_is in
     let changes : change_values c.definitions.result.now c.entries.result.now ≡ c.args.work.now.changes = ap (λ ds. change_values ds c.entries.result.now) c.definitions.ensures.definitions ∙ c.entries.ensures.changes in
     subst (λ (s : StoreValue g.row.S.Denot). Survives (state g.S.Store s.conn) (state g.S.Store c.take_all-taken.new.conn) (LeavesWork g.S.Store s c.args.work.now.changes c.args.end)) c.self.view_is
-    (survives_work g.S.Store c.self.inside.conn c.take_all-taken.new.conn c.self.inside.position c.definitions.result.now c.entries.result.now c.args.end c.to_be_bytes.result spells c.args.work.now.changes changes c.take_all-taken.ensures.crash)
+    (survives_work g.S.Store c.self.inside.conn c.take_all-taken.new.conn c.self.inside.position c.definitions.result.now c.entries.result.now c.args.end c.to_be_bytes.result spells range c.args.work.now.changes changes c.take_all-taken.ensures.crash)

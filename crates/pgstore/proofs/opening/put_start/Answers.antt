@@ -1,0 +1,18 @@
+use Rattle.std.proofs.Common.{◌≡◌, rules, subst}
+use Rattle.sqlite.specs.Held.{Held, state}
+use Rattle.sqlite.specs.State.{Survives}
+use Rattle.pgstore.specs.StoreValue.{AreOf, nothing_stored}
+use Rattle.pgstore.proofs.Beginning.{crash_begun}
+use Rattle.pgstore.proofs.opening.put_start.Goals as goal
+
+pub returns-in_err-commit-clause-crash : goal.returns-in_err-commit-clause-crash
+returns-in_err-commit-clause-crash g c =
+    let same : c.commit.new.self.0 ≡ c.conn-2-1.given.0 = search rules in
+    subst (λ (h : Held g.row.S.Denot). Survives (state g.S.Store c.args.conn.now) (state g.S.Store h) (AreOf nothing_stored)) same
+    (crash_begun g.S.Store c.args.conn.now c.transaction-tx.result.conn.now c.put_first_position.new.tx.conn.now c.commit.new.self.0 c.transaction-tx.ensures.begun c.in_ok-put_first_position.ensures.made c.put_first_position.ensures.survives c.commit.ensures.survives)
+
+pub returns-clause-crash : goal.returns-clause-crash
+returns-clause-crash g c =
+    let same : c.commit.new.self.0 ≡ c.conn-2-1.given.0 = search rules in
+    subst (λ (h : Held g.row.S.Denot). Survives (state g.S.Store c.args.conn.now) (state g.S.Store h) (AreOf nothing_stored)) same
+    (crash_begun g.S.Store c.args.conn.now c.transaction-tx.result.conn.now c.put_first_position.new.tx.conn.now c.commit.new.self.0 c.transaction-tx.ensures.begun c.in_ok-put_first_position.ensures.made c.put_first_position.ensures.survives c.commit.ensures.survives)

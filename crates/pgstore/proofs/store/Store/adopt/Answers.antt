@@ -1,0 +1,9 @@
+use Rattle.std.proofs.Common.{◌<◌, ◌^◌, arith}
+use Rattle.pgstore.proofs.Founding.{founded_store}
+use Rattle.pgstore.proofs.store.Store.adopt.Goals as goal
+
+pub invariant_of-result : goal.invariant_of-result
+invariant_of-result g c =
+    let settled = c.in-Ok.ensures.settled in
+    let range : c.in-Ok.position < 2 ^ 64 = omega arith in
+    founded_store g.S.Store c.args.conn c.adopt_tables.new.conn c.in-Ok.position range c.in-Ok.ensures.founds g.met.S.Store.settled c.see_committed.ensures settled

@@ -1,0 +1,210 @@
+//! What stands in an opened connection, taken over where a store may have written it.
+//!
+//! PostgreSQL documentation, Logical Replication Message Formats, Relation and TupleData; ALTER TABLE, REPLICA IDENTITY.
+
+ghost use Rattle.std.specs.Prelude.{◌≡◌, ◌≤◌, ℕ, None, Ok, Some, true, false, IsTrue, OnOk, OnErr, IfOk, IfErr, IfSome, T};
+ghost use Rattle.std.specs.Ordering.{nat_cmp};
+ghost use Rattle.std.specs.FinMap.{is_sorted};
+ghost use Rattle.sqlite.specs.Held.{state};
+ghost use Rattle.sqlite.specs.State.{HasCleanDisk, Survives};
+ghost use Rattle.sqlite.specs.Effect.{IsDatabase};
+ghost use Rattle.sqlite.specs.View.{doubt};
+ghost use Rattle.pglogical.specs.Spelling.{AreColumns, IsLetter, IsText, columns_spelling};
+ghost use Rattle.pgtables.specs.Schema.{store_schema};
+ghost use Rattle.pgtables.specs.Kept.{AreNew, IfServing};
+ghost use Rattle.pgstore.specs.Adopted.{AreDefinitionsOf, Founds, IsDefinitionOf, IsRefusal, IsRowOf, Stands};
+ghost use Rattle.pgstore.specs.StoreValue.{AreOf, nothing_stored};
+
+use crate::changing::MOST_COPIES;
+use crate::encoded::encode_identity;
+use crate::fault::Refusal;
+use crate::opening::{make_tables, put_start, sees_schema};
+use pgapply::StoreFault;
+use pglogical::{Column, DecodeFault, Reason, RelationDef, decode_columns};
+use pglsn::Lsn;
+use pgrel::{Book, check_insert, keyed};
+use pgtables::{
+    FoundPosition, RowCheck, StoredDefinition, check_rows, has_no_tables, has_our_tables,
+    read_definitions, read_position,
+};
+use pgtuple::{Seq, Text, decode_ref};
+use sqlite::{Alter, Connection, Error, ErrorCode};
+use std::alloc::Global;
+
+/// A stored name as a text. One with a zero byte was never received.
+fn read_name(alloc: Global, name: &str) -> Result<Text, Refusal>
+    ensures ok { IfOk result (λ text. (text ≡ name.now) × IsText text) }
+    ensures err { IfErr result IsRefusal }
+{
+    if name.as_bytes().contains(&0) {
+        return Err(Refusal::new(StoreFault::NotAStore));
+    }
+    Ok(Text::from_string(String::from_str(alloc, name)?))
+}
+
+/// A stored replica identity as its letter.
+fn read_letter(stored: u32) -> Result<u8, Refusal>
+    ensures ok { IfOk result (λ letter. (letter ≡ stored) × IsLetter letter) }
+    ensures err { IfErr result IsRefusal }
+{
+    match u8::try_from(stored) {
+        Ok(letter) if matches!(letter, b'd' | b'n' | b'f' | b'i') => Ok(letter),
+        _ => Err(Refusal::new(StoreFault::NotAStore)),
+    }
+}
+
+/// The columns that stored bytes encode.
+fn read_columns(alloc: Global, bytes: &[u8]) -> Result<Seq<Column>, Refusal>
+    ensures ok { IfOk result (λ columns. AreColumns columns × (columns_spelling columns ≡ bytes.now)) }
+    ensures err { IfErr result IsRefusal }
+{
+    match decode_columns(alloc, bytes) {
+        Ok(columns) => Ok(columns),
+        Err(
+            DecodeFault {
+                reason: Reason::Memory,
+                ..
+            },
+        ) => Err(Refusal::new(StoreFault::Memory)),
+        Err(_) => Err(Refusal::new(StoreFault::NotAStore)),
+    }
+}
+
+/// A stored definition, under its OID.
+fn read_definition(
+    alloc: Global,
+    oid: u32,
+    stored: &StoredDefinition,
+) -> Result<RelationDef, Refusal>
+    ensures ok { IfOk result (IsDefinitionOf oid stored.now) }
+    ensures err { IfErr result IsRefusal }
+{
+    Ok(RelationDef {
+        oid,
+        namespace: read_name(alloc, stored.namespace())?,
+        name: read_name(alloc, stored.name())?,
+        letter: read_letter(stored.letter())?,
+        columns: read_columns(alloc, stored.columns())?,
+    })
+}
+
+/// The stored definitions, which are given by rising OID.
+fn read_book(alloc: Global, stored: &[(u32, StoredDefinition)]) -> Result<Book, Refusal>
+    ensures ok { IfOk result (λ book. T (is_sorted nat_cmp stored.now) → AreDefinitionsOf stored.now book) }
+    ensures err { IfErr result IsRefusal }
+{
+    let mut book = Book::new(alloc);
+    for (oid, definition) in stored {
+        book.set(read_definition(alloc, *oid, definition)?)?;
+    }
+    Ok(book)
+}
+
+/// Whether the bytes of a row are one of the relation, under the identity that it has there.
+fn is_row(
+    alloc: Global,
+    def: &RelationDef,
+    ident: &[u8],
+    body: &[u8],
+    copies: u32,
+) -> Result<bool, Refusal>
+    ensures row { IfOk result (λ is. is ≡ true → IsRowOf def.now ident.now (record { body = body.now; copies = copies })) }
+{
+    let Ok((row, len)) = decode_ref(body) else {
+        return Ok(false);
+    };
+    if len != body.len() || check_insert(def, &row).is_err() {
+        return Ok(false);
+    }
+    let most = if keyed(def) { 1 } else { MOST_COPIES };
+    if copies == 0 || copies > most {
+        return Ok(false);
+    }
+    Ok(encode_identity(alloc, def, &row)?.as_slice() == ident)
+}
+
+/// Checks the stored rows against the definitions.
+#[derive(Clone, Copy)]
+struct KnownRows<'a> {
+    alloc: Global,
+    definitions: &'a Book,
+}
+
+impl RowCheck for KnownRows<'_> {
+    ghost use Rattle.pgstore.specs.Adopted.{IsKnownRow};
+
+    ghost accepts = { λ check oid ident kept. IsKnownRow check.definitions.now oid ident kept };
+
+    fn check(&self, oid: u32, ident: &[u8], body: &[u8], copies: u32) -> Result<bool, Error> {
+        let Ok(def) = self.definitions.get(oid) else {
+            return Ok(false);
+        };
+        is_row(self.alloc, def, ident, body, copies).map_err(|_| Error::SqliteFailure(
+            ErrorCode::OutOfMemory,
+        ))
+    }
+}
+
+/// The position at which the tables of a store are, or `None` where they are empty and have none yet. Nothing changes.
+fn read_tables<S: Alter>(conn: &mut Connection<S>, alloc: Global) -> Result<Option<Lsn>, Refusal>
+    requires settled { (state S.Store conn.old).in_transaction ≡ false }
+    requires ours { IfServing S.Store conn.old ((state S.Store conn.old).now.schema ≡ store_schema) }
+    requires sound { IfServing S.Store conn.old (IsDatabase (state S.Store conn.old).now) }
+    ensures settled { (state S.Store conn.new).in_transaction ≡ false }
+    ensures clean { doubt (state S.Store conn.old).is_clean ≤ doubt (state S.Store conn.new).is_clean }
+    ensures serving { HasCleanDisk (state S.Store conn.new) → OnOk result (IsTrue (state S.Store conn.new).is_open) }
+    ensures unchanged { IfServing S.Store conn.new (IsTrue (state S.Store conn.old).is_open × ((state S.Store conn.new).now ≡ (state S.Store conn.old).now)) }
+    ensures stands { HasCleanDisk (state S.Store conn.new) → IfOk result (λ found. IfSome found (Stands S.Store conn.old)) }
+    ensures bare { HasCleanDisk (state S.Store conn.new) → result ≡ Ok None → AreNew (state S.Store conn.old).now }
+    ensures crash { Survives (state S.Store conn.old) (state S.Store conn.new) (λ _. ⊥) }
+    ensures err { IfErr result IsRefusal }
+{
+    let Some(definitions) = read_definitions(conn, alloc)? else {
+        return Err(Refusal::new(StoreFault::NotAStore));
+    };
+    let book = read_book(alloc, definitions.as_slice())?;
+    let rows = KnownRows {
+        alloc,
+        definitions: &book,
+    };
+    if !check_rows(conn, &rows)? {
+        return Err(Refusal::new(StoreFault::NotAStore));
+    }
+    match read_position(conn)? {
+        FoundPosition::At(position) => Ok(Some(Lsn(position))),
+        FoundPosition::Missing if definitions.is_empty() => Ok(None),
+        _ => Err(Refusal::new(StoreFault::NotAStore)),
+    }
+}
+
+/// The position at which the tables of a connection are. Tables that aren't there are made, and tables that are empty get
+/// position 0/0.
+pub(crate) fn adopt_tables<S: Alter>(
+    conn: &mut Connection<S>,
+    alloc: Global,
+) -> Result<Lsn, Refusal>
+    ensures settled { OnOk result ((state S.Store conn.new).in_transaction ≡ false) }
+    ensures founds { HasCleanDisk (state S.Store conn.new) → IfOk result (Founds S.Store conn.old conn.new) }
+    ensures unchanged { IfServing S.Store conn.new (OnErr result ((state S.Store conn.old).in_transaction ≡ false → (state S.Store conn.new).now ≡ (state S.Store conn.old).now)) }
+    ensures crash { Survives (state S.Store conn.old) (state S.Store conn.new) (AreOf nothing_stored) }
+    ensures err { IfErr result IsRefusal }
+{
+    if !conn.is_autocommit() {
+        return Err(Refusal::new(StoreFault::Refused));
+    }
+    if has_no_tables(conn) {
+        sees_schema(conn);
+        make_tables(conn)?;
+        return Ok(Lsn(0));
+    }
+    if !has_our_tables(conn) {
+        return Err(Refusal::new(StoreFault::NotAStore));
+    }
+    match read_tables(conn, alloc)? {
+        Some(position) => Ok(position),
+        None => {
+            put_start(conn)?;
+            Ok(Lsn(0))
+        }
+    }
+}
