@@ -48,6 +48,7 @@ module _ (tables : Tables) (position confirmed end : ℕ) (relations : RelationC
     refuses_changes less changes store.Width described is = (StoreRefuses end store.Width, refused_by changes store.Width described is, refl)
     refuses_changes less changes store.TooManyCopies described is = (StoreRefuses end store.TooManyCopies, refused_by changes store.TooManyCopies described is, refl)
     refuses_changes less changes store.Refused described is = (less, reaches_store changes described)
+    refuses_changes less changes store.NotAStore described is = (StoreRefuses end store.NotAStore, refused_by changes store.NotAStore described is, refl)
     refuses_changes less changes store.Memory described is = tt
 
     lacking : (oid : ℕ) → described_from (known_to relations) items ≡ Err oid → on_commit was end items ≡ Stopped was (UnknownRelation oid)

@@ -69,7 +69,7 @@ module _ {C : Type 0} (serves : C → Type 0) (holds : C → Tables → Type 0) 
   frame_why d frame rest s f NextMessage begins h = inr (frame, h.0, begins, h.1)
   frame_why d frame rest s f NeverAnswered begins h = absurd h
 
-  taken_to : (d : Deframed) (a : Applied C) (taken : ℕ) → IsFedTo holds place now serves d₀ a₀ piece d a taken → IsTakenTo holds place now serves d₀ a₀ piece d a taken
+  pub taken_to : (d : Deframed) (a : Applied C) (taken : ℕ) → IsFedTo holds place now serves d₀ a₀ piece d a taken → IsTakenTo holds place now serves d₀ a₀ piece d a taken
   taken_to d a taken to = record { calls = to.calls; fs = to.fs; leads = to.leads; max = to.max; goes = to.goes }
 
   pub stops_by_frame : (d : Deframed) (a a' : Applied C) (taken : ℕ) → IsFedTo holds place now serves d₀ a₀ piece d a taken → serves a.store → (f : Fault) (frame : Frame) → Stands d frame → IsStopped holds place (StopsAt frame now) a a' f

@@ -74,6 +74,7 @@ store_settles store.UnchangedInInsert other = (λ e. cc, λ e. cc)
 store_settles store.Width other = (λ e. cc, λ e. cc)
 store_settles store.TooManyCopies other = (λ e. cc, λ e. cc)
 store_settles store.Refused other = absurd (other refl)
+store_settles store.NotAStore other = (λ e. cc, λ e. cc)
 store_settles store.Memory other = (λ e. cc, λ e. cc)
 
 settles : (f : Fault) → IsSettledFault f → (cause f ≡ OutOfMemory → ⊥) × (cause f ≡ StatementRefused → ⊥)

@@ -23,13 +23,13 @@ nothing_read : (unread : Option (List ℕ)) → Consumes unread unread []
 nothing_read None = tt
 nothing_read (Some xs) = refl
 
-read_on : (a b c : Option (List ℕ)) (f p : List ℕ) → Consumes a b f → Consumes b c p → Consumes a c (f ++ p)
+pub read_on : (a b c : Option (List ℕ)) (f p : List ℕ) → Consumes a b f → Consumes b c p → Consumes a c (f ++ p)
 read_on None b c f p one two = tt
 read_on (Some xs) None c f p one two = absurd one
 read_on (Some xs) (Some ys) None f p one two = absurd two
 read_on (Some xs) (Some ys) (Some zs) f p one two = one ∙ ap (λ r. f ++ r) two ∙ sym (append_assoc f p zs)
 
-kept_on : (a b c : Option (List ℕ)) (f : List ℕ) → Consumes a b f → Keeps b c → Consumes a c f
+pub kept_on : (a b c : Option (List ℕ)) (f : List ℕ) → Consumes a b f → Keeps b c → Consumes a c f
 kept_on None b c f one two = tt
 kept_on (Some xs) None c f one two = absurd one
 kept_on (Some xs) (Some ys) None f one two = absurd two
@@ -41,14 +41,14 @@ taken_piece room count within room_is some =
     let same : length (take count room) ≡ count = length-take-le count room within in
     (omega (arith, same, some), omega (arith, same, within, room_is))
 
-bytes_more : (pieces : List (List ℕ)) (piece : List ℕ) → bytes_in (pieces ++ piece ∷ []) ≡ bytes_in pieces ++ piece
+pub bytes_more : (pieces : List (List ℕ)) (piece : List ℕ) → bytes_in (pieces ++ piece ∷ []) ≡ bytes_in pieces ++ piece
 bytes_more pieces piece = flat_map-append (λ (p : List ℕ). p) pieces (piece ∷ []) ∙ ap (λ (x : List ℕ). bytes_in pieces ++ x) (append-nil piece)
 
 one_piece : (piece : List ℕ) → IsPiece piece → All (λ (p : List ℕ). (0 < length p) × (length p ≤ 4096)) (piece ∷ [])
 one_piece piece is zero d lt = is
 one_piece piece is (suc k) d lt = absurd (omega arith)
 
-read_more : (a b c : Option (List ℕ)) (pieces : List (List ℕ)) (piece : List ℕ) → AreRead a b pieces → Consumes b c piece → IsPiece piece → AreRead a c (pieces ++ piece ∷ [])
+pub read_more : (a b c : Option (List ℕ)) (pieces : List (List ℕ)) (piece : List ℕ) → AreRead a b pieces → Consumes b c piece → IsPiece piece → AreRead a c (pieces ++ piece ∷ [])
 read_more a b c pieces piece so next is = record {
   each = All-append (λ (p : List ℕ). (0 < length p) × (length p ≤ 4096)) pieces (piece ∷ []) so.each (one_piece piece is);
   read = subst (Consumes a c) (sym (bytes_more pieces piece)) (read_on a b c (bytes_in pieces) piece so.read next);

@@ -63,7 +63,7 @@ abbrev pub spool_cause : SpoolFault → Cause
 spool_cause spool.SpoolFull = NextMessage
 spool_cause spool.Memory = NeverAnswered
 
--- A store in a file has one fault more, that it isn't the form of a store; its cause stands here with it.
+-- Only opening a store answers NotAStore, unless the changes themselves had it.
 abbrev pub store_cause : StoreFault → Cause
 store_cause store.Clash = NextMessage
 store_cause store.NoIdentity = NextMessage
@@ -72,6 +72,7 @@ store_cause store.UnchangedInInsert = NextMessage
 store_cause store.Width = NextMessage
 store_cause store.TooManyCopies = NextMessage
 store_cause store.Refused = StatementRefused
+store_cause store.NotAStore = NextMessage
 store_cause store.Memory = NeverAnswered
 
 -- Read is the fault of a reader, and Closed changes nothing.

@@ -3,7 +3,7 @@
 //!
 //! PostgreSQL documentation, Streaming Replication Protocol; Logical Streaming Replication Protocol.
 
-ghost use Rattle.std.specs.Prelude.{◌≡◌, ◌⊎◌, ◌∷◌, ◌++◌, [], ℕ, ℤ, max, if◌then◌else◌, false, true, Ok, Err, OnOk, OnErr, IfOk, IfErr};
+ghost use Rattle.std.specs.Prelude.{◌≡◌, ◌≤◌, ◌⊎◌, ◌∷◌, ◌++◌, [], ℕ, ℤ, max, if◌then◌else◌, false, true, Ok, Err, OnOk, OnErr, IfOk, IfErr};
 ghost use Rattle.std.specs.FinMap as map;
 ghost use Rattle.pglogical.specs.Lent.{message_value};
 ghost use Rattle.pglogical.specs.Reading.{message_at};
@@ -19,9 +19,10 @@ ghost use Rattle.pgsub_core.specs.Stream.{Data, Keepalive, kind};
 ghost use Rattle.pgsub_core.specs.ApplyState.{pushed};
 ghost use Rattle.pgsub_core.specs.Taking.{take};
 ghost use Rattle.pgsub_core.specs.Opened.{AreOpened, Fits, under_way_behind};
-ghost use Rattle.pgapply.specs.Taken.{Stays, Shows};
+ghost use Rattle.pgapply.specs.Taken.{Leaves, Stays, Shows};
 ghost use Rattle.pgsub_core.specs.Applied.{Goes, Stops, IsKept, StaysBesideStore};
 ghost use Rattle.pgsub_core.specs.Committing.{Commits, RefusesCommit};
+ghost use Rattle.pgsub_core.specs.Crashing.{LeavesOldOr, HasCommit, HasEvent, Over};
 ghost use Rattle.pgsub_core.specs.Events.{HasRoom, IsFull, FindsRoom, EventGoes, EventStops, StaysBeside};
 ghost use Rattle.pgsub_core.specs.Faults.{fault_of_decode, fault_of_order, fault_of_spool, IsOfFeeding, IsReadFault};
 
@@ -206,7 +207,9 @@ impl<P: Spools + Drop, C: ReplicaStore + Drop> Applier<P, C> {
 
     /// The position up to which the stored rows are complete.
     pub fn position(&self) -> Lsn
-        ensures { result ≡ C.place self.now.store }
+        ensures position { result ≡ C.place self.now.store }
+        ensures contains { C.serves self.now.store → Leaves C.holds C.place C.reopens self.now.store }
+        ensures keeps { C.is_honest self.now.store → (other : C) → C.reopens self.now.store other → C.place self.now.store ≤ C.place other }
     {
         self.store.position()
     }
@@ -220,6 +223,9 @@ impl<P: Spools + Drop, C: ReplicaStore + Drop> Applier<P, C> {
         ensures beside { StaysBeside self.old self.new }
         ensures kept { OnErr result (IsKept C.place self.old self.new) }
         ensures served { C.serves self.new.store → C.serves self.old.store }
+        ensures open { C.is_honest self.new.store → C.serves self.old.store → OnOk result (C.serves self.new.store) }
+        ensures honest { C.is_honest self.new.store → C.is_honest self.old.store }
+        ensures crash { C.is_honest self.new.store → LeavesOldOr C.place C.reopens C.serves (HasCommit C.holds C.place end (items_of (held_of self.old.held xid)) self.old.store self.old.confirmed self.old.relations) self.old.store self.new.store }
     {
         let confirmed = commit(
             self.alloc,
@@ -247,6 +253,9 @@ impl<P: Spools + Drop, C: ReplicaStore + Drop> Applier<P, C> {
         ensures beside { StaysBeside self.old self.new }
         ensures kept { OnErr result (IsKept C.place self.old self.new) }
         ensures served { C.serves self.new.store → C.serves self.old.store }
+        ensures open { C.is_honest self.new.store → C.serves self.old.store → OnOk result (C.serves self.new.store) }
+        ensures honest { C.is_honest self.new.store → C.is_honest self.old.store }
+        ensures crash { C.is_honest self.new.store → LeavesOldOr C.place C.reopens C.serves (Over (HasEvent C.holds C.place (message_value message.now) event self.old)) self.old.store self.new.store }
     {
         match event {
             Event::Ignore | Event::Reopen { .. } | Event::Close => Ok(()),
@@ -282,6 +291,9 @@ impl<P: Spools + Drop, C: ReplicaStore + Drop> Applier<P, C> {
         ensures own { IfErr result IsOfFeeding }
         ensures kept { OnErr result (IsKept C.place self.old self.new) }
         ensures served { C.serves self.new.store → C.serves self.old.store }
+        ensures open { C.is_honest self.new.store → C.serves self.old.store → OnOk result (C.serves self.new.store) }
+        ensures honest { C.is_honest self.new.store → C.is_honest self.old.store }
+        ensures crash { C.is_honest self.new.store → LeavesOldOr C.place C.reopens C.serves (λ other. (now clock : ℤ) → Over (Goes C.holds C.place (λ s. take now s (Data start end clock (message_value message.now))) self.old) other) self.old.store self.new.store }
     {
         let event = match self.order.step(message) {
             Ok(event) => event,
@@ -301,6 +313,9 @@ impl<P: Spools + Drop, C: ReplicaStore + Drop> Applier<P, C> {
         ensures opened { OnOk result (AreOpened self.new.order self.new.held) }
         ensures kept { OnErr result (IsKept C.place self.old self.new) }
         ensures served { C.serves self.new.store → C.serves self.old.store }
+        ensures open { C.is_honest self.new.store → C.serves self.old.store → OnOk result (C.serves self.new.store) }
+        ensures honest { C.is_honest self.new.store → C.is_honest self.old.store }
+        ensures crash { C.is_honest self.new.store → LeavesOldOr C.place C.reopens C.serves (Over (FramesGo C.holds C.place now (CopyData payload.now ∷ []) self.old)) self.old.store self.new.store }
     {
         let message = match decode_server(payload) {
             Ok(message) => message,
@@ -326,6 +341,9 @@ impl<P: Spools + Drop, C: ReplicaStore + Drop> Applier<P, C> {
         ensures opened { OnOk result (AreOpened self.new.order self.new.held) }
         ensures kept { OnErr result (IsKept C.place self.old self.new) }
         ensures served { C.serves self.new.store → C.serves self.old.store }
+        ensures open { C.is_honest self.new.store → C.serves self.old.store → OnOk result (C.serves self.new.store) }
+        ensures honest { C.is_honest self.new.store → C.is_honest self.old.store }
+        ensures crash { C.is_honest self.new.store → LeavesOldOr C.place C.reopens C.serves (λ other. (m : Message) × (message_at (is_in_block self.old.order.context) body.now ≡ Ok m) × ((now clock : ℤ) → Over (Goes C.holds C.place (λ s. take now s (Data start end clock m)) self.old) other)) self.old.store self.new.store }
     {
         match decode_ref(body, self.order.in_block()) {
             Ok(message) => self.take_message(&message, start, end),
@@ -410,6 +428,8 @@ impl<P: Spools + Drop, C: ReplicaStore + Drop> Applier<P, C> {
         ensures fault { IfErr result IsReadFault }
         ensures served { C.serves self.new.store → C.serves self.old.store }
         ensures open { C.is_honest self.new.store → OnOk result (C.serves self.new.store) }
+        ensures honest { C.is_honest self.new.store → C.is_honest self.old.store }
+        ensures crash { C.is_honest self.new.store → (other : C) → C.reopens self.new.store other → C.reopens self.old.store other }
     {
         match self.store.rows() {
             Ok(rows) => Ok(rows),

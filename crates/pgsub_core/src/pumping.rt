@@ -4,6 +4,7 @@
 
 ghost use Rattle.std.specs.Prelude.{◌≡◌, ◌≢◌, ◌↔◌, ◌<◌, ◌≤◌, None, Err, false, true, length, take, OnOk, IfErr, IfSome};
 ghost use Rattle.std.specs.Io.KnownBytes.{Consumes, IsAtEnd, Keeps};
+ghost use Rattle.pgsub_core.specs.Crashing.{LeavesOldOr, FedOver, StandsAsFed};
 ghost use Rattle.pgsub_core.specs.Pumping.{IsReadOut, Pumps, PumpsUntil};
 
 use crate::fault::Fault;
@@ -64,6 +65,9 @@ impl<R: Read + Drop> Source<R> {
 /// Reads the source to its end, or 2^64 - 1 times, and feeds each piece of at most 4096 bytes as it comes. `now` is the clock of the
 /// replies, in microseconds since 2000-01-01 00:00 UTC.
 ///
+/// Whatever a crash behind the call may leave of the store could be left before it, and the position is as it was; or it is as after some
+/// front of the frames that were read, and stands no lower than the position (`crash`). That holds where the store has shut, too.
+///
 /// # Errors
 ///
 /// `Fault::Read` exactly if a read failed: the subscriber is then as after the pieces before, and goes on with the bytes that come
@@ -83,6 +87,11 @@ pub fn pump<R: Read + Drop, P: Spools + Drop, C: ReplicaStore + Drop>(
     ensures open { result ≡ Err Fault.Read → subscriber.new.framing.closed ≡ subscriber.old.framing.closed }
     ensures refused { C.serves subscriber.new.applied.store → IfErr result (λ fault. fault ≢ Fault.Read → PumpsUntil C.holds C.place now (R.remaining source.old.reader) (R.remaining source.new.reader) subscriber.old subscriber.new fault) }
     ensures served { C.serves subscriber.new.applied.store → C.serves subscriber.old.applied.store }
+    ensures still_serves { C.is_honest subscriber.new.applied.store → C.serves subscriber.old.applied.store → OnOk result (C.serves subscriber.new.applied.store) }
+    ensures failed_serves { C.is_honest subscriber.new.applied.store → C.serves subscriber.old.applied.store → result ≡ Err Fault.Read → C.serves subscriber.new.applied.store }
+    ensures honest { C.is_honest subscriber.new.applied.store → C.is_honest subscriber.old.applied.store }
+    ensures stands { C.is_honest subscriber.new.applied.store → C.serves subscriber.old.applied.store → subscriber.old.framing.closed ≡ false → IfErr result (λ fault. fault ≢ Fault.Read → StandsAsFed C.place (λ s. PumpsUntil C.holds C.place now (R.remaining source.old.reader) (R.remaining source.new.reader) subscriber.old s Fault.Memory) subscriber.new) }
+    ensures crash { C.is_honest subscriber.new.applied.store → LeavesOldOr C.place C.reopens C.serves (FedOver (λ s. PumpsUntil C.holds C.place now (R.remaining source.old.reader) (R.remaining source.new.reader) subscriber.old s Fault.Memory)) subscriber.old.applied.store subscriber.new.applied.store }
 {
     let mut room = [0u8; PIECE_LEN];
     while source.reads < u64::MAX {

@@ -26,7 +26,7 @@ returns-clause-converges g c serves serves' =
     (subst (λ (z : ℤ). ShowsFed g.C.ReplicaStore.holds g.C.ReplicaStore.place z c.args.left.now (bytes_of c.args.left_sessions.now) c.followed_rows.new.subscriber c.in-Ok.rows.items) (to_z-of_z w64 c.args.now c.ranges.now) (c.in-Ok.ensures.rows serves))
     (subst (λ (z : ℤ). ShowsFed g.D.ReplicaStore.holds g.D.ReplicaStore.place z c.args.right.now (bytes_of c.args.right_sessions.now) c.followed_rows-2.new.subscriber c.in-Ok-followed_rows.rows.items) (to_z-of_z w64 c.args.now c.ranges.now)
     (c.in-Ok-followed_rows.ensures.rows serves'))
-    c.position.result c.position-2.result c.as_slice.result.now c.as_slice-2.result.now c.compared.result c.position.ensures c.position-2.ensures c.as_slice.ensures.value c.as_slice-2.ensures.value c.compared.ensures
+    c.position.result c.position-2.result c.as_slice.result.now c.as_slice-2.result.now c.compared.result c.position.ensures.position c.position-2.ensures.position c.as_slice.ensures.value c.as_slice-2.ensures.value c.compared.ensures
 
 pub returns-clause-agree : goal.returns-clause-agree
 returns-clause-agree g c serves serves' =

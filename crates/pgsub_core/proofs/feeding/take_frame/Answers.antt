@@ -4,6 +4,7 @@ use Rattle.std.proofs.lemmas.Int.{to_z-of_z}
 use Rattle.pgwire.specs.Lent.{frame_value}
 use Rattle.pgsub_core.specs.Framing.{FramesGo, IsStopped, StopsAt}
 use Rattle.pgsub_core.proofs.DescribedChanges.{on_ok, if_err}
+use Rattle.pgsub_core.proofs.Crashes.{leaves_as}
 use Rattle.pgsub_core.proofs.feeding.take_frame.Goals as goal
 
 pub returns-in-Data-clause-goes : goal.returns-in-Data-clause-goes
@@ -17,3 +18,9 @@ returns-in-Done-clause-goes g c serves framing tables h = (tables, h, rw c.in-Do
 pub returns-in-Data-clause-refused : goal.returns-in-Data-clause-refused
 returns-in-Data-clause-refused g c serves = if_err c.take_payload.result _ _ (c.take_payload.ensures.refused serves) (λ f stops.
     subst (λ (z : ℤ). IsStopped g.C.ReplicaStore.holds g.C.ReplicaStore.place (StopsAt (frame_value c.args.frame.now) z) c.args.applier.now c.take_payload.new.self f) (to_z-of_z w64 c.args.now c.ranges.now) (rw c.in-Data.is stops))
+
+pub returns-in-Data-clause-crash : goal.returns-in-Data-clause-crash
+returns-in-Data-clause-crash g c honest =
+    let it = g.C.ReplicaStore in
+    leaves_as it.place it.reopens it.serves _ _ c.args.applier.now.store c.take_payload.new.self.store (c.take_payload.ensures.crash honest)
+    (λ other over. (over.0, over.1, subst (λ (z : ℤ). FramesGo it.holds it.place z (frame_value c.args.frame.now ∷ []) c.args.applier.now over.0) (to_z-of_z w64 c.args.now c.ranges.now) (rw c.in-Data.is over.2)))

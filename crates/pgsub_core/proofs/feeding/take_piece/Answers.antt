@@ -1,4 +1,4 @@
-use Rattle.std.proofs.Common.{◌≡◌, ◌≢◌, ◌⊎◌, ℕ, ℤ, List, Ok, Err, sym, ap, subst, ◌∙◌}
+use Rattle.std.proofs.Common.{◌≡◌, ◌≢◌, ◌⊎◌, ℕ, ℤ, List, Ok, Err, refl, sym, ap, subst, ◌∙◌}
 use Rattle.std.specs.Int.{w64}
 use Rattle.std.proofs.lemmas.Int.{to_z-of_z}
 use Rattle.pgwire.specs.Deframed.{Deframed, IsFed}
@@ -7,8 +7,12 @@ use Rattle.pgwire.specs.declared.fault.WireFault.{WireFault}
 use Rattle.pgwire.specs.declared.fault.WireFault.TheVariants as wire_fault
 use Rattle.pgsub_core.specs.declared.fault.Fault.TheVariants as fault
 use Rattle.pgsub_core.specs.Framing.{FeedGoes, FeedStops}
+use Rattle.pgsub_core.specs.Crashing.{LeavesOldOr, Over}
 use Rattle.pgsub_core.proofs.DescribedChanges.{on_residual}
-use Rattle.pgsub_core.proofs.FeedStops.{stops_by_bytes, stops_by_frame, start_to, released_to}
+use Rattle.pgsub_core.proofs.PayloadStops.{unchanged}
+use Rattle.pgsub_core.proofs.Crashes.{leaves_same}
+use Rattle.pgsub_core.proofs.LeftPieces.{on_err, piece_stands, leaves_piece}
+use Rattle.pgsub_core.proofs.FeedStops.{stops_by_bytes, stops_by_frame, start_to, released_to, taken_to}
 use Rattle.pgsub_core.proofs.FeedSteps.{fed_start, fed_one, fed_whole, fed_less, rest_of}
 use Rattle.pgsub_core.proofs.feeding.take_piece.Goals as goal
 
@@ -17,6 +21,9 @@ loop-deframer-init g c = (
   c.requires.opened,
   fed_start g.C.ReplicaStore.serves g.C.ReplicaStore.holds g.C.ReplicaStore.place _ c.args.deframer.now c.feed_frames.new.deframer c.args.applier.now c.args.piece.now c.in_ok-taken.taken c.requires.waits c.requires.sound c.in_ok-taken.ensures.fed,
   λ serves. serves,
+  λ honest. honest,
+  λ honest serves. serves,
+  λ honest. leaves_same g.C.ReplicaStore.place g.C.ReplicaStore.reopens g.C.ReplicaStore.serves _ c.args.applier.now.store c.args.applier.now.store refl,
 )
 
 pub loop-deframer-smaller : goal.loop-deframer-smaller
@@ -31,6 +38,10 @@ loop-deframer-preserved g c = (
       c.args.piece.now c.loop-deframer.taken c.in_ok-taken-2.field-0 c.loop-deframer.invariant.1 (c.in_ok-take_whole.ensures.released c.if-branch.true) c.take_whole.ensures.served
       (λ serves f stands. c.in_ok-take_whole.ensures.goes serves c.if-branch.true f stands) (subst (λ (bytes : List ℕ). IsFed c.take_whole.new.deframer bytes (Ok c.in_ok-taken-2.field-0) c.feed_frames-in-loop-deframer.new.deframer) (rest_of c.args.piece.now c.loop-deframer.taken) c.in_ok-taken-2.ensures.fed),
   λ serves. c.loop-deframer.invariant.2 (c.take_whole.ensures.served serves),
+  λ honest. c.loop-deframer.invariant.3 (c.take_whole.ensures.honest honest),
+  λ honest serves. c.in_ok-take_whole.ensures.open honest (c.loop-deframer.invariant.4 (c.take_whole.ensures.honest honest) serves),
+  λ honest. leaves_piece g.C.ReplicaStore.serves g.C.ReplicaStore.holds g.C.ReplicaStore.place _ c.args.deframer.now c.args.applier.now c.args.piece.now g.C.ReplicaStore.reopens c.loop-deframer.deframer c.loop-deframer.applier c.take_whole.new.applier
+      c.loop-deframer.taken c.loop-deframer.invariant.1 c.loop-deframer.invariant.2 (c.loop-deframer.invariant.5 (c.take_whole.ensures.honest honest)) (c.take_whole.ensures.crash honest),
 )
 
 pub returns-clause-fed : goal.returns-clause-fed
@@ -72,3 +83,62 @@ returns-in_err-taken-2-clause-refused g c serves =
     (stops_by_bytes g.C.ReplicaStore.serves g.C.ReplicaStore.holds g.C.ReplicaStore.place _ c.args.deframer.now c.args.applier.now c.args.piece.now c.take_whole.new.deframer c.feed_frames-in-loop-deframer.new.deframer c.take_whole.new.applier c.loop-deframer.taken
     (released_to g.C.ReplicaStore.serves g.C.ReplicaStore.holds g.C.ReplicaStore.place _ c.args.deframer.now c.args.applier.now c.args.piece.now c.loop-deframer.deframer c.take_whole.new.deframer c.loop-deframer.applier c.take_whole.new.applier c.loop-deframer.taken to released
     c.take_whole.ensures.served (λ own frame stands. c.in_ok-take_whole.ensures.goes own c.if-branch.true frame stands)) serves sound f refused))
+
+pub returns-clause-crash : goal.returns-clause-crash
+returns-clause-crash g c honest =
+    let it = g.C.ReplicaStore in
+    subst (λ (z : ℤ). LeavesOldOr it.place it.reopens it.serves (Over (λ a. FeedStops it.holds it.place z c.args.deframer.now c.args.applier.now c.args.piece.now a fault.Memory)) c.args.applier.now.store c.take_whole.new.applier.store)
+    (to_z-of_z w64 c.args.now c.ranges.now)
+    (leaves_piece it.serves it.holds it.place _ c.args.deframer.now c.args.applier.now c.args.piece.now it.reopens c.loop-deframer.deframer c.loop-deframer.applier c.take_whole.new.applier
+    c.loop-deframer.taken c.loop-deframer.invariant.1 c.loop-deframer.invariant.2 (c.loop-deframer.invariant.5 (c.take_whole.ensures.honest honest)) (c.take_whole.ensures.crash honest))
+
+pub returns-in_err-take_whole-clause-crash : goal.returns-in_err-take_whole-clause-crash
+returns-in_err-take_whole-clause-crash g c honest =
+    let it = g.C.ReplicaStore in
+    subst (λ (z : ℤ). LeavesOldOr it.place it.reopens it.serves (Over (λ a. FeedStops it.holds it.place z c.args.deframer.now c.args.applier.now c.args.piece.now a fault.Memory)) c.args.applier.now.store c.take_whole.new.applier.store)
+    (to_z-of_z w64 c.args.now c.ranges.now)
+    (leaves_piece it.serves it.holds it.place _ c.args.deframer.now c.args.applier.now c.args.piece.now it.reopens c.loop-deframer.deframer c.loop-deframer.applier c.take_whole.new.applier
+    c.loop-deframer.taken c.loop-deframer.invariant.1 c.loop-deframer.invariant.2 (c.loop-deframer.invariant.5 (c.take_whole.ensures.honest honest)) (c.take_whole.ensures.crash honest))
+
+pub returns-in_err-taken-2-clause-crash : goal.returns-in_err-taken-2-clause-crash
+returns-in_err-taken-2-clause-crash g c honest =
+    let it = g.C.ReplicaStore in
+    subst (λ (z : ℤ). LeavesOldOr it.place it.reopens it.serves (Over (λ a. FeedStops it.holds it.place z c.args.deframer.now c.args.applier.now c.args.piece.now a fault.Memory)) c.args.applier.now.store c.take_whole.new.applier.store)
+    (to_z-of_z w64 c.args.now c.ranges.now)
+    (leaves_piece it.serves it.holds it.place _ c.args.deframer.now c.args.applier.now c.args.piece.now it.reopens c.loop-deframer.deframer c.loop-deframer.applier c.take_whole.new.applier
+    c.loop-deframer.taken c.loop-deframer.invariant.1 c.loop-deframer.invariant.2 (c.loop-deframer.invariant.5 (c.take_whole.ensures.honest honest)) (c.take_whole.ensures.crash honest))
+
+pub returns-in_err-taken-clause-stands : goal.returns-in_err-taken-clause-stands
+returns-in_err-taken-clause-stands g c honest serves =
+    let it = g.C.ReplicaStore in
+    on_err c.from_residual.result _ (
+      c.args.applier.now,
+      unchanged it.place c.args.applier.now,
+      piece_stands it.serves it.holds it.place c.args.now c.args.deframer.now c.args.applier.now c.args.piece.now c.args.deframer.now c.args.applier.now 0
+          (start_to it.serves it.holds it.place c.args.now c.args.deframer.now c.args.applier.now c.args.piece.now c.requires.waits c.requires.sound) serves,
+    )
+
+pub returns-in_err-take_whole-clause-stands : goal.returns-in_err-take_whole-clause-stands
+returns-in_err-take_whole-clause-stands g c honest serves =
+    let it = g.C.ReplicaStore in
+    on_err c.from_residual-in_err-take_whole.result _ (
+      c.loop-deframer.applier,
+      c.in_err-take_whole.ensures.kept,
+      subst (λ (z : ℤ). FeedStops it.holds it.place z c.args.deframer.now c.args.applier.now c.args.piece.now c.loop-deframer.applier fault.Memory) (to_z-of_z w64 c.args.now c.ranges.now)
+          (piece_stands it.serves it.holds it.place _ c.args.deframer.now c.args.applier.now c.args.piece.now c.loop-deframer.deframer c.loop-deframer.applier c.loop-deframer.taken
+          (taken_to it.serves it.holds it.place _ c.args.deframer.now c.args.applier.now c.args.piece.now c.loop-deframer.deframer c.loop-deframer.applier c.loop-deframer.taken c.loop-deframer.invariant.1)
+          (c.loop-deframer.invariant.4 (c.take_whole.ensures.honest honest) serves)),
+    )
+
+pub returns-in_err-taken-2-clause-stands : goal.returns-in_err-taken-2-clause-stands
+returns-in_err-taken-2-clause-stands g c honest serves =
+    let it = g.C.ReplicaStore in
+    on_err c.from_residual-in_err-taken-2.result _ (
+      c.take_whole.new.applier,
+      unchanged it.place c.take_whole.new.applier,
+      subst (λ (z : ℤ). FeedStops it.holds it.place z c.args.deframer.now c.args.applier.now c.args.piece.now c.take_whole.new.applier fault.Memory) (to_z-of_z w64 c.args.now c.ranges.now)
+          (piece_stands it.serves it.holds it.place _ c.args.deframer.now c.args.applier.now c.args.piece.now c.take_whole.new.deframer c.take_whole.new.applier c.loop-deframer.taken
+          (released_to it.serves it.holds it.place _ c.args.deframer.now c.args.applier.now c.args.piece.now c.loop-deframer.deframer c.take_whole.new.deframer c.loop-deframer.applier c.take_whole.new.applier c.loop-deframer.taken c.loop-deframer.invariant.1
+          (c.in_ok-take_whole.ensures.released c.if-branch.true) c.take_whole.ensures.served (λ own frame stands. c.in_ok-take_whole.ensures.goes own c.if-branch.true frame stands))
+          (c.in_ok-take_whole.ensures.open honest (c.loop-deframer.invariant.4 (c.take_whole.ensures.honest honest) serves))),
+    )

@@ -6,6 +6,7 @@ use Rattle.pgwire.specs.Frames.{Frame}
 use Rattle.pgwire.specs.Lent.{frame_value}
 use Rattle.pgsub_core.specs.Framing.{FramesGo, IsStopped, StopsAt}
 use Rattle.pgsub_core.proofs.DescribedChanges.{on_residual}
+use Rattle.pgsub_core.proofs.Crashes.{leaves_as}
 use Rattle.pgsub_core.proofs.FeedSteps.{one_done, one_stands}
 use Rattle.pgsub_core.proofs.feeding.take_whole.Goals as goal
 
@@ -29,3 +30,17 @@ returns-in_err-take_frame-clause-refused g c serves =
       c.in-Some.ensures,
       subst (λ (z : ℤ). IsStopped g.C.ReplicaStore.holds g.C.ReplicaStore.place (StopsAt (frame_value c.in-Some.frame) z) c.args.applier.now c.take_frame.new.applier f) (to_z-of_z w64 c.args.now c.ranges.now) (c.in_err-take_frame.ensures.refused serves),
     )
+
+pub returns-in_err-take_frame-clause-crash : goal.returns-in_err-take_frame-clause-crash
+returns-in_err-take_frame-clause-crash g c honest =
+    let it = g.C.ReplicaStore in
+    let stood = frame_value c.in-Some.frame in
+    leaves_as it.place it.reopens it.serves _ _ c.args.applier.now.store c.take_frame.new.applier.store (c.take_frame.ensures.crash honest)
+    (λ other over. (stood, c.in-Some.ensures, (over.0, over.1, subst (λ (z : ℤ). FramesGo it.holds it.place z (stood ∷ []) c.args.applier.now over.0) (to_z-of_z w64 c.args.now c.ranges.now) over.2)))
+
+pub returns-clause-crash : goal.returns-clause-crash
+returns-clause-crash g c honest =
+    let it = g.C.ReplicaStore in
+    let stood = frame_value c.in-Some.frame in
+    leaves_as it.place it.reopens it.serves _ _ c.args.applier.now.store c.take_frame.new.applier.store (c.take_frame.ensures.crash honest)
+    (λ other over. (stood, c.in-Some.ensures, (over.0, over.1, subst (λ (z : ℤ). FramesGo it.holds it.place z (stood ∷ []) c.args.applier.now over.0) (to_z-of_z w64 c.args.now c.ranges.now) over.2)))

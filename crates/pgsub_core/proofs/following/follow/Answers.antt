@@ -1,17 +1,34 @@
-use Rattle.std.proofs.Common.{ℤ, None, Some, subst, take_all}
+use Rattle.std.proofs.Common.{ℤ, None, Some, refl, subst, take_all}
+use Rattle.pgsub_core.specs.declared.fault.Fault.TheVariants as fault
+use Rattle.pgsub_core.specs.Crashing.{LeavesOldOr, FedOver, StandsAsFed}
+use Rattle.pgsub_core.proofs.Crashes.{leaves_same}
+use Rattle.pgsub_core.proofs.LeftPieces.{on_err, leaves_sessions, sessions_stand, confirms_followed, confirms_standing, leaves_history}
 use Rattle.std.specs.Int.{w64}
 use Rattle.std.proofs.lemmas.Int.{to_z-of_z}
 use Rattle.pgsub_core.specs.Handled.{fault_in}
 use Rattle.pgsub_core.specs.Subscribed.{bytes_of}
 use Rattle.pgsub_core.specs.Following.{FeedsSessions}
-use Rattle.pgsub_core.proofs.FollowSteps.{follows_more, follows_stops, follows_whole, follows, answers_fault}
+use Rattle.pgsub_core.proofs.FollowSteps.{none_followed, follows_more, follows_stops, follows_whole, follows, answers_fault}
 use Rattle.pgsub_core.proofs.following.follow.Goals as goal
+
+pub loop-session-init : goal.loop-session-init
+loop-session-init g c = (
+  λ serves. none_followed g.C.ReplicaStore.holds g.C.ReplicaStore.place c.args.now c.args.subscriber.now,
+  λ serves. serves,
+  λ honest. honest,
+  λ honest serves. serves,
+  λ honest. leaves_same g.C.ReplicaStore.place g.C.ReplicaStore.reopens g.C.ReplicaStore.serves _ c.args.subscriber.now.applied.store c.args.subscriber.now.applied.store refl,
+)
 
 pub loop-session-preserved : goal.loop-session-preserved
 loop-session-preserved g c = (
   λ serves. follows_more g.C.ReplicaStore.holds g.C.ReplicaStore.place _ c.args.subscriber.now c.loop-session.subscriber c.follow_session.new.subscriber c.args.sessions.now c.loop-session.session-index c.session-item.result c.loop-session-test.true c.session-item.is
       (c.loop-session.invariant.0 (c.follow_session.ensures.served serves)) (c.in_ok-follow_session.ensures.fed serves),
   λ serves. c.loop-session.invariant.1 (c.follow_session.ensures.served serves),
+  λ honest. c.loop-session.invariant.2 (c.follow_session.ensures.honest honest),
+  λ honest serves. c.in_ok-follow_session.ensures.still_serves honest (c.loop-session.invariant.3 (c.follow_session.ensures.honest honest) serves),
+  λ honest. leaves_sessions g.C.ReplicaStore.serves g.C.ReplicaStore.holds g.C.ReplicaStore.place g.C.ReplicaStore.reopens _ c.args.subscriber.now c.loop-session.subscriber c.follow_session.new.subscriber c.loop-session.invariant.1 c.args.sessions.now
+      c.loop-session.session-index c.session-item.result c.loop-session-test.true c.session-item.is c.loop-session.invariant.0 (c.loop-session.invariant.4 (c.follow_session.ensures.honest honest)) (c.follow_session.ensures.left honest),
 )
 
 pub returns-clause-fed : goal.returns-clause-fed
@@ -35,3 +52,42 @@ returns-in_err-follow_session-clause-fed g c serves =
 pub returns-in_err-follow_session-clause-followed : goal.returns-in_err-follow_session-clause-followed
 returns-in_err-follow_session-clause-followed g c serves =
     follows g.C.ReplicaStore.holds g.C.ReplicaStore.place c.args.now c.args.subscriber.now c.follow_session.new.subscriber (bytes_of c.args.sessions.now) (fault_in c.from_residual.result) (returns-in_err-follow_session-clause-fed g c serves)
+
+pub returns-clause-left : goal.returns-clause-left
+returns-clause-left g c honest =
+    let it = g.C.ReplicaStore in
+    subst (λ (z : ℤ). LeavesOldOr it.place it.reopens it.serves (FedOver (λ s. FeedsSessions it.holds it.place z c.args.subscriber.now (bytes_of c.args.sessions.now) s (Some fault.Memory))) c.args.subscriber.now.applied.store c.loop-session.subscriber.applied.store)
+    (to_z-of_z w64 c.args.now c.ranges.now) (c.loop-session.invariant.4 honest)
+
+pub returns-in_err-follow_session-clause-left : goal.returns-in_err-follow_session-clause-left
+returns-in_err-follow_session-clause-left g c honest =
+    let it = g.C.ReplicaStore in
+    subst (λ (z : ℤ). LeavesOldOr it.place it.reopens it.serves (FedOver (λ s. FeedsSessions it.holds it.place z c.args.subscriber.now (bytes_of c.args.sessions.now) s (Some fault.Memory))) c.args.subscriber.now.applied.store c.follow_session.new.subscriber.applied.store)
+    (to_z-of_z w64 c.args.now c.ranges.now)
+    (leaves_sessions it.serves it.holds it.place it.reopens _ c.args.subscriber.now c.loop-session.subscriber c.follow_session.new.subscriber c.loop-session.invariant.1 c.args.sessions.now
+    c.loop-session.session-index c.session-item.result c.loop-session-test.true c.session-item.is c.loop-session.invariant.0 (c.loop-session.invariant.4 (c.follow_session.ensures.honest honest)) (c.follow_session.ensures.left honest))
+
+pub returns-in_err-follow_session-clause-stands : goal.returns-in_err-follow_session-clause-stands
+returns-in_err-follow_session-clause-stands g c honest serves =
+    let it = g.C.ReplicaStore in
+    let own = c.loop-session.invariant.3 (c.follow_session.ensures.honest honest) serves in
+    on_err c.from_residual.result _
+    (subst (λ (z : ℤ). StandsAsFed it.place (λ s. FeedsSessions it.holds it.place z c.args.subscriber.now (bytes_of c.args.sessions.now) s (Some fault.Memory)) c.follow_session.new.subscriber) (to_z-of_z w64 c.args.now c.ranges.now)
+    (sessions_stand it.serves it.holds it.place it.reopens _ c.args.subscriber.now c.loop-session.subscriber c.follow_session.new.subscriber c.loop-session.invariant.1 c.args.sessions.now
+    c.loop-session.session-index c.session-item.result c.loop-session-test.true c.session-item.is c.loop-session.invariant.0 own (c.in_err-follow_session.ensures.stands honest own)))
+
+pub returns-clause-crash : goal.returns-clause-crash
+returns-clause-crash g c honest serves =
+    let it = g.C.ReplicaStore in
+    leaves_history it.serves it.holds it.place it.reopens c.args.now c.args.subscriber.now c.loop-session.subscriber (bytes_of c.args.sessions.now) (returns-clause-left g c honest) (c.position-start.ensures.contains serves)
+    (confirms_followed it.serves it.holds it.place it.reopens c.args.now c.args.subscriber.now c.loop-session.subscriber (bytes_of c.args.sessions.now) None (returns-clause-followed g c (c.loop-session.invariant.3 honest serves)))
+
+pub returns-in_err-follow_session-clause-crash : goal.returns-in_err-follow_session-clause-crash
+returns-in_err-follow_session-clause-crash g c honest serves =
+    let it = g.C.ReplicaStore in
+    let own = c.loop-session.invariant.3 (c.follow_session.ensures.honest honest) serves in
+    let stands = subst (λ (z : ℤ). StandsAsFed it.place (λ s. FeedsSessions it.holds it.place z c.args.subscriber.now (bytes_of c.args.sessions.now) s (Some fault.Memory)) c.follow_session.new.subscriber) (to_z-of_z w64 c.args.now c.ranges.now)
+    (sessions_stand it.serves it.holds it.place it.reopens _ c.args.subscriber.now c.loop-session.subscriber c.follow_session.new.subscriber c.loop-session.invariant.1 c.args.sessions.now
+    c.loop-session.session-index c.session-item.result c.loop-session-test.true c.session-item.is c.loop-session.invariant.0 own (c.in_err-follow_session.ensures.stands honest own)) in
+    leaves_history it.serves it.holds it.place it.reopens c.args.now c.args.subscriber.now c.follow_session.new.subscriber (bytes_of c.args.sessions.now) (returns-in_err-follow_session-clause-left g c honest) (c.position-start.ensures.contains serves)
+    (confirms_standing it.serves it.holds it.place it.reopens c.args.now c.args.subscriber.now c.follow_session.new.subscriber (bytes_of c.args.sessions.now) stands)

@@ -1,7 +1,12 @@
-use Rattle.std.proofs.Common.{◌≡◌, ℕ, ℤ, List, take, subst, take_all}
+use Rattle.std.proofs.Common.{◌≡◌, ℕ, ℤ, List, take, sym, ap, subst, take_all}
+use Rattle.std.specs.FinMap as map
 use Rattle.std.specs.Int.{w64}
 use Rattle.std.proofs.lemmas.Int.{to_z-of_z}
-use Rattle.pgsub_core.specs.Subscribed.{session_bytes}
+use Rattle.pgsub_core.specs.declared.fault.Fault.TheVariants as fault
+use Rattle.pgsub_core.specs.Subscribed.{Subscribed, session_bytes}
+use Rattle.pgsub_core.specs.Crashing.{LeavesOldOr, FedOver, StandsAsFed}
+use Rattle.pgsub_core.proofs.Crashes.{leaves_same}
+use Rattle.pgsub_core.proofs.LeftPieces.{on_err, leaves_pieces, session_stands}
 use Rattle.pgsub_core.specs.Following.{FeedsSession, FeedsSessionUntil}
 use Rattle.pgsub_core.proofs.DescribedChanges.{on_residual}
 use Rattle.pgsub_core.proofs.FollowSteps.{session_start, session_more, session_stops, session_whole}
@@ -11,6 +16,10 @@ pub loop-piece-init : goal.loop-piece-init
 loop-piece-init g c = (
   λ serves. session_start g.C.ReplicaStore.holds g.C.ReplicaStore.place _ c.args.subscriber.now c.disconnect.new.self c.disconnect.ensures.store c.disconnect.ensures.state,
   λ serves. subst g.C.ReplicaStore.serves c.disconnect.ensures.store serves,
+  ap (λ (s : Subscribed). s.closed) (c.disconnect.ensures.state map.empty),
+  λ honest. subst g.C.ReplicaStore.is_honest c.disconnect.ensures.store honest,
+  λ honest serves. subst g.C.ReplicaStore.serves (sym c.disconnect.ensures.store) serves,
+  λ honest. leaves_same g.C.ReplicaStore.place g.C.ReplicaStore.reopens g.C.ReplicaStore.serves _ c.args.subscriber.now.applied.store c.disconnect.new.self.applied.store c.disconnect.ensures.store,
 )
 
 pub loop-piece-preserved : goal.loop-piece-preserved
@@ -18,6 +27,11 @@ loop-piece-preserved g c = (
   λ serves. session_more g.C.ReplicaStore.holds g.C.ReplicaStore.place _ c.args.subscriber.now c.loop-piece.subscriber c.feed.new.self c.args.session.now.pieces c.as_slice-piece-items.result.now c.as_slice-piece-items.ensures c.loop-piece.piece-index c.piece-item.result c.loop-piece-test.true c.piece-item.is
       (c.loop-piece.invariant.0 (c.feed.ensures.served serves)) c.as_slice.result.now c.as_slice.ensures (c.in_ok-feed.ensures.fed serves),
   λ serves. c.loop-piece.invariant.1 (c.feed.ensures.served serves),
+  c.in_ok-feed.ensures.open.1,
+  λ honest. c.loop-piece.invariant.3 (c.feed.ensures.honest honest),
+  λ honest serves. c.in_ok-feed.ensures.still_serves honest (c.loop-piece.invariant.4 (c.feed.ensures.honest honest) serves),
+  λ honest. leaves_pieces g.C.ReplicaStore.serves g.C.ReplicaStore.holds g.C.ReplicaStore.place g.C.ReplicaStore.reopens _ c.args.subscriber.now c.loop-piece.subscriber c.feed.new.self c.loop-piece.invariant.1 c.args.session.now.pieces c.as_slice-piece-items.result.now c.as_slice-piece-items.ensures
+      c.loop-piece.piece-index c.piece-item.result c.loop-piece-test.true c.piece-item.is c.loop-piece.invariant.0 c.as_slice.result.now c.as_slice.ensures (c.loop-piece.invariant.5 (c.feed.ensures.honest honest)) (c.feed.ensures.crash honest),
 )
 
 pub returns-clause-fed : goal.returns-clause-fed
@@ -33,3 +47,26 @@ returns-in_err-feed-clause-refused g c serves =
     (subst (λ (z : ℤ). FeedsSessionUntil g.C.ReplicaStore.holds g.C.ReplicaStore.place z c.args.subscriber.now (session_bytes c.args.session.now) c.feed.new.self f) (to_z-of_z w64 c.args.now c.ranges.now)
     (session_stops g.C.ReplicaStore.holds g.C.ReplicaStore.place _ c.args.subscriber.now c.loop-piece.subscriber c.feed.new.self c.args.session.now.pieces c.as_slice-piece-items.result.now c.as_slice-piece-items.ensures c.loop-piece.piece-index c.piece-item.result f c.loop-piece-test.true c.piece-item.is
     (c.loop-piece.invariant.0 (c.feed.ensures.served serves)) c.as_slice.result.now c.as_slice.ensures (c.in_err-feed.ensures.refused serves)))
+
+pub returns-clause-left : goal.returns-clause-left
+returns-clause-left g c honest =
+    let it = g.C.ReplicaStore in
+    subst (λ (z : ℤ). LeavesOldOr it.place it.reopens it.serves (FedOver (λ s. FeedsSessionUntil it.holds it.place z c.args.subscriber.now (session_bytes c.args.session.now) s fault.Memory)) c.args.subscriber.now.applied.store c.loop-piece.subscriber.applied.store)
+    (to_z-of_z w64 c.args.now c.ranges.now) (c.loop-piece.invariant.5 honest)
+
+pub returns-in_err-feed-clause-left : goal.returns-in_err-feed-clause-left
+returns-in_err-feed-clause-left g c honest =
+    let it = g.C.ReplicaStore in
+    subst (λ (z : ℤ). LeavesOldOr it.place it.reopens it.serves (FedOver (λ s. FeedsSessionUntil it.holds it.place z c.args.subscriber.now (session_bytes c.args.session.now) s fault.Memory)) c.args.subscriber.now.applied.store c.feed.new.self.applied.store)
+    (to_z-of_z w64 c.args.now c.ranges.now)
+    (leaves_pieces it.serves it.holds it.place it.reopens _ c.args.subscriber.now c.loop-piece.subscriber c.feed.new.self c.loop-piece.invariant.1 c.args.session.now.pieces c.as_slice-piece-items.result.now c.as_slice-piece-items.ensures
+    c.loop-piece.piece-index c.piece-item.result c.loop-piece-test.true c.piece-item.is c.loop-piece.invariant.0 c.as_slice.result.now c.as_slice.ensures (c.loop-piece.invariant.5 (c.feed.ensures.honest honest)) (c.feed.ensures.crash honest))
+
+pub returns-in_err-feed-clause-stands : goal.returns-in_err-feed-clause-stands
+returns-in_err-feed-clause-stands g c honest serves =
+    let it = g.C.ReplicaStore in
+    let own = c.loop-piece.invariant.4 (c.feed.ensures.honest honest) serves in
+    on_err c.from_residual.result _
+    (subst (λ (z : ℤ). StandsAsFed it.place (λ s. FeedsSessionUntil it.holds it.place z c.args.subscriber.now (session_bytes c.args.session.now) s fault.Memory) c.feed.new.self) (to_z-of_z w64 c.args.now c.ranges.now)
+    (session_stands it.serves it.holds it.place it.reopens _ c.args.subscriber.now c.loop-piece.subscriber c.feed.new.self c.loop-piece.invariant.1 c.args.session.now.pieces c.as_slice-piece-items.result.now c.as_slice-piece-items.ensures
+    c.loop-piece.piece-index c.piece-item.result c.loop-piece-test.true c.piece-item.is c.loop-piece.invariant.0 c.as_slice.result.now c.as_slice.ensures own (c.in_err-feed.ensures.stands honest own c.loop-piece.invariant.2)))

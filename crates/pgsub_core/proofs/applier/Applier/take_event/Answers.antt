@@ -10,6 +10,7 @@ use Rattle.pgsub_core.specs.Opened.{Fits, under_way_behind}
 use Rattle.pgsub_core.specs.Events.{event_end}
 use Rattle.pgsub_core.proofs.Opening.{key_inserted, key_removed}
 use Rattle.pgsub_core.proofs.DescribedChanges.{on_ok, on_ok_two, if_err}
+use Rattle.pgsub_core.proofs.Crashes.{event_over, leaves_as}
 use Rattle.pgsub_core.proofs.EventSteps.{goes_by, goes_commit, stops_commit, pushed_keys, cut_when_open}
 use Rattle.pgsub_core.proofs.applier.Applier.take_event.Goals as goal
 
@@ -99,4 +100,12 @@ returns-in-Begin-clause-opened g c = on_ok c.open.result _ _ c.open.ensures.ok (
     ap (λ (y : HeldMap). map.contains_key y x) ok ∙ key_inserted held c.in-Begin.xid [] x ∙ ap (λ (y : HeldMap). (c.in-Begin.xid == x) || map.contains_key y x) same ∙ elim c.in-Begin.is [
       | inl is ↦ ap (λ (e : Event). under_way_behind e (map.contains_key c.args.self.now.held) x) (sym is)
       | inr is ↦ ap (λ (e : Event). under_way_behind e (map.contains_key c.args.self.now.held) x) (sym is)
+    ])
+
+pub returns-in-CommitPair-clause-crash : goal.returns-in-CommitPair-clause-crash
+returns-in-CommitPair-clause-crash g c honest =
+    let it = g.C.ReplicaStore in
+    leaves_as it.place it.reopens it.serves _ _ c.args.self.now.store c.commit.new.self.store (c.commit.ensures.crash honest) (λ other has. elim c.in-CommitPair.is [
+      | inl is ↦ event_over it.holds it.place (message_value c.args.message.now) c.args.event c.args.self.now c.in-CommitPair.end c.in-CommitPair.xid (λ st. rw is.1 refl) (rw is.1 tt) other has
+      | inr is ↦ event_over it.holds it.place (message_value c.args.message.now) c.args.event c.args.self.now c.in-CommitPair.end c.in-CommitPair.xid (λ st. rw is.1 refl) (rw is.1 tt) other has
     ])

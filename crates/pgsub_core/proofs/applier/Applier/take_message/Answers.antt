@@ -1,10 +1,14 @@
-use Rattle.std.proofs.Common.{◌≡◌, max, sym, ap, subst, ◌∙◌}
+use Rattle.std.proofs.Common.{◌≡◌, ℤ, max, sym, ap, subst, ◌∙◌}
 use Rattle.pglogical.specs.Lent.{message_value}
 use Rattle.pgsub_core.specs.Stream.{Data}
 use Rattle.pgsub_core.specs.Applied.{Applied, Stops}
 use Rattle.pgsub_core.specs.Opened.{AreOpened}
 use Rattle.pgsub_core.proofs.Opening.{event_opens}
 use Rattle.pgsub_core.proofs.DescribedChanges.{on_residual}
+use Rattle.pgsub_core.specs.Crashing.{LeavesOldOr, Over}
+use Rattle.pgsub_core.specs.Taking.{take}
+use Rattle.pgsub_core.specs.Applied.{Goes}
+use Rattle.pgsub_core.proofs.Crashes.{message_over, leaves_as}
 use Rattle.pgsub_core.proofs.MessageSteps.{order_refuses, event_takes, message_stops}
 use Rattle.pgsub_core.proofs.applier.Applier.take_message.Goals as goal
 
@@ -44,3 +48,18 @@ returns-clause-opened g c =
     let was : AreOpened c.self.inside.order.state (g.P.Spools.held c.self.inside.spools) = subst (λ (a : Applied g.row.C.Denot). AreOpened a.order a.held) (sym c.self.view_is) c.requires.opened in
     let opened = event_opens c.self.inside.order.version c.self.inside.order.state c.step.new.self.state (message_value c.args.message.now) c.in-Ok.event (g.P.Spools.held c.self.inside.spools) was taken c.take_event.new.self.held c.in_ok-take_event.ensures.opened in
     rw (order_now, held_now) opened
+
+pub returns-in_err-take_event-clause-crash : goal.returns-in_err-take_event-clause-crash
+returns-in_err-take_event-clause-crash g c honest =
+    let it = g.C.ReplicaStore in
+    let over = message_over it.holds it.place (message_value c.args.message.now) c.args.start c.args.end _ c.args.self.now c.self.view_is c.step.new.self.state c.step.new.self.version c.step.ensures.version c.in-Ok.event c.in-Ok.ensures.taken in
+    subst (λ (a : Applied g.row.C.Denot). LeavesOldOr it.place it.reopens it.serves (λ other. (now clock : ℤ) → Over (Goes it.holds it.place (λ s. take now s (Data c.args.start c.args.end clock (message_value c.args.message.now))) c.args.self.now) other) a.store c.take_event.new.self.store) c.self.view_is
+    (leaves_as it.place it.reopens it.serves _ _ c.self.inside.store c.take_event.new.self.store (c.take_event.ensures.crash honest) over)
+
+pub returns-clause-crash : goal.returns-clause-crash
+returns-clause-crash g c honest =
+    let it = g.C.ReplicaStore in
+    let over = message_over it.holds it.place (message_value c.args.message.now) c.args.start c.args.end _ c.args.self.now c.self.view_is c.step.new.self.state c.step.new.self.version c.step.ensures.version c.in-Ok.event c.in-Ok.ensures.taken in
+    subst (λ (a : Applied g.row.C.Denot). LeavesOldOr it.place it.reopens it.serves (λ other. (now clock : ℤ) → Over (Goes it.holds it.place (λ s. take now s (Data c.args.start c.args.end clock (message_value c.args.message.now))) c.args.self.now) other) a.store c.self-2.inside.store) c.self.view_is
+    (subst (λ (w : Applied g.row.C.Denot). LeavesOldOr it.place it.reopens it.serves (λ other. (now clock : ℤ) → Over (Goes it.holds it.place (λ s. take now s (Data c.args.start c.args.end clock (message_value c.args.message.now))) c.args.self.now) other) c.self.inside.store w.store) (sym c.self-2.view_is)
+    (leaves_as it.place it.reopens it.serves _ _ c.self.inside.store c.take_event.new.self.store (c.take_event.ensures.crash (subst (λ (a : Applied g.row.C.Denot). it.is_honest a.store) c.self-2.view_is honest)) over))

@@ -7,6 +7,7 @@ use Rattle.pgsub_core.specs.Stream.{Keepalive}
 use Rattle.pgsub_core.specs.Taking.{take}
 use Rattle.pgsub_core.specs.Applied.{Goes}
 use Rattle.pgsub_core.proofs.DescribedChanges.{on_ok, if_err, if_err_kept}
+use Rattle.pgsub_core.proofs.Crashes.{leaves_as}
 use Rattle.pgsub_core.proofs.PayloadSteps.{data_goes, keepalive_goes}
 use Rattle.pgsub_core.proofs.PayloadStops.{data_stops, keepalive_stops, payload_stops}
 use Rattle.pgsub_core.proofs.applier.Applier.take_payload.Goals as goal
@@ -35,3 +36,13 @@ returns-in-Keepalive-clause-refused g c serves = if_err_kept c.take_keepalive.re
 pub returns-in-Err-clause-refused : goal.returns-in-Err-clause-refused
 returns-in-Err-clause-refused g c serves =
     payload_stops g.C.ReplicaStore.holds g.C.ReplicaStore.place c.args.now c.args.payload.now c.args.self.now c.args.self.now c.in-Err.fault c.in-Err.ensures.first c.in-Err.ensures.gives
+
+pub returns-in-Data-clause-crash : goal.returns-in-Data-clause-crash
+returns-in-Data-clause-crash g c honest =
+    let it = g.C.ReplicaStore in
+    leaves_as it.place it.reopens it.serves _ _ c.args.self.now.store c.take_body.new.self.store (c.take_body.ensures.crash honest) (λ other has.
+    let over = has.2 c.args.now c.in-Data.clock in (
+      over.0,
+      over.1,
+      data_goes it.holds it.place c.args.now c.args.payload.now c.in-Data.start c.in-Data.end c.in-Data.clock c.in-Data.body.now c.args.self.now over.0 (c.in-Ok.ensures.gives ∙ ap (λ (m : ServerMsg). Ok (message_value m)) c.in-Data.is) has.0 has.1 over.2,
+    ))
