@@ -1,8 +1,8 @@
 //! Tests of the subscriber over its spools and its SQL stores, and no code. A row is a worked session: what a server sends, in words
 //! of `messages`, and the rows, positions and statuses that it must leave. Each form of spools takes the rows over each form of store.
 //!
-//! They show what no contract says: that a call can succeed, and that the definitions mean what was worked out by hand. No request for
-//! memory is refused here, so `Memory` and `Refused` fail a test.
+//! They show what no contract says: that a call can succeed, and that the definitions mean what was worked out by hand. Only the tests of
+//! `refusing` allow that a request for memory is refused; in all others `Memory` and `Refused` fail.
 #![tactic(auto)]
 
 #[cfg(test)]
@@ -13,6 +13,8 @@ mod messages;
 mod pairs;
 #[cfg(test)]
 mod pumped;
+#[cfg(test)]
+mod refusing;
 #[cfg(test)]
 mod restarting;
 #[cfg(test)]

@@ -2,13 +2,14 @@
 
 use crate::messages::{BLOCK_ITEMS, BOUNDS, FRAMES, ITEMS};
 use crate::row::{Row, Step, Stored};
+use hex::FromHexError;
 use pgapply::{DumpRow, ReplicaStore};
 use pglsn::Lsn;
 use pgorder::Version;
 use pgspool::{ByteSpools, ListSpools, Spools};
 use pgsub_core::{Fault, Session, Subscriber, follow};
 use pgtuple::{Bytes, Cell, Seq};
-use std::alloc::Global;
+use std::alloc::{AllocError, AllocFailed, Global};
 use std::process::Abort;
 use std::test::Fail;
 
@@ -18,8 +19,38 @@ pub(crate) const NOW: i64 = 7;
 /// The longest payload of a frame.
 pub(crate) const MAX_FRAME: u32 = 64000;
 
+/// Why a row's words give no session.
+#[derive(Debug, Drop)]
+pub(crate) enum BadSession {
+    /// Memory has run out.
+    Memory,
+    /// A word isn't known, or its digits aren't hexadecimal.
+    Word,
+}
+
+impl From<AllocError> for BadSession {
+    fn from(_error: AllocError) -> BadSession {
+        BadSession::Memory
+    }
+}
+
+impl<T: Drop> From<AllocFailed<T>> for BadSession {
+    fn from(_error: AllocFailed<T>) -> BadSession {
+        BadSession::Memory
+    }
+}
+
+impl From<FromHexError> for BadSession {
+    fn from(error: FromHexError) -> BadSession {
+        match error {
+            FromHexError::OutOfMemory => BadSession::Memory,
+            _ => BadSession::Word,
+        }
+    }
+}
+
 /// The bytes of hexadecimal digits in groups.
-pub(crate) fn unhex(alloc: Global, digits: &str) -> Result<Vec<u8>, Fail> {
+pub(crate) fn unhex(alloc: Global, digits: &str) -> Result<Vec<u8>, BadSession> {
     let mut bytes = Vec::new(alloc);
     for word in digits.split_whitespace() {
         let part = hex::decode(alloc, word)?;
@@ -29,13 +60,15 @@ pub(crate) fn unhex(alloc: Global, digits: &str) -> Result<Vec<u8>, Fail> {
 }
 
 /// Appends the CopyData frame of a message, in XLogData from 0/0 to 0/0; of digits after `=` their bytes alone.
-fn append_message(alloc: Global, bytes: &mut Vec<u8>, message: &str) -> Result<(), Fail> {
+fn append_message(alloc: Global, bytes: &mut Vec<u8>, message: &str) -> Result<(), BadSession> {
     if let Some(digits) = message.strip_prefix('=') {
         bytes.extend_from_slice(unhex(alloc, digits)?.as_slice())?;
         return Ok(());
     }
     let body = unhex(alloc, message)?;
-    let length = u32::try_from(body.len().saturating_add(29))?;
+    let Ok(length) = u32::try_from(body.len().saturating_add(29)) else {
+        return Err(BadSession::Word);
+    };
     bytes.push(b'd')?;
     bytes.extend_from_slice(&length.to_be_bytes())?;
     bytes.push(b'w')?;
@@ -65,17 +98,17 @@ fn digits_of(word: &str) -> Option<&'static str> {
 }
 
 /// The bytes of a session.
-pub(crate) fn bytes_of(alloc: Global, session: &str) -> Result<Vec<u8>, Fail> {
+pub(crate) fn bytes_of(alloc: Global, session: &str) -> Result<Vec<u8>, BadSession> {
     let mut bytes = Vec::new(alloc);
     for word in session.split_whitespace() {
-        let digits = digits_of(word).ok_or("a word that isn't known")?;
+        let digits = digits_of(word).ok_or(BadSession::Word)?;
         append_message(alloc, &mut bytes, digits)?;
     }
     Ok(bytes)
 }
 
 /// Bytes in chunks of so many.
-fn chunks_of(alloc: Global, bytes: &[u8], chunk_len: usize) -> Result<Vec<Bytes>, Fail> {
+fn chunks_of(alloc: Global, bytes: &[u8], chunk_len: usize) -> Result<Vec<Bytes>, BadSession> {
     let mut chunks = Vec::new(alloc);
     for chunk in bytes.chunks(chunk_len.max(1)) {
         chunks.push(Bytes::from_vec(Vec::from_slice(alloc, chunk)?))?;
@@ -84,7 +117,7 @@ fn chunks_of(alloc: Global, bytes: &[u8], chunk_len: usize) -> Result<Vec<Bytes>
 }
 
 /// A session in chunks of so many bytes.
-fn session_of(alloc: Global, session: &str, chunk_len: usize) -> Result<Session, Fail> {
+fn session_of(alloc: Global, session: &str, chunk_len: usize) -> Result<Session, BadSession> {
     let bytes = bytes_of(alloc, session)?;
     let pieces = Seq::from_vec(chunks_of(alloc, bytes.as_slice(), chunk_len)?);
     Ok(Session { pieces })
@@ -95,7 +128,7 @@ pub(crate) fn sessions_of(
     alloc: Global,
     sessions: &[&str],
     chunk_len: usize,
-) -> Result<Vec<Session>, Fail> {
+) -> Result<Vec<Session>, BadSession> {
     let mut all = Vec::new(alloc);
     for session in sessions {
         all.push(session_of(alloc, session, chunk_len)?)?;
@@ -133,7 +166,7 @@ fn is_row(row: &DumpRow, stored: Stored) -> bool {
 }
 
 /// Whether these are all rows.
-fn are_rows(rows: &[DumpRow], stored: &[Stored]) -> bool {
+pub(crate) fn are_rows(rows: &[DumpRow], stored: &[Stored]) -> bool {
     for (row, stored) in rows.iter().zip(stored) {
         if !is_row(row, *stored) {
             return false;

@@ -22,6 +22,18 @@ pub(crate) static TRANSACTIONS: &[Row] = &[
         ],
     },
     Row {
+        shows: "rows that come to one identity when a table loses its key are copies",
+        limit: AMPLE,
+        steps: &[
+            Follow(
+                &["begin:100 rel:t ins:1a ins:2a commit:130 begin:200 rel:v ins:v:b commit:230"],
+                Ok(()),
+            ),
+            At(0x230, 0x230, 0x230),
+            Rows(&[(16384, "t", &["a"], 2), (16384, "t", &["b"], 1)]),
+        ],
+    },
+    Row {
         shows: "a transaction",
         limit: AMPLE,
         steps: &[

@@ -1,0 +1,126 @@
+//! Subscribers of which one request for memory is refused: `tools/refused_memory/run.sh pgsub_tests` refuses each in turn.
+
+use crate::blocks::{IN_BLOCKS, IN_PAIRS};
+use crate::row::{AMPLE, Stored, T_1_E, T_1_L, T_2_M};
+use crate::steps::{BadSession, MAX_FRAME, NOW, are_rows, sessions_of};
+use pgapply::{DumpRow, ReplicaStore, StoreFault};
+use pglsn::Lsn;
+use pgorder::Version;
+use pgspool::{ByteSpools, ListSpools, Spools};
+use pgstore::Store;
+use pgsub_core::{Fault, Session, Subscriber, follow};
+use std::alloc::Global;
+use std::process::Abort;
+use std::test::Fail;
+
+/// A session in chunks, asked for once more where memory was refused.
+fn sessions_in_the_end(alloc: Global, session: &'static str) -> Result<Vec<Session>, BadSession> {
+    match sessions_of(alloc, &[session], 51) {
+        Err(BadSession::Memory) => sessions_of(alloc, &[session], 51),
+        answer => answer,
+    }
+}
+
+/// All rows, asked for once more where memory was refused.
+fn rows_in_the_end<P: Spools + Drop, C: ReplicaStore + Drop>(
+    subscriber: &mut Subscriber<P, C>,
+) -> Result<Vec<DumpRow>, Fault> {
+    match subscriber.rows() {
+        Err(Fault::Memory) => subscriber.rows(),
+        answer => answer,
+    }
+}
+
+/// The rows that both sessions leave at the end LSN of each commit.
+fn rows_at(position: Lsn) -> Option<&'static [Stored]> {
+    match position.0 {
+        0 => Some(&[]),
+        0x330 => Some(&[T_1_E]),
+        0x430 => Some(&[T_1_L, T_2_M]),
+        _ => None,
+    }
+}
+
+/// Whether the rows are those of the commit at the position.
+fn has_rows_of_a_commit<P: Spools + Drop, C: ReplicaStore + Drop>(
+    subscriber: &mut Subscriber<P, C>,
+) -> Result<bool, Fault> {
+    let Some(wanted) = rows_at(subscriber.position()) else {
+        return Ok(false);
+    };
+    let rows = rows_in_the_end(subscriber)?;
+    Ok(are_rows(rows.as_slice(), wanted))
+}
+
+/// Follows a session to its end, once more where memory was refused; then the rows in between are those of a commit.
+fn follow_in_the_end<P: Spools + Drop, C: ReplicaStore + Drop>(
+    rt: &impl Abort,
+    subscriber: &mut Subscriber<P, C>,
+    sessions: &[Session],
+) -> Result<(), Fault> {
+    let followed = follow(subscriber, sessions, NOW);
+    if followed != Err(Fault::Memory) {
+        return followed;
+    }
+    assert!(rt; has_rows_of_a_commit(subscriber)?);
+    follow(subscriber, sessions, NOW)
+}
+
+/// Whether a session is taken whole over a new store, where one request for memory may be refused.
+fn takes_all<P: Spools + Drop, C: ReplicaStore + Drop>(
+    rt: &(impl Abort + AllocGlobal),
+    store: C,
+    spools: P,
+    sessions: &[Session],
+) -> Result<bool, Fault> {
+    let mut subscriber = Subscriber::new(rt.alloc(), store, spools, Version::Two, MAX_FRAME);
+    follow_in_the_end(rt, &mut subscriber, sessions)?;
+    Ok(subscriber.position() == Lsn(0x430) && has_rows_of_a_commit(&mut subscriber)?)
+}
+
+/// The same over a store in memory, which is asked for once more where memory was refused.
+fn takes_all_in_memory<P: Spools + Drop>(
+    rt: &(impl Abort + AllocGlobal),
+    spools: P,
+    sessions: &[Session],
+) -> Result<bool, Fail> {
+    let store = match Store::in_memory(rt.alloc()) {
+        Ok(store) => store,
+        Err(_) => Store::in_memory(rt.alloc())?,
+    };
+    Ok(takes_all(rt, store, spools, sessions)?)
+}
+
+/// The same over disks in memory. Where a disk can't grow, the store may shut with `Refused`, and all is taken anew.
+fn takes_all_on_disks(rt: &(impl Abort + AllocGlobal), sessions: &[Session]) -> Result<bool, Fail> {
+    if let Ok(store) = Store::on_memory_disks(rt.alloc()) {
+        let taken = takes_all(rt, store, ByteSpools::new(rt.alloc(), AMPLE), sessions);
+        if taken != Err(Fault::Store(StoreFault::Refused)) {
+            return Ok(taken?);
+        }
+    }
+    let store = Store::on_memory_disks(rt.alloc())?;
+    Ok(takes_all(rt, store, ByteSpools::new(rt.alloc(), AMPLE), sessions)?)
+}
+
+// The only answer beside those that would have come is Memory, and nothing is lost.
+#[test]
+fn refused_memory_changes_nothing(rt: HostRuntime) -> Result<(), Fail> {
+    for session in [IN_PAIRS, IN_BLOCKS] {
+        let sessions = sessions_in_the_end(rt.alloc(), session)?;
+        let spools = ByteSpools::new(rt.alloc(), AMPLE);
+        assert!(rt; takes_all_in_memory(&rt, spools, sessions.as_slice())?);
+        let spools = ListSpools::new(rt.alloc(), AMPLE);
+        assert!(rt; takes_all_in_memory(&rt, spools, sessions.as_slice())?);
+    }
+    Ok(())
+}
+
+#[test]
+fn on_disks_refused_memory_changes_nothing(rt: HostRuntime) -> Result<(), Fail> {
+    for session in [IN_PAIRS, IN_BLOCKS] {
+        let sessions = sessions_in_the_end(rt.alloc(), session)?;
+        assert!(rt; takes_all_on_disks(&rt, sessions.as_slice())?);
+    }
+    Ok(())
+}
