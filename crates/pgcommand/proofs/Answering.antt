@@ -1,5 +1,5 @@
 -- What the parse of the words comes to.
-use Rattle.std.proofs.Common.{◌≡◌, ◌∙◌, ◌⊎◌, ⊎_elim, ℕ, true, refl, sym, ap, subst, List, [], Option, Some, None, unwrap_or}
+use Rattle.std.proofs.Common.{◌≡◌, ◌∙◌, ⊎_elim, true, refl, sym, ap, subst, List, [], Option, Some, None, unwrap_or}
 use Rattle.std.specs.Option.{option_map}
 use Rattle.clap.specs.Kinds.{HasKind, IsAmong}
 use Rattle.clap.specs.Words.{App, HasMatchesOf, Row, Text, fault_of, is_simple, is_simple_and_free, kind_of, subcommand_of, subcommand_rows_of}

@@ -3,7 +3,7 @@ use Rattle.std.proofs.Common.{◌≡◌, ◌∙◌, ◌&&◌, ◌||◌, ◌⊎�
 use Rattle.std.specs.Prelude.{find, fold, option_map, is_some, bytes_eq}
 use Rattle.std.proofs.lemmas.Slice.Eq.{bytes_eq-Decides}
 use Rattle.clap.specs.Kinds.{Kinds, check_kinds, or_else}
-use Rattle.clap.specs.Faults.{built_fault, check_fault, defaults_fault, entered_fault, fault_of, level_fault, other_fault, settle_fault, turn_fault, walk_fault, word_fault}
+use Rattle.clap.specs.Faults.{built_fault, check_fault, defaults_fault, entered_fault, fault_of, other_fault, settle_fault, turn_fault, walk_fault, word_fault}
 use Rattle.clap.specs.Simple.{App, Shape, argument_words, built, entered, label_of, names_of, rows_at, subcommand_of}
 use Rattle.clap.specs.Walk.{Held, Names, Outcome, done, waits, plain, refused, Row, Rule, Step, next, trailing, subcommand, value, Text, Waiting, idle, option, positional, Walk, after_flag, after_step, answers_to, arg_by_index, finished, long_or_other, nothing_held, plain_word, settled, short_or_plain, subcommand_met, subcommand_or_other, to_positional, walk, walk_from, walked, word_met}
 use Rattle.clap.specs.Lexer.{long_of, short_of}
@@ -183,10 +183,11 @@ is_command s word (inl e) named isnt = inl (ap (λ (x : Shape). x.name) e)
 is_command s word (inr (inl e)) named isnt = inr (inl (ap (λ (x : Shape). x.name) e))
 is_command s word (inr (inr (inl e))) named isnt = inr (inr (inl (ap (λ (x : Shape). x.name) e)))
 is_command s word (inr (inr (inr (inl e)))) named isnt = inr (inr (inr (inl (ap (λ (x : Shape). x.name) e))))
-is_command s word (inr (inr (inr (inr (inl e))))) named isnt = inr (inr (inr (inr (ap (λ (x : Shape). x.name) e))))
-is_command s word (inr (inr (inr (inr (inr (inl e)))))) named isnt =
+is_command s word (inr (inr (inr (inr (inl e))))) named isnt = inr (inr (inr (inr (inl (ap (λ (x : Shape). x.name) e)))))
+is_command s word (inr (inr (inr (inr (inr (inl e)))))) named isnt = inr (inr (inr (inr (inr (ap (λ (x : Shape). x.name) e)))))
+is_command s word (inr (inr (inr (inr (inr (inr (inl e))))))) named isnt =
     absurd (help_word (bytes_eq (codes "help") word) word refl (subst (λ (x : Shape). answers_to word (label_of x) ≡ true) e named) isnt)
-is_command s word (inr (inr (inr (inr (inr (inr none)))))) named isnt = absurd none
+is_command s word (inr (inr (inr (inr (inr (inr (inr none))))))) named isnt = absurd none
 
 -- Words without a fault name one of the commands.
 pub names_one : (words : List Text) → fault_of pgsub_app words ≡ [] → (p : Text × List Row) × (subcommand_of pgsub_app words ≡ Some p) × IsCommandName p.0

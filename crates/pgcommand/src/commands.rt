@@ -2,7 +2,7 @@
 
 ghost use Rattle.std.specs.Prelude.{◌≡◌, IfOk, false};
 ghost use Rattle.clap.specs.Words.{new_app, rule_of};
-ghost use Rattle.pgcommand.specs.Asked.{IsCommand, word_rule, proto_rule, raw_rule, show_app, apply_app, same_app, resume_app, lsn_app, bare_app, pgsub_app};
+ghost use Rattle.pgcommand.specs.Asked.{IsCommand, word_rule, proto_rule, raw_rule, store_rule, show_app, apply_app, dump_app, same_app, resume_app, lsn_app, bare_app, pgsub_app};
 
 use clap::{Arg, ArgAction, Command, value_parser};
 use std::alloc::{AllocError, Global};
@@ -42,6 +42,18 @@ fn raw<'a>(alloc: Global) -> Arg<'a>
         .help("Read the file as the plain bytes of one session instead of a recording")
 }
 
+/// `--store FILE`.
+fn store<'a>(alloc: Global, required: bool, help: &'a str) -> Arg<'a>
+    ensures rule { rule_of result ≡ store_rule required }
+    ensures local { result.global ≡ false }
+{
+    Arg::new(alloc, "store")
+        .long("store")
+        .value_name("FILE")
+        .required(required)
+        .help(help)
+}
+
 /// A command without arguments.
 fn named<'a>(alloc: Global, name: &'a str, about: &'a str) -> Command<'a>
     ensures { IsCommand (new_app name.entry.now) result }
@@ -71,7 +83,23 @@ fn apply_command<'a>(alloc: Global) -> Result<Command<'a>, AllocError>
     )
     .arg(proto(alloc))?
     .arg(raw(alloc))?
+    .arg(store(
+        alloc,
+        false,
+        "Keep rows and position in this file and go on from what it holds; it is made where it isn't there",
+    ))?
     .arg(word(alloc, "FILE", "The recording"))
+}
+
+fn dump_command<'a>(alloc: Global) -> Result<Command<'a>, AllocError>
+    ensures { IfOk result (IsCommand dump_app) }
+{
+    named(
+        alloc,
+        "dump",
+        "Print the rows and the position that a file holds",
+    )
+    .arg(store(alloc, true, "The file in which `apply --store` keeps them"))
 }
 
 fn same_command<'a>(alloc: Global) -> Result<Command<'a>, AllocError>
@@ -128,12 +156,14 @@ pub(crate) fn program<'a>(alloc: Global) -> Result<Command<'a>, AllocError>
 {
     let show = show_command(alloc)?;
     let apply = apply_command(alloc)?;
+    let dump = dump_command(alloc)?;
     let same = same_command(alloc)?;
     let resume = resume_command(alloc)?;
     let lsn = lsn_command(alloc)?;
     bare(alloc)
         .subcommand(show)?
         .subcommand(apply)?
+        .subcommand(dump)?
         .subcommand(same)?
         .subcommand(resume)?
         .subcommand(lsn)

@@ -5,7 +5,7 @@
 //! ```text
 //! let words: Vec<String> = std::env::args(&rt)?.collect(alloc)?;
 //! match command_of(alloc, words.as_slice()) {
-//!     Ok(Task::Apply { version, raw, file }) => apply(version, raw, file.as_str()),
+//!     Ok(Task::Apply { version, raw, store: None, file }) => apply(version, raw, file.as_str()),
 //!     Ok(_) => ..,
 //!     // help and `--version` are such errors too: they go to standard output, with status 0
 //!     Err(CommandFault::Usage(error)) if error.use_stderr() => {

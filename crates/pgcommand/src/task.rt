@@ -1,8 +1,8 @@
 //! The tasks of the program, and how the parsed words ask for them.
 
-ghost use Rattle.std.specs.Prelude.{◌≡◌, ◌↔◌, IfOk, true, codes, string_bytes};
+ghost use Rattle.std.specs.Prelude.{◌≡◌, ◌↔◌, IfOk, Option, true, codes, string_bytes};
 ghost use Rattle.clap.specs.Words.{found_of, one_of, rows_of};
-ghost use Rattle.pgcommand.specs.Asked.{IsAsked, IsCommandName, IsRaw, ReadsAsOne, IsVersion, text_in};
+ghost use Rattle.pgcommand.specs.Asked.{IsAsked, IsCommandName, IsRaw, NamesStore, ReadsAsOne, IsVersion, text_in};
 
 use clap::ArgMatches;
 use pgorder::Version;
@@ -16,11 +16,17 @@ pub enum Task {
         version: Version,
         file: String,
     },
-    /// Apply a recording, or with `raw` the file's bytes as one session, and print the rows and the position.
+    /// Apply a recording, or with `raw` the file's bytes as one session, and print the rows and the position. Both are kept in the
+    /// file `store`, if one is named.
     Apply {
         version: Version,
         raw: bool,
+        store: Option<String>,
         file: String,
+    },
+    /// Print the rows and the position that are kept in a file.
+    Dump {
+        store: String,
     },
     /// Compare the rows and positions that two recordings lead to.
     Same {
@@ -71,6 +77,16 @@ fn value_of(alloc: Global, found: &ArgMatches<'_>, name: &str) -> Result<String,
     String::from_str(alloc, found.get_str(name).unwrap_or(""))
 }
 
+/// The file that `--store` names, copied.
+fn store_of(alloc: Global, found: &ArgMatches<'_>) -> Result<Option<String>, AllocError>
+    ensures { IfOk result (NamesStore (rows_of (found_of found.now))) }
+{
+    match found.get_str("store") {
+        Some(path) => Ok(Some(String::from_str(alloc, path)?)),
+        None => Ok(None),
+    }
+}
+
 /// The task that the subcommand of this name asks for by these matches.
 pub(crate) fn task_of(alloc: Global, name: &str, found: &ArgMatches<'_>) -> Result<Task, AllocError>
     requires { IsCommandName name.now }
@@ -85,13 +101,18 @@ pub(crate) fn task_of(alloc: Global, name: &str, found: &ArgMatches<'_>) -> Resu
             }
         }
         "apply" => {
+            let store = store_of(alloc, found)?;
             let file = value_of(alloc, found, "FILE")?;
             Task::Apply {
                 version: version_of(found),
                 raw: raw_of(found),
+                store,
                 file,
             }
         }
+        "dump" => Task::Dump {
+            store: value_of(alloc, found, "store")?,
+        },
         "same" => {
             let left = value_of(alloc, found, "LEFT")?;
             let right = value_of(alloc, found, "RIGHT")?;

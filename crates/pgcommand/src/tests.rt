@@ -16,7 +16,19 @@ fn asked(alloc: Global, line: &str) -> Result<Result<Task, CommandFault>, AllocE
 fn task_text(alloc: Global, task: &Task) -> Result<String, AllocError> {
     match task {
         Task::Show { version, file } => format!(in alloc; "show {version:?} {file}"),
-        Task::Apply { version, raw, file } => format!(in alloc; "apply {version:?} {raw} {file}"),
+        Task::Apply {
+            version,
+            raw,
+            store: None,
+            file,
+        } => format!(in alloc; "apply {version:?} {raw} {file}"),
+        Task::Apply {
+            version,
+            raw,
+            store: Some(store),
+            file,
+        } => format!(in alloc; "apply {version:?} {raw} into {store}: {file}"),
+        Task::Dump { store } => format!(in alloc; "dump {store}"),
         Task::Same {
             version,
             left,
@@ -38,6 +50,18 @@ fn reads_tasks(rt: HostRuntime) -> Result<(), Fail> {
         ("pgsub apply F --raw --proto 01", "apply One true F"),
         ("pgsub apply -- --raw", "apply Two false --raw"),
         ("pgsub apply -", "apply Two false -"),
+        ("pgsub apply --store S F", "apply Two false into S: F"),
+        (
+            "pgsub apply F --raw --store=S --proto 1",
+            "apply One true into S: F",
+        ),
+        ("pgsub apply --store= F", "apply Two false into : F"),
+        (
+            "pgsub apply --store F -- --store",
+            "apply Two false into F: --store",
+        ),
+        ("pgsub dump --store S", "dump S"),
+        ("pgsub dump --store=S", "dump S"),
         ("pgsub same A B", "same Two A B"),
         ("pgsub same A --proto 1 B", "same One A B"),
         ("pgsub resume F", "resume F"),
@@ -80,6 +104,23 @@ fn rejects_the_rest(rt: HostRuntime) -> Result<(), Fail> {
         ),
         ("pgsub apply --raw --raw F", ErrorKind::ArgumentConflict),
         ("pgsub apply --raw=1 F", ErrorKind::TooManyValues),
+        ("pgsub apply --store S", ErrorKind::MissingRequiredArgument),
+        (
+            "pgsub apply --store S --store S F",
+            ErrorKind::ArgumentConflict,
+        ),
+        ("pgsub apply F --store", ErrorKind::InvalidValue),
+        ("pgsub dump", ErrorKind::MissingRequiredArgument),
+        ("pgsub dump F", ErrorKind::UnknownArgument),
+        ("pgsub dump --store S F", ErrorKind::UnknownArgument),
+        (
+            "pgsub dump --store S --store T",
+            ErrorKind::ArgumentConflict,
+        ),
+        ("pgsub dump --raw --store S", ErrorKind::UnknownArgument),
+        ("pgsub show --store S F", ErrorKind::UnknownArgument),
+        ("pgsub same --store S A B", ErrorKind::UnknownArgument),
+        ("pgsub resume --store S F", ErrorKind::UnknownArgument),
         ("pgsub same A", ErrorKind::MissingRequiredArgument),
         ("pgsub resume --proto 1 F", ErrorKind::UnknownArgument),
         ("pgsub lsn -1", ErrorKind::UnknownArgument),

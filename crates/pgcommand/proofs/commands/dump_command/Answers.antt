@@ -1,0 +1,7 @@
+use Rattle.std.proofs.lemmas.Result.{IfOk-weaker}
+use Rattle.pgcommand.proofs.Building.{with_arg}
+use Rattle.pgcommand.proofs.commands.dump_command.Goals as goal
+
+pub returns : goal.returns
+returns c =
+    IfOk-weaker c.arg.result _ _ (λ r h. with_arg _ r _ _ _ c.named.ensures c.store.ensures.rule c.store.ensures.local h) c.arg.ensures
