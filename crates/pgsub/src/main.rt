@@ -1,4 +1,4 @@
-//! The program: shows, applies and compares recorded sessions of a server.
+//! The program: shows, applies and compares recorded sessions of a server, and keeps in a file what they lead to.
 #![tactic(auto)]
 
 ghost use Rattle.std.specs.Prelude.{◌≡◌, ◌≢◌, ◌⊎◌};
@@ -6,7 +6,13 @@ ghost use Rattle.clap.specs.Values.{kind_of};
 ghost use Rattle.clap.specs.declared.error.kind.ErrorKind.TheVariants as kind;
 
 use pgcommand::{CommandFault, Task, command_of};
-use pgsub_cli::run;
+use pgorder::Version;
+use pgstore::Store;
+use pgsub_cli::fault::RunFault;
+use pgsub_cli::storing::{Incoming, read_input, tell_stopped, tell_unopened};
+use pgsub_cli::{run, run_store, store_path};
+use pgsub_core::Side;
+use sqlite::Unknown;
 use std::alloc::AllocError;
 use std::env;
 use std::fs::File;
@@ -60,7 +66,45 @@ fn files_of(rt: &HostRuntime, task: &Task) -> (Option<File>, Option<File>) {
             let left = opened(rt, left.as_str());
             (left, opened(rt, right.as_str()))
         }
-        Task::Lsn { .. } => (None, None),
+        Task::Dump { .. } | Task::Lsn { .. } => (None, None),
+    }
+}
+
+/// What a task applies to its store, None where it prints what the file at this path holds. That one has to be there.
+fn input_of(
+    rt: &HostRuntime,
+    task: &Task,
+    path: &str,
+) -> Result<Option<(Version, Incoming<File>)>, RunFault> {
+    match task {
+        Task::Apply {
+            version,
+            raw,
+            file,
+            ..
+        } => {
+            let incoming = read_input(rt.alloc(), *raw, opened(rt, file.as_str()))?;
+            Ok(Some((*version, incoming)))
+        }
+        _ => match opened(rt, path) {
+            Some(_) => Ok(None),
+            None => Err(RunFault::CannotRead(Side::Left)),
+        },
+    }
+}
+
+/// Runs a task over the store in the file at a path. What it applies is read before the store is opened.
+///
+/// The store's files never stand for a standard stream that was closed at the start: the SQL library opens them behind those.
+fn run_over(rt: &HostRuntime, task: &Task, path: &str) -> u8 {
+    let (mut out, mut err) = (rt.stdout(), rt.stderr());
+    let input = match input_of(rt, task, path) {
+        Ok(input) => input,
+        Err(fault) => return tell_stopped(rt.alloc(), task, fault, &mut err),
+    };
+    match Store::open_from(rt.alloc(), rt, path, Unknown) {
+        Ok(store) => run_store(rt.alloc(), store, input, &mut out, &mut err).0,
+        Err(fault) => tell_unopened(rt.alloc(), fault, &mut err),
     }
 }
 
@@ -71,6 +115,9 @@ fn run_words(rt: &HostRuntime, words: &[String]) -> Result<u8, AllocError> {
         Err(CommandFault::Usage(error)) => return Ok(tell_usage(rt, &error)),
         Err(CommandFault::Memory) => return Err(AllocError),
     };
+    if let Some(path) = store_path(&task) {
+        return Ok(run_over(rt, &task, path));
+    }
     let (left, right) = files_of(rt, &task);
     let (mut out, mut err) = (rt.stdout(), rt.stderr());
     Ok(run(rt.alloc(), &task, left, right, &mut out, &mut err))

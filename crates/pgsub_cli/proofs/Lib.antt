@@ -6,3 +6,4 @@ pub mod Writing
 pub mod ComparedSides
 pub mod ShownLines
 pub mod BothRead
+pub mod KeptLines

@@ -94,6 +94,7 @@ store_text store.UnchangedInInsert = codes "store 4 UnchangedInInsert"
 store_text store.Width = codes "store 5 Width"
 store_text store.TooManyCopies = codes "store 7 TooManyCopies"
 store_text store.Refused = codes "store 8 Refused"
+store_text store.NotAStore = codes "store 10 NotAStore"
 store_text store.Memory = memory_text
 
 -- a fault of following

@@ -19,13 +19,21 @@ use Rattle.pgsub_cli.specs.Limits.{longest_payload, most_buffered, clock}
 abbrev pub new_subscriber : Version → Subscribed
 new_subscriber version = newly map.empty 0 version longest_payload most_buffered
 
--- The bytes of these sessions leave this state of a new subscriber, and this fault stopped them, if one did. Of whatever history
--- they are the sessions, they were followed.
-pub record Leaves (version : Version) (sessions : List (List ℕ)) (stopped : Option Fault) (state : Subscribed) : Type 0 where
-  pub fed : AreFed clock (new_subscriber version) sessions state stopped
+-- over a store with these tables at this position
+abbrev pub subscriber_over : Tables → ℕ → Version → Subscribed
+subscriber_over tables position version = newly tables position version longest_payload most_buffered
+
+-- The bytes of these sessions lead from one state to another, and this fault stopped them, if one did. Of whatever history they are
+-- the sessions, they were followed.
+pub record LeadsTo (old : Subscribed) (sessions : List (List ℕ)) (stopped : Option Fault) (state : Subscribed) : Type 0 where
+  pub fed : AreFed clock old sessions state stopped
   pub followed :
-      (history : List Transaction) (all_complete : List (List Sent)) → IsSent history (new_subscriber version) sessions all_complete
-      → IsFollowed clock history sessions all_complete (new_subscriber version) state stopped
+      (history : List Transaction) (all_complete : List (List Sent)) → IsSent history old sessions all_complete
+      → IsFollowed clock history sessions all_complete old state stopped
+
+-- they leave this state of a new subscriber
+abbrev pub Leaves : Version → List (List ℕ) → Option Fault → Subscribed → Type 0
+Leaves version sessions stopped state = LeadsTo (new_subscriber version) sessions stopped state
 
 -- the lines of the rows and the position
 abbrev pub lines_of : Subscribed → List ℕ

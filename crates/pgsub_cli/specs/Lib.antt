@@ -7,4 +7,5 @@ pub mod Recorded
 pub mod Shown
 pub mod Runs
 pub mod Stores
+pub mod Storing
 pub mod Compared

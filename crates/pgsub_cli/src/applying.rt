@@ -43,7 +43,7 @@ fn stored_lines<P: Spools + Drop, C: ReplicaStore + Drop>(
 }
 
 /// Follows sessions, and reads what is stored then, whatever stopped them.
-fn apply_sessions<P: Spools + Drop, C: ReplicaStore + Drop>(
+pub(crate) fn apply_sessions<P: Spools + Drop, C: ReplicaStore + Drop>(
     alloc: Global,
     subscriber: &mut Subscriber<P, C>,
     sessions: &[Session],
@@ -57,7 +57,7 @@ fn apply_sessions<P: Spools + Drop, C: ReplicaStore + Drop>(
 }
 
 /// Feeds the bytes of a file as one session, and reads what is stored then, whatever stopped them.
-fn apply_input<R: Input + Drop, P: Spools + Drop, C: ReplicaStore + Drop>(
+pub(crate) fn apply_input<R: Input + Drop, P: Spools + Drop, C: ReplicaStore + Drop>(
     alloc: Global,
     subscriber: &mut Subscriber<P, C>,
     file: R,

@@ -1,6 +1,6 @@
 //! Files whose bytes are fed as they are, and recordings from which a server would be asked to go on.
 
-use crate::running::run;
+use crate::running::{run, store_path};
 use pgcommand::Task;
 use pgorder::Version;
 use std::alloc::{AllocError, Global};
@@ -71,6 +71,9 @@ fn check<R: Read + Drop>(
     file: Option<R>,
     answer: Answer,
 ) -> Result<(), Fail> {
+    if store_path(task).is_some() {
+        return Err(Fail::from(shows));
+    }
     let alloc = rt.alloc();
     let (mut out, mut err) = (Vec::new(alloc), Vec::new(alloc));
     let status = run(alloc, task, file, None, &mut out, &mut err);
@@ -85,6 +88,7 @@ fn raw_task(alloc: Global) -> Result<Task, AllocError> {
     Ok(Task::Apply {
         version: Version::Two,
         raw: true,
+        store: None,
         file: String::from_str(alloc, "in.bin")?,
     })
 }

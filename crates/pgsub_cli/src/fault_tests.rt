@@ -14,7 +14,7 @@ use std::process::Abort;
 use std::test::Fail;
 
 /// One fault of each kind that following can end with.
-static FAULTS: [Fault; 33] = [
+static FAULTS: [Fault; 34] = [
     Fault::Wire(WireFault::UnknownFrame(120)),
     Fault::Wire(WireFault::BadLength),
     Fault::Wire(WireFault::TooLarge),
@@ -44,6 +44,7 @@ static FAULTS: [Fault; 33] = [
     Fault::Store(StoreFault::Width),
     Fault::Store(StoreFault::TooManyCopies),
     Fault::Store(StoreFault::Refused),
+    Fault::Store(StoreFault::NotAStore),
     Fault::Read,
     Fault::Closed,
     Fault::Memory,

@@ -184,6 +184,7 @@ fn write_store<W: fmt::Write>(f: &mut fmt::Formatter<W>, fault: StoreFault) -> f
         StoreFault::Width => "store 5 Width",
         StoreFault::TooManyCopies => "store 7 TooManyCopies",
         StoreFault::Refused => "store 8 Refused",
+        StoreFault::NotAStore => "store 10 NotAStore",
         StoreFault::Memory => "memory",
     })
 }

@@ -25,8 +25,12 @@ pub mod showing;
 #[cfg(test)]
 mod showing_tests;
 pub mod stores;
+pub mod storing;
+#[cfg(test)]
+mod storing_tests;
 #[cfg(test)]
 mod tests;
 
 pub use pgcommand::Task;
-pub use running::run;
+pub use running::{run, store_path};
+pub use storing::run_store;

@@ -1,11 +1,11 @@
 //! Runs a task over readers and writers.
 
-ghost use Rattle.std.specs.Prelude.{◌≡◌, ◌≤◌, Result, IfOk, string_bytes};
+ghost use Rattle.std.specs.Prelude.{◌≡◌, ◌≤◌, None, Result, IfOk, option_map, string_bytes};
 ghost use Rattle.pgsub_core.specs.Faults.{IsReadFault};
 ghost use Rattle.pgsub_cli.specs.declared.fault.Ending.{Ending};
 ghost use Rattle.pgsub_cli.specs.declared.fault.RunFault.{RunFault};
 ghost use Rattle.pgsub_cli.specs.FaultTexts.{stop_line};
-ghost use Rattle.pgsub_cli.specs.Runs.{Compares, ComparesSessions, Ends, Prints, PrintsApplied, PrintsFile, PrintsResumed, PrintsShown, Tells, WritesVerdict, left_path, right_path, status_of, status_of_stream};
+ghost use Rattle.pgsub_cli.specs.Runs.{Compares, ComparesSessions, Ends, Prints, PrintsApplied, PrintsFile, PrintsResumed, PrintsShown, Tells, WritesVerdict, left_path, right_path, store_path, status_of, status_of_stream};
 
 use crate::applying::{apply, apply_bytes, resume};
 use crate::comparing::compare;
@@ -32,7 +32,7 @@ fn stream_status(fault: Fault) -> u8
 }
 
 /// The exit status: 0 done, 1 a stream that is rejected or memory that ran out, 2 usage, 3 a fault of a file, 4 a difference.
-fn status(ended: Result<Ending, RunFault>) -> u8
+pub(crate) fn status(ended: Result<Ending, RunFault>) -> u8
     ensures range { result ≤ 4 }
     ensures status { result ≡ status_of ended }
 {
@@ -46,19 +46,31 @@ fn status(ended: Result<Ending, RunFault>) -> u8
     }
 }
 
-/// The path of the first file that a task names.
-fn left_path(task: &Task) -> &str
+/// The path of the store's file that a task names, if it names one. `run_store` runs such a task.
+pub fn store_path(task: &Task) -> Option<&str>
+    ensures { option_map (λ path. path.now) result ≡ store_path task.now }
+{
+    match task {
+        Task::Apply { store, .. } => store.as_deref(),
+        Task::Dump { store } => Some(store.as_str()),
+        _ => None,
+    }
+}
+
+/// The path of the first file that a task reads.
+pub(crate) fn left_path(task: &Task) -> &str
     ensures { result.now ≡ left_path task.now }
 {
     match task {
         Task::Show { file, .. } | Task::Apply { file, .. } | Task::Resume { file } => file.as_str(),
+        Task::Dump { store } => store.as_str(),
         Task::Same { left, .. } => left.as_str(),
         Task::Lsn { .. } => "",
     }
 }
 
-/// The path of the second file that a task names.
-fn right_path(task: &Task) -> &str
+/// The path of the second file that a task reads.
+pub(crate) fn right_path(task: &Task) -> &str
     ensures { result.now ≡ right_path task.now }
 {
     match task {
@@ -74,14 +86,20 @@ fn fault_line(alloc: Global, fault: RunFault, left: &str, right: &str) -> Result
     format!(in alloc; "{}", StopLine { fault, left, right })
 }
 
-/// Writes the line of a fault. Where standard error can't be written, the status alone tells.
-fn tell<E: Output>(alloc: Global, task: &Task, ended: Result<Ending, RunFault>, err: &mut E)
-    ensures { Tells E.takes E.failed task.now ended err.old err.new }
+/// Writes the line of a fault, of files with these paths. Where standard error can't be written, the status alone tells.
+pub(crate) fn tell<E: Output>(
+    alloc: Global,
+    ended: Result<Ending, RunFault>,
+    left: &str,
+    right: &str,
+    err: &mut E,
+)
+    ensures { Tells E.takes E.failed left.now right.now ended err.old err.new }
 {
     let Err(fault) = ended else {
         return;
     };
-    match fault_line(alloc, fault, left_path(task), right_path(task)) {
+    match fault_line(alloc, fault, left, right) {
         Ok(line) => {
             let _ = err.write_lines(line.as_str());
         }
@@ -209,6 +227,7 @@ fn run_task<R: Input + Drop, W: Output>(
     right: Option<R>,
     out: &mut W,
 ) -> Result<Ending, RunFault>
+    requires { store_path task.now ≡ None }
     ensures { Ends R.gives R.begins R.failed W.takes W.failed task.now left right out.old out.new result }
 {
     match task {
@@ -223,10 +242,12 @@ fn run_task<R: Input + Drop, W: Output>(
         Task::Same { version, .. } => compare_recordings(alloc, *version, left, right, out),
         Task::Resume { .. } => resume_recording(alloc, left, out),
         Task::Lsn { text } => write_number(alloc, text.as_str(), out),
+        Task::Dump { .. } => unreachable!(),
     }
 }
 
-/// Runs a task. `left` is the first file that it names and `right` the second one, None where it can't be opened or none is named.
+/// Runs a task that names no store. `left` is the first file that it names and `right` the second one, None where it can't be opened or
+/// none is named.
 /// Returns the exit status: 0 done, 1 a stream that is rejected or memory that ran out, 2 a text that isn't an LSN, 3 a fault of a file,
 /// 4 two recordings that differ.
 ///
@@ -241,10 +262,11 @@ pub fn run<R: Input + Drop, W: Output, E: Output>(
     out: &mut W,
     err: &mut E,
 ) -> u8
+    requires { store_path task.now ≡ None }
     ensures status { result ≤ 4 }
-    ensures ends { (ended : Result Ending RunFault) × (result ≡ status_of ended) × Ends R.gives R.begins R.failed W.takes W.failed task.now left right out.old out.new ended × Tells E.takes E.failed task.now ended err.old err.new }
+    ensures ends { (ended : Result Ending RunFault) × (result ≡ status_of ended) × Ends R.gives R.begins R.failed W.takes W.failed task.now left right out.old out.new ended × Tells E.takes E.failed (left_path task.now) (right_path task.now) ended err.old err.new }
 {
     let ended = run_task(alloc, task, left, right, out);
-    tell(alloc, task, ended, err);
+    tell(alloc, ended, left_path(task), right_path(task), err);
     status(ended)
 }

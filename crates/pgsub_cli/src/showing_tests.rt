@@ -1,6 +1,6 @@
 //! Command lines that print frames or an LSN, over recordings in memory.
 
-use crate::running::run;
+use crate::running::{run, store_path};
 use pgcommand::{CommandFault, Task, command_of};
 use std::alloc::{AllocError, Global};
 use std::process::Abort;
@@ -288,6 +288,9 @@ fn recording(alloc: Global, lines: &[&str]) -> Result<String, AllocError> {
 fn check(rt: &(impl Abort + AllocGlobal), row: &Row) -> Result<(), Fail> {
     let alloc = rt.alloc();
     let task = task_of(alloc, row.line)?;
+    if store_path(&task).is_some() {
+        return Err(Fail::from(row.line));
+    }
     let text = recording(alloc, row.file.unwrap_or(&[]))?;
     let file = row.file.map(|_| text.as_bytes());
     let (mut out, mut err) = (Vec::new(alloc), Vec::new(alloc));

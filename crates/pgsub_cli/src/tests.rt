@@ -1,5 +1,8 @@
 //! Whole runs over recordings in memory.
 
+ghost use Rattle.std.specs.Prelude.{◌≡◌, None};
+ghost use Rattle.pgsub_cli.specs.Runs.{store_path};
+
 use crate::cases::{BEFORE, DISCONNECTION, FAULTS, NOTHING, ROW_BEFORE, TRANSACTIONS};
 use crate::running::run;
 use pgcommand::Task;
@@ -67,10 +70,13 @@ fn push_lines(
 }
 
 /// To apply this recording in version 1.
-fn applying(file: String) -> Task {
+fn applying(file: String) -> Task
+    ensures { store_path result ≡ None }
+{
     Task::Apply {
         version: Version::One,
         raw: false,
+        store: None,
         file,
     }
 }

@@ -1,0 +1,178 @@
+//! Runs a task over a store that outlasts it, wherever that keeps what it holds.
+
+ghost use Rattle.std.specs.Prelude.{◌≡◌, ◌≤◌, [], Result, Err, IfOk, IfErr, string_bytes};
+ghost use Rattle.pgapply.specs.Value.{Tables};
+ghost use Rattle.pgsub_core.specs.Faults.{IsReadFault, fault_of_store};
+ghost use Rattle.pgsub_core.specs.SubscriberValue.{seen};
+ghost use Rattle.pgsub_cli.specs.declared.fault.Ending.{Ending};
+ghost use Rattle.pgsub_cli.specs.declared.fault.RunFault.{RunFault};
+ghost use Rattle.pgsub_cli.specs.declared.fault.RunFault.TheVariants.{Stream};
+ghost use Rattle.pgsub_cli.specs.Followed.{subscriber_over};
+ghost use Rattle.pgsub_cli.specs.Runs.{Tells, Writes, left_path, right_path, status_of};
+ghost use Rattle.pgsub_cli.specs.Storing.{ComesOf, ComesNot, PrintsHeld, PrintsOver, ShowsIncoming, status_of_unopened};
+ghost use Rattle.pgsub_core.specs.declared.fault.Fault.TheVariants.{Store};
+
+use crate::applying::{apply_input, apply_sessions};
+use crate::dump::dump_text;
+use crate::fault::{Ending, RunFault};
+use crate::files::{Input, Output};
+use crate::limits::{MAX_BUFFERED, MAX_FRAME};
+use crate::printed::{Printed, write_printed};
+use crate::recorded::read_sessions;
+use crate::running::{left_path, right_path, status, tell};
+use pgapply::{ReplicaStore, StoreFault};
+use pgcommand::Task;
+use pgorder::Version;
+use pgspool::{ByteSpools, Spools};
+use pgsub_core::{Fault, Session, Side, Subscriber, fed_sessions_are_followed};
+use std::alloc::{AllocError, Global};
+
+/// What is applied to a store.
+#[derive(Drop)]
+pub enum Incoming<R: Drop> {
+    /// The sessions of a recording, which was read whole.
+    Sessions(Vec<Session>),
+    /// The bytes of a file, as one session, as they are read.
+    Raw(R),
+}
+
+/// What comes of a file: with `raw` its bytes, and else the sessions of the recording in it, of which all is read.
+pub fn read_input<R: Input + Drop>(
+    alloc: Global,
+    raw: bool,
+    file: Option<R>,
+) -> Result<Incoming<R>, RunFault>
+    ensures comes { IfOk result (ComesOf R.gives R.failed raw file) }
+    ensures unread { IfErr result (ComesNot R.gives R.failed raw file) }
+{
+    if raw {
+        return match file {
+            Some(file) => Ok(Incoming::Raw(file)),
+            None => Err(RunFault::CannotRead(Side::Left)),
+        };
+    }
+    let sessions = read_sessions(alloc, Side::Left, file)?;
+    Ok(Incoming::Sessions(sessions))
+}
+
+/// Feeds what comes, and reads what is stored then, whatever stopped it.
+fn feed_incoming<R: Input + Drop, P: Spools + Drop, C: ReplicaStore + Drop>(
+    alloc: Global,
+    subscriber: &mut Subscriber<P, C>,
+    incoming: Incoming<R>,
+) -> Result<Printed, Fault>
+    ensures applied { C.is_honest subscriber.new.applied.store → IfOk result (λ printed. ShowsIncoming R.gives R.begins R.failed C.holds C.place incoming subscriber.old subscriber.new printed.stopped (string_bytes printed.lines)) }
+    ensures fault { IfErr result IsReadFault }
+{
+    match incoming {
+        Incoming::Sessions(sessions) => apply_sessions(alloc, subscriber, sessions.as_slice()),
+        Incoming::Raw(file) => apply_input(alloc, subscriber, file),
+    }
+}
+
+/// A subscriber over a store, with the program's spools and limits.
+fn subscriber_over<C: ReplicaStore + Drop>(
+    alloc: Global,
+    store: C,
+    version: Version,
+) -> Subscriber<ByteSpools, C>
+    ensures store { result.applied.store ≡ store }
+    ensures state { (tables : Tables) → seen C.place result tables ≡ subscriber_over tables (C.place store) version }
+{
+    let spools = ByteSpools::new(alloc, MAX_BUFFERED);
+    Subscriber::new(alloc, store, spools, version, MAX_FRAME)
+}
+
+/// A fault of a store, as that of following.
+fn store_fault(fault: StoreFault) -> Fault
+    ensures { result ≡ fault_of_store fault }
+{
+    match fault {
+        StoreFault::Memory => Fault::Memory,
+        _ => Fault::Store(fault),
+    }
+}
+
+/// The lines of the rows and the position that a store holds. Nothing changes.
+fn held_lines<C: ReplicaStore>(alloc: Global, store: &mut C) -> Result<Printed, Fault>
+    ensures held { C.is_honest store.new → IfOk result (λ printed. PrintsHeld C.holds C.place store.old store.new printed.stopped (string_bytes printed.lines)) }
+    ensures fault { IfErr result IsReadFault }
+{
+    let position = store.position();
+    let rows = match store.rows() {
+        Ok(rows) => rows,
+        Err(fault) => return Err(store_fault(fault)),
+    };
+    match dump_text(alloc, rows.as_slice(), position) {
+        Ok(lines) => Ok(Printed {
+            lines,
+            stopped: None,
+        }),
+        Err(AllocError) => Err(Fault::Memory),
+    }
+}
+
+/// Applies to a store what comes, if anything does. The lines are those of what it holds then.
+fn apply_over<R: Input + Drop, C: ReplicaStore + Drop>(
+    alloc: Global,
+    mut store: C,
+    input: Option<(Version, Incoming<R>)>,
+) -> (Result<Printed, Fault>, C)
+    ensures applied { C.is_honest result.1 → IfOk result.0 (λ printed. PrintsOver R.gives R.begins R.failed C.holds C.place input store result.1 printed.stopped (string_bytes printed.lines)) }
+    ensures fault { IfErr result.0 IsReadFault }
+{
+    fed_sessions_are_followed();
+    let Some((version, incoming)) = input else {
+        let printed = held_lines(alloc, &mut store);
+        return (printed, store);
+    };
+    let mut subscriber = subscriber_over(alloc, store, version);
+    let printed = feed_incoming(alloc, &mut subscriber, incoming);
+    (printed, subscriber.into_store())
+}
+
+/// Tells why a task was stopped before it opened its store. Returns the exit status.
+pub fn tell_stopped<E: Output>(alloc: Global, task: &Task, fault: RunFault, err: &mut E) -> u8
+    ensures status { result ≡ status_of (Err fault) }
+    ensures tells { Tells E.takes E.failed (left_path task.now) (right_path task.now) (Err fault) err.old err.new }
+{
+    let ended = Err(fault);
+    tell(alloc, ended, left_path(task), right_path(task), err);
+    status(ended)
+}
+
+/// Tells why a store couldn't be opened: `pgsub: store 8 Refused`, `pgsub: store 10 NotAStore` or `pgsub: memory`. Returns the exit
+/// status, 1 where memory ran out and else 3.
+pub fn tell_unopened<E: Output>(alloc: Global, fault: StoreFault, err: &mut E) -> u8
+    ensures status { result ≡ status_of_unopened fault }
+    ensures tells { Tells E.takes E.failed [] [] (Err (Stream (Store fault))) err.old err.new }
+{
+    let stopped = RunFault::Stream(Fault::Store(fault));
+    tell(alloc, Err(stopped), "", "", err);
+    match fault {
+        StoreFault::Memory => 1,
+        _ => 3,
+    }
+}
+
+/// Runs a task over an opened store: applies to it what comes of a recording or a file, where that is given, and prints the rows and
+/// the position that it holds then. Returns the exit status, as `run` does, and the store.
+///
+/// There is a way in which it ends, with this status: what is printed are the lines of where the bytes lead from what the store held,
+/// also where a fault stopped them, and that is what the store holds then. With nothing to apply nothing changes. Standard error gets
+/// the line of the fault.
+pub fn run_store<R: Input + Drop, C: ReplicaStore + Drop, W: Output, E: Output>(
+    alloc: Global,
+    store: C,
+    input: Option<(Version, Incoming<R>)>,
+    out: &mut W,
+    err: &mut E,
+) -> (u8, C)
+    ensures status { result.0 ≤ 4 }
+    ensures ends { (ended : Result Ending RunFault) × (result.0 ≡ status_of ended) × Writes W.takes W.failed IsReadFault (λ stopped lines. C.is_honest result.1 → PrintsOver R.gives R.begins R.failed C.holds C.place input store result.1 stopped lines) out.old out.new ended × Tells E.takes E.failed [] [] ended err.old err.new }
+{
+    let (printed, store) = apply_over(alloc, store, input);
+    let ended = write_printed(printed, out);
+    tell(alloc, ended, "", "", err);
+    (status(ended), store)
+}
