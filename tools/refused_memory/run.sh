@@ -1,6 +1,7 @@
 #!/usr/bin/env bash
-# Runs the tests of crates with each request for memory refused in turn, and so a program's stored run: run.sh CRATE... They are proved and
-# built first; then each runs once for each request that it makes, with this one refused in place of the C library's answer. It prints a
+# Runs the tests of crates with each request for memory refused in turn, and so a program's stored run: run.sh CRATE[/WORD].., where WORD
+# leaves only the tests whose names have it. They are proved and built first; then each runs once for each request that it makes, with
+# this one refused in place of the C library's answer. It prints a
 # line for each: its requests, and how often it passed all the same, stopped, and crashed. A test stops with its own error or assertion. A
 # program passes with what is stored, and stops where it says that memory has run out, with status 1, and prints nothing else, or what is
 # stored, or that no commit was taken. Whatever else it answers is counted as a crash. A crash makes the status 1, and so does a test named
@@ -71,11 +72,11 @@ refuse_each() {
     case "$name" in *refused_memory_changes_nothing) [ "$passed" -eq "$all" ] || bad=1 ;; esac
 }
 
-# refuse_tests CRATE
+# refuse_tests CRATE WORD
 refuse_tests() {
     local program="$top/crates/$1/out/${1}_tests" name
     (cd "$top/crates/$1" && "${RT:-rt}" test) > "$work/log" 2>&1 || { tail "$work/log"; exit 1; }
-    for name in $("$program" --list | sed -n 's/: test$//p'); do
+    for name in $("$program" --list | sed -n 's/: test$//p' | grep -F -- "$2"); do
         refuse_each "$1 $name" end_of_test "$program" "$name"
     done
 }
@@ -93,8 +94,10 @@ refuse_program() {
     refuse_each "$1 ${words[*]}" end_of_program "$folder/out/$1" "${words[@]}"
 }
 
-for crate in "$@"; do
-    refuse_tests "$crate"
-    [ ! -f "$top/crates/$crate/args" ] || refuse_program "$crate"
+for words in "$@"; do
+    crate="${words%%/*}"
+    word="${words#"$crate"}"
+    refuse_tests "$crate" "${word#/}"
+    [ "$words" != "$crate" ] || [ ! -f "$top/crates/$crate/args" ] || refuse_program "$crate"
 done
 exit "$bad"

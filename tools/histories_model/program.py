@@ -1,0 +1,59 @@
+"""Runs the program under limits of time and memory."""
+
+import os
+import resource
+import signal
+
+MEMORY = 1 << 30
+# of processor time: for any input, and for each megabyte of it
+SECONDS = 2.0
+SECONDS_MEGABYTE = 1.0
+PATIENCE = 300.0
+
+
+class TimedOut(Exception):
+    """The program didn't end."""
+
+
+def limit_memory():
+    """Limits the memory of this process, and so of each program that it starts."""
+    resource.setrlimit(resource.RLIMIT_AS, (MEMORY, MEMORY))
+    signal.signal(signal.SIGALRM, ring)
+
+
+def ring(_signal, _frame):
+    raise TimedOut
+
+
+class Program:
+    """A program and the folder in which it runs."""
+
+    def __init__(self, path, folder):
+        self.path, self.folder = path, folder
+        self.out, self.err = os.path.join(folder, "out"), os.path.join(folder, "err")
+
+    def file(self, name, content):
+        path = os.path.join(self.folder, name)
+        with open(path, "wb") as file:
+            file.write(content)
+        return path
+
+    def run(self, *words):
+        """Runs it: the status, standard output and standard error; a negative status is that of a signal."""
+        create = os.O_WRONLY | os.O_CREAT | os.O_TRUNC
+        actions = [(os.POSIX_SPAWN_OPEN, 1, self.out, create, 0o600), (os.POSIX_SPAWN_OPEN, 2, self.err, create, 0o600)]
+        pid = os.posix_spawn(self.path, [self.path, *words], os.environ, file_actions=actions)
+        signal.setitimer(signal.ITIMER_REAL, PATIENCE)
+        try:
+            _, ended, used = os.wait4(pid, 0)
+            signal.setitimer(signal.ITIMER_REAL, 0)
+        except TimedOut:
+            os.kill(pid, signal.SIGKILL)
+            os.waitpid(pid, 0)
+            return "no end", b"", b""
+        status = os.waitstatus_to_exitcode(ended)
+        taken = used.ru_utime + used.ru_stime
+        if taken > SECONDS + SECONDS_MEGABYTE * os.path.getsize(words[-1]) / 1e6:
+            status = f"{status} after {taken:.1f} s"
+        with open(self.out, "rb") as out, open(self.err, "rb") as err:
+            return status, out.read(), err.read()
