@@ -9,3 +9,4 @@ pub mod Decoded
 pub mod Lengths
 pub mod Appending
 pub mod Samples
+pub mod AsciiWords

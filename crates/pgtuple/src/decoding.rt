@@ -23,7 +23,8 @@ use std::alloc::Global;
 #[tactic(auto, unfolding(crate::specs::Reading::cell_at, crate::specs::Reading::byte_at, crate::specs::Reading::text_cell_at, crate::specs::Reading::binary_cell_at))]
 #[inline(always)]
 pub(crate) fn cell<'a>(reader: &mut Reader<'a>) -> Result<CellRef<'a>, TupleFault>
-    ensures { MatchResult result (λ c. cell_at reader.old ≡ Ok (cell_value c, reader.new)) (λ f. cell_at reader.old ≡ Err f) }
+    ensures { MatchResult result (λ c. cell_at reader.old ≡ Ok (cell_value c, reader.new))
+        (λ f. cell_at reader.old ≡ Err f) }
 {
     let offset = reader.offset();
     match reader.u8()? {
@@ -45,7 +46,8 @@ pub(crate) fn cell<'a>(reader: &mut Reader<'a>) -> Result<CellRef<'a>, TupleFaul
 
 /// Passes over that many cells.
 fn cells(count: usize, reader: &mut Reader<'_>) -> Result<(), TupleFault>
-    ensures { MatchResult result (λ _. IsReadTo (cells_at count reader.old) reader.new) (λ f. cells_at count reader.old ≡ Err f) }
+    ensures { MatchResult result (λ _. IsReadTo (cells_at count reader.old) reader.new)
+        (λ f. cells_at count reader.old ≡ Err f) }
 {
     for _ in 0..count {
         cell(reader)?;
@@ -55,7 +57,8 @@ fn cells(count: usize, reader: &mut Reader<'_>) -> Result<(), TupleFault>
 
 /// Passes over the number of columns, and that many cells.
 fn columns(reader: &mut Reader<'_>) -> Result<(), TupleFault>
-    ensures { MatchResult result (λ _. IsReadTo (tuple_from reader.old) reader.new) (λ f. tuple_from reader.old ≡ Err f) }
+    ensures { MatchResult result (λ _. IsReadTo (tuple_from reader.old) reader.new)
+        (λ f. tuple_from reader.old ≡ Err f) }
 {
     let offset = reader.offset();
     let width = reader.u16()?;
@@ -69,10 +72,13 @@ fn columns(reader: &mut Reader<'_>) -> Result<(), TupleFault>
 /// for no memory.
 pub fn decode_ref(bytes: &[u8]) -> Result<(TupleRef<'_>, usize), TupleFault>
     // The bytes begin with the encoding of the tuple, which ends there.
-    ensures found { IfOk result (λ x. IsWireTuple x.0 × (bytes.now ≡ tuple_spelling x.0 ++ drop x.1 bytes.now) × (x.1 ≡ length (tuple_spelling x.0))) }
+    ensures found { IfOk result (λ x. IsWireTuple x.0
+        × (bytes.now ≡ tuple_spelling x.0 ++ drop x.1 bytes.now)
+        × (x.1 ≡ length (tuple_spelling x.0))) }
 
     // The same as the definition's reading: a tuple that is encoded there is read,
-    ensures exact { MatchResult result (λ x. tuple_at bytes.now ≡ Ok (x.0, (x.1, drop x.1 bytes.now))) (λ f. tuple_at bytes.now ≡ Err f) }
+    ensures exact { MatchResult result (λ x. tuple_at bytes.now
+        ≡ Ok (x.0, (x.1, drop x.1 bytes.now))) (λ f. tuple_at bytes.now ≡ Err f) }
 
     // and the fault is that of the first field from the left that can't be read.
     ensures fault { IfErr result (λ f. HasTupleFault bytes.now f) }
@@ -88,7 +94,9 @@ pub fn decode_ref(bytes: &[u8]) -> Result<(TupleRef<'_>, usize), TupleFault>
 /// of the tuple has been read.
 pub fn decode(alloc: Global, bytes: &[u8]) -> Result<(Tuple, usize), TupleFault>
     // The bytes begin with the encoding of the tuple, which ends there.
-    ensures found { IfOk result (λ x. IsWireTuple x.0 × (bytes.now ≡ tuple_spelling x.0 ++ drop x.1 bytes.now) × (x.1 ≡ length (tuple_spelling x.0))) }
+    ensures found { IfOk result (λ x. IsWireTuple x.0
+        × (bytes.now ≡ tuple_spelling x.0 ++ drop x.1 bytes.now)
+        × (x.1 ≡ length (tuple_spelling x.0))) }
 
     // A tuple that is encoded there is read, unless memory runs out.
     ensures only { (t : List Cell) (more : List ℕ) → IsWireTuple t → bytes.now ≡ tuple_spelling t ++ more
@@ -101,7 +109,8 @@ pub fn decode(alloc: Global, bytes: &[u8]) -> Result<(Tuple, usize), TupleFault>
     ensures memory { IfErr result (λ f. f ≡ TupleFault.Memory → BeginsWithTuple bytes.now) }
 
     // The same in one: the result is the definition's.
-    ensures exact { MatchResult result (λ x. tuple_at bytes.now ≡ Ok (x.0, (x.1, drop x.1 bytes.now))) (λ f. Fails f (tuple_at bytes.now)) }
+    ensures exact { MatchResult result (λ x. tuple_at bytes.now
+        ≡ Ok (x.0, (x.1, drop x.1 bytes.now))) (λ f. Fails f (tuple_at bytes.now)) }
 {
     let (lent, len) = decode_ref(bytes)?;
     Ok((lent.to_tuple(alloc)?, len))

@@ -18,7 +18,8 @@ use std::alloc::AllocError;
 /// The kind of a cell, the number of its bytes, and the bytes.
 fn push_counted(out: &mut Vec<u8>, kind: u8, bytes: &[u8]) -> Result<(), AllocError>
     requires { length bytes.now ≤ max_int32 }
-    ensures ok { OnOk result (out.new.items ≡ out.old.items ++ kind ∷ (to_be_bytes w32 (length bytes.now) ++ bytes.now)) }
+    ensures ok { OnOk result (out.new.items ≡ out.old.items ++ kind ∷
+        (to_be_bytes w32 (length bytes.now) ++ bytes.now)) }
     ensures err { OnErr result (Keeps out.old.items out.new.items) }
 {
     out.push(kind)?;
@@ -66,7 +67,8 @@ fn push_tuple(out: &mut Vec<u8>, cells: &[Cell]) -> Result<(), AllocError>
 /// The owned cells, or the bytes that encode them.
 fn push_form(out: &mut Vec<u8>, form: &Form<'_>) -> Result<(), AllocError>
     requires { IsForm form.now }
-    ensures ok { OnOk result (out.new.items ≡ out.old.items ++ tuple_spelling (form_cells form.now)) }
+    ensures ok { OnOk result (out.new.items ≡ out.old.items ++ tuple_spelling
+        (form_cells form.now)) }
     ensures err { OnErr result (Keeps out.old.items out.new.items) }
 {
     match *form {

@@ -1,6 +1,7 @@
 //! Cells and tuples.
 #![tactic(auto)]
 
+mod ascii;
 pub mod bytes;
 pub mod cell;
 pub mod decoding;
@@ -23,6 +24,3 @@ pub use lent::{CellRef, Cells, TupleRef};
 pub use limits::{MAX_COLUMNS, MAX_INT32};
 pub use seq::Seq;
 pub use text::Text;
-
-#[cfg(test)]
-mod tests;

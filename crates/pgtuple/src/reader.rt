@@ -2,10 +2,12 @@
 //!
 //! PostgreSQL documentation, Logical Replication Message Formats, TupleData.
 
-ghost use Rattle.std.specs.Prelude.{◌≡◌, ◌+◌, ◌<◌, ◌^◌, ℕ, List, length, MatchResult, IfOk, Ok, Err};
+ghost use Rattle.std.specs.Prelude.{◌≡◌, ◌+◌, ◌<◌, ◌^◌, ℕ, List, length, MatchResult, MatchOption, IfOk, Ok, Err};
 ghost use Rattle.std.specs.Int.{w16, w32};
+ghost use Rattle.std.specs.Str.{IsUtf8};
 ghost use Rattle.pgtuple.specs.Reading.{At, number_at, length_at, bytes_at, text_at, byte_at};
 
+use crate::ascii::is_short_ascii;
 use crate::fault::TupleFault;
 use crate::limits::MAX_INT32;
 use std::marker::Model;
@@ -54,7 +56,8 @@ impl<'a> Reader<'a> {
     #[tactic(auto, unfolding(crate::specs::Reading::bytes_at))]
     pub(crate) fn bytes(&mut self, count: usize) -> Result<&'a [u8], TupleFault>
         ensures len { IfOk result (λ b. length b.now ≡ count) }
-        ensures read { MatchResult result (λ b. bytes_at count self.old ≡ Ok (b.now, self.new)) (λ f. bytes_at count self.old ≡ Err f) }
+        ensures read { MatchResult result (λ b. bytes_at count self.old ≡ Ok (b.now, self.new))
+            (λ f. bytes_at count self.old ≡ Err f) }
     {
         if self.rest.len() < count {
             return Err(TupleFault::Short(self.offset));
@@ -67,7 +70,8 @@ impl<'a> Reader<'a> {
 
     #[tactic(auto, unfolding(crate::specs::Reading::number_at, crate::specs::Reading::bytes_at))]
     pub(crate) fn u16(&mut self) -> Result<u16, TupleFault>
-        ensures { MatchResult result (λ n. number_at w16 self.old ≡ Ok (n, self.new)) (λ f. number_at w16 self.old ≡ Err f) }
+        ensures { MatchResult result (λ n. number_at w16 self.old ≡ Ok (n, self.new))
+            (λ f. number_at w16 self.old ≡ Err f) }
     {
         let front = self.bytes(2)?;
         Ok(u16::from_be_bytes([front[0], front[1]]))
@@ -75,7 +79,8 @@ impl<'a> Reader<'a> {
 
     #[tactic(auto, unfolding(crate::specs::Reading::number_at, crate::specs::Reading::bytes_at))]
     pub(crate) fn u32(&mut self) -> Result<u32, TupleFault>
-        ensures { MatchResult result (λ n. number_at w32 self.old ≡ Ok (n, self.new)) (λ f. number_at w32 self.old ≡ Err f) }
+        ensures { MatchResult result (λ n. number_at w32 self.old ≡ Ok (n, self.new))
+            (λ f. number_at w32 self.old ≡ Err f) }
     {
         let front = self.bytes(4)?;
         Ok(u32::from_be_bytes([front[0], front[1], front[2], front[3]]))
@@ -84,7 +89,8 @@ impl<'a> Reader<'a> {
     /// A length, which isn't negative.
     #[tactic(auto, unfolding(crate::specs::Reading::length_at))]
     pub(crate) fn length(&mut self) -> Result<usize, TupleFault>
-        ensures { MatchResult result (λ n. length_at self.old ≡ Ok (n, self.new)) (λ f. length_at self.old ≡ Err f) }
+        ensures { MatchResult result (λ n. length_at self.old ≡ Ok (n, self.new))
+            (λ f. length_at self.old ≡ Err f) }
     {
         let offset = self.offset();
         let length = self.u32()?;
@@ -96,21 +102,24 @@ impl<'a> Reader<'a> {
 
     /// The next bytes, which are UTF-8.
     #[tactic(auto, unfolding(crate::specs::Reading::text_at))]
+    #[inline(always)]
     pub(crate) fn text(&mut self, count: usize) -> Result<&'a str, TupleFault>
-        ensures { MatchResult result (λ t. text_at count self.old ≡ Ok (t.now, self.new)) (λ f. text_at count self.old ≡ Err f) }
+        ensures { MatchResult result (λ t. text_at count self.old ≡ Ok (t.now, self.new))
+            (λ f. text_at count self.old ≡ Err f) }
     {
         let offset = self.offset();
         let bytes = self.bytes(count)?;
-        match std::str::from_utf8(bytes) {
-            Ok(text) => Ok(text),
-            Err(_) => Err(TupleFault::NotUtf8(offset)),
+        match text_of(bytes) {
+            Some(text) => Ok(text),
+            None => Err(TupleFault::NotUtf8(offset)),
         }
     }
 
     /// A byte.
     #[tactic(auto, unfolding(crate::specs::Reading::byte_at))]
     pub(crate) fn u8(&mut self) -> Result<u8, TupleFault>
-        ensures { MatchResult result (λ b. byte_at self.old ≡ Ok (b, self.new)) (λ f. byte_at self.old ≡ Err f) }
+        ensures { MatchResult result (λ b. byte_at self.old ≡ Ok (b, self.new))
+            (λ f. byte_at self.old ≡ Err f) }
     {
         match self.rest {
             [] => Err(TupleFault::Short(self.offset)),
@@ -121,4 +130,16 @@ impl<'a> Reader<'a> {
             }
         }
     }
+}
+
+/// The text of these bytes, if they are UTF-8.
+#[inline(always)]
+fn text_of(bytes: &[u8]) -> Option<&str>
+    ensures { MatchOption result (IsUtf8 bytes.now → ⊥)
+        (λ text. (text.now ≡ bytes.now) × IsUtf8 bytes.now) }
+{
+    if is_short_ascii(bytes) {
+        return Some(unsafe { std::str::from_utf8_unchecked(bytes) });
+    }
+    std::str::from_utf8(bytes).ok()
 }

@@ -1,4 +1,6 @@
-use super::*;
+use pgtuple::{
+    Bytes, Cell, CellRef, Seq, Text, Tuple, TupleFault, TupleRef, decode, decode_ref, encode,
+};
 use std::alloc::Global;
 use std::process::Abort;
 use std::test::Fail;
@@ -39,27 +41,76 @@ const FAULTS: [(&[u8], TupleFault); 16] = [
     (&[0, 1, b't', 0, 0, 0, 2, 195, 40], TupleFault::NotUtf8(7)),
 ];
 
+/// The bytes are read as a tuple of so many cells over them.
+fn is_borrowed(rt: &impl Abort, borrowed: &TupleRef<'_>, bytes: &[u8], width: usize) {
+    assert!(rt; borrowed.width() == width);
+    assert!(rt; borrowed.spelled_len() == bytes.len() as u64);
+    assert!(rt; borrowed.spelled() == Some(bytes));
+}
+
+/// Whether the borrowed tuple is copied as this one.
+fn is_copied(alloc: Global, borrowed: &TupleRef<'_>, tuple: &Tuple) -> Result<bool, Fail> {
+    let copy = borrowed.to_tuple(alloc)?;
+    Ok(copy == *tuple)
+}
+
+/// Whether a tuple's clone equals it.
+fn is_cloned(tuple: &Tuple) -> Result<bool, Fail> {
+    let clone = tuple.clone()?;
+    Ok(clone == *tuple)
+}
+
+/// Whether the two tuples are written as these bytes, one after the other, after other bytes.
+fn are_written(
+    alloc: Global,
+    first: &TupleRef<'_>,
+    second: &TupleRef<'_>,
+    bytes: &[u8],
+) -> Result<bool, Fail> {
+    let mut out = b"before".to_vec(alloc)?;
+    encode(first, &mut out)?;
+    encode(second, &mut out)?;
+    Ok(is_twice_after_before(&out, bytes))
+}
+
+/// Whether these are the bytes `before` and then the others.
+fn is_after_before(out: &[u8], bytes: &[u8]) -> bool {
+    out.strip_prefix(b"before".as_slice()) == Some(bytes)
+}
+
+/// Whether these are the bytes `before` and then twice the same.
+fn is_twice_after_before(out: &[u8], bytes: &[u8]) -> bool {
+    let Some(rest) = out.strip_prefix(b"before".as_slice()) else {
+        return false;
+    };
+    rest.strip_prefix(bytes) == Some(bytes)
+}
+
+/// The tuple is copied from the borrowed one, and both are written as the bytes.
+fn is_same_tuple(
+    rt: &impl Abort,
+    alloc: Global,
+    borrowed: &TupleRef<'_>,
+    tuple: &Tuple,
+    bytes: &[u8],
+) -> Result<(), Fail> {
+    assert!(rt; is_copied(alloc, borrowed, tuple)?);
+    assert!(rt; tuple.borrowed().spelled().is_none());
+    assert!(rt; tuple.borrowed().spelled_len() == bytes.len() as u64);
+    assert!(rt; are_written(alloc, borrowed, &tuple.borrowed(), bytes)?);
+    assert!(rt; is_cloned(tuple)?);
+    Ok(())
+}
+
 /// The bytes are a tuple of so many cells, whichever decoder reads them, and are written again whichever way it is borrowed.
 fn goes_both_ways(rt: &impl Abort, alloc: Global, bytes: &[u8], width: usize) -> Result<(), Fail> {
     let (borrowed, len) = decode_ref(bytes)?;
-    assert_eq!(rt; len, bytes.len());
-    assert_eq!(rt; borrowed.width(), width);
-    assert_eq!(rt; borrowed.spelled_len(), bytes.len() as u64);
-    assert!(rt; borrowed.spelled() == Some(bytes));
+    assert!(rt; len == bytes.len());
+    is_borrowed(rt, &borrowed, bytes, width);
     let (tuple, len) = decode(alloc, bytes)?;
-    assert_eq!(rt; len, bytes.len());
-    assert!(rt; borrowed.to_tuple(alloc)? == tuple);
-    assert!(rt; tuple.borrowed().spelled().is_none());
-    assert_eq!(rt; tuple.borrowed().spelled_len(), bytes.len() as u64);
-    let mut out = b"before".to_vec(alloc)?;
-    encode(&borrowed, &mut out)?;
-    encode(&tuple.borrowed(), &mut out)?;
-    assert_eq!(rt; &out[..6], b"before".as_slice());
-    assert!(rt; out[6..].starts_with(bytes));
-    assert!(rt; out[6..].ends_with(bytes));
-    assert_eq!(rt; out.len(), bytes.len().saturating_mul(2).saturating_add(6));
-    assert!(rt; tuple.clone()? == tuple);
-    assert_eq!(rt; tuple.into_cells().capacity(), width);
+    assert!(rt; len == bytes.len());
+    is_same_tuple(rt, alloc, &borrowed, &tuple, bytes)?;
+    assert!(rt; tuple.into_cells().capacity() == width);
     Ok(())
 }
 
@@ -78,8 +129,8 @@ fn bytes_after_a_tuple(rt: HostRuntime) -> Result<(), Fail> {
         let mut longer = bytes.to_vec(rt.alloc())?;
         longer.extend_from_slice(b"more")?;
         let (borrowed, len) = decode_ref(&longer)?;
-        assert_eq!(rt; len, bytes.len());
-        assert_eq!(rt; borrowed.cells().len(), width);
+        assert!(rt; len == bytes.len());
+        assert!(rt; borrowed.cells().len() == width);
         assert!(rt; borrowed.spelled() == Some(bytes));
     }
     Ok(())
@@ -137,15 +188,18 @@ fn is_same(a: Option<CellRef<'_>>, b: Option<CellRef<'_>>) -> bool {
     }
 }
 
+/// Encoded tuples and their cells.
+static CELLS: &[(&[u8], &[CellRef<'static>])] = &[
+    (EMPTY, &[]),
+    (ROW, &[CellRef::Text("1"), CellRef::Text("a")]),
+    (KEY, &[CellRef::Text("1"), CellRef::Null]),
+    (KEPT, &[CellRef::Text("2"), CellRef::Unchanged]),
+    (BINARY, &[CellRef::Binary(&[255, 0])]),
+];
+
 #[test]
 fn cells_of_rows(rt: HostRuntime) -> Result<(), Fail> {
-    for (bytes, cells) in [
-        (EMPTY, &[][..]),
-        (ROW, &[CellRef::Text("1"), CellRef::Text("a")]),
-        (KEY, &[CellRef::Text("1"), CellRef::Null]),
-        (KEPT, &[CellRef::Text("2"), CellRef::Unchanged]),
-        (BINARY, &[CellRef::Binary(&[255, 0])]),
-    ] {
+    for (bytes, cells) in CELLS {
         let (row, _) = decode_ref(bytes)?;
         has_cells(&rt, &row, cells);
         has_cells(&rt, &row.lend(), cells);
@@ -155,23 +209,39 @@ fn cells_of_rows(rt: HostRuntime) -> Result<(), Fail> {
     Ok(())
 }
 
-/// Where memory runs out that is the error, and the buffer stays. Run it with each allocation failing in turn: it alone takes Memory for
-/// an answer.
-fn reads_and_writes(rt: &impl Abort, alloc: Global) -> Result<(), TupleFault> {
+/// Whether a borrowed cell is copied as this one, which is cloned as it is.
+fn is_cell_copied(alloc: Global, borrowed: &CellRef<'_>, cell: &Cell) -> Result<bool, TupleFault> {
+    let copy = borrowed.to_cell(alloc)?;
+    let clone = cell.clone()?;
+    Ok(copy == *cell && clone == *cell)
+}
+
+/// The tuple is written as the row, after other bytes. Where memory runs out that is the error, and the buffer stays.
+fn is_written(rt: &impl Abort, alloc: Global, tuple: &Tuple) -> Result<(), TupleFault> {
     let mut out = b"before".to_vec(alloc)?;
-    let (tuple, len) = decode(alloc, ROW)?;
-    assert_eq!(rt; len, ROW.len());
     if let Err(fault) = encode(&tuple.borrowed(), &mut out) {
-        assert_eq!(rt; fault, TupleFault::Memory);
-        assert_eq!(rt; out.as_slice(), b"before".as_slice());
+        assert!(rt; fault == TupleFault::Memory);
+        assert!(rt; out.as_slice() == b"before".as_slice());
         return Err(fault);
     }
-    assert_eq!(rt; &out[6..], ROW);
+    assert!(rt; is_after_before(&out, ROW));
+    Ok(())
+}
+
+/// Each cell is copied from the borrowed one.
+fn are_cells_copied(rt: &impl Abort, alloc: Global, tuple: &Tuple) -> Result<(), TupleFault> {
     for (cell, borrowed) in tuple.as_slice().iter().zip(tuple.borrowed().cells()) {
-        assert!(rt; borrowed.to_cell(alloc)? == *cell);
-        assert!(rt; cell.clone()? == *cell);
+        assert!(rt; is_cell_copied(alloc, &borrowed, cell)?);
     }
     Ok(())
+}
+
+/// Run it with each allocation failing in turn: it alone takes Memory for an answer.
+fn reads_and_writes(rt: &impl Abort, alloc: Global) -> Result<(), TupleFault> {
+    let (tuple, len) = decode(alloc, ROW)?;
+    assert!(rt; len == ROW.len());
+    is_written(rt, alloc, &tuple)?;
+    are_cells_copied(rt, alloc, &tuple)
 }
 
 #[test]
@@ -180,26 +250,52 @@ fn refused_memory_is_the_only_error(rt: HostRuntime) {
     assert!(rt; matches!(result, Ok(()) | Err(TupleFault::Memory)));
 }
 
-#[test]
-fn tuples_of_cells(rt: HostRuntime) -> Result<(), Fail> {
-    let alloc = rt.alloc();
+/// Whether a text's clone equals it.
+fn is_text_cloned(text: &Text) -> Result<bool, Fail> {
+    let clone = text.clone()?;
+    Ok(clone == *text)
+}
+
+/// Whether the clone of bytes equals them.
+fn are_bytes_cloned(bytes: &Bytes) -> Result<bool, Fail> {
+    let clone = bytes.clone()?;
+    Ok(clone == *bytes)
+}
+
+/// A text of one letter.
+fn one_letter(rt: &impl Abort, alloc: Global) -> Result<Text, Fail> {
     let text = Text::from_string(String::from_str(alloc, "a")?);
-    assert_eq!(rt; text.len(), 1);
+    assert!(rt; text.len() == 1);
     assert!(rt; !text.is_empty());
-    assert!(rt; text.clone()? == text);
+    assert!(rt; is_text_cloned(&text)?);
+    Ok(text)
+}
+
+/// Two bytes.
+fn two_bytes(rt: &impl Abort, alloc: Global) -> Result<Bytes, Fail> {
     let bytes = Bytes::from_vec([1u8, 2].to_vec(alloc)?);
-    assert_eq!(rt; bytes.len(), 2);
+    assert!(rt; bytes.len() == 2);
     assert!(rt; !bytes.is_empty());
-    assert!(rt; bytes.clone()? == bytes);
-    let mut cells = Vec::new(alloc);
-    cells.push(Cell::Text(text))?;
-    cells.push(Cell::Binary(bytes))?;
-    let tuple = Tuple::from_cells(cells).ok_or("within the limits")?;
-    assert_eq!(rt; tuple.width(), 2);
-    let mut cells = tuple.into_cells();
-    for _ in 2..1600 {
+    assert!(rt; are_bytes_cloned(&bytes)?);
+    Ok(bytes)
+}
+
+/// So many nulls behind these cells.
+fn with_nulls(mut cells: Vec<Cell>, count: usize) -> Result<Vec<Cell>, Fail> {
+    for _ in 0..count {
         cells.push(Cell::Null)?;
     }
+    Ok(cells)
+}
+
+#[test]
+fn tuples_of_cells(rt: HostRuntime) -> Result<(), Fail> {
+    let mut cells = Vec::new(rt.alloc());
+    cells.push(Cell::Text(one_letter(&rt, rt.alloc())?))?;
+    cells.push(Cell::Binary(two_bytes(&rt, rt.alloc())?))?;
+    let tuple = Tuple::from_cells(cells).ok_or("within the limits")?;
+    assert!(rt; tuple.width() == 2);
+    let cells = with_nulls(tuple.into_cells(), 1598)?;
     let tuple = Tuple::from_cells(cells).ok_or("1600 cells are within the limits")?;
     let mut cells = tuple.into_cells();
     cells.push(Cell::Unchanged)?;
@@ -210,11 +306,11 @@ fn tuples_of_cells(rt: HostRuntime) -> Result<(), Fail> {
 #[test]
 fn values_in_order(rt: HostRuntime) -> Result<(), Fail> {
     let seq = Seq::from_vec([1u32, 2, 3].to_vec(rt.alloc())?);
-    assert_eq!(rt; seq.len(), 3);
+    assert!(rt; seq.len() == 3);
     assert!(rt; !seq.is_empty());
     assert!(rt; seq.copy(rt.alloc())? == seq);
     assert!(rt; seq.clone()? == seq);
-    assert_eq!(rt; seq.as_slice(), [1u32, 2, 3].as_slice());
-    assert_eq!(rt; seq.into_vec().len(), 3);
+    assert!(rt; seq.as_slice() == [1u32, 2, 3].as_slice());
+    assert!(rt; seq.into_vec().len() == 3);
     Ok(())
 }
