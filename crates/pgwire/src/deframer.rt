@@ -58,7 +58,8 @@ impl Deframer {
         ensures bound { length self.new.held ≤ self.new.max + 5 }
 
         // Memory is asked for only where there is too little room for the bytes of the payload that have come.
-        ensures full { IfErr result (λ f. f ≡ WireFault.Memory → self.old.room < payload_come (self.old.held ++ piece.now)) }
+        ensures full { IfErr result (λ f. f ≡ WireFault.Memory →
+            self.old.room < payload_come (self.old.held ++ piece.now)) }
     {
         if let Some(fault) = self.fault {
             return Err(fault);
@@ -103,6 +104,13 @@ impl Deframer {
         Some(Frame::Data(&self.payload))
     }
 
+    /// Whether CopyDone was released. No frame follows it.
+    pub fn is_done(&self) -> bool
+        ensures { result ≡ self.now.done }
+    {
+        self.done
+    }
+
     /// Forgets the complete frame. Without one it has no effect.
     pub fn release(&mut self)
         ensures { IsReleased self.old self.new }
@@ -132,9 +140,11 @@ fn make_room(payload: &mut Vec<u8>, bytes: &[u8], payload_len: usize) -> Result<
     requires small { payload_len ≤ max_length }
     ensures items { payload.new.items ≡ payload.old.items }
     ensures ok { OnOk result (vec_len payload.old + length bytes.now ≤ vec_capacity payload.new) }
-    ensures full { OnErr result (vec_capacity payload.old < vec_len payload.old + length bytes.now) }
+    ensures full { OnErr result (vec_capacity payload.old < vec_len payload.old + length
+        bytes.now) }
     ensures err { OnErr result (vec_capacity payload.new ≡ vec_capacity payload.old) }
-    ensures most { vec_capacity payload.new ≤ max (vec_capacity payload.old) (2 * (vec_len payload.old + length bytes.now)) }
+    ensures most { vec_capacity payload.new ≤ max (vec_capacity payload.old)
+        (2 * (vec_len payload.old + length bytes.now)) }
 {
     let come = payload.len() + bytes.len();
     if come <= payload.capacity() {
@@ -147,8 +157,10 @@ fn make_room(payload: &mut Vec<u8>, bytes: &[u8], payload_len: usize) -> Result<
 fn append(payload: &mut Vec<u8>, bytes: &[u8], payload_len: usize) -> Result<(), AllocError>
     requires fits { vec_len payload.old + length bytes.now ≤ payload_len }
     requires small { payload_len ≤ max_length }
-    ensures items { payload.new.items ≡ (if is_ok result then payload.old.items ++ bytes.now else payload.old.items) }
-    ensures full { OnErr result (vec_capacity payload.old < vec_len payload.old + length bytes.now) }
+    ensures items { payload.new.items ≡ (if is_ok result then payload.old.items ++ bytes.now else
+        payload.old.items) }
+    ensures full { OnErr result (vec_capacity payload.old < vec_len payload.old + length
+        bytes.now) }
     ensures err { OnErr result (vec_capacity payload.new ≡ vec_capacity payload.old) }
 {
     make_room(payload, bytes, payload_len)?;
@@ -358,12 +370,15 @@ mod tests {
         assert_eq!(rt; deframer.feed(&[b'c', 0, 0, 0, 4, b'x']), Ok(5));
         assert_eq!(rt; deframer.feed(b"x"), Ok(0));
         assert!(rt; deframer.whole() == Some(Frame::Done));
+        assert!(rt; !deframer.is_done());
         deframer.release();
         deframer.release();
+        assert!(rt; deframer.is_done());
         assert_eq!(rt; deframer.feed(&[]), Ok(0));
         assert_eq!(rt; deframer.feed(&[b'd']), Err(WireFault::AfterDone));
         assert_eq!(rt; deframer.feed(&[]), Err(WireFault::AfterDone));
         deframer.reset();
+        assert!(rt; !deframer.is_done());
         assert_eq!(rt; deframer.feed(&[b'd', 0, 0, 0, 0x44]), Ok(5));
         assert!(rt; deframer.whole().is_none());
         assert_eq!(rt; deframer.feed(&[7; 70]), Ok(64));

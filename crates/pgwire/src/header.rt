@@ -36,6 +36,23 @@ impl Header {
     pub fn with(self, piece: &[u8]) -> Header
         ensures { IsHeaderWith self piece.now result }
     {
+        if self.len == HEADER_LEN {
+            return self;
+        }
+        match piece.first_chunk::<HEADER_LEN>() {
+            // Most headers lie in one piece.
+            Some(bytes) if self.len == 0 => Header {
+                bytes: *bytes,
+                len: HEADER_LEN,
+            },
+            _ => self.with_some(piece),
+        }
+    }
+
+    // The same for a header that comes in parts.
+    fn with_some(self, piece: &[u8]) -> Header
+        ensures { IsHeaderWith self piece.now result }
+    {
         let count = (HEADER_LEN - self.len).min(piece.len());
         let len = self.len + count;
         let mut bytes = self.bytes;
@@ -45,7 +62,8 @@ impl Header {
 
     /// How many bytes of payload follow: 0 while the header isn't whole.
     pub fn payload_len(&self, max_frame: u32) -> Result<usize, WireFault>
-        ensures { MatchResult result (λ n. HasPayloadLen max_frame (come self.now) n) (λ fault. IsFramingFault max_frame false (come self.now) fault) }
+        ensures { MatchResult result (λ n. HasPayloadLen max_frame (come self.now) n)
+            (λ fault. IsFramingFault max_frame false (come self.now) fault) }
     {
         if self.len == 0 {
             return Ok(0);

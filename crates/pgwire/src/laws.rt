@@ -16,7 +16,8 @@ pub fn stream_has_one_reading()
 
 /// A stream has one first fault at most, and none where it can be read.
 pub fn stream_has_one_fault()
-    ensures one { (max : ℕ) (bytes : List ℕ) (x y : WireFault) → HasFramingFault max bytes x → HasFramingFault max bytes y → x ≡ y }
+    ensures one { (max : ℕ) (bytes : List ℕ) (x y : WireFault) → HasFramingFault max bytes x →
+        HasFramingFault max bytes y → x ≡ y }
     ensures none { (max : ℕ) (bytes : List ℕ) (fs : List Frame) (r : List ℕ) (x : WireFault)
         → IsDeframedAs max bytes fs r → HasFramingFault max bytes x → ⊥ }
 {}
@@ -38,7 +39,8 @@ pub fn first_bytes_tell_the_frame()
 /// A payload is read as what it encodes, and a fault of a payload is the one that is returned.
 pub fn payload_has_one_reading()
     ensures message { (m : ServerMessage) → IsServerMessage m → payload_at (payload m) ≡ Ok m }
-    ensures fault { (bytes : List ℕ) (x : WireFault) → HasPayloadFault bytes x → payload_at bytes ≡ Err x }
+    ensures fault { (bytes : List ℕ) (x : WireFault) → HasPayloadFault bytes x →
+        payload_at bytes ≡ Err x }
 {}
 
 /// Over any calls of a deframer since it was made or reset, the bytes taken are the frames that it released and what it holds: one

@@ -37,9 +37,11 @@ pub enum ServerMsg<'a> {
 pub fn decode_server(bytes: &[u8]) -> Result<ServerMsg<'_>, WireFault>
     ensures gives { Gives result bytes.now }
     // What is read is encoded so.
-    ensures found { IfOk result (λ m. IsServerMessage (message_value m) × (bytes.now ≡ payload (message_value m))) }
+    ensures found { IfOk result (λ m. IsServerMessage (message_value m)
+        × (bytes.now ≡ payload (message_value m))) }
     // What is encoded so is read.
-    ensures only { (m : ServerMessage) → IsServerMessage m → bytes.now ≡ payload m → IsOkAnd result (λ x. message_value x ≡ m) }
+    ensures only { (m : ServerMessage) → IsServerMessage m → bytes.now ≡ payload m →
+        IsOkAnd result (λ x. message_value x ≡ m) }
     // Which fault it is.
     ensures first { IfErr result (λ fault. HasPayloadFault bytes.now fault) }
     ensures refused { (fault : WireFault) → HasPayloadFault bytes.now fault → IsErrOf result fault }
@@ -59,7 +61,8 @@ fn read(bytes: &[u8]) -> Result<ServerMsg<'_>, WireFault>
 }
 
 fn decode_data(fields: &[u8]) -> Result<ServerMsg<'_>, WireFault>
-    ensures { MatchResult result (λ m. data_at fields.now ≡ Ok (message_value m)) (λ fault. data_at fields.now ≡ Err fault) }
+    ensures { MatchResult result (λ m. data_at fields.now ≡ Ok (message_value m))
+        (λ fault. data_at fields.now ≡ Err fault) }
 {
     if fields.len() < 24 {
         return Err(WireFault::Short);
@@ -73,7 +76,8 @@ fn decode_data(fields: &[u8]) -> Result<ServerMsg<'_>, WireFault>
 }
 
 fn decode_keepalive(fields: &[u8]) -> Result<ServerMsg<'_>, WireFault>
-    ensures { MatchResult result (λ m. keepalive_at fields.now ≡ Ok (message_value m)) (λ fault. keepalive_at fields.now ≡ Err fault) }
+    ensures { MatchResult result (λ m. keepalive_at fields.now ≡ Ok (message_value m))
+        (λ fault. keepalive_at fields.now ≡ Err fault) }
 {
     if fields.len() < 17 {
         return Err(WireFault::Short);

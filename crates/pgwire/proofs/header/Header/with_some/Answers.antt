@@ -1,7 +1,7 @@
 use Rattle.std.proofs.Common.{◌+◌, ◌-◌, arith, drop, sym, subst}
 use Rattle.std.proofs.lemmas.List.{length-take, length-drop, length-append}
 use Rattle.pgwire.proofs.Headers.{IsBytes, IsBytes-append, IsBytes-take, IsBytes-drop}
-use Rattle.pgwire.proofs.header.Header.with.Goals as goal
+use Rattle.pgwire.proofs.header.Header.with_some.Goals as goal
 
 pub invariant_of-result : goal.invariant_of-result
 invariant_of-result c =
