@@ -34,10 +34,3 @@ pub use message::Message;
 pub use oid_refs::OidRefs;
 pub use parts::{DefRef, ItemParts};
 pub use spelled::spelled_len;
-
-#[cfg(test)]
-mod message_tests;
-#[cfg(test)]
-mod tests;
-#[cfg(test)]
-mod vectors;

@@ -88,7 +88,8 @@ impl<'a> OidRefs<'a> {
 
 // The OID of the first four bytes, and the other bytes.
 fn first_of(bytes: &[u8]) -> Option<(u32, &[u8])>
-    ensures { MatchOption result (oids_in bytes.now ≡ []) (λ x. oids_in bytes.now ≡ x.0 ∷ oids_in x.1.now) }
+    ensures { MatchOption result (oids_in bytes.now ≡ [])
+        (λ x. oids_in bytes.now ≡ x.0 ∷ oids_in x.1.now) }
 {
     match bytes.split_first_chunk::<4>() {
         None => None,

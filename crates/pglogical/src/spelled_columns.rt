@@ -60,7 +60,8 @@ impl<'a> SpelledColumns<'a> {
     }
 
     pub(crate) fn next(&mut self) -> Option<ColumnRef<'a>>
-        ensures { YieldsFirstBy column_value (λ (columns : List Column). columns) self.old result self.new }
+        ensures { YieldsFirstBy column_value (λ (columns : List Column). columns) self.old result
+            self.new }
     {
         if self.left == 0 {
             return None;
