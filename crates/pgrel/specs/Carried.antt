@@ -1,6 +1,7 @@
 -- A row of a table whose definition changes: the row as it stands under the new definition.
 -- PostgreSQL documentation, Logical Replication Message Formats, Relation; Logical Replication, Restrictions (schema changes).
-use Rattle.std.specs.Prelude.{ℕ, Bool, List, [], ◌∷◌, map, ◌==◌, if◌then◌else◌}
+use Rattle.std.specs.Prelude.{ℕ, Bool, List, [], ◌∷◌, Option, None, Some, map, ◌==◌, if◌then◌else◌, slice_get, unwrap_or}
+use Rattle.std.specs.List.{position_from}
 use Rattle.std.specs.Cmp.Lexicographic.{pointwise}
 use Rattle.pgtuple.specs.declared.cell.Cell.{Cell}
 use Rattle.pgtuple.specs.declared.cell.Cell.TheVariants.{Null}
@@ -22,3 +23,20 @@ carried_cells old cells new = map (λ (c : Column). named_cell c.name old cells)
 
 abbrev pub carried : RelationDef → RelationDef → List Cell → List Cell
 carried old new cells = carried_cells old.columns cells new.columns
+
+-- ---- the same, where the columns are looked up once for all rows
+
+-- the index of the first old column of the same name
+abbrev pub place_of : List Column → Column → Option ℕ
+place_of old column = position_from (has_name column.name) 0 old
+
+abbrev pub places : List Column → List Column → List (Option ℕ)
+places old new = map (place_of old) new
+
+-- the cell at an index, or null where there is none
+abbrev pub placed_cell : List Cell → Option ℕ → Cell
+placed_cell cells None = Null
+placed_cell cells (Some index) = unwrap_or (slice_get cells index) Null
+
+abbrev pub placed_cells : List Cell → List (Option ℕ) → List Cell
+placed_cells cells places = map (placed_cell cells) places

@@ -5,7 +5,7 @@ use Rattle.pgtuple.specs.declared.cell.Cell.{Cell}
 use Rattle.pglogical.specs.declared.item.RelationDef.{RelationDef}
 use Rattle.pglogical.specs.declared.item.Column.{Column}
 use Rattle.pgrel.specs.Identity.{keyed, IsKeyed, identity, identity_full, shape, same_shape, has_unchanged, resolved}
-use Rattle.pgrel.specs.Carried.{carried}
+use Rattle.pgrel.specs.Carried.{carried, placed_cells, places}
 
 -- the test for one shape tells whether the shapes are equal
 abbrev pub SameShapeMeansEqualShapes : Type 0
@@ -56,3 +56,7 @@ CarriedHasNewWidth = (old new : RelationDef) (cells : List Cell) → length (car
 
 abbrev pub CarriedHasAllCells : Type 0
 CarriedHasAllCells = (old new : RelationDef) (cells : List Cell) → has_unchanged cells ≡ false → has_unchanged (carried old new cells) ≡ false
+
+-- a row whose cells are taken by index is the row by name
+abbrev pub CarriedByPlaces : Type 0
+CarriedByPlaces = (old new : RelationDef) (cells : List Cell) → placed_cells cells (places old.columns new.columns) ≡ carried old new cells

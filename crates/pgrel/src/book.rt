@@ -61,7 +61,8 @@ impl Book {
     /// The last definition of an OID. It takes no memory.
     pub fn get(&self, oid: u32) -> Result<&RelationDef, RelFault>
         ensures found { IfOk result (λ def. map.get self.now oid ≡ Some def.now) }
-        ensures unknown { IfErr result (λ fault. (fault ≡ RelFault.UnknownRelation oid) × (map.get self.now oid ≡ None)) }
+        ensures unknown { IfErr result (λ fault. (fault ≡ RelFault.UnknownRelation oid)
+            × (map.get self.now oid ≡ None)) }
         ensures named { IfOk result (λ def. def.now.oid ≡ oid) }
         ensures spellable { IfOk result (λ def. IsDefinition def.now) }
     {

@@ -125,7 +125,8 @@ pub fn has_unchanged(row: &TupleRef<'_>) -> bool
 
 // The next cell of a row, where its column is part of the key.
 fn next_key_cell<'a>(column: &Column, cells: &mut Cells<'a>) -> Option<CellRef<'a>>
-    ensures { (rest : List Column) → key_cells (column.now ∷ rest) cells.old ≡ option_to_list (option_map cell_value result) ++ key_cells rest cells.new }
+    ensures { (rest : List Column) → key_cells (column.now ∷ rest) cells.old
+        ≡ option_to_list (option_map cell_value result) ++ key_cells rest cells.new }
 {
     let cell = cells.next()?;
     if column.key { Some(cell) } else { None }
@@ -292,7 +293,8 @@ pub fn resolve(alloc: Global, new: &TupleRef<'_>, old_row: &TupleRef<'_>) -> Res
 
 // The old cell where the new one wasn't sent.
 fn sent_of<'a>(cell: CellRef<'a>, old: Option<CellRef<'a>>) -> CellRef<'a>
-    ensures { cell_value result ≡ sent_cell (cell_value cell.entry) (option_map cell_value old.entry) }
+    ensures { cell_value result ≡ sent_cell (cell_value cell.entry)
+        (option_map cell_value old.entry) }
 {
     match old {
         None => cell,

@@ -3,6 +3,7 @@
 //! PostgreSQL documentation, ALTER TABLE, REPLICA IDENTITY.
 
 ghost use Rattle.pgrel.specs.Laws.{
+  CarriedByPlaces,
   CarriedHasNewWidth,
   CarriedHasAllCells,
   SameShapeMeansEqualShapes,
@@ -46,4 +47,9 @@ pub fn resolved_rows_are_whole()
 pub fn carried_rows_are_whole()
     ensures width { CarriedHasNewWidth }
     ensures whole { CarriedHasAllCells }
+{}
+
+/// A row whose cells are taken by the indexes of their columns is the row whose cells are taken by the names.
+pub fn rows_are_carried_by_places()
+    ensures { CarriedByPlaces }
 {}

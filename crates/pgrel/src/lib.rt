@@ -20,7 +20,7 @@ pub mod identity;
 pub mod laws;
 
 pub use book::Book;
-pub use carrying::carry;
+pub use carrying::{Carrying, carry};
 pub use fault::RelFault;
 pub use identity::{
     check_insert, has_unchanged, keyed, resolve, row_identity, same_shape, search_identity,
