@@ -28,8 +28,3 @@ pub use remains::{
 pub use rows::{StoredDefinition, StoredRow};
 pub use schema::{create_tables, put_first_position};
 pub use settled::see_committed;
-
-#[cfg(test)]
-mod opened_tests;
-#[cfg(test)]
-mod tests;

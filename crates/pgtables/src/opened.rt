@@ -26,7 +26,8 @@ pub trait RowCheck {
 
     /// Whether a row with these bytes may stand at this OID and identity. An error is one of the caller's own, as want of memory.
     fn check(&self, oid: u32, ident: &[u8], body: &[u8], copies: u32) -> Result<bool, Error>
-        ensures { result ≡ Ok true → accepts self.now oid ident.now (record { body = body.now; copies = copies }) };
+        ensures { result ≡ Ok true → accepts self.now oid ident.now
+            (record { body = body.now; copies = copies }) };
 }
 
 /// What `pos` holds.
@@ -46,12 +47,20 @@ pub fn read_definitions<S: Alter>(
     alloc: Global,
 ) -> Result<Option<Vec<(u32, StoredDefinition)>>, Error>
     requires settled { (state S.Store conn.old).in_transaction ≡ false }
-    requires ours { IfServing S.Store conn.old ((state S.Store conn.old).now.schema ≡ store_schema) }
+    requires ours { IfServing S.Store conn.old
+        ((state S.Store conn.old).now.schema ≡ store_schema) }
     ensures settled { (state S.Store conn.new).in_transaction ≡ false }
-    ensures clean { doubt (state S.Store conn.old).is_clean ≤ doubt (state S.Store conn.new).is_clean }
-    ensures found { HasCleanDisk (state S.Store conn.new) → IfOk result (λ found. IfSome found (λ all. AreDefined ((state S.Store conn.old).now.trees 0) × ListsDefinitions (tables_of S.Store conn.old) all.items)) }
-    ensures serving { HasCleanDisk (state S.Store conn.new) → OnOk result (IsTrue (state S.Store conn.new).is_open) }
-    ensures unchanged { IfServing S.Store conn.new (IsTrue (state S.Store conn.old).is_open × ((state S.Store conn.new).now ≡ (state S.Store conn.old).now)) }
+    ensures clean { doubt (state S.Store conn.old).is_clean ≤ doubt
+        (state S.Store conn.new).is_clean }
+    ensures found { HasCleanDisk (state S.Store conn.new) →
+        IfOk result (λ found. IfSome found
+        (λ all. AreDefined ((state S.Store conn.old).now.trees 0)
+        × ListsDefinitions (tables_of S.Store conn.old) all.items)) }
+    ensures serving { HasCleanDisk (state S.Store conn.new) →
+        OnOk result (IsTrue (state S.Store conn.new).is_open) }
+    ensures unchanged { IfServing S.Store conn.new
+        (IsTrue (state S.Store conn.old).is_open
+        × ((state S.Store conn.new).now ≡ (state S.Store conn.old).now)) }
     ensures crash { Survives (state S.Store conn.old) (state S.Store conn.new) (λ _. ⊥) }
 {
     read_standing_definitions(conn, alloc)
@@ -60,12 +69,19 @@ pub fn read_definitions<S: Alter>(
 /// Whether each row of `held` is accepted. It reads each once, in the memory of one row. Nothing changes.
 pub fn check_rows<S: Alter, C: RowCheck>(conn: &mut Connection<S>, check: &C) -> Result<bool, Error>
     requires settled { (state S.Store conn.old).in_transaction ≡ false }
-    requires ours { IfServing S.Store conn.old ((state S.Store conn.old).now.schema ≡ store_schema) }
+    requires ours { IfServing S.Store conn.old
+        ((state S.Store conn.old).now.schema ≡ store_schema) }
     ensures settled { (state S.Store conn.new).in_transaction ≡ false }
-    ensures clean { doubt (state S.Store conn.old).is_clean ≤ doubt (state S.Store conn.new).is_clean }
-    ensures held { HasCleanDisk (state S.Store conn.new) → result ≡ Ok true → AreHeld ((state S.Store conn.old).now.trees 1) × AreAccepted C.RowCheck.accepts check.now (tables_of S.Store conn.old) }
-    ensures serving { HasCleanDisk (state S.Store conn.new) → OnOk result (IsTrue (state S.Store conn.new).is_open) }
-    ensures unchanged { IfServing S.Store conn.new (IsTrue (state S.Store conn.old).is_open × ((state S.Store conn.new).now ≡ (state S.Store conn.old).now)) }
+    ensures clean { doubt (state S.Store conn.old).is_clean ≤ doubt
+        (state S.Store conn.new).is_clean }
+    ensures held { HasCleanDisk (state S.Store conn.new) → result ≡ Ok true →
+        AreHeld ((state S.Store conn.old).now.trees 1)
+        × AreAccepted C.RowCheck.accepts check.now (tables_of S.Store conn.old) }
+    ensures serving { HasCleanDisk (state S.Store conn.new) →
+        OnOk result (IsTrue (state S.Store conn.new).is_open) }
+    ensures unchanged { IfServing S.Store conn.new
+        (IsTrue (state S.Store conn.old).is_open
+        × ((state S.Store conn.new).now ≡ (state S.Store conn.old).now)) }
     ensures crash { Survives (state S.Store conn.old) (state S.Store conn.new) (λ _. ⊥) }
 {
     check_standing_rows(conn, check)
@@ -74,12 +90,18 @@ pub fn check_rows<S: Alter, C: RowCheck>(conn: &mut Connection<S>, check: &C) ->
 /// What `pos` holds. Nothing changes.
 pub fn read_position<S: Alter>(conn: &mut Connection<S>) -> Result<FoundPosition, Error>
     requires settled { (state S.Store conn.old).in_transaction ≡ false }
-    requires ours { IfServing S.Store conn.old ((state S.Store conn.old).now.schema ≡ store_schema) }
+    requires ours { IfServing S.Store conn.old
+        ((state S.Store conn.old).now.schema ≡ store_schema) }
     ensures settled { (state S.Store conn.new).in_transaction ≡ false }
-    ensures clean { doubt (state S.Store conn.old).is_clean ≤ doubt (state S.Store conn.new).is_clean }
-    ensures found { HasCleanDisk (state S.Store conn.new) → IfOk result (IsFoundPosition ((state S.Store conn.old).now.trees 3)) }
-    ensures serving { HasCleanDisk (state S.Store conn.new) → OnOk result (IsTrue (state S.Store conn.new).is_open) }
-    ensures unchanged { IfServing S.Store conn.new (IsTrue (state S.Store conn.old).is_open × ((state S.Store conn.new).now ≡ (state S.Store conn.old).now)) }
+    ensures clean { doubt (state S.Store conn.old).is_clean ≤ doubt
+        (state S.Store conn.new).is_clean }
+    ensures found { HasCleanDisk (state S.Store conn.new) →
+        IfOk result (IsFoundPosition ((state S.Store conn.old).now.trees 3)) }
+    ensures serving { HasCleanDisk (state S.Store conn.new) →
+        OnOk result (IsTrue (state S.Store conn.new).is_open) }
+    ensures unchanged { IfServing S.Store conn.new
+        (IsTrue (state S.Store conn.old).is_open
+        × ((state S.Store conn.new).now ≡ (state S.Store conn.old).now)) }
     ensures crash { Survives (state S.Store conn.old) (state S.Store conn.new) (λ _. ⊥) }
 {
     read_standing_position(conn)
@@ -91,12 +113,20 @@ pub(crate) fn read_standing_definitions<S: Alter>(
     alloc: Global,
 ) -> Result<Option<Vec<(u32, StoredDefinition)>>, Error>
     requires settled { (state S.Store conn.old).in_transaction ≡ false }
-    requires stands { IfServing S.Store conn.old (Stands (λ left. left.has_definitions) (state S.Store conn.old).now.schema) }
+    requires stands { IfServing S.Store conn.old
+        (Stands (λ left. left.has_definitions) (state S.Store conn.old).now.schema) }
     ensures settled { (state S.Store conn.new).in_transaction ≡ false }
-    ensures clean { doubt (state S.Store conn.old).is_clean ≤ doubt (state S.Store conn.new).is_clean }
-    ensures found { HasCleanDisk (state S.Store conn.new) → IfOk result (λ found. IfSome found (λ all. AreDefined ((state S.Store conn.old).now.trees 0) × ListsDefinitions (tables_of S.Store conn.old) all.items)) }
-    ensures serving { HasCleanDisk (state S.Store conn.new) → OnOk result (IsTrue (state S.Store conn.new).is_open) }
-    ensures unchanged { IfServing S.Store conn.new (IsTrue (state S.Store conn.old).is_open × ((state S.Store conn.new).now ≡ (state S.Store conn.old).now)) }
+    ensures clean { doubt (state S.Store conn.old).is_clean ≤ doubt
+        (state S.Store conn.new).is_clean }
+    ensures found { HasCleanDisk (state S.Store conn.new) →
+        IfOk result (λ found. IfSome found
+        (λ all. AreDefined ((state S.Store conn.old).now.trees 0)
+        × ListsDefinitions (tables_of S.Store conn.old) all.items)) }
+    ensures serving { HasCleanDisk (state S.Store conn.new) →
+        OnOk result (IsTrue (state S.Store conn.new).is_open) }
+    ensures unchanged { IfServing S.Store conn.new
+        (IsTrue (state S.Store conn.old).is_open
+        × ((state S.Store conn.new).now ≡ (state S.Store conn.old).now)) }
     ensures crash { Survives (state S.Store conn.old) (state S.Store conn.new) (λ _. ⊥) }
 {
     see_committed(conn);
@@ -114,12 +144,19 @@ pub(crate) fn check_standing_rows<S: Alter, C: RowCheck>(
     check: &C,
 ) -> Result<bool, Error>
     requires settled { (state S.Store conn.old).in_transaction ≡ false }
-    requires stands { IfServing S.Store conn.old (Stands (λ left. left.has_rows) (state S.Store conn.old).now.schema) }
+    requires stands { IfServing S.Store conn.old
+        (Stands (λ left. left.has_rows) (state S.Store conn.old).now.schema) }
     ensures settled { (state S.Store conn.new).in_transaction ≡ false }
-    ensures clean { doubt (state S.Store conn.old).is_clean ≤ doubt (state S.Store conn.new).is_clean }
-    ensures held { HasCleanDisk (state S.Store conn.new) → result ≡ Ok true → AreHeld ((state S.Store conn.old).now.trees 1) × AreAccepted C.RowCheck.accepts check.now (tables_of S.Store conn.old) }
-    ensures serving { HasCleanDisk (state S.Store conn.new) → OnOk result (IsTrue (state S.Store conn.new).is_open) }
-    ensures unchanged { IfServing S.Store conn.new (IsTrue (state S.Store conn.old).is_open × ((state S.Store conn.new).now ≡ (state S.Store conn.old).now)) }
+    ensures clean { doubt (state S.Store conn.old).is_clean ≤ doubt
+        (state S.Store conn.new).is_clean }
+    ensures held { HasCleanDisk (state S.Store conn.new) → result ≡ Ok true →
+        AreHeld ((state S.Store conn.old).now.trees 1)
+        × AreAccepted C.RowCheck.accepts check.now (tables_of S.Store conn.old) }
+    ensures serving { HasCleanDisk (state S.Store conn.new) →
+        OnOk result (IsTrue (state S.Store conn.new).is_open) }
+    ensures unchanged { IfServing S.Store conn.new
+        (IsTrue (state S.Store conn.old).is_open
+        × ((state S.Store conn.new).now ≡ (state S.Store conn.old).now)) }
     ensures crash { Survives (state S.Store conn.old) (state S.Store conn.new) (λ _. ⊥) }
 {
     see_committed(conn);
@@ -148,12 +185,18 @@ pub(crate) fn read_standing_position<S: Alter>(
     conn: &mut Connection<S>,
 ) -> Result<FoundPosition, Error>
     requires settled { (state S.Store conn.old).in_transaction ≡ false }
-    requires stands { IfServing S.Store conn.old (Stands (λ left. left.has_position) (state S.Store conn.old).now.schema) }
+    requires stands { IfServing S.Store conn.old
+        (Stands (λ left. left.has_position) (state S.Store conn.old).now.schema) }
     ensures settled { (state S.Store conn.new).in_transaction ≡ false }
-    ensures clean { doubt (state S.Store conn.old).is_clean ≤ doubt (state S.Store conn.new).is_clean }
-    ensures found { HasCleanDisk (state S.Store conn.new) → IfOk result (IsFoundPosition ((state S.Store conn.old).now.trees 3)) }
-    ensures serving { HasCleanDisk (state S.Store conn.new) → OnOk result (IsTrue (state S.Store conn.new).is_open) }
-    ensures unchanged { IfServing S.Store conn.new (IsTrue (state S.Store conn.old).is_open × ((state S.Store conn.new).now ≡ (state S.Store conn.old).now)) }
+    ensures clean { doubt (state S.Store conn.old).is_clean ≤ doubt
+        (state S.Store conn.new).is_clean }
+    ensures found { HasCleanDisk (state S.Store conn.new) →
+        IfOk result (IsFoundPosition ((state S.Store conn.old).now.trees 3)) }
+    ensures serving { HasCleanDisk (state S.Store conn.new) →
+        OnOk result (IsTrue (state S.Store conn.new).is_open) }
+    ensures unchanged { IfServing S.Store conn.new
+        (IsTrue (state S.Store conn.old).is_open
+        × ((state S.Store conn.new).now ≡ (state S.Store conn.old).now)) }
     ensures crash { Survives (state S.Store conn.old) (state S.Store conn.new) (λ _. ⊥) }
 {
     see_committed(conn);
@@ -194,7 +237,8 @@ fn read_rising(alloc: Global, rows: &[Row]) -> Result<Option<Vec<(u32, StoredDef
 /// The definition with its OID that a row shows, or `None` where it shows none or its OID isn't above the last.
 fn read_definition(row: &Row, last: Option<u32>) -> Result<Option<(u32, StoredDefinition)>, Error>
     ensures read { IfOk result (λ found. IfSome found (λ it. IsDefinitionRead row.now it.0 it.1)) }
-    ensures behind { IfOk result (λ found. IfSome found (λ it. IfSome last (λ before. before < it.0))) }
+    ensures behind { IfOk result (λ found. IfSome found
+        (λ it. IfSome last (λ before. before < it.0))) }
 {
     let Some((oid, definition)) = if_readable(StoredDefinition::read_with_oid(row))? else {
         return Ok(None);
@@ -207,8 +251,10 @@ fn read_definition(row: &Row, last: Option<u32>) -> Result<Option<(u32, StoredDe
 
 /// The rowid of a row of `held` that is accepted and has a higher one than the last.
 fn check_row<C: RowCheck>(check: &C, row: &Row, last: Option<i64>) -> Result<Option<i64>, Error>
-    ensures accepted { IfOk result (λ found. IfSome found (IsRowAccepted C.RowCheck.accepts check.now row.now)) }
-    ensures behind { IfOk result (λ found. IfSome found (λ id. IfSome last (λ before. before <ℤ id))) }
+    ensures accepted { IfOk result (λ found. IfSome found
+        (IsRowAccepted C.RowCheck.accepts check.now row.now)) }
+    ensures behind { IfOk result (λ found. IfSome found
+        (λ id. IfSome last (λ before. before <ℤ id))) }
 {
     let (Some(id), Some(oid), Some(copies)) = (
         if_readable(row.get::<i64>(0))?,

@@ -29,8 +29,10 @@ pub struct Remains {
 
 /// Which of a store's tables a connection has, or `None` where it has others.
 pub fn find_remains<S: Alter>(conn: &Connection<S>) -> Option<Remains>
-    ensures remains { IfSome result (λ left. IsTrue (state S.Store conn.now).is_open → (state S.Store conn.now).now.schema ≡ schema_of left) }
-    ensures sound { IsTrue (state S.Store conn.now).is_open → IsDatabase (state S.Store conn.now).now }
+    ensures remains { IfSome result (λ left. IsTrue (state S.Store conn.now).is_open →
+        (state S.Store conn.now).now.schema ≡ schema_of left) }
+    ensures sound { IsTrue (state S.Store conn.now).is_open →
+        IsDatabase (state S.Store conn.now).now }
 {
     remains_of(conn.schema())
 }
@@ -103,12 +105,21 @@ pub fn read_remaining_definitions<S: Alter>(
     alloc: Global,
 ) -> Result<Option<Vec<(u32, StoredDefinition)>>, Error>
     requires settled { (state S.Store conn.old).in_transaction ≡ false }
-    requires remains { IfServing S.Store conn.old ((state S.Store conn.old).now.schema ≡ schema_of left) }
+    requires remains { IfServing S.Store conn.old
+        ((state S.Store conn.old).now.schema ≡ schema_of left) }
     ensures settled { (state S.Store conn.new).in_transaction ≡ false }
-    ensures clean { doubt (state S.Store conn.old).is_clean ≤ doubt (state S.Store conn.new).is_clean }
-    ensures found { HasCleanDisk (state S.Store conn.new) → IfOk result (λ found. IfSome found (λ all. AreDefined ((remaining left (state S.Store conn.old).now.trees) 0) × ListsDefinitions (tables_in (remaining left (state S.Store conn.old).now.trees)) all.items)) }
-    ensures serving { HasCleanDisk (state S.Store conn.new) → IsTrue left.has_definitions → OnOk result (IsTrue (state S.Store conn.new).is_open) }
-    ensures unchanged { IfServing S.Store conn.new (IsTrue (state S.Store conn.old).is_open × ((state S.Store conn.new).now ≡ (state S.Store conn.old).now)) }
+    ensures clean { doubt (state S.Store conn.old).is_clean ≤ doubt
+        (state S.Store conn.new).is_clean }
+    ensures found { HasCleanDisk (state S.Store conn.new) →
+        IfOk result (λ found. IfSome found
+        (λ all. AreDefined ((remaining left (state S.Store conn.old).now.trees) 0)
+        × ListsDefinitions (tables_in (remaining left (state S.Store conn.old).now.trees))
+        all.items)) }
+    ensures serving { HasCleanDisk (state S.Store conn.new) → IsTrue left.has_definitions →
+        OnOk result (IsTrue (state S.Store conn.new).is_open) }
+    ensures unchanged { IfServing S.Store conn.new
+        (IsTrue (state S.Store conn.old).is_open
+        × ((state S.Store conn.new).now ≡ (state S.Store conn.old).now)) }
     ensures crash { Survives (state S.Store conn.old) (state S.Store conn.new) (λ _. ⊥) }
 {
     if left.has_definitions {
@@ -125,12 +136,20 @@ pub fn check_remaining_rows<S: Alter, C: RowCheck>(
     check: &C,
 ) -> Result<bool, Error>
     requires settled { (state S.Store conn.old).in_transaction ≡ false }
-    requires remains { IfServing S.Store conn.old ((state S.Store conn.old).now.schema ≡ schema_of left) }
+    requires remains { IfServing S.Store conn.old
+        ((state S.Store conn.old).now.schema ≡ schema_of left) }
     ensures settled { (state S.Store conn.new).in_transaction ≡ false }
-    ensures clean { doubt (state S.Store conn.old).is_clean ≤ doubt (state S.Store conn.new).is_clean }
-    ensures held { HasCleanDisk (state S.Store conn.new) → result ≡ Ok true → AreHeld ((remaining left (state S.Store conn.old).now.trees) 1) × AreAccepted C.RowCheck.accepts check.now (tables_in (remaining left (state S.Store conn.old).now.trees)) }
-    ensures serving { HasCleanDisk (state S.Store conn.new) → IsTrue left.has_rows → OnOk result (IsTrue (state S.Store conn.new).is_open) }
-    ensures unchanged { IfServing S.Store conn.new (IsTrue (state S.Store conn.old).is_open × ((state S.Store conn.new).now ≡ (state S.Store conn.old).now)) }
+    ensures clean { doubt (state S.Store conn.old).is_clean ≤ doubt
+        (state S.Store conn.new).is_clean }
+    ensures held { HasCleanDisk (state S.Store conn.new) → result ≡ Ok true →
+        AreHeld ((remaining left (state S.Store conn.old).now.trees) 1)
+        × AreAccepted C.RowCheck.accepts check.now
+        (tables_in (remaining left (state S.Store conn.old).now.trees)) }
+    ensures serving { HasCleanDisk (state S.Store conn.new) → IsTrue left.has_rows →
+        OnOk result (IsTrue (state S.Store conn.new).is_open) }
+    ensures unchanged { IfServing S.Store conn.new
+        (IsTrue (state S.Store conn.old).is_open
+        × ((state S.Store conn.new).now ≡ (state S.Store conn.old).now)) }
     ensures crash { Survives (state S.Store conn.old) (state S.Store conn.new) (λ _. ⊥) }
 {
     if left.has_rows {
@@ -146,12 +165,18 @@ pub fn read_remaining_position<S: Alter>(
     left: Remains,
 ) -> Result<FoundPosition, Error>
     requires settled { (state S.Store conn.old).in_transaction ≡ false }
-    requires remains { IfServing S.Store conn.old ((state S.Store conn.old).now.schema ≡ schema_of left) }
+    requires remains { IfServing S.Store conn.old
+        ((state S.Store conn.old).now.schema ≡ schema_of left) }
     ensures settled { (state S.Store conn.new).in_transaction ≡ false }
-    ensures clean { doubt (state S.Store conn.old).is_clean ≤ doubt (state S.Store conn.new).is_clean }
-    ensures found { HasCleanDisk (state S.Store conn.new) → IfOk result (IsFoundPosition ((remaining left (state S.Store conn.old).now.trees) 3)) }
-    ensures serving { HasCleanDisk (state S.Store conn.new) → IsTrue left.has_position → OnOk result (IsTrue (state S.Store conn.new).is_open) }
-    ensures unchanged { IfServing S.Store conn.new (IsTrue (state S.Store conn.old).is_open × ((state S.Store conn.new).now ≡ (state S.Store conn.old).now)) }
+    ensures clean { doubt (state S.Store conn.old).is_clean ≤ doubt
+        (state S.Store conn.new).is_clean }
+    ensures found { HasCleanDisk (state S.Store conn.new) →
+        IfOk result (IsFoundPosition ((remaining left (state S.Store conn.old).now.trees) 3)) }
+    ensures serving { HasCleanDisk (state S.Store conn.new) → IsTrue left.has_position →
+        OnOk result (IsTrue (state S.Store conn.new).is_open) }
+    ensures unchanged { IfServing S.Store conn.new
+        (IsTrue (state S.Store conn.old).is_open
+        × ((state S.Store conn.new).now ≡ (state S.Store conn.old).now)) }
     ensures crash { Survives (state S.Store conn.old) (state S.Store conn.new) (λ _. ⊥) }
 {
     if left.has_position {
@@ -165,7 +190,8 @@ pub fn read_remaining_position<S: Alter>(
 pub fn drop_remains<S: Alter>(tx: &mut Transaction<'_, S>) -> Result<(), Error>
     requires { IfServing S.Store tx.old.conn.now (IsOver S.Store tx.old.conn.now) }
     ensures same_reference { tx.new.conn.ghost_name ≡ tx.old.conn.ghost_name }
-    ensures made { OnOk result (IfServing S.Store tx.new.conn.now (IsBare S.Store tx.new.conn.now)) }
+    ensures made { OnOk result (IfServing S.Store tx.new.conn.now
+        (IsBare S.Store tx.new.conn.now)) }
     ensures goes { Goes S.Store tx.old.conn.now tx.new.conn.now }
 {
     tx.execute_batch(

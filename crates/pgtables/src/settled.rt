@@ -10,7 +10,8 @@ use sqlite::{Alter, Connection};
 /// caller that asks whether a transaction is under way, and proofs of what a crash leaves need it.
 pub fn see_committed<S: Alter>(conn: &Connection<S>)
     requires { (state S.Store conn.now).in_transaction ≡ false }
-    ensures { IsTrue (state S.Store conn.now).is_open → (state S.Store conn.now).now ≡ (state S.Store conn.now).committed }
+    ensures { IsTrue (state S.Store conn.now).is_open →
+        (state S.Store conn.now).now ≡ (state S.Store conn.now).committed }
 {
     let _between = conn.is_autocommit();
 }

@@ -2,13 +2,14 @@
 
 ghost use Rattle.std.specs.Prelude.{◌≤◌};
 
-use crate::{
+use pgtables::{
     FoundPosition, Remains, RowCheck, check_remaining_rows, check_rows, create_tables,
     drop_remains, find_remains, has_our_tables, read_definitions, read_position,
     read_remaining_definitions, read_remaining_position,
 };
 use sqlite::{Alter, Connection, Error, ErrorCode};
 use std::alloc::Global;
+use std::process::Abort;
 use std::test::Fail;
 
 const TABLES: &str =
@@ -109,16 +110,36 @@ fn position_of<S: Alter>(conn: &mut Connection<S>) -> Result<FoundPosition, Erro
     read_position(conn)
 }
 
+/// Whether these are the OIDs of the definitions.
+fn are_oids<S: Alter>(
+    conn: &mut Connection<S>,
+    alloc: Global,
+    oids: Option<&[u32]>,
+) -> Result<bool, Error> {
+    let found = oids_of(conn, alloc)?;
+    Ok(match (&found, oids) {
+        (Some(found), Some(oids)) => found.as_slice() == oids,
+        (None, None) => true,
+        _ => false,
+    })
+}
+
+/// What is read of the tables with a case's rows.
+fn check_case(rt: &impl Abort, alloc: Global, case: &Case) -> Result<(), Fail> {
+    let (rows, oids, accepted, position) = case;
+    let mut conn = Connection::open_in_memory(alloc)?;
+    conn.execute_batch(TABLES)?;
+    conn.execute_batch(rows)?;
+    assert!(rt; are_oids(&mut conn, alloc, *oids)?, "{rows}");
+    assert!(rt; are_accepted(&mut conn, 7)? == *accepted, "{rows}");
+    assert!(rt; position_of(&mut conn)? == *position, "{rows}");
+    Ok(())
+}
+
 #[test]
 fn each_table_is_read(rt: HostRuntime) -> Result<(), Fail> {
-    for (rows, oids, accepted, position) in CASES {
-        let mut conn = Connection::open_in_memory(rt.alloc())?;
-        conn.execute_batch(TABLES)?;
-        conn.execute_batch(rows)?;
-        let found = oids_of(&mut conn, rt.alloc())?;
-        assert_eq!(rt; found.as_ref().map(|all| all.as_slice()), *oids, "{rows}");
-        assert_eq!(rt; are_accepted(&mut conn, 7)?, *accepted, "{rows}");
-        assert_eq!(rt; position_of(&mut conn)?, *position, "{rows}");
+    for case in CASES {
+        check_case(&rt, rt.alloc(), case)?;
     }
     Ok(())
 }
@@ -138,7 +159,7 @@ fn no_second_position_is_taken(rt: HostRuntime) -> Result<(), Fail> {
             Err(Error::SqliteFailure(ErrorCode::ConstraintViolation(_)))
         )
     );
-    assert_eq!(rt; position_of(&mut conn)?, FoundPosition::At(0x130));
+    assert!(rt; position_of(&mut conn)? == FoundPosition::At(0x130));
     Ok(())
 }
 
@@ -190,36 +211,47 @@ fn remake<S: Alter>(conn: &mut Connection<S>) -> Result<(), Error> {
     tx.commit()
 }
 
+/// One row in each table.
+const ROWS: &str =
+    "INSERT INTO rel (oid, nsp, name, letter, cols) VALUES (1, '', '', 100, x''); INSERT INTO held (oid, ident, body, copies) VALUES (1, x'', x'', 1); INSERT INTO pos (id, lsn) VALUES (0, x'0000000000000130')";
+
+/// The position that is read of what is left.
+fn position_left(left: Remains) -> FoundPosition {
+    if left.has_position {
+        FoundPosition::At(0x130)
+    } else {
+        FoundPosition::Missing
+    }
+}
+
+/// What is left of the tables once some are dropped, and what is made in its place.
+fn check_drops(rt: &impl Abort, alloc: Global, drops: &str, left: Remains) -> Result<(), Fail> {
+    let mut conn = Connection::open_in_memory(alloc)?;
+    conn.execute_batch(TABLES)?;
+    conn.execute_batch(ROWS)?;
+    conn.execute_batch(drops)?;
+    let (count, has_none, position) = remains_of(&mut conn, left, alloc)?;
+    assert!(rt;
+        count == if left.has_definitions { 1 } else { 0 },
+        "{drops}"
+    );
+    assert!(rt; has_none == !left.has_rows, "{drops}");
+    assert!(rt; position == position_left(left), "{drops}");
+    remake(&mut conn)?;
+    assert!(rt; has_our_tables(&conn), "{drops}");
+    assert!(rt; position_of(&mut conn)? == FoundPosition::At(0), "{drops}");
+    Ok(())
+}
+
 #[test]
 fn what_was_dropped_is_told(rt: HostRuntime) -> Result<(), Fail> {
     for (drops, has_definitions, has_rows, has_position) in DROPS {
-        let mut conn = Connection::open_in_memory(rt.alloc())?;
-        conn.execute_batch(TABLES)?;
-        conn.execute_batch(
-            "INSERT INTO rel (oid, nsp, name, letter, cols) VALUES (1, '', '', 100, x''); INSERT INTO held (oid, ident, body, copies) VALUES (1, x'', x'', 1); INSERT INTO pos (id, lsn) VALUES (0, x'0000000000000130')",
-        )?;
-        conn.execute_batch(drops)?;
         let left = Remains {
             has_definitions: *has_definitions,
             has_rows: *has_rows,
             has_position: *has_position,
         };
-        let found = remains_of(&mut conn, left, rt.alloc())?;
-        assert_eq!(rt;
-            found.0,
-            if left.has_definitions { 1 } else { 0 },
-            "{drops}"
-        );
-        assert_eq!(rt; found.1, !left.has_rows, "{drops}");
-        let position = if left.has_position {
-            FoundPosition::At(0x130)
-        } else {
-            FoundPosition::Missing
-        };
-        assert_eq!(rt; found.2, position, "{drops}");
-        remake(&mut conn)?;
-        assert!(rt; has_our_tables(&conn), "{drops}");
-        assert_eq!(rt; position_of(&mut conn)?, FoundPosition::At(0), "{drops}");
+        check_drops(&rt, rt.alloc(), drops, left)?;
     }
     Ok(())
 }
