@@ -1,6 +1,6 @@
 -- The value of tables whose definitions and rows were checked.
 use Rattle.std.proofs.Common.{◌≡◌, ◌≤◌, Result, Ok, Err, true≢false, length, drop, not, append-nil, ℕ, List, [], ◌∷◌, ◌++◌, Bool, true, false, cond, Option, Some, None, refl, sym, ap, subst, ◌∙◌, inl, inr, map, T}
-use Rattle.std.specs.Prelude.{option_map, ◌&&◌, ◌==◌, if◌then◌else◌, ⊤, is_ok}
+use Rattle.std.specs.Prelude.{option_map, ◌&&◌, if◌then◌else◌, ⊤, is_ok}
 use Rattle.std.specs.Ordering.{nat_cmp, eq_by_cmp, is_lt}
 use Rattle.std.specs.Cmp.{nat_cmp_total}
 use Rattle.std.specs.Cmp.Lexicographic.{slice_cmp, nat_list_cmp_total}

@@ -1,5 +1,5 @@
 -- Tables that are made, or that get their first position.
-use Rattle.std.proofs.Common.{◌≡◌, ◌^◌, true, sym, ap, subst, ◌∙◌, arith}
+use Rattle.std.proofs.Common.{◌≡◌, true, sym, ap, subst, ◌∙◌, arith}
 use Rattle.std.specs.FinMap as map
 use Rattle.sqlite.specs.Tree.{Trees}
 use Rattle.sqlite.specs.Effect.{Database}

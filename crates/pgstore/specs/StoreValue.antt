@@ -1,15 +1,18 @@
 -- What a caller sees of a store, and what holds of each.
-use Rattle.std.specs.Prelude.{◌≡◌, ◌<◌, ◌≤◌, ◌^◌, ℕ, false, List, IsTrue, Ok, refl}
+use Rattle.std.specs.Prelude.{◌≡◌, ◌<◌, ◌≤◌, ◌^◌, ◌⊎◌, ℕ, false, List, [], ◌∷◌, IsTrue, Ok, refl}
 use Rattle.std.specs.Coded.{Coded, code_by, coded×, coded_ℕ}
 use Rattle.std.specs.Int.{w64, to_be_bytes}
 use Rattle.std.specs.FinMap as map
 use Rattle.sqlite.specs.Tree.{Trees}
+use Rattle.sqlite.specs.Effect.{Database}
 use Rattle.sqlite.specs.Store.{Ghosts}
 use Rattle.sqlite.specs.Held.{Held, held_code, state}
 use Rattle.sqlite.specs.State.{HasCleanDisk}
 use Rattle.pgtables.specs.Schema.{no_schema, store_schema}
 use Rattle.pgtables.specs.Kept as stored
-use Rattle.pgtables.specs.Kept.{IfServing, IsKept, tables_in, tables_of}
+use Rattle.pgtables.specs.Kept.{AreDefined, AreHeld, IfServing, IsKept, pos_row, tables_in, tables_of}
+use Rattle.pgtables.specs.declared.remains.Remains.{Remains}
+use Rattle.pgtables.specs.Remains.{remaining, schema_of}
 use Rattle.pgapply.specs.declared.rows.StoreFault.{StoreFault}
 use Rattle.pgapply.specs.Value.{Tables}
 use Rattle.pgapply.specs.Apply.{Change, fold_changes}
@@ -38,6 +41,20 @@ IsAtLeast v db = (w : Stored) × AreOf w db × (v.position ≤ w.position) × (w
 -- no tables, at 0/0
 abbrev pub nothing_stored : Stored
 nothing_stored = record { tables = map.empty; position = 0 }
+
+-- the row of `pos` has this position, and without a row it is 0/0 where there is no definition either
+abbrev pub IsPlaceOf : ℕ → Trees → Type 0
+IsPlaceOf position db = (db 3 ≡ pos_row (to_be_bytes w64 position) ∷ []) ⊎ ((db 3 ≡ []) × (db 0 ≡ []) × (position ≡ 0))
+
+-- a database that has the tables of a store, or some of them, holds these tables at this position: a table that was dropped counts as empty
+pub record IsValueOf (v : Stored) (db : Database) : Type 0 where
+  pub left : Remains
+  pub schema : db.schema ≡ schema_of left
+  pub defined : AreDefined (remaining left db.trees 0)
+  pub held : AreHeld (remaining left db.trees 1)
+  pub stored : IsStored v.tables (tables_in (remaining left db.trees))
+  pub place : IsPlaceOf v.position (remaining left db.trees)
+  pub range : v.position < 2 ^ 64
 
 module _ {S : Type 0} (g : Ghosts S) where
   -- the disk has returned what was written, so far
@@ -110,7 +127,12 @@ module _ {S : Type 0} (g : Ghosts S) where
   abbrev pub LeavesWork : StoreValue S → List Change → ℕ → Trees → Type 0
   LeavesWork old changes end db = IsTrue (state g old.conn).is_open × ((v : Stored) → Holds old v → (next : Tables) × (fold_changes v.tables changes ≡ Ok next) × AreOf (record { tables = next; position = end }) db)
 
-  -- the store holds what stands in the tables of a connection, and nothing at 0/0 where that has no tables
+  -- the store holds what is stored in the tables of a connection, also where some of them are missing, and nothing at 0/0 where it has no tables
   pub record Adopts (conn : Held S) (store : StoreValue S) : Type 0 where
     pub stood : (v : Stored) → AreOf v (state g conn).now.trees → Holds store v
     pub bare : (state g conn).now.schema ≡ no_schema → Holds store nothing_stored
+    pub value : (v : Stored) → IsValueOf v (state g conn).now → Holds store v
+
+  -- what a crash may leave of adopting a connection: a store that holds what the connection held
+  abbrev pub LeavesAdopted : Held S → Trees → Type 0
+  LeavesAdopted conn db = (v : Stored) × IsValueOf v (state g conn).now × AreOf v db

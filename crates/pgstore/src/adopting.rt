@@ -2,30 +2,30 @@
 //!
 //! PostgreSQL documentation, Logical Replication Message Formats, Relation and TupleData; ALTER TABLE, REPLICA IDENTITY.
 
-ghost use Rattle.std.specs.Prelude.{◌≡◌, ◌≤◌, ℕ, None, Ok, Some, true, false, IsTrue, OnOk, OnErr, IfOk, IfErr, IfSome, T};
+ghost use Rattle.std.specs.Prelude.{◌≡◌, ◌≤◌, true, false, IsTrue, OnOk, OnErr, IfOk, IfErr, T};
 ghost use Rattle.std.specs.Ordering.{nat_cmp};
 ghost use Rattle.std.specs.FinMap.{is_sorted};
 ghost use Rattle.sqlite.specs.Held.{state};
 ghost use Rattle.sqlite.specs.State.{HasCleanDisk, Survives};
-ghost use Rattle.sqlite.specs.Effect.{IsDatabase};
 ghost use Rattle.sqlite.specs.View.{doubt};
 ghost use Rattle.pglogical.specs.Spelling.{AreColumns, IsLetter, IsText, columns_spelling};
-ghost use Rattle.pgtables.specs.Schema.{store_schema};
-ghost use Rattle.pgtables.specs.Kept.{AreNew, IfServing};
-ghost use Rattle.pgstore.specs.Adopted.{AreDefinitionsOf, Founds, IsDefinitionOf, IsRefusal, IsRowOf, Stands};
-ghost use Rattle.pgstore.specs.StoreValue.{AreOf, nothing_stored};
+ghost use Rattle.pgtables.specs.Kept.{IfServing};
+ghost use Rattle.pgtables.specs.Remains.{schema_of};
+ghost use Rattle.pgstore.specs.Adopted.{AreDefinitionsOf, AreRead, Founds, IsDefinitionOf, IsRefusal, IsRowOf, is_whole};
+ghost use Rattle.pgstore.specs.StoreValue.{LeavesAdopted};
 
 use crate::changing::MOST_COPIES;
 use crate::encoded::encode_identity;
 use crate::fault::Refusal;
-use crate::opening::{make_tables, put_start, sees_schema};
+use crate::opening::sees_schema;
+use crate::remaking::remake_tables;
 use pgapply::StoreFault;
 use pglogical::{Column, DecodeFault, Reason, RelationDef, decode_columns};
 use pglsn::Lsn;
 use pgrel::{Book, check_insert, keyed};
 use pgtables::{
-    FoundPosition, RowCheck, StoredDefinition, check_rows, has_no_tables, has_our_tables,
-    read_definitions, read_position,
+    FoundPosition, Remains, RowCheck, StoredDefinition, check_remaining_rows, find_remains,
+    read_remaining_definitions, read_remaining_position,
 };
 use pgtuple::{Seq, Text, decode_ref};
 use sqlite::{Alter, Connection, Error, ErrorCode};
@@ -55,7 +55,8 @@ fn read_letter(stored: u32) -> Result<u8, Refusal>
 
 /// The columns that stored bytes encode.
 fn read_columns(alloc: Global, bytes: &[u8]) -> Result<Seq<Column>, Refusal>
-    ensures ok { IfOk result (λ columns. AreColumns columns × (columns_spelling columns ≡ bytes.now)) }
+    ensures ok { IfOk result (λ columns. AreColumns columns
+        × (columns_spelling columns ≡ bytes.now)) }
     ensures err { IfErr result IsRefusal }
 {
     match decode_columns(alloc, bytes) {
@@ -90,7 +91,8 @@ fn read_definition(
 
 /// The stored definitions, which are given by rising OID.
 fn read_book(alloc: Global, stored: &[(u32, StoredDefinition)]) -> Result<Book, Refusal>
-    ensures ok { IfOk result (λ book. T (is_sorted nat_cmp stored.now) → AreDefinitionsOf stored.now book) }
+    ensures ok { IfOk result (λ book. T (is_sorted nat_cmp stored.now) →
+        AreDefinitionsOf stored.now book) }
     ensures err { IfErr result IsRefusal }
 {
     let mut book = Book::new(alloc);
@@ -108,7 +110,8 @@ fn is_row(
     body: &[u8],
     copies: u32,
 ) -> Result<bool, Refusal>
-    ensures row { IfOk result (λ is. is ≡ true → IsRowOf def.now ident.now (record { body = body.now; copies = copies })) }
+    ensures row { IfOk result (λ is. is ≡ true →
+        IsRowOf def.now ident.now (record { body = body.now; copies = copies })) }
 {
     let Ok((row, len)) = decode_ref(body) else {
         return Ok(false);
@@ -145,21 +148,30 @@ impl RowCheck for KnownRows<'_> {
     }
 }
 
-/// The position at which the tables of a store are, or `None` where they are empty and have none yet. Nothing changes.
-fn read_tables<S: Alter>(conn: &mut Connection<S>, alloc: Global) -> Result<Option<Lsn>, Refusal>
+/// The definitions of those of a store's tables that are there, and the position, or `None` where nothing is stored yet. Each
+/// row is read once and checked. Nothing changes.
+fn read_tables<S: Alter>(
+    conn: &mut Connection<S>,
+    left: Remains,
+    alloc: Global,
+) -> Result<(Vec<(u32, StoredDefinition)>, Option<Lsn>), Refusal>
     requires settled { (state S.Store conn.old).in_transaction ≡ false }
-    requires ours { IfServing S.Store conn.old ((state S.Store conn.old).now.schema ≡ store_schema) }
-    requires sound { IfServing S.Store conn.old (IsDatabase (state S.Store conn.old).now) }
+    requires remains { IfServing S.Store conn.old
+        ((state S.Store conn.old).now.schema ≡ schema_of left) }
     ensures settled { (state S.Store conn.new).in_transaction ≡ false }
-    ensures clean { doubt (state S.Store conn.old).is_clean ≤ doubt (state S.Store conn.new).is_clean }
-    ensures serving { HasCleanDisk (state S.Store conn.new) → OnOk result (IsTrue (state S.Store conn.new).is_open) }
-    ensures unchanged { IfServing S.Store conn.new (IsTrue (state S.Store conn.old).is_open × ((state S.Store conn.new).now ≡ (state S.Store conn.old).now)) }
-    ensures stands { HasCleanDisk (state S.Store conn.new) → IfOk result (λ found. IfSome found (Stands S.Store conn.old)) }
-    ensures bare { HasCleanDisk (state S.Store conn.new) → result ≡ Ok None → AreNew (state S.Store conn.old).now }
+    ensures clean { doubt (state S.Store conn.old).is_clean ≤ doubt
+        (state S.Store conn.new).is_clean }
+    ensures serving { HasCleanDisk (state S.Store conn.new) → IsTrue left.has_position →
+        OnOk result (IsTrue (state S.Store conn.new).is_open) }
+    ensures unchanged { IfServing S.Store conn.new
+        (IsTrue (state S.Store conn.old).is_open
+        × ((state S.Store conn.new).now ≡ (state S.Store conn.old).now)) }
+    ensures found { IfServing S.Store conn.new
+        (IfOk result (λ it. AreRead left (state S.Store conn.old).now.trees it.0.items it.1)) }
     ensures crash { Survives (state S.Store conn.old) (state S.Store conn.new) (λ _. ⊥) }
     ensures err { IfErr result IsRefusal }
 {
-    let Some(definitions) = read_definitions(conn, alloc)? else {
+    let Some(definitions) = read_remaining_definitions(conn, left, alloc)? else {
         return Err(Refusal::new(StoreFault::NotAStore));
     };
     let book = read_book(alloc, definitions.as_slice())?;
@@ -167,44 +179,51 @@ fn read_tables<S: Alter>(conn: &mut Connection<S>, alloc: Global) -> Result<Opti
         alloc,
         definitions: &book,
     };
-    if !check_rows(conn, &rows)? {
+    if !check_remaining_rows(conn, left, &rows)? {
         return Err(Refusal::new(StoreFault::NotAStore));
     }
-    match read_position(conn)? {
-        FoundPosition::At(position) => Ok(Some(Lsn(position))),
-        FoundPosition::Missing if definitions.is_empty() => Ok(None),
+    match read_remaining_position(conn, left)? {
+        FoundPosition::At(position) => Ok((definitions, Some(Lsn(position)))),
+        FoundPosition::Missing if definitions.is_empty() => Ok((definitions, None)),
         _ => Err(Refusal::new(StoreFault::NotAStore)),
     }
 }
 
-/// The position at which the tables of a connection are. Tables that aren't there are made, and tables that are empty get
+/// Whether all three tables are there.
+fn is_whole(left: Remains) -> bool
+    ensures { result ≡ is_whole left }
+{
+    left.has_definitions && (left.has_rows && left.has_position)
+}
+
+/// The position of the tables of a connection. Tables that aren't there are made, and tables in which nothing is stored yet get
 /// position 0/0.
 pub(crate) fn adopt_tables<S: Alter>(
     conn: &mut Connection<S>,
     alloc: Global,
 ) -> Result<Lsn, Refusal>
     ensures settled { OnOk result ((state S.Store conn.new).in_transaction ≡ false) }
-    ensures founds { HasCleanDisk (state S.Store conn.new) → IfOk result (Founds S.Store conn.old conn.new) }
-    ensures unchanged { IfServing S.Store conn.new (OnErr result ((state S.Store conn.old).in_transaction ≡ false → (state S.Store conn.new).now ≡ (state S.Store conn.old).now)) }
-    ensures crash { Survives (state S.Store conn.old) (state S.Store conn.new) (AreOf nothing_stored) }
+    ensures founds { HasCleanDisk (state S.Store conn.new) →
+        IfOk result (Founds S.Store conn.old conn.new) }
+    ensures unchanged { IfServing S.Store conn.new
+        (OnErr result ((state S.Store conn.old).in_transaction ≡ false →
+        (state S.Store conn.new).now ≡ (state S.Store conn.old).now)) }
+    ensures crash { Survives (state S.Store conn.old) (state S.Store conn.new)
+        (LeavesAdopted S.Store conn.old) }
     ensures err { IfErr result IsRefusal }
 {
     if !conn.is_autocommit() {
         return Err(Refusal::new(StoreFault::Refused));
     }
-    if has_no_tables(conn) {
-        sees_schema(conn);
-        make_tables(conn)?;
-        return Ok(Lsn(0));
-    }
-    if !has_our_tables(conn) {
+    let Some(left) = find_remains(conn) else {
         return Err(Refusal::new(StoreFault::NotAStore));
+    };
+    sees_schema(conn);
+    let (definitions, found) = read_tables(conn, left, alloc)?;
+    let position = found.unwrap_or(Lsn(0));
+    if found.is_some() && is_whole(left) {
+        return Ok(position);
     }
-    match read_tables(conn, alloc)? {
-        Some(position) => Ok(position),
-        None => {
-            put_start(conn)?;
-            Ok(Lsn(0))
-        }
-    }
+    remake_tables(conn, definitions.as_slice(), position)?;
+    Ok(position)
 }

@@ -6,6 +6,7 @@ ghost use Rattle.std.specs.Prelude.{◌≡◌, ◌&&◌, [], nat_lt, IsTrue, OnO
 ghost use Rattle.sqlite.specs.Held.{state};
 ghost use Rattle.sqlite.specs.State.{HasCleanDisk};
 ghost use Rattle.pglogical.specs.Spelling.{IsDefinition};
+ghost use Rattle.pgrel.specs.Carried.{places};
 ghost use Rattle.pgrel.specs.Identity.{keyed};
 ghost use Rattle.pgtables.specs.Kept.{Goes, InTransaction};
 ghost use Rattle.pgstore.specs.Carries.{JoinsCopies, RefusesCopies, Joins, RefusesToJoin, CarriesOne, RefusesToCarryOne, CarriesOn, RefusesToCarry};
@@ -15,7 +16,7 @@ use crate::encoded::{encode, encode_identity, read_tuple};
 use crate::fault::Refusal;
 use pgapply::StoreFault;
 use pglogical::RelationDef;
-use pgrel::{carry, keyed};
+use pgrel::{Carrying, keyed};
 use pgtables::{StoredRow, find_row, put_row};
 use sqlite::{Alter, Transaction};
 use std::alloc::Global;
@@ -31,7 +32,9 @@ fn join_copies<S: Alter>(
 ) -> Result<(), Refusal>
     requires { InTransaction S.Store tx.old.conn.now }
     ensures same_reference { tx.new.conn.ghost_name ≡ tx.old.conn.ghost_name }
-    ensures made { HasCleanDisk (state S.Store tx.new.conn.now) → OnOk result (JoinsCopies S.Store def.now place.now body.now copies there.now tx.old.conn.now tx.new.conn.now) }
+    ensures made { HasCleanDisk (state S.Store tx.new.conn.now) →
+        OnOk result (JoinsCopies S.Store def.now place.now body.now copies there.now tx.old.conn.now
+        tx.new.conn.now) }
     ensures fault { IfErr result (RefusesCopies def.now copies there.now) }
     ensures goes { Goes S.Store tx.old.conn.now tx.new.conn.now }
 {
@@ -63,8 +66,11 @@ fn add_carried<S: Alter>(
 ) -> Result<(), Refusal>
     requires { InTransaction S.Store tx.old.conn.now }
     ensures same_reference { tx.new.conn.ghost_name ≡ tx.old.conn.ghost_name }
-    ensures made { HasCleanDisk (state S.Store tx.new.conn.now) → OnOk result (Joins S.Store tx.old.conn.now tx.new.conn.now def.now place.now body.now copies) }
-    ensures fault { HasCleanDisk (state S.Store tx.new.conn.now) → IfErr result (RefusesToJoin S.Store tx.old.conn.now def.now place.now body.now copies) }
+    ensures made { HasCleanDisk (state S.Store tx.new.conn.now) →
+        OnOk result (Joins S.Store tx.old.conn.now tx.new.conn.now def.now place.now body.now
+        copies) }
+    ensures fault { HasCleanDisk (state S.Store tx.new.conn.now) →
+        IfErr result (RefusesToJoin S.Store tx.old.conn.now def.now place.now body.now copies) }
     ensures goes { Goes S.Store tx.old.conn.now tx.new.conn.now }
 {
     if clashes(def, copies) {
@@ -85,20 +91,24 @@ fn carry_row<S: Alter>(
     alloc: Global,
     old: &RelationDef,
     def: &RelationDef,
+    carrying: &Carrying,
     kept: &StoredRow,
 ) -> Result<(), Refusal>
     requires serving { InTransaction S.Store tx.old.conn.now }
     requires definition { IsDefinition def.now }
+    requires carrying { carrying.now ≡ places old.now.columns def.now.columns }
     ensures same_reference { tx.new.conn.ghost_name ≡ tx.old.conn.ghost_name }
-    ensures made { HasCleanDisk (state S.Store tx.new.conn.now) → OnOk result (CarriesOne S.Store tx.old.conn.now tx.new.conn.now old.now def.now kept.now) }
-    ensures fault { HasCleanDisk (state S.Store tx.new.conn.now) → IfErr result (RefusesToCarryOne S.Store tx.old.conn.now old.now def.now kept.now) }
+    ensures made { HasCleanDisk (state S.Store tx.new.conn.now) →
+        OnOk result (CarriesOne S.Store tx.old.conn.now tx.new.conn.now old.now def.now kept.now) }
+    ensures fault { HasCleanDisk (state S.Store tx.new.conn.now) →
+        IfErr result (RefusesToCarryOne S.Store tx.old.conn.now old.now def.now kept.now) }
     ensures goes { Goes S.Store tx.old.conn.now tx.new.conn.now }
 {
     let was = read_tuple(kept.body())?;
     if was.width() != old.columns.len() {
         return Err(Refusal::new(StoreFault::Refused));
     }
-    let next = carry(alloc, old, def, &was)?;
+    let next = carrying.carry(alloc, &was)?;
     let row = next.borrowed();
     let place = encode_identity(alloc, def, &row)?;
     let body = encode(alloc, &row)?;
@@ -116,12 +126,16 @@ pub(crate) fn carry_rows<S: Alter>(
     requires serving { InTransaction S.Store tx.old.conn.now }
     requires definition { IsDefinition def.now }
     ensures same_reference { tx.new.conn.ghost_name ≡ tx.old.conn.ghost_name }
-    ensures made { OnOk result (CarriesOn S.Store tx.old.conn.now tx.new.conn.now old.now def.now rows.now []) }
-    ensures fault { HasCleanDisk (state S.Store tx.new.conn.now) → IsTrue (state S.Store tx.old.conn.now).is_open → IfErr result (RefusesToCarry S.Store tx.old.conn.now old.now def.now rows.now) }
+    ensures made { OnOk result (CarriesOn S.Store tx.old.conn.now tx.new.conn.now old.now def.now
+        rows.now []) }
+    ensures fault { HasCleanDisk (state S.Store tx.new.conn.now) →
+        IsTrue (state S.Store tx.old.conn.now).is_open →
+        IfErr result (RefusesToCarry S.Store tx.old.conn.now old.now def.now rows.now) }
     ensures goes { Goes S.Store tx.old.conn.now tx.new.conn.now }
 {
+    let carrying = Carrying::new(alloc, old, def)?;
     for kept in rows {
-        carry_row(tx, alloc, old, def, kept)?;
+        carry_row(tx, alloc, old, def, &carrying, kept)?;
     }
     Ok(())
 }

@@ -41,7 +41,9 @@ fn take_row<S: Alter>(
 ) -> Result<(), Refusal>
     requires { InTransaction S.Store tx.old.conn.now }
     ensures same_reference { tx.new.conn.ghost_name ≡ tx.old.conn.ghost_name }
-    ensures made { HasCleanDisk (state S.Store tx.new.conn.now) → OnOk result (Makes S.Store (taken_row oid place.now row.now) tx.old.conn.now tx.new.conn.now) }
+    ensures made { HasCleanDisk (state S.Store tx.new.conn.now) →
+        OnOk result (Makes S.Store (taken_row oid place.now row.now) tx.old.conn.now
+        tx.new.conn.now) }
     ensures fault { IfErr result IsOwnFault }
     ensures goes { Goes S.Store tx.old.conn.now tx.new.conn.now }
 {
@@ -64,7 +66,9 @@ fn add_copy<S: Alter>(
 ) -> Result<(), Refusal>
     requires { InTransaction S.Store tx.old.conn.now }
     ensures same_reference { tx.new.conn.ghost_name ≡ tx.old.conn.ghost_name }
-    ensures made { HasCleanDisk (state S.Store tx.new.conn.now) → OnOk result (AddsCopy S.Store def.now place.now body.now there.now tx.old.conn.now tx.new.conn.now) }
+    ensures made { HasCleanDisk (state S.Store tx.new.conn.now) →
+        OnOk result (AddsCopy S.Store def.now place.now body.now there.now tx.old.conn.now
+        tx.new.conn.now) }
     ensures fault { IfErr result (RefusesCopy def.now there.now) }
     ensures goes { Goes S.Store tx.old.conn.now tx.new.conn.now }
 {
@@ -88,8 +92,11 @@ fn add_again<S: Alter>(
 ) -> Result<(), Refusal>
     requires { InTransaction S.Store tx.old.conn.now }
     ensures same_reference { tx.new.conn.ghost_name ≡ tx.old.conn.ghost_name }
-    ensures made { HasCleanDisk (state S.Store tx.new.conn.now) → OnOk result (Adds S.Store tx.old.conn.now tx.new.conn.now def.now place.now body.now) }
-    ensures fault { HasCleanDisk (state S.Store tx.new.conn.now) → IfErr result (λ fault. (cells : List Cell) → IsNewRow def.now cells place.now body.now → Refuses S.Store tx.old.conn.now def.now (with_row def.now cells) fault) }
+    ensures made { HasCleanDisk (state S.Store tx.new.conn.now) →
+        OnOk result (Adds S.Store tx.old.conn.now tx.new.conn.now def.now place.now body.now) }
+    ensures fault { HasCleanDisk (state S.Store tx.new.conn.now) →
+        IfErr result (λ fault. (cells : List Cell) → IsNewRow def.now cells place.now body.now →
+        Refuses S.Store tx.old.conn.now def.now (with_row def.now cells) fault) }
     ensures goes { Goes S.Store tx.old.conn.now tx.new.conn.now }
 {
     match find_row(tx, def.oid, place)? {
@@ -107,8 +114,11 @@ fn add_row<S: Alter>(
 ) -> Result<(), Refusal>
     requires { InTransaction S.Store tx.old.conn.now }
     ensures same_reference { tx.new.conn.ghost_name ≡ tx.old.conn.ghost_name }
-    ensures made { HasCleanDisk (state S.Store tx.new.conn.now) → OnOk result (Adds S.Store tx.old.conn.now tx.new.conn.now def.now place.now body.now) }
-    ensures fault { HasCleanDisk (state S.Store tx.new.conn.now) → IfErr result (λ fault. (cells : List Cell) → IsNewRow def.now cells place.now body.now → Refuses S.Store tx.old.conn.now def.now (with_row def.now cells) fault) }
+    ensures made { HasCleanDisk (state S.Store tx.new.conn.now) →
+        OnOk result (Adds S.Store tx.old.conn.now tx.new.conn.now def.now place.now body.now) }
+    ensures fault { HasCleanDisk (state S.Store tx.new.conn.now) →
+        IfErr result (λ fault. (cells : List Cell) → IsNewRow def.now cells place.now body.now →
+        Refuses S.Store tx.old.conn.now def.now (with_row def.now cells) fault) }
     ensures goes { Goes S.Store tx.old.conn.now tx.new.conn.now }
 {
     if pgtables::add_row(tx, def.oid, place, body, 1)? {
@@ -129,8 +139,11 @@ fn move_row<S: Alter>(
     requires serving { InTransaction S.Store tx.old.conn.now }
     requires width { length row.now ≡ length def.now.columns }
     ensures same_reference { tx.new.conn.ghost_name ≡ tx.old.conn.ghost_name }
-    ensures made { HasCleanDisk (state S.Store tx.new.conn.now) → OnOk result (Moves S.Store tx.old.conn.now tx.new.conn.now def.now place.now there.now row.now) }
-    ensures fault { HasCleanDisk (state S.Store tx.new.conn.now) → IfErr result (RefusesToMove S.Store tx.old.conn.now def.now place.now there.now row.now) }
+    ensures made { HasCleanDisk (state S.Store tx.new.conn.now) →
+        OnOk result (Moves S.Store tx.old.conn.now tx.new.conn.now def.now place.now there.now
+        row.now) }
+    ensures fault { HasCleanDisk (state S.Store tx.new.conn.now) →
+        IfErr result (RefusesToMove S.Store tx.old.conn.now def.now place.now there.now row.now) }
     ensures goes { Goes S.Store tx.old.conn.now tx.new.conn.now }
 {
     let next = encode_identity(alloc, def, row)?;
@@ -155,8 +168,12 @@ fn replace_row<S: Alter>(
     requires serving { InTransaction S.Store tx.old.conn.now }
     requires width { length row.now ≡ length def.now.columns }
     ensures same_reference { tx.new.conn.ghost_name ≡ tx.old.conn.ghost_name }
-    ensures made { HasCleanDisk (state S.Store tx.new.conn.now) → OnOk result (Replaces S.Store tx.old.conn.now tx.new.conn.now def.now place.now there.now row.now) }
-    ensures fault { HasCleanDisk (state S.Store tx.new.conn.now) → IfErr result (RefusesToReplace S.Store tx.old.conn.now def.now place.now there.now row.now) }
+    ensures made { HasCleanDisk (state S.Store tx.new.conn.now) →
+        OnOk result (Replaces S.Store tx.old.conn.now tx.new.conn.now def.now place.now there.now
+        row.now) }
+    ensures fault { HasCleanDisk (state S.Store tx.new.conn.now) →
+        IfErr result (RefusesToReplace S.Store tx.old.conn.now def.now place.now there.now
+        row.now) }
     ensures goes { Goes S.Store tx.old.conn.now tx.new.conn.now }
 {
     let was = read_tuple(there.body())?;
@@ -195,7 +212,9 @@ fn set_row<S: Alter>(
 ) -> Result<(), Refusal>
     requires { InTransaction S.Store tx.old.conn.now }
     ensures same_reference { tx.new.conn.ghost_name ≡ tx.old.conn.ghost_name }
-    ensures made { HasCleanDisk (state S.Store tx.new.conn.now) → OnOk result (Makes S.Store (with_body oid place.now (tuple_spelling row.now)) tx.old.conn.now tx.new.conn.now) }
+    ensures made { HasCleanDisk (state S.Store tx.new.conn.now) →
+        OnOk result (Makes S.Store (with_body oid place.now (tuple_spelling row.now))
+        tx.old.conn.now tx.new.conn.now) }
     ensures tuple { IsTuple row.now }
     ensures fault { IfErr result IsOwnFault }
     ensures goes { Goes S.Store tx.old.conn.now tx.new.conn.now }
@@ -215,8 +234,12 @@ fn insert<S: Alter>(
 ) -> Result<(), Refusal>
     requires { InTransaction S.Store tx.old.conn.now }
     ensures same_reference { tx.new.conn.ghost_name ≡ tx.old.conn.ghost_name }
-    ensures made { HasCleanDisk (state S.Store tx.new.conn.now) → OnOk result (Changes S.Store tx.old.conn.now tx.new.conn.now def.now (rows_after def.now (op.Insert row.now))) }
-    ensures fault { HasCleanDisk (state S.Store tx.new.conn.now) → IfErr result (Refuses S.Store tx.old.conn.now def.now (rows_after def.now (op.Insert row.now))) }
+    ensures made { HasCleanDisk (state S.Store tx.new.conn.now) →
+        OnOk result (Changes S.Store tx.old.conn.now tx.new.conn.now def.now
+        (rows_after def.now (op.Insert row.now))) }
+    ensures fault { HasCleanDisk (state S.Store tx.new.conn.now) →
+        IfErr result (Refuses S.Store tx.old.conn.now def.now
+        (rows_after def.now (op.Insert row.now))) }
     ensures goes { Goes S.Store tx.old.conn.now tx.new.conn.now }
 {
     check_insert(def, row)?;
@@ -235,8 +258,12 @@ fn update<S: Alter>(
 ) -> Result<(), Refusal>
     requires { InTransaction S.Store tx.old.conn.now }
     ensures same_reference { tx.new.conn.ghost_name ≡ tx.old.conn.ghost_name }
-    ensures made { HasCleanDisk (state S.Store tx.new.conn.now) → OnOk result (Changes S.Store tx.old.conn.now tx.new.conn.now def.now (rows_after def.now (op.Update prior.now row.now))) }
-    ensures fault { HasCleanDisk (state S.Store tx.new.conn.now) → IfErr result (Refuses S.Store tx.old.conn.now def.now (rows_after def.now (op.Update prior.now row.now))) }
+    ensures made { HasCleanDisk (state S.Store tx.new.conn.now) →
+        OnOk result (Changes S.Store tx.old.conn.now tx.new.conn.now def.now
+        (rows_after def.now (op.Update prior.now row.now))) }
+    ensures fault { HasCleanDisk (state S.Store tx.new.conn.now) →
+        IfErr result (Refuses S.Store tx.old.conn.now def.now
+        (rows_after def.now (op.Update prior.now row.now))) }
     ensures goes { Goes S.Store tx.old.conn.now tx.new.conn.now }
 {
     let identity = encode_searched(alloc, def, lend_prior(prior), Some(row.lend()))?;
@@ -260,8 +287,12 @@ fn delete<S: Alter>(
 ) -> Result<(), Refusal>
     requires { InTransaction S.Store tx.old.conn.now }
     ensures same_reference { tx.new.conn.ghost_name ≡ tx.old.conn.ghost_name }
-    ensures made { HasCleanDisk (state S.Store tx.new.conn.now) → OnOk result (Changes S.Store tx.old.conn.now tx.new.conn.now def.now (rows_after def.now (op.Delete kind row.now))) }
-    ensures fault { HasCleanDisk (state S.Store tx.new.conn.now) → IfErr result (Refuses S.Store tx.old.conn.now def.now (rows_after def.now (op.Delete kind row.now))) }
+    ensures made { HasCleanDisk (state S.Store tx.new.conn.now) →
+        OnOk result (Changes S.Store tx.old.conn.now tx.new.conn.now def.now
+        (rows_after def.now (op.Delete kind row.now))) }
+    ensures fault { HasCleanDisk (state S.Store tx.new.conn.now) →
+        IfErr result (Refuses S.Store tx.old.conn.now def.now
+        (rows_after def.now (op.Delete kind row.now))) }
     ensures goes { Goes S.Store tx.old.conn.now tx.new.conn.now }
 {
     let identity = encode_searched(alloc, def, Some((kind, row.lend())), None)?;
@@ -281,8 +312,11 @@ fn delete<S: Alter>(
 fn truncate<S: Alter>(tx: &mut Transaction<'_, S>, def: &RelationDef) -> Result<(), Refusal>
     requires { InTransaction S.Store tx.old.conn.now }
     ensures same_reference { tx.new.conn.ghost_name ≡ tx.old.conn.ghost_name }
-    ensures made { HasCleanDisk (state S.Store tx.new.conn.now) → OnOk result (Changes S.Store tx.old.conn.now tx.new.conn.now def.now (rows_after def.now op.Truncate)) }
-    ensures fault { HasCleanDisk (state S.Store tx.new.conn.now) → IfErr result (Refuses S.Store tx.old.conn.now def.now (rows_after def.now op.Truncate)) }
+    ensures made { HasCleanDisk (state S.Store tx.new.conn.now) →
+        OnOk result (Changes S.Store tx.old.conn.now tx.new.conn.now def.now
+        (rows_after def.now op.Truncate)) }
+    ensures fault { HasCleanDisk (state S.Store tx.new.conn.now) →
+        IfErr result (Refuses S.Store tx.old.conn.now def.now (rows_after def.now op.Truncate)) }
     ensures goes { Goes S.Store tx.old.conn.now tx.new.conn.now }
 {
     delete_rows(tx, def.oid)?;
@@ -298,8 +332,11 @@ pub(crate) fn change_rows<S: Alter>(
 ) -> Result<(), Refusal>
     requires { InTransaction S.Store tx.old.conn.now }
     ensures same_reference { tx.new.conn.ghost_name ≡ tx.old.conn.ghost_name }
-    ensures made { HasCleanDisk (state S.Store tx.new.conn.now) → OnOk result (Changes S.Store tx.old.conn.now tx.new.conn.now def.now (rows_after def.now op.now)) }
-    ensures fault { HasCleanDisk (state S.Store tx.new.conn.now) → IfErr result (Refuses S.Store tx.old.conn.now def.now (rows_after def.now op.now)) }
+    ensures made { HasCleanDisk (state S.Store tx.new.conn.now) →
+        OnOk result (Changes S.Store tx.old.conn.now tx.new.conn.now def.now
+        (rows_after def.now op.now)) }
+    ensures fault { HasCleanDisk (state S.Store tx.new.conn.now) →
+        IfErr result (Refuses S.Store tx.old.conn.now def.now (rows_after def.now op.now)) }
     ensures goes { Goes S.Store tx.old.conn.now tx.new.conn.now }
 {
     match op {

@@ -60,7 +60,8 @@ pub(crate) fn encode<'a>(alloc: Global, tuple: &TupleRef<'a>) -> Result<Encoded<
 
 /// The tuple of these bytes, which it borrows. Bytes that encode no tuple are `Refused`.
 pub(crate) fn read_tuple(bytes: &[u8]) -> Result<TupleRef<'_>, StoreFault>
-    ensures ok { IfOk result (λ tuple. (cells : List Cell) → IsTuple cells → bytes.now ≡ tuple_spelling cells → tuple ≡ cells) }
+    ensures ok { IfOk result (λ tuple. (cells : List Cell) → IsTuple cells →
+        bytes.now ≡ tuple_spelling cells → tuple ≡ cells) }
     ensures err { IfErr result (λ fault. fault ≡ StoreFault.Refused) }
 {
     match decode_ref(bytes) {
@@ -106,8 +107,11 @@ pub(crate) fn encode_searched(
     row: Option<TupleRef<'_>>,
 ) -> Result<Vec<u8>, Refusal>
     requires { IsSome prior ⊎ IsSome row }
-    ensures ok { IfOk result (λ bytes. (cells : List Cell) × (searched_identity def.now prior.entry row.entry ≡ Ok cells) × (bytes.items ≡ tuple_spelling cells)) }
-    ensures err { IfErr result (λ fault. IsFault fault (in_store (searched_identity def.now prior.entry row.entry))) }
+    ensures ok { IfOk result (λ bytes. (cells : List Cell)
+        × (searched_identity def.now prior.entry row.entry ≡ Ok cells)
+        × (bytes.items ≡ tuple_spelling cells)) }
+    ensures err { IfErr result (λ fault. IsFault fault
+        (in_store (searched_identity def.now prior.entry row.entry))) }
 {
     let identity = search_identity(alloc, def, prior, row)?;
     encode_owned(alloc, &identity)

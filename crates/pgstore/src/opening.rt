@@ -4,12 +4,12 @@ ghost use Rattle.std.specs.Prelude.{◌≡◌, false, IsTrue, OnOk, OnErr, IfErr
 ghost use Rattle.sqlite.specs.Held.{state};
 ghost use Rattle.sqlite.specs.State.{HasCleanDisk, Survives};
 ghost use Rattle.pgtables.specs.Schema.{no_schema, store_schema};
-ghost use Rattle.pgtables.specs.Kept.{AreNew, IfServing};
+ghost use Rattle.pgtables.specs.Kept.{IfServing};
 ghost use Rattle.pgapply.specs.Stored.{Stored, IsOwnFault};
 ghost use Rattle.pgstore.specs.StoreValue.{AreOf, HasMade, nothing_stored};
 
 use crate::fault::Refusal;
-use pgtables::{create_tables, put_first_position, see_committed};
+use pgtables::{create_tables, see_committed};
 use sqlite::{Alter, Connection};
 
 /// Makes the tables where there are none yet, empty and with position 0/0, in one SQL transaction.
@@ -18,10 +18,13 @@ pub(crate) fn make_tables<S: Alter>(conn: &mut Connection<S>) -> Result<(), Refu
     requires bare { IfServing S.Store conn.old ((state S.Store conn.old).now.schema ≡ no_schema) }
     ensures settled { (state S.Store conn.new).in_transaction ≡ false }
     ensures made { HasCleanDisk (state S.Store conn.new) → OnOk result (HasMade S.Store conn.new) }
-    ensures was_open { HasCleanDisk (state S.Store conn.new) → OnOk result (IsTrue (state S.Store conn.old).is_open) }
-    ensures unchanged { IfServing S.Store conn.new (OnErr result ((state S.Store conn.new).now ≡ (state S.Store conn.old).now)) }
+    ensures was_open { HasCleanDisk (state S.Store conn.new) →
+        OnOk result (IsTrue (state S.Store conn.old).is_open) }
+    ensures unchanged { IfServing S.Store conn.new
+        (OnErr result ((state S.Store conn.new).now ≡ (state S.Store conn.old).now)) }
     ensures fault { IfErr result IsOwnFault }
-    ensures crash { Survives (state S.Store conn.old) (state S.Store conn.new) (AreOf nothing_stored) }
+    ensures crash { Survives (state S.Store conn.old) (state S.Store conn.new)
+        (AreOf nothing_stored) }
 {
     see_committed(conn);
     let mut tx = conn.transaction();
@@ -30,26 +33,11 @@ pub(crate) fn make_tables<S: Alter>(conn: &mut Connection<S>) -> Result<(), Refu
     Ok(())
 }
 
-/// Puts position 0/0 into tables that are empty, in one SQL transaction.
-pub(crate) fn put_start<S: Alter>(conn: &mut Connection<S>) -> Result<(), Refusal>
-    requires settled { (state S.Store conn.old).in_transaction ≡ false }
-    requires new { IfServing S.Store conn.old (AreNew (state S.Store conn.old).now) }
-    ensures settled { (state S.Store conn.new).in_transaction ≡ false }
-    ensures made { HasCleanDisk (state S.Store conn.new) → OnOk result (HasMade S.Store conn.new) }
-    ensures unchanged { IfServing S.Store conn.new (OnErr result ((state S.Store conn.new).now ≡ (state S.Store conn.old).now)) }
-    ensures fault { IfErr result IsOwnFault }
-    ensures crash { Survives (state S.Store conn.old) (state S.Store conn.new) (AreOf nothing_stored) }
-{
-    see_committed(conn);
-    let mut tx = conn.transaction();
-    put_first_position(&mut tx, &[0; 8])?;
-    tx.commit()?;
-    Ok(())
-}
-
 /// Whatever value the trees that a connection sees have, its schema is that of a store: a catalog lists one schema.
 pub(crate) fn sees_schema<S: Alter>(conn: &Connection<S>)
-    ensures { (v : Stored) → AreOf v (state S.Store conn.now).now.trees → IsTrue (state S.Store conn.now).is_open → (state S.Store conn.now).now.schema ≡ store_schema }
+    ensures { (v : Stored) → AreOf v (state S.Store conn.now).now.trees →
+        IsTrue (state S.Store conn.now).is_open →
+        (state S.Store conn.now).now.schema ≡ store_schema }
 {
     let _schema = conn.schema();
 }

@@ -2,7 +2,7 @@ use Rattle.std.proofs.Common.{◌≡◌, ◌+◌, [], ◌∷◌, ◌++◌, sym, 
 use Rattle.std.proofs.lemmas.List.{take_more, take-append-drop}
 use Rattle.std.specs.Prelude.{T}
 use Rattle.std.specs.Ordering.{nat_cmp}
-use Rattle.std.specs.FinMap.{is_sorted, insert}
+use Rattle.std.specs.FinMap.{is_sorted}
 use Rattle.pgstore.specs.Adopted.{AreDefinitionsOf}
 use Rattle.pgstore.proofs.Adopted.{none_known, known_then, none_before}
 use Rattle.pgstore.proofs.Applying.{take_whole}

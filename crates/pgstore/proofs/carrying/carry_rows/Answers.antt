@@ -10,7 +10,7 @@ loop-kept-init g c = (refl, carries_none g.S.Store c.args.tx.now.conn.now c.args
 
 pub returns-in_err-carry_row-clause-fault : goal.returns-in_err-carry_row-clause-fault
 returns-in_err-carry_row-clause-fault g c clean still =
-    let p = err_from_is_err_and c.from_residual.result c.from_residual.ensures.1 in
+    let p = err_from_is_err_and c.from_residual-in_err-carry_row.result c.from_residual-in_err-carry_row.ensures.1 in
     let xs = c.args.rows.now in
     let i = c.loop-kept.kept-index in
     let x = c.kept-item.result in

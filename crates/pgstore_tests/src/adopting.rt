@@ -1,10 +1,10 @@
 //! Stores over connections that others have filled, in memory and on disks in memory.
 
-use crate::Store;
 use crate::cases::FILLED;
 use crate::tests::{shown, take};
 use pgapply::StoreFault;
 use pglsn::Lsn;
+use pgstore::Store;
 use sqlite::{Alter, Connection};
 use std::process::Abort;
 use std::test::Fail;
@@ -170,5 +170,78 @@ fn right_rows_are_a_store(rt: HostRuntime) -> Result<(), Fail> {
         conn.execute_batch(change)?;
         let _store = adopt(&rt, conn)?;
     }
+    Ok(())
+}
+
+/// Statements over a filled store that drop some of its tables, and the position at which it is adopted without rows, or `None`
+/// where it is none any more.
+const DROPPED: &[(&str, Option<u64>)] = &[
+    ("DROP TABLE held", Some(0x130)),
+    ("DROP TABLE rel; DROP TABLE held", Some(0x130)),
+    ("DELETE FROM held; DROP TABLE rel", Some(0x130)),
+    ("DROP TABLE rel; DROP TABLE held; DROP TABLE pos", Some(0)),
+    ("DELETE FROM held; DELETE FROM rel; DROP TABLE pos", Some(0)),
+    ("DELETE FROM held; DROP TABLE rel; DROP TABLE pos", Some(0)),
+    ("DELETE FROM rel; DROP TABLE held; DROP TABLE pos", Some(0)),
+    ("DELETE FROM pos; DROP TABLE rel; DROP TABLE held", Some(0)),
+    // Rows without their definitions, and rows or definitions without a position.
+    ("DROP TABLE rel", None),
+    ("DROP TABLE pos", None),
+    ("DROP TABLE rel; DROP TABLE pos", None),
+    ("DROP TABLE held; DROP TABLE pos", None),
+    ("DROP TABLE held; DELETE FROM pos", None),
+    // Another table beside.
+    ("DROP TABLE held; CREATE TABLE other (x INTEGER)", None),
+];
+
+/// A store of which tables were dropped is adopted without rows at the position, takes rows, and is adopted again.
+fn check_remade<S: Alter + Drop>(
+    rt: &(impl Abort + AllocGlobal),
+    conn: Connection<S>,
+    position: Lsn,
+) -> Result<(), Fail> {
+    let mut store = adopt(rt, conn)?;
+    assert_eq!(rt; store.position(), position);
+    assert_eq!(rt; shown(rt.alloc(), &mut store)?.as_str(), "");
+    take(rt, &mut store, 0x230, FILLED.0)?;
+    let mut again = adopt(rt, store.into_connection())?;
+    assert_eq!(rt; again.position(), Lsn(0x230));
+    assert_eq!(rt; shown(rt.alloc(), &mut again)?.as_str(), FILLED.2);
+    Ok(())
+}
+
+fn check_dropped<S: Alter + Drop>(
+    rt: &(impl Abort + AllocGlobal),
+    mut store: Store<S>,
+    drops: &str,
+    position: Option<u64>,
+) -> Result<(), Fail> {
+    take(rt, &mut store, 0x130, FILLED.0)?;
+    let mut conn = store.into_connection();
+    conn.execute_batch(drops)?;
+    match position {
+        Some(position) => check_remade(rt, conn, Lsn(position)),
+        None => expect_refused(rt, conn, StoreFault::NotAStore),
+    }
+}
+
+#[test]
+fn dropped_tables_are_made(rt: HostRuntime) -> Result<(), Fail> {
+    for (drops, position) in DROPPED {
+        check_dropped(&rt, Store::in_memory(rt.alloc())?, drops, *position)?;
+        check_dropped(&rt, Store::on_memory_disks(rt.alloc())?, drops, *position)?;
+    }
+    Ok(())
+}
+
+#[test]
+fn definitions_outlast_their_rows(rt: HostRuntime) -> Result<(), Fail> {
+    let mut store = Store::in_memory(rt.alloc())?;
+    take(&rt, &mut store, 0x130, FILLED.0)?;
+    let mut conn = store.into_connection();
+    conn.execute_batch("DROP TABLE held")?;
+    let mut conn = adopt(&rt, conn)?.into_connection();
+    let definitions = conn.query_all("SELECT oid FROM rel", &[])?;
+    assert_eq!(rt; definitions.len(), 3);
     Ok(())
 }

@@ -1,0 +1,12 @@
+//! Tests of the SQL store by its public calls, and no code: commits with what each returns and the rows that stand after it, and stores
+//! over connections that others have filled, in memory and on disks in memory.
+//!
+//! They are apart from `pgstore` so that it isn't proved once more with them.
+#![tactic(auto)]
+
+#[cfg(test)]
+mod adopting;
+#[cfg(test)]
+mod cases;
+#[cfg(test)]
+mod tests;
