@@ -1,5 +1,5 @@
 -- A piece of a session's bytes, frame by frame.
-use Rattle.std.proofs.Common.{◌≡◌, ◌<◌, ◌≤◌, ◌+◌, ◌-◌, inl, inr, ℕ, ℤ, List, [], ◌∷◌, ◌++◌, Bool, true, false, ◌||◌, cond, Option, None, Ok, length, take, drop, refl, sym, ap, subst, ◌∙◌, arith, append_assoc, append-nil, length-drop}
+use Rattle.std.proofs.Common.{◌≡◌, ◌<◌, ◌≤◌, ◌+◌, ◌-◌, inl, inr, zero, suc, ℕ, ℤ, List, [], ◌∷◌, ◌++◌, Bool, true, false, ◌||◌, cond, Option, None, Ok, length, take, drop, refl, sym, ap, subst, ◌∙◌, arith, append_assoc, append-nil, length-drop}
 use Rattle.std.proofs.Math.Seq.{take-add, take-length}
 use Rattle.std.proofs.lemmas.List.{length-take-le}
 use Rattle.pgwire.specs.declared.fault.WireFault.{WireFault}
@@ -18,7 +18,7 @@ use Rattle.pgsub_core.specs.Applied.{Applied, Framing, subscribed}
 use Rattle.pgsub_core.specs.Framing.{framing_behind, framing_of, done_of, Releases, FramesGo, IsFedTo, FeedGoes}
 use Rattle.pgsub_core.proofs.FedSessions.{take_frames-append}
 
-take_whole : {A : Type 0} (xs : List A) (n : ℕ) → n ≡ length xs → take n xs ≡ xs
+pub take_whole : {A : Type 0} (xs : List A) (n : ℕ) → n ≡ length xs → take n xs ≡ xs
 take_whole [] n h = rw h refl
 take_whole (x ∷ xs) n h = rw h (ap (λ ys. x ∷ ys) (take_whole xs (length xs) refl))
 
@@ -45,6 +45,31 @@ done_both : (fs : List Frame) (f : Frame) (c : Bool) → (has_copy_done (fs ++ f
 done_both [] f c = refl
 done_both (CopyData bytes ∷ fs) f c = done_both fs f c
 done_both (CopyDone ∷ fs) f c = sym (true_last (has_copy_done (f ∷ [])))
+
+-- some bytes are taken, where there are any
+pub some_taken : (d d' : Deframed) (piece : List ℕ) (n : ℕ) → Waits d → IsFed d piece (Ok n) d' → 0 < length piece → 0 < n
+some_taken d d' piece (suc n) waits fed some = omega arith
+some_taken d d' piece zero waits fed some =
+    elim fed.3 [
+      | inl stands ↦ absurd (stands_or_waits d stands.0 (record {
+        allowed = subst (λ m. IsAllowed m stands.0) (ap (λ (x : Deframed). x.max) fed.2) stands.1.allowed;
+        whole = sym (ap (λ (x : Deframed). x.held) fed.2 ∙ append-nil d.held) ∙ stands.1.whole;
+        first = sym (ap (λ (x : Deframed). x.done) fed.2) ∙ stands.1.first;
+        fault = sym (ap (λ (x : Deframed). x.fault) fed.2) ∙ stands.1.fault;
+      }) waits)
+      | inr ends ↦ (let none = ends.0 in omega (arith, none, some))
+    ]
+
+-- nothing is held behind a frame
+pub released_waits : (d d' : Deframed) → Releases d d' → Waits d'
+released_waits d d' takes = subst Waits (sym takes.released) (record { partial = record { tag = λ some. absurd (omega arith); payload = λ long. absurd (omega arith) }; last = λ e. refl })
+
+-- whether CopyDone has come, one frame further
+done_more : (d₀ d d' : Deframed) (fs : List Frame) (takes : Releases d d') → d.done ≡ (has_copy_done fs || d₀.done) → d'.done ≡ (has_copy_done (fs ++ takes.frame ∷ []) || d₀.done)
+done_more d₀ d d' fs takes so =
+    let f = takes.frame in
+    let before : (has_copy_done fs || d₀.done) ≡ false = sym so ∙ takes.stood.first in
+    ap (λ (x : Deframed). x.done) takes.released ∙ sym (false_last (has_copy_done (f ∷ []))) ∙ ap (λ (b : Bool). has_copy_done (f ∷ []) || b) (sym before) ∙ sym (done_both fs f d₀.done)
 
 -- ---- from where a deframer waits
 
@@ -112,7 +137,6 @@ module _ {C : Type 0} (serves : C → Type 0) (holds : C → Tables → Type 0) 
   fed_one d₀ d d' d'' a₀ a a' piece taken n to takes served next fed =
       let f = takes.frame in
       let released : d' ≡ after_release d f = takes.released ∙ ap (λ (b : Bool). let same : Deframed = record d { held = []; done = b } in same) (one_done f) in
-      let before : (has_copy_done to.fs || d₀.done) ≡ false = sym to.copy_done ∙ takes.stood.first in
       let rest : length (drop taken piece) + taken ≡ length piece = (let l = length-drop taken piece in let w = to.within in omega arith) in
       let own : n ≤ length (drop taken piece) = fed.1 in
       record {
@@ -129,7 +153,7 @@ module _ {C : Type 0} (serves : C → Type 0) (holds : C → Tables → Type 0) 
         within = omega arith;
         fault = ap (λ (x : Deframed). x.fault) fed.2 ∙ ap (λ (x : Deframed). x.fault) takes.released ∙ to.fault;
         max = ap (λ (x : Deframed). x.max) fed.2 ∙ ap (λ (x : Deframed). x.max) takes.released ∙ to.max;
-        copy_done = ap (λ (x : Deframed). x.done) fed.2 ∙ ap (λ (x : Deframed). x.done) takes.released ∙ sym (false_last (has_copy_done (f ∷ []))) ∙ ap (λ (b : Bool). has_copy_done (f ∷ []) || b) (sym before) ∙ sym (done_both to.fs f d₀.done);
+        copy_done = ap (λ (x : Deframed). x.done) fed.2 ∙ done_more d₀ d d' to.fs takes to.copy_done;
         state = elim fed.3 [ inl stands ↦ inl stands | inr waits ↦ inr ((let l = waits.0 in let sum : taken + n ≡ length piece = omega arith in sum), waits.1) ];
         goes = λ own. goes_then to.fs f a₀ a a' (to.goes (served own)) (next own f takes.stood);
       }
@@ -155,6 +179,45 @@ module _ {C : Type 0} (serves : C → Type 0) (holds : C → Tables → Type 0) 
           left = λ i. subscribed place (record { max_frame = to.max i; closed = closed; partial = d.held; copy_done = to.copy_done i }) a done.0;
         },
       )
+
+  -- nothing behind the bytes that were taken has a say
+  pub fed_to_front : (d₀ d : Deframed) (a₀ a : Applied C) (piece : List ℕ) (taken : ℕ) → IsFedTo holds place now serves d₀ a₀ piece d a taken → IsFedTo holds place now serves d₀ a₀ (take taken piece) d a taken
+  fed_to_front d₀ d a₀ a piece taken to =
+      let count : length (take taken piece) ≡ taken = length-take-le taken piece to.within in
+      record {
+        calls = to.calls;
+        fs = to.fs;
+        leads = subst (λ (p : List ℕ). Leads d₀.max to.calls (frames (done_of d₀) ++ (d₀.held ++ p)) (done_of d₀ ++ to.fs) d) (sym (take_whole (take taken piece) taken (sym count))) to.leads;
+        within = omega (arith, count);
+        fault = to.fault;
+        max = to.max;
+        copy_done = to.copy_done;
+        state = elim to.state [ inl stands ↦ inl stands | inr waits ↦ inr (sym count, waits.1) ];
+        goes = to.goes;
+      }
+
+  -- or the session has ended with a frame
+  pub fed_front : (d₀ d d' : Deframed) (a₀ a a' : Applied C) (piece : List ℕ) (taken : ℕ) → IsFedTo holds place now serves d₀ a₀ piece d a taken → Releases d d' → (serves a'.store → serves a.store)
+      → (serves a'.store → (f : Frame) → Stands d f → FramesGo holds place now (f ∷ []) a a') → serves a'.store → FeedGoes holds place now d₀ a₀ (take taken piece) d' a'
+  fed_front d₀ d d' a₀ a a' piece taken to' takes served next =
+      let to = fed_to_front d₀ d a₀ a piece taken to' in
+      let f = takes.frame in
+      let released : d' ≡ after_release d f = takes.released ∙ ap (λ (b : Bool). let same : Deframed = record d { held = []; done = b } in same) (one_done f) in
+      fed_whole d₀ d' a₀ a' (take taken piece) taken (record {
+        calls = Release ∷ to.calls;
+        fs = to.fs ++ f ∷ [];
+        leads = (done_of d₀ ++ to.fs, d, to.leads, inl (f, takes.stood, released, sym (append_assoc (done_of d₀) to.fs (f ∷ []))));
+        within = to.within;
+        fault = ap (λ (x : Deframed). x.fault) takes.released ∙ to.fault;
+        max = ap (λ (x : Deframed). x.max) takes.released ∙ to.max;
+        copy_done = done_more d₀ d d' to.fs takes to.copy_done;
+        state = inr (sym (length-take-le taken piece to'.within), released_waits d d' takes);
+        goes = λ own. goes_then to.fs f a₀ a a' (to.goes (served own)) (next own f takes.stood);
+      }) (released_waits d d' takes)
+
+  -- as many bytes were taken as there are
+  pub all_taken : (d₀ d : Deframed) (a₀ a : Applied C) (piece : List ℕ) (taken : ℕ) → IsFedTo holds place now serves d₀ a₀ piece d a taken → Waits d → taken ≡ length piece
+  all_taken d₀ d a₀ a piece taken to waits = elim to.state [ inl stands ↦ absurd (stands_or_waits d stands.0 stands.1 waits) | inr ends ↦ ends.0 ]
 
 some_bytes : (f : Frame) → 1 ≤ length (wire.frame f)
 some_bytes (CopyData bytes) = omega arith

@@ -70,6 +70,13 @@ module _ {C : Type 0} (serves : C → Type 0) (holds : C → Tables → Type 0) 
   leaves_piece reopens d a a' taken to served before one =
       leaves_then place reopens serves _ _ a₀.store a.store a'.store before one served (λ other own has. piece_over d a taken to own has.0 has.1 other has.2)
 
+  -- what comes behind a piece changes nothing of it
+  pub leaves_more : (reopens : C → C → Type 0) (more : List ℕ) (store : C) → LeavesOldOr place reopens serves (Over (λ b. FeedStops holds place now d₀ a₀ piece b fault.Memory)) a₀.store store
+      → LeavesOldOr place reopens serves (Over (λ b. FeedStops holds place now d₀ a₀ (piece ++ more) b fault.Memory)) a₀.store store
+  leaves_more reopens more store before =
+      leaves_as place reopens serves _ _ a₀.store store before
+      (λ other has. (has.0, has.1, λ closed tables is max h. let one = has.2 closed tables is max h in (one.0, one.1, stop_stands now _ _ piece more fault.Memory one.2)))
+
 more_stored : (history : List Transaction) (p q c : ℕ) → p ≤ q → NothingBetween history p c → NothingBetween history q c
 more_stored [] p q c le nothing = tt
 more_stored (t ∷ history) p q c le nothing = ((λ changes by. let ends : t.end ≤ p = nothing.0 changes by in omega (arith, le, ends)), more_stored history p q c le nothing.1)

@@ -52,6 +52,12 @@ framing_of d closed = record { max_frame = d.max; closed = closed; partial = d.h
 abbrev pub done_of : Deframed → List wire.Frame
 done_of d = if d.done then wire.CopyDone ∷ [] else []
 
+-- So many bytes of a piece are of the session: all, or fewer where it has ended with them. Some are, where there are any.
+pub record IsCut (piece : List ℕ) (n : ℕ) (ended : Bool) : Type 0 where
+  pub within : n ≤ length piece
+  pub some : 0 < length piece → 0 < n
+  pub ends : (n ≡ length piece) ⊎ (ended ≡ true)
+
 -- the frame that stood whole was released
 pub record Releases (d d' : Deframed) : Type 0 where
   pub frame : wire.Frame

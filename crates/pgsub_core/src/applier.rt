@@ -118,9 +118,13 @@ fn hold<P: Spools>(
 ) -> Result<(), Fault>
     requires open { map.contains_key (P.held spools.old) xid ≡ true }
     requires spellable { IsSpellableMessage (message_value message.now) }
-    ensures ok { OnOk result (P.held spools.new ≡ pushed (P.held spools.old) xid subxid (kind (message_value message.now))) }
-    ensures room { OnOk result (HasRoom (P.most spools.old) (P.held spools.old) (kind (message_value message.now))) }
-    ensures refused { IfErr result (λ fault. (fault ≡ Fault.Memory) ⊎ ((fault ≡ Fault.Spool SpoolFault.SpoolFull) × IsFull (P.most spools.old) (P.held spools.old) (kind (message_value message.now)))) }
+    ensures ok { OnOk result (P.held spools.new
+        ≡ pushed (P.held spools.old) xid subxid (kind (message_value message.now))) }
+    ensures room { OnOk result (HasRoom (P.most spools.old) (P.held spools.old)
+        (kind (message_value message.now))) }
+    ensures refused { IfErr result (λ fault. (fault ≡ Fault.Memory)
+        ⊎ ((fault ≡ Fault.Spool SpoolFault.SpoolFull)
+        × IsFull (P.most spools.old) (P.held spools.old) (kind (message_value message.now)))) }
     ensures limit { P.most spools.new ≡ P.most spools.old }
 {
     let MessageRef::Item { item, .. } = message else {
@@ -145,7 +149,8 @@ fn confirmed_by(outside: bool, confirmed: Lsn, end: Lsn) -> Lsn
 
 // Appends a status if a reply is asked for. After an error the replies are unchanged.
 fn append_reply(asks: bool, status: &Status, replies: &mut BytesMut) -> Result<(), Fault>
-    ensures ok { OnOk result (replies.new.items ≡ (if asks then replies.old.items ++ status_frame status.now else replies.old.items)) }
+    ensures ok { OnOk result (replies.new.items
+        ≡ (if asks then replies.old.items ++ status_frame status.now else replies.old.items)) }
     ensures err { OnErr result (replies.new.items ≡ replies.old.items) }
     ensures memory { IfErr result (λ fault. fault ≡ Fault.Memory) }
 {
@@ -208,24 +213,37 @@ impl<P: Spools + Drop, C: ReplicaStore + Drop> Applier<P, C> {
     /// The position up to which the stored rows are complete.
     pub fn position(&self) -> Lsn
         ensures position { result ≡ C.place self.now.store }
-        ensures contains { C.serves self.now.store → Leaves C.holds C.place C.reopens self.now.store }
-        ensures keeps { C.is_honest self.now.store → (other : C) → C.reopens self.now.store other → C.place self.now.store ≤ C.place other }
+        ensures contains { C.serves self.now.store →
+            Leaves C.holds C.place C.reopens self.now.store }
+        ensures keeps { C.is_honest self.now.store → (other : C) → C.reopens self.now.store other →
+            C.place self.now.store ≤ C.place other }
     {
         self.store.position()
     }
 
     // Commits a transaction, whose items are buffered no longer.
     fn commit(&mut self, xid: u32, end: Lsn) -> Result<(), Fault>
-        ensures taken { C.serves self.new.store → OnOk result (Commits C.holds C.place end (items_of (held_of self.old.held xid)) self.old.store self.old.confirmed self.old.relations self.new.store self.new.confirmed self.new.relations) }
-        ensures refused { C.serves self.new.store → IfErr result (RefusesCommit C.holds C.place end (items_of (held_of self.old.held xid)) self.old.store self.old.confirmed self.old.relations self.new.store) }
+        ensures taken { C.serves self.new.store →
+            OnOk result (Commits C.holds C.place end
+            (items_of (held_of self.old.held xid)) self.old.store self.old.confirmed
+            self.old.relations self.new.store self.new.confirmed self.new.relations) }
+        ensures refused { C.serves self.new.store →
+            IfErr result (RefusesCommit C.holds C.place end
+            (items_of (held_of self.old.held xid)) self.old.store self.old.confirmed
+            self.old.relations self.new.store) }
         ensures own { IfErr result IsOfFeeding }
         ensures held { OnOk result (self.new.held ≡ map.remove self.old.held xid) }
         ensures beside { StaysBeside self.old self.new }
         ensures kept { OnErr result (IsKept C.place self.old self.new) }
         ensures served { C.serves self.new.store → C.serves self.old.store }
-        ensures open { C.is_honest self.new.store → C.serves self.old.store → OnOk result (C.serves self.new.store) }
+        ensures open { C.is_honest self.new.store → C.serves self.old.store →
+            OnOk result (C.serves self.new.store) }
         ensures honest { C.is_honest self.new.store → C.is_honest self.old.store }
-        ensures crash { C.is_honest self.new.store → LeavesOldOr C.place C.reopens C.serves (HasCommit C.holds C.place end (items_of (held_of self.old.held xid)) self.old.store self.old.confirmed self.old.relations) self.old.store self.new.store }
+        ensures crash { C.is_honest self.new.store →
+            LeavesOldOr C.place C.reopens C.serves
+            (HasCommit C.holds C.place end
+            (items_of (held_of self.old.held xid)) self.old.store self.old.confirmed
+            self.old.relations) self.old.store self.new.store }
     {
         let confirmed = commit(
             self.alloc,
@@ -245,17 +263,27 @@ impl<P: Spools + Drop, C: ReplicaStore + Drop> Applier<P, C> {
     fn take_event(&mut self, message: &MessageRef<'_>, event: Event) -> Result<(), Fault>
         requires fits { Fits self.old.held event }
         requires spellable { IsSpellableMessage (message_value message.now) }
-        ensures goes { C.serves self.new.store → OnOk result (EventGoes C.holds C.place (message_value message.now) event self.old self.new) }
-        ensures room { OnOk result (FindsRoom event self.old.limit self.old.held (kind (message_value message.now))) }
-        ensures opened { OnOk result ((x : ℕ) → map.contains_key self.new.held x ≡ under_way_behind event (map.contains_key self.old.held) x) }
-        ensures refused { C.serves self.new.store → IfErr result (EventStops C.holds C.place (message_value message.now) event self.old self.new) }
+        ensures goes { C.serves self.new.store →
+            OnOk result (EventGoes C.holds C.place
+            (message_value message.now) event self.old self.new) }
+        ensures room { OnOk result (FindsRoom event self.old.limit self.old.held
+            (kind (message_value message.now))) }
+        ensures opened { OnOk result ((x : ℕ) → map.contains_key self.new.held x
+            ≡ under_way_behind event (map.contains_key self.old.held) x) }
+        ensures refused { C.serves self.new.store →
+            IfErr result (EventStops C.holds C.place
+            (message_value message.now) event self.old self.new) }
         ensures own { IfErr result IsOfFeeding }
         ensures beside { StaysBeside self.old self.new }
         ensures kept { OnErr result (IsKept C.place self.old self.new) }
         ensures served { C.serves self.new.store → C.serves self.old.store }
-        ensures open { C.is_honest self.new.store → C.serves self.old.store → OnOk result (C.serves self.new.store) }
+        ensures open { C.is_honest self.new.store → C.serves self.old.store →
+            OnOk result (C.serves self.new.store) }
         ensures honest { C.is_honest self.new.store → C.is_honest self.old.store }
-        ensures crash { C.is_honest self.new.store → LeavesOldOr C.place C.reopens C.serves (Over (HasEvent C.holds C.place (message_value message.now) event self.old)) self.old.store self.new.store }
+        ensures crash { C.is_honest self.new.store →
+            LeavesOldOr C.place C.reopens C.serves
+            (Over (HasEvent C.holds C.place (message_value message.now) event self.old))
+            self.old.store self.new.store }
     {
         match event {
             Event::Ignore | Event::Reopen { .. } | Event::Close => Ok(()),
@@ -282,18 +310,31 @@ impl<P: Spools + Drop, C: ReplicaStore + Drop> Applier<P, C> {
         start: Lsn,
         end: Lsn,
     ) -> Result<(), Fault>
-        requires for_place { IsMessageFor (is_in_block self.old.order.context) (message_value message.now) }
+        requires for_place { IsMessageFor (is_in_block self.old.order.context)
+            (message_value message.now) }
         requires spellable { IsSpellableMessage (message_value message.now) }
         requires opened { AreOpened self.old.order self.old.held }
-        ensures takes { C.serves self.new.store → OnOk result ((now clock : ℤ) → Goes C.holds C.place (λ s. take now s (Data start end clock (message_value message.now))) self.old self.new) }
+        ensures takes { C.serves self.new.store →
+            OnOk result ((now clock : ℤ) →
+            Goes C.holds C.place (λ s. take now s
+            (Data start end clock (message_value message.now))) self.old self.new) }
         ensures opened { OnOk result (AreOpened self.new.order self.new.held) }
-        ensures refused { C.serves self.new.store → IfErr result (λ fault. (now clock : ℤ) → Stops C.holds C.place now (Data start end clock (message_value message.now)) self.old self.new fault) }
+        ensures refused { C.serves self.new.store →
+            IfErr result (λ fault. (now clock : ℤ) →
+            Stops C.holds C.place now (Data start end clock (message_value message.now)) self.old
+            self.new fault) }
         ensures own { IfErr result IsOfFeeding }
         ensures kept { OnErr result (IsKept C.place self.old self.new) }
         ensures served { C.serves self.new.store → C.serves self.old.store }
-        ensures open { C.is_honest self.new.store → C.serves self.old.store → OnOk result (C.serves self.new.store) }
+        ensures open { C.is_honest self.new.store → C.serves self.old.store →
+            OnOk result (C.serves self.new.store) }
         ensures honest { C.is_honest self.new.store → C.is_honest self.old.store }
-        ensures crash { C.is_honest self.new.store → LeavesOldOr C.place C.reopens C.serves (λ other. (now clock : ℤ) → Over (Goes C.holds C.place (λ s. take now s (Data start end clock (message_value message.now))) self.old) other) self.old.store self.new.store }
+        ensures crash { C.is_honest self.new.store →
+            LeavesOldOr C.place C.reopens C.serves
+            (λ other. (now clock : ℤ) → Over
+            (Goes C.holds C.place (λ s. take now s
+            (Data start end clock (message_value message.now))) self.old) other) self.old.store
+            self.new.store }
     {
         let event = match self.order.step(message) {
             Ok(event) => event,
@@ -307,15 +348,23 @@ impl<P: Spools + Drop, C: ReplicaStore + Drop> Applier<P, C> {
     /// Applies the payload of a CopyData frame: XLogData with a logical message, or a keepalive. `now` is the clock of a reply.
     pub fn take_payload(&mut self, payload: &[u8], now: i64) -> Result<(), Fault>
         requires opened { AreOpened self.old.order self.old.held }
-        ensures takes { C.serves self.new.store → OnOk result (FramesGo C.holds C.place now (CopyData payload.now ∷ []) self.old self.new) }
-        ensures refused { C.serves self.new.store → IfErr result (IsStopped C.holds C.place (StopsAt (CopyData payload.now) now) self.old self.new) }
+        ensures takes { C.serves self.new.store →
+            OnOk result (FramesGo C.holds C.place now
+            (CopyData payload.now ∷ []) self.old self.new) }
+        ensures refused { C.serves self.new.store →
+            IfErr result (IsStopped C.holds C.place
+            (StopsAt (CopyData payload.now) now) self.old self.new) }
         ensures own { IfErr result IsOfFeeding }
         ensures opened { OnOk result (AreOpened self.new.order self.new.held) }
         ensures kept { OnErr result (IsKept C.place self.old self.new) }
         ensures served { C.serves self.new.store → C.serves self.old.store }
-        ensures open { C.is_honest self.new.store → C.serves self.old.store → OnOk result (C.serves self.new.store) }
+        ensures open { C.is_honest self.new.store → C.serves self.old.store →
+            OnOk result (C.serves self.new.store) }
         ensures honest { C.is_honest self.new.store → C.is_honest self.old.store }
-        ensures crash { C.is_honest self.new.store → LeavesOldOr C.place C.reopens C.serves (Over (FramesGo C.holds C.place now (CopyData payload.now ∷ []) self.old)) self.old.store self.new.store }
+        ensures crash { C.is_honest self.new.store →
+            LeavesOldOr C.place C.reopens C.serves
+            (Over (FramesGo C.holds C.place now (CopyData payload.now ∷ []) self.old))
+            self.old.store self.new.store }
     {
         let message = match decode_server(payload) {
             Ok(message) => message,
@@ -335,15 +384,27 @@ impl<P: Spools + Drop, C: ReplicaStore + Drop> Applier<P, C> {
     // Decodes the logical message in an XLogData in place, and applies it.
     fn take_body(&mut self, body: &[u8], start: Lsn, end: Lsn) -> Result<(), Fault>
         requires opened { AreOpened self.old.order self.old.held }
-        ensures takes { C.serves self.new.store → OnOk result ((m : Message) × (message_at (is_in_block self.old.order.context) body.now ≡ Ok m) × ((now clock : ℤ) → Goes C.holds C.place (λ s. take now s (Data start end clock m)) self.old self.new)) }
-        ensures refused { C.serves self.new.store → IfErr result (λ f. (now clock : ℤ) → IsStopped C.holds C.place (StopsAtBody now start end clock body.now) self.old self.new f) }
+        ensures takes { C.serves self.new.store →
+            OnOk result ((m : Message) × (message_at (is_in_block self.old.order.context) body.now
+            ≡ Ok m) × ((now clock : ℤ) → Goes C.holds C.place
+            (λ s. take now s (Data start end clock m)) self.old self.new)) }
+        ensures refused { C.serves self.new.store →
+            IfErr result (λ f. (now clock : ℤ) →
+            IsStopped C.holds C.place (StopsAtBody now start end clock body.now) self.old self.new
+            f) }
         ensures own { IfErr result IsOfFeeding }
         ensures opened { OnOk result (AreOpened self.new.order self.new.held) }
         ensures kept { OnErr result (IsKept C.place self.old self.new) }
         ensures served { C.serves self.new.store → C.serves self.old.store }
-        ensures open { C.is_honest self.new.store → C.serves self.old.store → OnOk result (C.serves self.new.store) }
+        ensures open { C.is_honest self.new.store → C.serves self.old.store →
+            OnOk result (C.serves self.new.store) }
         ensures honest { C.is_honest self.new.store → C.is_honest self.old.store }
-        ensures crash { C.is_honest self.new.store → LeavesOldOr C.place C.reopens C.serves (λ other. (m : Message) × (message_at (is_in_block self.old.order.context) body.now ≡ Ok m) × ((now clock : ℤ) → Over (Goes C.holds C.place (λ s. take now s (Data start end clock m)) self.old) other)) self.old.store self.new.store }
+        ensures crash { C.is_honest self.new.store →
+            LeavesOldOr C.place C.reopens C.serves
+            (λ other. (m : Message) × (message_at (is_in_block self.old.order.context) body.now
+            ≡ Ok m) × ((now clock : ℤ) → Over
+            (Goes C.holds C.place (λ s. take now s (Data start end clock m)) self.old) other))
+            self.old.store self.new.store }
     {
         match decode_ref(body, self.order.in_block()) {
             Ok(message) => self.take_message(&message, start, end),
@@ -354,7 +415,8 @@ impl<P: Spools + Drop, C: ReplicaStore + Drop> Applier<P, C> {
     // Confirms the end of a quiet keepalive, and appends the status that it asks for.
     fn take_keepalive(&mut self, end: Lsn, reply: bool, now: i64) -> Result<(), Fault>
         requires opened { AreOpened self.old.order self.old.held }
-        ensures takes { OnOk result ((clock : ℤ) → Goes C.holds C.place (λ s. take now s (Keepalive end clock reply)) self.old self.new) }
+        ensures takes { OnOk result ((clock : ℤ) →
+            Goes C.holds C.place (λ s. take now s (Keepalive end clock reply)) self.old self.new) }
         ensures memory { IfErr result (λ f. f ≡ Fault.Memory) }
         ensures opened { OnOk result (AreOpened self.new.order self.new.held) }
         ensures kept { OnErr result (IsKept C.place self.old self.new) }
@@ -405,7 +467,17 @@ impl<P: Spools + Drop, C: ReplicaStore + Drop> Applier<P, C> {
 
     /// Appends a status of what is received and confirmed to the frames that wait to be sent.
     pub fn append_status(&mut self, now: i64, ask: bool) -> Result<(), Fault>
-        ensures ok { OnOk result (self.new ≡ record self.old { replies = self.old.replies ++ status_frame (record { written = self.old.received; flushed = self.old.confirmed; applied = self.old.confirmed; clock = now; ask = ask }) }) }
+        ensures ok { OnOk result (self.new ≡ record self.old {
+          replies = self.old.replies ++ status_frame
+              (record {
+                written = self.old.received;
+                flushed = self.old.confirmed;
+                applied =
+                    self.old.confirmed;
+                clock = now;
+                ask = ask;
+              });
+        }) }
         ensures err { OnErr result (self.new ≡ self.old) }
         ensures memory { IfErr result (λ fault. fault ≡ Fault.Memory) }
     {
@@ -421,7 +493,8 @@ impl<P: Spools + Drop, C: ReplicaStore + Drop> Applier<P, C> {
 
     /// All rows of the store. Nothing changes.
     pub fn rows(&mut self) -> Result<Vec<DumpRow>, Fault>
-        ensures rows { C.serves self.new.store → IfOk result (λ rows. Shows C.holds self.old.store rows.items) }
+        ensures rows { C.serves self.new.store →
+            IfOk result (λ rows. Shows C.holds self.old.store rows.items) }
         ensures unchanged { C.serves self.new.store → Stays C.holds self.old.store self.new.store }
         ensures kept { IsKept C.place self.old self.new }
         ensures beside { StaysBesideStore self.old self.new }
@@ -429,7 +502,8 @@ impl<P: Spools + Drop, C: ReplicaStore + Drop> Applier<P, C> {
         ensures served { C.serves self.new.store → C.serves self.old.store }
         ensures open { C.is_honest self.new.store → OnOk result (C.serves self.new.store) }
         ensures honest { C.is_honest self.new.store → C.is_honest self.old.store }
-        ensures crash { C.is_honest self.new.store → (other : C) → C.reopens self.new.store other → C.reopens self.old.store other }
+        ensures crash { C.is_honest self.new.store → (other : C) → C.reopens self.new.store other →
+            C.reopens self.old.store other }
     {
         match self.store.rows() {
             Ok(rows) => Ok(rows),

@@ -39,7 +39,8 @@ fn describe_relation(
     requires { IsDefinition (def_value def.now) }
     ensures cached { OnOk result (book.new ≡ map.insert book.old def.now.oid (def_value def.now)) }
     ensures gone { OnOk result (get nat_eq numbers.new def.now.oid ≡ None) }
-    ensures others { OnOk result ((oid n : ℕ) → get nat_eq numbers.new oid ≡ Some n → get nat_eq numbers.old oid ≡ Some n) }
+    ensures others { OnOk result ((oid n : ℕ) → get nat_eq numbers.new oid ≡ Some n →
+        get nat_eq numbers.old oid ≡ Some n) }
     ensures memory { IfErr result (λ fault. fault ≡ Fault.Memory) }
 {
     let Ok(copy) = def.to_def(alloc) else {
@@ -56,9 +57,11 @@ fn describe_relation(
 fn number_of(alloc: Global, book: &Book, draft: &mut Draft<'_>, oid: u32) -> Result<usize, Fault>
     requires { AreNumbered book.now draft.old.work.definitions (get nat_eq draft.old.numbers) }
     ensures number { IfOk result (IsNumbered book.now draft.new.work.definitions oid) }
-    ensures numbers { OnOk result (AreNumbered book.now draft.new.work.definitions (get nat_eq draft.new.numbers)) }
+    ensures numbers { OnOk result (AreNumbered book.now draft.new.work.definitions
+        (get nat_eq draft.new.numbers)) }
     ensures changes { OnOk result (draft.new.work.changes ≡ draft.old.work.changes) }
-    ensures refused { IfErr result (λ fault. (fault ≡ Fault.Memory) ⊎ IsUndescribed book.now oid fault) }
+    ensures refused { IfErr result (λ fault. (fault ≡ Fault.Memory)
+        ⊎ IsUndescribed book.now oid fault) }
 {
     if let Some(number) = draft.numbers.get(&oid) {
         return Ok(*number);
@@ -88,9 +91,12 @@ fn describe_change<'a>(
     op: Op<'a>,
 ) -> Result<(), Fault>
     requires { AreNumbered book.now draft.old.work.definitions (get nat_eq draft.old.numbers) }
-    ensures adds { OnOk result (Adds book.now oid op.entry draft.old.work.changes draft.new.work.changes) }
-    ensures numbers { OnOk result (AreNumbered book.now draft.new.work.definitions (get nat_eq draft.new.numbers)) }
-    ensures refused { IfErr result (λ fault. (fault ≡ Fault.Memory) ⊎ IsUndescribed book.now oid fault) }
+    ensures adds { OnOk result (Adds book.now oid op.entry draft.old.work.changes
+        draft.new.work.changes) }
+    ensures numbers { OnOk result (AreNumbered book.now draft.new.work.definitions
+        (get nat_eq draft.new.numbers)) }
+    ensures refused { IfErr result (λ fault. (fault ≡ Fault.Memory)
+        ⊎ IsUndescribed book.now oid fault) }
 {
     let number = number_of(alloc, book, draft, oid)?;
     match draft.work.change(number, op) {
@@ -107,9 +113,12 @@ fn describe_truncate(
     oids: &OidRefs<'_>,
 ) -> Result<(), Fault>
     requires { AreNumbered book.now draft.old.work.definitions (get nat_eq draft.old.numbers) }
-    ensures adds { OnOk result (behind_changes draft.new.work.changes (Ok []) ≡ behind_changes draft.old.work.changes (truncated (known_to book.now) oids.now)) }
-    ensures numbers { OnOk result (AreNumbered book.now draft.new.work.definitions (get nat_eq draft.new.numbers)) }
-    ensures refused { IfErr result (λ fault. (fault ≡ Fault.Memory) ⊎ LacksDefinition (truncated (known_to book.now) oids.now) fault) }
+    ensures adds { OnOk result (behind_changes draft.new.work.changes (Ok [])
+        ≡ behind_changes draft.old.work.changes (truncated (known_to book.now) oids.now)) }
+    ensures numbers { OnOk result (AreNumbered book.now draft.new.work.definitions
+        (get nat_eq draft.new.numbers)) }
+    ensures refused { IfErr result (λ fault. (fault ≡ Fault.Memory)
+        ⊎ LacksDefinition (truncated (known_to book.now) oids.now) fault) }
 {
     for oid in oids.lend() {
         describe_change(alloc, book, draft, oid, Op::Truncate)?;
@@ -125,11 +134,18 @@ fn describe_item<'a>(
     item: &ItemRef<'a>,
 ) -> Result<(), Fault>
     requires spellable { IsSpellable item.now }
-    requires numbers { AreNumbered book.old draft.old.work.definitions (get nat_eq draft.old.numbers) }
-    ensures changes { OnOk result ((items : List Item) → behind_changes draft.new.work.changes (described_from (known_to book.new) items) ≡ behind_changes draft.old.work.changes (described_from (known_to book.old) (item.now ∷ items))) }
+    requires numbers { AreNumbered book.old draft.old.work.definitions
+        (get nat_eq draft.old.numbers) }
+    ensures changes { OnOk result ((items : List Item) →
+        behind_changes draft.new.work.changes (described_from (known_to book.new) items)
+        ≡ behind_changes draft.old.work.changes
+        (described_from (known_to book.old) (item.now ∷ items))) }
     ensures cached { OnOk result (book.new ≡ cached item.now book.old) }
-    ensures numbers { OnOk result (AreNumbered book.new draft.new.work.definitions (get nat_eq draft.new.numbers)) }
-    ensures refused { IfErr result (λ fault. (fault ≡ Fault.Memory) ⊎ ((items : List Item) → LacksDefinition (described_from (known_to book.old) (item.now ∷ items)) fault)) }
+    ensures numbers { OnOk result (AreNumbered book.new draft.new.work.definitions
+        (get nat_eq draft.new.numbers)) }
+    ensures refused { IfErr result (λ fault. (fault ≡ Fault.Memory)
+        ⊎ ((items : List Item) → LacksDefinition
+        (described_from (known_to book.old) (item.now ∷ items)) fault)) }
 {
     match item.parts() {
         ItemParts::Relation(def) => describe_relation(alloc, book, &mut draft.numbers, &def),
@@ -157,9 +173,13 @@ pub(crate) fn describe<'a, P: Spools>(
     spools: &'a P,
     xid: u32,
 ) -> Result<Work<'a>, Fault>
-    ensures changes { IfOk result (λ work. described_from (known_to book.old) (items_of (held_of (P.held spools.now) xid)) ≡ Ok work.changes) }
-    ensures cached { OnOk result (book.new ≡ all_cached book.old (items_of (held_of (P.held spools.now) xid))) }
-    ensures refused { IfErr result (λ fault. (fault ≡ Fault.Memory) ⊎ LacksDefinition (described_from (known_to book.old) (items_of (held_of (P.held spools.now) xid))) fault) }
+    ensures changes { IfOk result (λ work. described_from (known_to book.old)
+        (items_of (held_of (P.held spools.now) xid)) ≡ Ok work.changes) }
+    ensures cached { OnOk result (book.new ≡ all_cached book.old
+        (items_of (held_of (P.held spools.now) xid))) }
+    ensures refused { IfErr result (λ fault. (fault ≡ Fault.Memory)
+        ⊎ LacksDefinition (described_from (known_to book.old)
+        (items_of (held_of (P.held spools.now) xid))) fault) }
 {
     let mut draft = Draft {
         work: Work::new(alloc),
@@ -197,7 +217,8 @@ pub(crate) fn cache_relations<P: Spools>(
     spools: &P,
     xid: u32,
 ) -> Result<(), Fault>
-    ensures cached { OnOk result (book.new ≡ all_cached book.old (items_of (held_of (P.held spools.now) xid))) }
+    ensures cached { OnOk result (book.new ≡ all_cached book.old
+        (items_of (held_of (P.held spools.now) xid))) }
     ensures memory { IfErr result (λ fault. fault ≡ Fault.Memory) }
 {
     for place in 0..spools.count(xid) {

@@ -47,8 +47,11 @@ impl<R: Read + Drop> Source<R> {
     fn read_piece(&mut self, room: &mut [u8]) -> Option<usize>
         requires room { 0 < length room.old }
         requires sound { self.old.failed ≡ false }
-        ensures some { IfSome result (λ n. (n ≤ length room.new) × Consumes (R.remaining self.old.reader) (R.remaining self.new.reader) (take n room.new) × (n ≡ 0 → IsAtEnd (R.remaining self.new.reader)) × (self.new.failed ≡ false)) }
-        ensures none { result ≡ None → (self.new.failed ≡ true) × Keeps (R.remaining self.old.reader) (R.remaining self.new.reader) }
+        ensures some { IfSome result (λ n. (n ≤ length room.new)
+            × Consumes (R.remaining self.old.reader) (R.remaining self.new.reader) (take n room.new)
+            × (n ≡ 0 → IsAtEnd (R.remaining self.new.reader)) × (self.new.failed ≡ false)) }
+        ensures none { result ≡ None → (self.new.failed ≡ true)
+            × Keeps (R.remaining self.old.reader) (R.remaining self.new.reader) }
         ensures reads { self.new.reads ≡ self.old.reads }
         ensures length { length room.new ≡ length room.old }
     {
@@ -81,17 +84,40 @@ pub fn pump<R: Read + Drop, P: Spools + Drop, C: ReplicaStore + Drop>(
 ) -> Result<(), Fault>
     requires { source.old.failed ≡ false }
     ensures read { (result ≡ Err Fault.Read) ↔ (source.new.failed ≡ true) }
-    ensures fed { C.serves subscriber.new.applied.store → OnOk result (Pumps C.holds C.place now (R.remaining source.old.reader) (R.remaining source.new.reader) source.old.reads source.new.reads subscriber.old subscriber.new) }
+    ensures fed { C.serves subscriber.new.applied.store →
+        OnOk result (Pumps C.holds C.place now (R.remaining source.old.reader)
+        (R.remaining source.new.reader) source.old.reads source.new.reads subscriber.old
+        subscriber.new) }
     ensures read_out { OnOk result (IsReadOut (R.remaining source.new.reader) source.new.reads) }
-    ensures failed { C.serves subscriber.new.applied.store → result ≡ Err Fault.Read → Pumps C.holds C.place now (R.remaining source.old.reader) (R.remaining source.new.reader) source.old.reads source.new.reads subscriber.old subscriber.new }
-    ensures open { result ≡ Err Fault.Read → subscriber.new.framing.closed ≡ subscriber.old.framing.closed }
-    ensures refused { C.serves subscriber.new.applied.store → IfErr result (λ fault. fault ≢ Fault.Read → PumpsUntil C.holds C.place now (R.remaining source.old.reader) (R.remaining source.new.reader) subscriber.old subscriber.new fault) }
+    ensures failed { C.serves subscriber.new.applied.store → result ≡ Err Fault.Read →
+        Pumps C.holds C.place now (R.remaining source.old.reader)
+        (R.remaining source.new.reader) source.old.reads source.new.reads subscriber.old
+        subscriber.new }
+    ensures open { result ≡ Err Fault.Read → subscriber.new.framing.closed
+        ≡ subscriber.old.framing.closed }
+    ensures refused { C.serves subscriber.new.applied.store →
+        IfErr result (λ fault. fault ≢ Fault.Read →
+        PumpsUntil C.holds C.place now (R.remaining source.old.reader)
+        (R.remaining source.new.reader) subscriber.old subscriber.new fault) }
     ensures served { C.serves subscriber.new.applied.store → C.serves subscriber.old.applied.store }
-    ensures still_serves { C.is_honest subscriber.new.applied.store → C.serves subscriber.old.applied.store → OnOk result (C.serves subscriber.new.applied.store) }
-    ensures failed_serves { C.is_honest subscriber.new.applied.store → C.serves subscriber.old.applied.store → result ≡ Err Fault.Read → C.serves subscriber.new.applied.store }
-    ensures honest { C.is_honest subscriber.new.applied.store → C.is_honest subscriber.old.applied.store }
-    ensures stands { C.is_honest subscriber.new.applied.store → C.serves subscriber.old.applied.store → subscriber.old.framing.closed ≡ false → IfErr result (λ fault. fault ≢ Fault.Read → StandsAsFed C.place (λ s. PumpsUntil C.holds C.place now (R.remaining source.old.reader) (R.remaining source.new.reader) subscriber.old s Fault.Memory) subscriber.new) }
-    ensures crash { C.is_honest subscriber.new.applied.store → LeavesOldOr C.place C.reopens C.serves (FedOver (λ s. PumpsUntil C.holds C.place now (R.remaining source.old.reader) (R.remaining source.new.reader) subscriber.old s Fault.Memory)) subscriber.old.applied.store subscriber.new.applied.store }
+    ensures still_serves { C.is_honest subscriber.new.applied.store →
+        C.serves subscriber.old.applied.store →
+        OnOk result (C.serves subscriber.new.applied.store) }
+    ensures failed_serves { C.is_honest subscriber.new.applied.store →
+        C.serves subscriber.old.applied.store → result ≡ Err Fault.Read →
+        C.serves subscriber.new.applied.store }
+    ensures honest { C.is_honest subscriber.new.applied.store →
+        C.is_honest subscriber.old.applied.store }
+    ensures stands { C.is_honest subscriber.new.applied.store →
+        C.serves subscriber.old.applied.store → subscriber.old.framing.closed ≡ false →
+        IfErr result (λ fault. fault ≢ Fault.Read →
+        StandsAsFed C.place (λ s. PumpsUntil C.holds C.place now (R.remaining source.old.reader)
+        (R.remaining source.new.reader) subscriber.old s Fault.Memory) subscriber.new) }
+    ensures crash { C.is_honest subscriber.new.applied.store →
+        LeavesOldOr C.place C.reopens C.serves
+        (FedOver (λ s. PumpsUntil C.holds C.place now (R.remaining source.old.reader)
+        (R.remaining source.new.reader) subscriber.old s Fault.Memory)) subscriber.old.applied.store
+        subscriber.new.applied.store }
 {
     let mut room = [0u8; PIECE_LEN];
     while source.reads < u64::MAX {

@@ -1,53 +1,71 @@
-use Rattle.std.proofs.Common.{ℤ, refl, sym, ap, subst, ◌∙◌}
-use Rattle.pgsub_core.specs.SubscriberValue.{SubscriberValue}
+use Rattle.std.proofs.Common.{◌≡◌, ◌<◌, ◌≤◌, ℕ, ℤ, List, true, length, take, sym, ap, subst, arith}
 use Rattle.std.specs.Int.{w64}
 use Rattle.std.proofs.lemmas.Int.{to_z-of_z}
-use Rattle.pgsub_core.specs.Framing.{FeedGoes, FeedStops}
-use Rattle.pgsub_core.specs.Crashing.{LeavesOldOr, FedOver, Over, StandsAs}
-use Rattle.pgsub_core.proofs.Crashes.{leaves_as}
-use Rattle.pgsub_core.proofs.LeftPieces.{feed_over, feed_stands}
+use Rattle.pgwire.specs.declared.fault.WireFault.TheVariants as wire_fault
 use Rattle.pgsub_core.specs.declared.fault.Fault.TheVariants as fault
-use Rattle.pgsub_core.specs.SubscriberValue.{FeedsUntil}
-use Rattle.pgsub_core.proofs.Starting.{feeds, feeds_until}
+use Rattle.pgsub_core.specs.SubscriberValue.{SubscriberValue, Feeds, FeedsUntil}
+use Rattle.pgsub_core.specs.Crashing.{LeavesOldOr, FedOver, StandsAsFed}
+use Rattle.pgsub_core.proofs.FeedSteps.{take_whole}
+use Rattle.pgsub_core.proofs.LeftPieces.{on_err}
+use Rattle.pgsub_core.proofs.PayloadStops.{unchanged}
+use Rattle.pgsub_core.proofs.SessionEnds.{shut, ended, leaves_front, until_after_done, until_memory}
 use Rattle.pgsub_core.proofs.subscriber.Subscriber.feed.Goals as goal
 
-pub returns-in-Ok-clause-fed : goal.returns-in-Ok-clause-fed
-returns-in-Ok-clause-fed g c serves =
-    feeds g.C.ReplicaStore.holds g.C.ReplicaStore.place c.args.now c.args.piece.now c.self.inside.deframer c.take_piece.new.deframer c.self.inside.applier c.take_piece.new.applier c.self.inside.closed c.args.self.now c.if-self.false c.self.view_is
-    (subst (λ (z : ℤ). FeedGoes g.C.ReplicaStore.holds g.C.ReplicaStore.place z c.self.inside.deframer c.self.inside.applier c.args.piece.now c.take_piece.new.deframer c.take_piece.new.applier) (to_z-of_z w64 c.args.now c.ranges.now)
-    (c.in-Ok.ensures.fed serves))
-
-pub returns-in-Err-clause-refused : goal.returns-in-Err-clause-refused
-returns-in-Err-clause-refused g c serves =
-    feeds_until g.C.ReplicaStore.holds g.C.ReplicaStore.place c.args.now c.args.piece.now c.self.inside.deframer c.take_piece.new.deframer c.self.inside.applier c.take_piece.new.applier c.self.inside.closed c.args.self.now c.in-Err.fault
-    c.if-self.false c.take_piece.ensures.max c.self.view_is
-    (subst (λ (z : ℤ). FeedStops g.C.ReplicaStore.holds g.C.ReplicaStore.place z c.self.inside.deframer c.self.inside.applier c.args.piece.now c.take_piece.new.applier c.in-Err.fault) (to_z-of_z w64 c.args.now c.ranges.now)
-    (c.in-Err.ensures.refused serves))
-
-pub returns-then-self-clause-refused : goal.returns-then-self-clause-refused
-returns-then-self-clause-refused g c serves tables h = (tables, h, (ap (λ (x : SubscriberValue g.row.C.Denot). x.framing.closed) (sym c.self.view_is) ∙ c.if-self.true, refl))
-
-pub returns-in-Ok-clause-crash : goal.returns-in-Ok-clause-crash
-returns-in-Ok-clause-crash g c honest =
+pub returns-in_err-taken-clause-stands : goal.returns-in_err-taken-clause-stands
+returns-in_err-taken-clause-stands g c honest serves unclosed =
     let it = g.C.ReplicaStore in
-    subst (λ (x : SubscriberValue g.row.C.Denot). LeavesOldOr it.place it.reopens it.serves (FedOver (λ s. FeedsUntil it.holds it.place c.args.now c.args.self.now c.args.piece.now s fault.Memory)) x.applied.store c.take_piece.new.applier.store) c.self.view_is
-    (leaves_as it.place it.reopens it.serves _ _ c.self.inside.applier.store c.take_piece.new.applier.store
-    (subst (λ (z : ℤ). LeavesOldOr it.place it.reopens it.serves (Over (λ a. FeedStops it.holds it.place z c.self.inside.deframer c.self.inside.applier c.args.piece.now a fault.Memory)) c.self.inside.applier.store c.take_piece.new.applier.store)
-    (to_z-of_z w64 c.args.now c.ranges.now) (c.take_piece.ensures.crash honest))
-    (feed_over it.holds it.place c.args.now c.args.piece.now c.self.inside.deframer c.self.inside.applier c.self.inside.closed c.args.self.now c.if-self.false c.self.view_is))
+    on_err c.from_residual.result _
+    (subst (λ (z : ℤ). StandsAsFed it.place (λ s. FeedsUntil it.holds it.place z c.args.self.now c.args.piece.now s fault.Memory) c.feed_session.new.self) (to_z-of_z w64 c.args.now c.ranges.now)
+    (c.in_err-taken.ensures.stands honest serves unclosed))
 
-pub returns-in-Err-clause-crash : goal.returns-in-Err-clause-crash
-returns-in-Err-clause-crash g c honest =
+pub returns-in_err-taken-clause-crash : goal.returns-in_err-taken-clause-crash
+returns-in_err-taken-clause-crash g c honest =
     let it = g.C.ReplicaStore in
-    subst (λ (x : SubscriberValue g.row.C.Denot). LeavesOldOr it.place it.reopens it.serves (FedOver (λ s. FeedsUntil it.holds it.place c.args.now c.args.self.now c.args.piece.now s fault.Memory)) x.applied.store c.take_piece.new.applier.store) c.self.view_is
-    (leaves_as it.place it.reopens it.serves _ _ c.self.inside.applier.store c.take_piece.new.applier.store
-    (subst (λ (z : ℤ). LeavesOldOr it.place it.reopens it.serves (Over (λ a. FeedStops it.holds it.place z c.self.inside.deframer c.self.inside.applier c.args.piece.now a fault.Memory)) c.self.inside.applier.store c.take_piece.new.applier.store)
-    (to_z-of_z w64 c.args.now c.ranges.now) (c.take_piece.ensures.crash honest))
-    (feed_over it.holds it.place c.args.now c.args.piece.now c.self.inside.deframer c.self.inside.applier c.self.inside.closed c.args.self.now c.if-self.false c.self.view_is))
+    subst (λ (z : ℤ). LeavesOldOr it.place it.reopens it.serves (FedOver (λ s. FeedsUntil it.holds it.place z c.args.self.now c.args.piece.now s fault.Memory)) c.args.self.now.applied.store c.feed_session.new.self.applied.store)
+    (to_z-of_z w64 c.args.now c.ranges.now) (c.in_err-taken.ensures.crash_refused honest)
 
-pub returns-in-Err-clause-stands : goal.returns-in-Err-clause-stands
-returns-in-Err-clause-stands g c honest serves unclosed =
+pub returns-clause-crash : goal.returns-clause-crash
+returns-clause-crash g c honest =
     let it = g.C.ReplicaStore in
-    feed_stands it.holds it.place c.args.now c.args.piece.now c.self.inside.deframer c.self.inside.applier c.self.inside.closed c.args.self.now c.if-self.false c.self.view_is c.take_piece.new.deframer c.take_piece.new.applier
-    (subst (λ (z : ℤ). StandsAs it.place (λ a. FeedStops it.holds it.place z c.self.inside.deframer c.self.inside.applier c.args.piece.now a fault.Memory) c.take_piece.new.applier) (to_z-of_z w64 c.args.now c.ranges.now)
-    (c.in-Err.ensures.stands honest (subst (λ (x : SubscriberValue g.row.C.Denot). it.serves x.applied.store) (sym c.self.view_is) serves)))
+    subst (λ (z : ℤ). LeavesOldOr it.place it.reopens it.serves (FedOver (λ s. FeedsUntil it.holds it.place z c.args.self.now c.args.piece.now s fault.Memory)) c.args.self.now.applied.store c.feed_session.new.self.applied.store)
+    (to_z-of_z w64 c.args.now c.ranges.now) (leaves_front it.holds it.place _ c.args.self.now c.args.piece.now c.in_ok-taken.taken it.reopens it.serves c.feed_session.new.self.applied.store (c.in_ok-taken.ensures.crash honest))
+
+pub returns-clause-fed : goal.returns-clause-fed
+returns-clause-fed g c serves =
+    let it = g.C.ReplicaStore in
+    let cut = c.in_ok-taken.ensures.cut in
+    let within : c.in_ok-taken.taken ≤ length c.args.piece.now = cut.within in
+    let rest = c.if-taken-piece.false in
+    let all : c.in_ok-taken.taken ≡ length c.args.piece.now = omega (arith, within, rest) in
+    subst (λ (p : List ℕ). Feeds it.holds it.place c.args.now c.args.self.now p c.feed_session.new.self) (take_whole c.args.piece.now c.in_ok-taken.taken all)
+    (subst (λ (z : ℤ). Feeds it.holds it.place z c.args.self.now (take c.in_ok-taken.taken c.args.piece.now) c.feed_session.new.self) (to_z-of_z w64 c.args.now c.ranges.now) (c.in_ok-taken.ensures.fed serves))
+
+pub returns-then-taken-piece-clause-refused : goal.returns-then-taken-piece-clause-refused
+returns-then-taken-piece-clause-refused g c serves =
+    let it = g.C.ReplicaStore in
+    let more : c.in_ok-taken.taken < length c.args.piece.now = c.if-taken-piece.true in
+    let fed = c.in_ok-taken.ensures.fed (subst (λ (s : SubscriberValue g.row.C.Denot). it.serves s.applied.store) c.self.view_is serves) in
+    subst (λ (s : SubscriberValue g.row.C.Denot). FeedsUntil it.holds it.place c.args.now c.args.self.now c.args.piece.now s (fault.Wire wire_fault.AfterDone)) (sym (ap shut c.self.view_is))
+    (subst (λ (z : ℤ). FeedsUntil it.holds it.place z c.args.self.now c.args.piece.now (shut c.feed_session.new.self) (fault.Wire wire_fault.AfterDone)) (to_z-of_z w64 c.args.now c.ranges.now)
+    (until_after_done it.holds it.place _ c.args.self.now c.feed_session.new.self c.args.piece.now c.in_ok-taken.taken more (ended _ _ _ c.in_ok-taken.ensures.cut more) fed))
+
+pub returns-then-taken-piece-clause-stands : goal.returns-then-taken-piece-clause-stands
+returns-then-taken-piece-clause-stands g c honest serves unclosed =
+    let it = g.C.ReplicaStore in
+    let more : c.in_ok-taken.taken < length c.args.piece.now = c.if-taken-piece.true in
+    let was = subst (λ (s : SubscriberValue g.row.C.Denot). it.is_honest s.applied.store) c.self.view_is honest in
+    let fed = c.in_ok-taken.ensures.fed (c.in_ok-taken.ensures.still_serves was serves) in (
+      shut (record { applied = c.self.inside.applier; framing = c.feed_session.new.self.framing }),
+      unchanged it.place c.self.inside.applier,
+      subst (λ (s : SubscriberValue g.row.C.Denot). FeedsUntil it.holds it.place c.args.now c.args.self.now c.args.piece.now (shut (record { applied = s.applied; framing = c.feed_session.new.self.framing })) fault.Memory) (sym c.self.view_is)
+          (subst (λ (z : ℤ). FeedsUntil it.holds it.place z c.args.self.now c.args.piece.now (shut c.feed_session.new.self) fault.Memory) (to_z-of_z w64 c.args.now c.ranges.now)
+          (until_memory it.holds it.place _ c.args.self.now c.feed_session.new.self c.args.piece.now c.in_ok-taken.taken (ended _ _ _ c.in_ok-taken.ensures.cut more) fed)),
+    )
+
+pub returns-then-taken-piece-clause-crash : goal.returns-then-taken-piece-clause-crash
+returns-then-taken-piece-clause-crash g c honest =
+    let it = g.C.ReplicaStore in
+    let was = subst (λ (s : SubscriberValue g.row.C.Denot). it.is_honest s.applied.store) c.self.view_is honest in
+    subst (λ (s : SubscriberValue g.row.C.Denot). LeavesOldOr it.place it.reopens it.serves (FedOver (λ x. FeedsUntil it.holds it.place c.args.now c.args.self.now c.args.piece.now x fault.Memory)) c.args.self.now.applied.store s.applied.store) (sym c.self.view_is)
+    (subst (λ (z : ℤ). LeavesOldOr it.place it.reopens it.serves (FedOver (λ x. FeedsUntil it.holds it.place z c.args.self.now c.args.piece.now x fault.Memory)) c.args.self.now.applied.store c.feed_session.new.self.applied.store)
+    (to_z-of_z w64 c.args.now c.ranges.now) (leaves_front it.holds it.place _ c.args.self.now c.args.piece.now c.in_ok-taken.taken it.reopens it.serves c.feed_session.new.self.applied.store (c.in_ok-taken.ensures.crash was)))
