@@ -1,0 +1,103 @@
+-- Part of the statement.
+-- PostgreSQL documentation, Streaming Replication Protocol, Standby status update: that what is told of a history is stored.
+use Rattle.std.specs.Prelude.{◌≡◌, ◌≤◌, ◌⊎◌, ◌++◌, ℕ, List, [], ◌∷◌, Bool, Option, Some, None, if◌then◌else◌}
+use Rattle.std.specs.List.{flat_map}
+use Rattle.pgwire.specs.Statuses.{status_frame}
+use Rattle.pgwire.specs.declared.status.Status.{Status}
+use Rattle.pgapply.specs.Value.{Tables}
+use Rattle.pgsub_core.specs.History.{Transaction}
+use Rattle.pgsub_core.specs.Stream.{Sent}
+use Rattle.pgsub_core.specs.Handled.{IsSent}
+use Rattle.pgsub_core.specs.Confirming.{AreSafeReplies}
+use Rattle.pgsub_core.specs.Crashing.{IsLeftSafely}
+use Rattle.pgsub_core.specs.SubscriberValue.{SubscriberValue, seen}
+use Rattle.pgfollow.specs.declared.fault.FollowFault.{FollowFault}
+use Rattle.pgfollow.specs.declared.fault.FollowFault.TheVariants as follow
+use Rattle.pgfollow.specs.Live.{IsGreeted, LiveEnds, Step, StopsGreeting, told_of, told_in}
+
+-- ---- the statuses, of any bytes
+
+-- Each status confirms as flushed what it confirms as applied, and no less than the one before it: from this LSN up to that one.
+abbrev pub Rises : ℕ → List Status → ℕ → Type 0
+Rises low [] high = low ≤ high
+Rises low (status ∷ statuses) high = (status.applied ≡ status.flushed) × (low ≤ status.flushed) × Rises status.flushed statuses high
+
+-- these bytes are the frames of such statuses, and nothing else
+pub record AreRising (low : ℕ) (bytes : List ℕ) (high : ℕ) : Type 0 where
+  pub statuses : List Status
+  pub are : bytes ≡ flat_map status_frame statuses
+  pub rise : Rises low statuses high
+
+-- ---- the sessions
+
+-- Each session's bytes: the parts up to one with which it ends. What is read behind the last part belongs to the last session.
+abbrev pub sessions_from : {C : Type 0} → List ℕ → List (Step C) → List ℕ → List (List ℕ)
+sessions_from begun [] pending = (begun ++ pending) ∷ []
+sessions_from begun (step ∷ steps) pending =
+    if step.ends then (begun ++ step.part) ∷ sessions_from [] steps pending else sessions_from (begun ++ step.part) steps pending
+
+module _ {C : Type 0} (holds : C → Tables → Type 0) (place : C → ℕ) (reopens : C → C → Type 0) where
+  -- whatever a crash leaves of it now holds the history's rows up to a position, with all that is confirmed
+  abbrev pub LeavesSafely : List Transaction → SubscriberValue C → Type 0
+  LeavesSafely history s = (other : C) → reopens s.applied.store other → IsLeftSafely holds place history s other
+
+  -- These bytes are statuses. Every transaction that changes rows and ends by what one confirms is stored when it is written, and in
+  -- whatever a crash leaves then.
+  pub record IsToldSafely (history : List Transaction) (s : SubscriberValue C) (told : List ℕ) : Type 0 where
+    pub statuses : (tables : Tables) → AreSafeReplies history (record (seen place s tables) { replies = told })
+    pub left : LeavesSafely history s
+
+  -- after each part
+  abbrev pub AreToldSafely : List Transaction → SubscriberValue C → List (Step C) → Type 0
+  AreToldSafely history old [] = Unit {0}
+  AreToldSafely history old (step ∷ steps) = IsToldSafely history step.fed (told_of old step) × AreToldSafely history step.after steps
+
+  -- Of whatever history these sessions are: what is told after each part is stored then, and what a crash leaves at the end has it too.
+  abbrev pub TellsSafely : SubscriberValue C → SubscriberValue C → List (Step C) → List ℕ → SubscriberValue C → Type 0
+  TellsSafely old start steps pending new =
+      (history : List Transaction) (all_complete : List (List Sent)) (tables : Tables) → holds old.applied.store tables
+      → IsSent history (seen place old tables) (sessions_from [] steps pending) all_complete
+      → AreToldSafely history start steps × LeavesSafely history new
+
+  -- Of any bytes: all that is told after the first status, after these parts, is statuses that rise.
+  abbrev pub TellsRising : SubscriberValue C → List (Step C) → SubscriberValue C → Type 0
+  TellsRising start steps mid = (tables : Tables) → holds start.applied.store tables → AreRising start.applied.confirmed (told_in start steps) mid.applied.confirmed
+
+-- ---- how following ends
+
+module _ {C : Type 0} (holds : C → Tables → Type 0) (place : C → ℕ) (reopens : C → C → Type 0) (serves : C → Type 0) (unread rest : Option (List ℕ)) (reads : ℕ) (wrote wrote' : Option (List ℕ)) (old new : SubscriberValue C) where
+  -- the parts that were followed
+  abbrev pub steps_in : (ended : Option FollowFault) → LiveEnds holds place reopens serves unread rest reads wrote wrote' old new ended → List (Step C)
+  steps_in None e = e.0.steps
+  steps_in (Some follow.Read) e = e.steps
+  steps_in (Some follow.Write) e = e.4.steps
+  steps_in (Some (follow.Stream f)) e = e.4.steps
+
+  -- what was read behind them
+  abbrev pub pending_in : (ended : Option FollowFault) → LiveEnds holds place reopens serves unread rest reads wrote wrote' old new ended → List ℕ
+  pending_in None e = []
+  pending_in (Some follow.Read) e = []
+  pending_in (Some follow.Write) e = e.2 ++ e.3
+  pending_in (Some (follow.Stream f)) e = e.2 ++ e.3
+
+  -- the subscriber behind them
+  abbrev pub mid_in : (ended : Option FollowFault) → LiveEnds holds place reopens serves unread rest reads wrote wrote' old new ended → SubscriberValue C
+  mid_in None e = new
+  mid_in (Some follow.Read) e = new
+  mid_in (Some follow.Write) e = e.0
+  mid_in (Some (follow.Stream f)) e = e.0
+
+module _ {C : Type 0} (holds : C → Tables → Type 0) (place : C → ℕ) (reopens : C → C → Type 0) (serves : C → Type 0) (unread rest : Option (List ℕ)) (reads : ℕ) (wrote wrote' : Option (List ℕ)) (old new : SubscriberValue C) where
+  -- The first status isn't told: nothing is read, and the store is as it was.
+  abbrev pub NotGreeted : Option FollowFault → Type 0
+  NotGreeted ended = (f : FollowFault) × (ended ≡ Some f) × StopsGreeting place wrote wrote' old f × (new.applied.store ≡ old.applied.store) × (rest ≡ unread)
+
+  -- The first status is told, that of the opened store. Then parts are fed as they come, and told. All statuses rise, and what they confirm
+  -- of a history is stored when they are written, and stays so whatever a crash leaves.
+  abbrev pub FollowsLive : Option FollowFault → Type 0
+  FollowsLive ended =
+      NotGreeted ended
+      ⊎ ((start : SubscriberValue C) × (w : Option (List ℕ)) × IsGreeted place wrote w old start
+      × (e : LiveEnds holds place reopens serves unread rest reads w wrote' start new ended)
+      × TellsRising holds place reopens start (steps_in holds place reopens serves unread rest reads w wrote' start new ended e) (mid_in holds place reopens serves unread rest reads w wrote' start new ended e)
+      × TellsSafely holds place reopens old start (steps_in holds place reopens serves unread rest reads w wrote' start new ended e) (pending_in holds place reopens serves unread rest reads w wrote' start new ended e) new)
