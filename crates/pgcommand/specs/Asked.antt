@@ -11,7 +11,7 @@ use Rattle.clap.specs.declared.error.kind.ErrorKind.TheVariants.{OutOfMemory}
 use Rattle.clap.specs.declared.builder.action.ArgAction.TheVariants.{SetTrue}
 use Rattle.clap.specs.declared.builder.value_parser.ValueParser.TheVariants.{Signed}
 use Rattle.pgcommand.specs.declared.task.Task.{Task}
-use Rattle.pgcommand.specs.declared.task.Task.TheVariants.{Show, Apply, Dump, Same, Resume, Lsn}
+use Rattle.pgcommand.specs.declared.task.Task.TheVariants.{Show, Apply, Dump, Follow, Same, Resume, Lsn}
 use Rattle.pgcommand.specs.declared.fault.CommandFault.{CommandFault}
 use Rattle.pgcommand.specs.declared.fault.CommandFault.TheVariants.{Usage, Memory}
 use Rattle.pgorder.specs.declared.Version.{Version}
@@ -33,6 +33,9 @@ proto_rule = record (new_rule (codes "proto")) {
 abbrev pub raw_rule : Rule
 raw_rule = record (new_rule (codes "raw")) { long = Some (codes "raw"); action = Some SetTrue }
 
+abbrev pub progress_rule : Rule
+progress_rule = record (new_rule (codes "progress")) { long = Some (codes "progress"); action = Some SetTrue }
+
 -- the file of a store, which some commands require
 abbrev pub store_rule : Bool → Rule
 store_rule required = record (new_rule (codes "store")) { long = Some (codes "store"); value_names = 1; required = required }
@@ -41,10 +44,13 @@ abbrev pub show_app : App
 show_app = with_rule (with_rule (new_app (codes "show")) proto_rule) (word_rule (codes "FILE"))
 
 abbrev pub apply_app : App
-apply_app = with_rule (with_rule (with_rule (with_rule (new_app (codes "apply")) proto_rule) raw_rule) (store_rule false)) (word_rule (codes "FILE"))
+apply_app = with_rule (with_rule (with_rule (with_rule (with_rule (new_app (codes "apply")) proto_rule) raw_rule) progress_rule) (store_rule false)) (word_rule (codes "FILE"))
 
 abbrev pub dump_app : App
 dump_app = with_rule (new_app (codes "dump")) (store_rule true)
+
+abbrev pub follow_app : App
+follow_app = with_rule (with_rule (new_app (codes "follow")) proto_rule) (store_rule true)
 
 abbrev pub same_app : App
 same_app = with_rule (with_rule (with_rule (new_app (codes "same")) proto_rule) (word_rule (codes "LEFT"))) (word_rule (codes "RIGHT"))
@@ -59,8 +65,8 @@ abbrev pub bare_app : App
 bare_app = on_top (λ s. record s { has_version = true; subcommand_required = true }) (new_app (codes "pgsub"))
 
 abbrev pub pgsub_app : App
-pgsub_app = with_subcommand (with_subcommand (with_subcommand (with_subcommand (with_subcommand (with_subcommand bare_app
-    show_app.top) apply_app.top) dump_app.top) same_app.top) resume_app.top) lsn_app.top
+pgsub_app = with_subcommand (with_subcommand (with_subcommand (with_subcommand (with_subcommand (with_subcommand (with_subcommand bare_app
+    show_app.top) apply_app.top) dump_app.top) follow_app.top) same_app.top) resume_app.top) lsn_app.top
 
 -- the command is read as this one, and none of its arguments is global
 abbrev pub IsCommand : App → Command → Type 0
@@ -78,8 +84,9 @@ ReadsAsOne value = (text : Text) × (value ≡ Some text) × IsNumeral 10 (witho
 abbrev pub IsVersion : List Row → Version → Type 0
 IsVersion rows version = (version ≡ One) ↔ ReadsAsOne (one_of (codes "proto") rows)
 
-abbrev pub IsRaw : List Row → Bool → Type 0
-IsRaw rows raw = (one_of (codes "raw") rows ≡ Some (codes "true") → raw ≡ true) × (one_of (codes "raw") rows ≡ Some (codes "false") → raw ≡ false)
+-- whether the flag of this name is given
+abbrev pub IsFlag : Text → List Row → Bool → Type 0
+IsFlag name rows flag = (one_of name rows ≡ Some (codes "true") → flag ≡ true) × (one_of name rows ≡ Some (codes "false") → flag ≡ false)
 
 -- the file that `--store` names, and none where it isn't given
 abbrev pub NamesStore : List Row → Option (String Global) → Type 0
@@ -87,15 +94,16 @@ NamesStore rows store = option_map string_bytes store ≡ first_of (codes "store
 
 abbrev pub IsAsked : Text → List Row → Task → Type 0
 IsAsked name rows (Show version file) = (name ≡ codes "show") × IsVersion rows version × (string_bytes file ≡ text_in (codes "FILE") rows)
-IsAsked name rows (Apply version raw store file) = (name ≡ codes "apply") × IsVersion rows version × IsRaw rows raw × NamesStore rows store × (string_bytes file ≡ text_in (codes "FILE") rows)
+IsAsked name rows (Apply version raw progress store file) = (name ≡ codes "apply") × IsVersion rows version × IsFlag (codes "raw") rows raw × IsFlag (codes "progress") rows progress × NamesStore rows store × (string_bytes file ≡ text_in (codes "FILE") rows)
 IsAsked name rows (Dump store) = (name ≡ codes "dump") × (string_bytes store ≡ text_in (codes "store") rows)
+IsAsked name rows (Follow version store) = (name ≡ codes "follow") × IsVersion rows version × (string_bytes store ≡ text_in (codes "store") rows)
 IsAsked name rows (Same version left right) = (name ≡ codes "same") × IsVersion rows version × (string_bytes left ≡ text_in (codes "LEFT") rows) × (string_bytes right ≡ text_in (codes "RIGHT") rows)
 IsAsked name rows (Resume file) = (name ≡ codes "resume") × (string_bytes file ≡ text_in (codes "FILE") rows)
 IsAsked name rows (Lsn text) = (name ≡ codes "lsn") × (string_bytes text ≡ text_in (codes "TEXT") rows)
 
 -- the name of a subcommand
 abbrev pub IsCommandName : Text → Type 0
-IsCommandName name = (name ≡ codes "show") ⊎ ((name ≡ codes "apply") ⊎ ((name ≡ codes "dump") ⊎ ((name ≡ codes "same") ⊎ ((name ≡ codes "resume") ⊎ (name ≡ codes "lsn")))))
+IsCommandName name = (name ≡ codes "show") ⊎ ((name ≡ codes "apply") ⊎ ((name ≡ codes "dump") ⊎ ((name ≡ codes "follow") ⊎ ((name ≡ codes "same") ⊎ ((name ≡ codes "resume") ⊎ (name ≡ codes "lsn"))))))
 
 -- The words have no fault, and their subcommand asks for the task.
 abbrev pub IsTaskOf : List Text → Task → Type 0

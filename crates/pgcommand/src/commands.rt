@@ -2,7 +2,7 @@
 
 ghost use Rattle.std.specs.Prelude.{◌≡◌, IfOk, false};
 ghost use Rattle.clap.specs.Words.{new_app, rule_of};
-ghost use Rattle.pgcommand.specs.Asked.{IsCommand, word_rule, proto_rule, raw_rule, store_rule, show_app, apply_app, dump_app, same_app, resume_app, lsn_app, bare_app, pgsub_app};
+ghost use Rattle.pgcommand.specs.Asked.{IsCommand, word_rule, proto_rule, raw_rule, progress_rule, store_rule, show_app, apply_app, dump_app, follow_app, same_app, resume_app, lsn_app, bare_app, pgsub_app};
 
 use clap::{Arg, ArgAction, Command, value_parser};
 use std::alloc::{AllocError, Global};
@@ -40,6 +40,17 @@ fn raw<'a>(alloc: Global) -> Arg<'a>
         .long("raw")
         .action(ArgAction::SetTrue)
         .help("Read the file as the plain bytes of one session instead of a recording")
+}
+
+/// `--progress`.
+fn progress<'a>(alloc: Global) -> Arg<'a>
+    ensures rule { rule_of result ≡ progress_rule }
+    ensures local { result.global ≡ false }
+{
+    Arg::new(alloc, "progress")
+        .long("progress")
+        .action(ArgAction::SetTrue)
+        .help("Tell on standard error how far it is, at most once a second")
 }
 
 /// `--store FILE`.
@@ -83,6 +94,7 @@ fn apply_command<'a>(alloc: Global) -> Result<Command<'a>, AllocError>
     )
     .arg(proto(alloc))?
     .arg(raw(alloc))?
+    .arg(progress(alloc))?
     .arg(store(
         alloc,
         false,
@@ -100,6 +112,22 @@ fn dump_command<'a>(alloc: Global) -> Result<Command<'a>, AllocError>
         "Print the rows and the position that a file holds",
     )
     .arg(store(alloc, true, "The file in which `apply --store` keeps them"))
+}
+
+fn follow_command<'a>(alloc: Global) -> Result<Command<'a>, AllocError>
+    ensures { IfOk result (IsCommand follow_app) }
+{
+    named(
+        alloc,
+        "follow",
+        "Follow a server whose frames come on standard input, and write statuses to standard output",
+    )
+    .arg(proto(alloc))?
+    .arg(store(
+        alloc,
+        true,
+        "Keep rows and position in this file and go on from what it holds; it is made where it isn't there",
+    ))
 }
 
 fn same_command<'a>(alloc: Global) -> Result<Command<'a>, AllocError>
@@ -157,6 +185,7 @@ pub(crate) fn program<'a>(alloc: Global) -> Result<Command<'a>, AllocError>
     let show = show_command(alloc)?;
     let apply = apply_command(alloc)?;
     let dump = dump_command(alloc)?;
+    let follow = follow_command(alloc)?;
     let same = same_command(alloc)?;
     let resume = resume_command(alloc)?;
     let lsn = lsn_command(alloc)?;
@@ -164,6 +193,7 @@ pub(crate) fn program<'a>(alloc: Global) -> Result<Command<'a>, AllocError>
         .subcommand(show)?
         .subcommand(apply)?
         .subcommand(dump)?
+        .subcommand(follow)?
         .subcommand(same)?
         .subcommand(resume)?
         .subcommand(lsn)

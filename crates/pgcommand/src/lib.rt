@@ -24,8 +24,6 @@ ghost use Rattle.pgcommand.specs.Asked.{IsRefusalOf, IsTaskOf};
 mod commands;
 pub mod fault;
 pub mod task;
-#[cfg(test)]
-mod tests;
 
 pub use commands::VERSION;
 use commands::program;

@@ -2,7 +2,7 @@
 
 ghost use Rattle.std.specs.Prelude.{◌≡◌, ◌↔◌, IfOk, Option, true, codes, string_bytes};
 ghost use Rattle.clap.specs.Words.{found_of, one_of, rows_of};
-ghost use Rattle.pgcommand.specs.Asked.{IsAsked, IsCommandName, IsRaw, NamesStore, ReadsAsOne, IsVersion, text_in};
+ghost use Rattle.pgcommand.specs.Asked.{IsAsked, IsCommandName, IsFlag, NamesStore, ReadsAsOne, IsVersion, text_in};
 
 use clap::ArgMatches;
 use pgorder::Version;
@@ -17,15 +17,22 @@ pub enum Task {
         file: String,
     },
     /// Apply a recording, or with `raw` the file's bytes as one session, and print the rows and the position. Both are kept in the
-    /// file `store`, if one is named.
+    /// file `store`, if one is named. With `progress`, standard error is told meanwhile how far it is.
     Apply {
         version: Version,
         raw: bool,
+        progress: bool,
         store: Option<String>,
         file: String,
     },
     /// Print the rows and the position that are kept in a file.
     Dump {
+        store: String,
+    },
+    /// Follow a server: its bytes come from standard input, and statuses go to standard output. Rows and position are kept in the
+    /// file `store`.
+    Follow {
+        version: Version,
         store: String,
     },
     /// Compare the rows and positions that two recordings lead to.
@@ -64,15 +71,17 @@ fn version_of(found: &ArgMatches<'_>) -> Version
     }
 }
 
-fn raw_of(found: &ArgMatches<'_>) -> bool
-    ensures { IsRaw (rows_of (found_of found.now)) result }
+/// Whether the flag of this name is given.
+fn flag_of(found: &ArgMatches<'_>, name: &str) -> bool
+    ensures { IsFlag name.now (rows_of (found_of found.now)) result }
 {
-    found.get_flag("raw")
+    found.get_flag(name)
 }
 
 /// The value of a required word, copied.
 fn value_of(alloc: Global, found: &ArgMatches<'_>, name: &str) -> Result<String, AllocError>
-    ensures { IfOk result (λ text. string_bytes text ≡ text_in name.now (rows_of (found_of found.now))) }
+    ensures { IfOk result (λ text. string_bytes text
+        ≡ text_in name.now (rows_of (found_of found.now))) }
 {
     String::from_str(alloc, found.get_str(name).unwrap_or(""))
 }
@@ -85,6 +94,21 @@ fn store_of(alloc: Global, found: &ArgMatches<'_>) -> Result<Option<String>, All
         Some(path) => Ok(Some(String::from_str(alloc, path)?)),
         None => Ok(None),
     }
+}
+
+/// The task that the subcommand `apply` asks for by these matches.
+fn apply_of(alloc: Global, found: &ArgMatches<'_>) -> Result<Task, AllocError>
+    ensures { IfOk result (IsAsked (codes "apply") (rows_of (found_of found.now))) }
+{
+    let store = store_of(alloc, found)?;
+    let file = value_of(alloc, found, "FILE")?;
+    Ok(Task::Apply {
+        version: version_of(found),
+        raw: flag_of(found, "raw"),
+        progress: flag_of(found, "progress"),
+        store,
+        file,
+    })
 }
 
 /// The task that the subcommand of this name asks for by these matches.
@@ -100,19 +124,17 @@ pub(crate) fn task_of(alloc: Global, name: &str, found: &ArgMatches<'_>) -> Resu
                 file,
             }
         }
-        "apply" => {
-            let store = store_of(alloc, found)?;
-            let file = value_of(alloc, found, "FILE")?;
-            Task::Apply {
-                version: version_of(found),
-                raw: raw_of(found),
-                store,
-                file,
-            }
-        }
+        "apply" => apply_of(alloc, found)?,
         "dump" => Task::Dump {
             store: value_of(alloc, found, "store")?,
         },
+        "follow" => {
+            let store = value_of(alloc, found, "store")?;
+            Task::Follow {
+                version: version_of(found),
+                store,
+            }
+        }
         "same" => {
             let left = value_of(alloc, found, "LEFT")?;
             let right = value_of(alloc, found, "RIGHT")?;

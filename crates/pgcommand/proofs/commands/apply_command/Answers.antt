@@ -6,5 +6,6 @@ pub returns : goal.returns
 returns c =
     let one = with_arg _ _ _ _ _ c.named.ensures c.proto.ensures.rule c.proto.ensures.local c.in_ok-arg.ensures in
     let two = with_arg _ _ _ _ _ one c.raw.ensures.rule c.raw.ensures.local c.in_ok-arg-2.ensures in
-    let three = with_arg _ _ _ _ _ two c.store.ensures.rule c.store.ensures.local c.in_ok-arg-3.ensures in
-    IfOk-weaker c.arg-4.result _ _ (λ r h. with_arg _ r _ _ _ three c.word.ensures.rule c.word.ensures.local h) c.arg-4.ensures
+    let three = with_arg _ _ _ _ _ two c.progress.ensures.rule c.progress.ensures.local c.in_ok-arg-3.ensures in
+    let four = with_arg _ _ _ _ _ three c.store.ensures.rule c.store.ensures.local c.in_ok-arg-4.ensures in
+    IfOk-weaker c.arg-5.result _ _ (λ r h. with_arg _ r _ _ _ four c.word.ensures.rule c.word.ensures.local h) c.arg-5.ensures
