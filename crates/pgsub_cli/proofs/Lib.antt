@@ -7,3 +7,4 @@ pub mod ComparedSides
 pub mod ShownLines
 pub mod BothRead
 pub mod KeptLines
+mod WithinLines

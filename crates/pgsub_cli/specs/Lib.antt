@@ -8,4 +8,6 @@ pub mod Shown
 pub mod Runs
 pub mod Stores
 pub mod Storing
+pub mod Reports
 pub mod Compared
+pub mod FollowedLive

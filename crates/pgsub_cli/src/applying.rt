@@ -27,12 +27,16 @@ fn stored_lines<P: Spools + Drop, C: ReplicaStore + Drop>(
     alloc: Global,
     subscriber: &mut Subscriber<P, C>,
 ) -> Result<String, Fault>
-    ensures lines { C.serves subscriber.new.applied.store → IfOk result (λ lines. Shows C.holds C.place subscriber.old (string_bytes lines)) }
-    ensures stays { C.serves subscriber.new.applied.store → Stays C.holds subscriber.old.applied.store subscriber.new.applied.store }
-    ensures same { (tables : Tables) → seen C.place subscriber.new tables ≡ seen C.place subscriber.old tables }
+    ensures lines { C.serves subscriber.new.applied.store →
+        IfOk result (λ lines. Shows C.holds C.place subscriber.old (string_bytes lines)) }
+    ensures stays { C.serves subscriber.new.applied.store →
+        Stays C.holds subscriber.old.applied.store subscriber.new.applied.store }
+    ensures same { (tables : Tables) → seen C.place subscriber.new tables
+        ≡ seen C.place subscriber.old tables }
     ensures fault { IfErr result IsReadFault }
     ensures served { C.serves subscriber.new.applied.store → C.serves subscriber.old.applied.store }
-    ensures open { C.is_honest subscriber.new.applied.store → OnOk result (C.serves subscriber.new.applied.store) }
+    ensures open { C.is_honest subscriber.new.applied.store →
+        OnOk result (C.serves subscriber.new.applied.store) }
 {
     let position = subscriber.position();
     let rows = subscriber.rows()?;
@@ -48,7 +52,9 @@ pub(crate) fn apply_sessions<P: Spools + Drop, C: ReplicaStore + Drop>(
     subscriber: &mut Subscriber<P, C>,
     sessions: &[Session],
 ) -> Result<Printed, Fault>
-    ensures applied { C.is_honest subscriber.new.applied.store → IfOk result (λ applied. ShowsFed C.holds C.place subscriber.old (bytes_of sessions.now) subscriber.new applied.stopped (string_bytes applied.lines)) }
+    ensures applied { C.is_honest subscriber.new.applied.store →
+        IfOk result (λ applied. ShowsFed C.holds C.place subscriber.old
+        (bytes_of sessions.now) subscriber.new applied.stopped (string_bytes applied.lines)) }
     ensures fault { IfErr result IsReadFault }
 {
     let stopped = follow(subscriber, sessions, CLOCK).err();
@@ -62,7 +68,9 @@ pub(crate) fn apply_input<R: Input + Drop, P: Spools + Drop, C: ReplicaStore + D
     subscriber: &mut Subscriber<P, C>,
     file: R,
 ) -> Result<Printed, Fault>
-    ensures applied { C.is_honest subscriber.new.applied.store → IfOk result (λ printed. ShowsFile R.gives R.begins R.failed C.holds C.place file subscriber.old subscriber.new printed.stopped (string_bytes printed.lines)) }
+    ensures applied { C.is_honest subscriber.new.applied.store →
+        IfOk result (λ printed. ShowsFile R.gives R.begins R.failed C.holds C.place file
+        subscriber.old subscriber.new printed.stopped (string_bytes printed.lines)) }
     ensures fault { IfErr result IsReadFault }
 {
     let stopped = file.feed_to(subscriber).err();
@@ -79,12 +87,16 @@ fn progress_lines<P: Spools + Drop, C: ReplicaStore + Drop>(
     alloc: Global,
     subscriber: &mut Subscriber<P, C>,
 ) -> Result<String, Fault>
-    ensures lines { IfOk result (λ lines. ShowsProgress C.place subscriber.new (string_bytes lines)) }
-    ensures stays { C.serves subscriber.new.applied.store → Stays C.holds subscriber.old.applied.store subscriber.new.applied.store }
-    ensures same { (tables : Tables) → seen C.place subscriber.new tables ≡ seen C.place subscriber.old tables }
+    ensures lines { IfOk result (λ lines. ShowsProgress C.place subscriber.new
+        (string_bytes lines)) }
+    ensures stays { C.serves subscriber.new.applied.store →
+        Stays C.holds subscriber.old.applied.store subscriber.new.applied.store }
+    ensures same { (tables : Tables) → seen C.place subscriber.new tables
+        ≡ seen C.place subscriber.old tables }
     ensures fault { IfErr result IsReadFault }
     ensures served { C.serves subscriber.new.applied.store → C.serves subscriber.old.applied.store }
-    ensures open { C.is_honest subscriber.new.applied.store → OnOk result (C.serves subscriber.new.applied.store) }
+    ensures open { C.is_honest subscriber.new.applied.store →
+        OnOk result (C.serves subscriber.new.applied.store) }
 {
     subscriber.rows()?;
     match resume_text(alloc, subscriber.position(), subscriber.confirmed()) {
@@ -99,7 +111,9 @@ fn resume_sessions<P: Spools + Drop, C: ReplicaStore + Drop>(
     subscriber: &mut Subscriber<P, C>,
     sessions: &[Session],
 ) -> Result<Printed, Fault>
-    ensures resumed { C.is_honest subscriber.new.applied.store → IfOk result (λ printed. ResumesFed C.holds C.place subscriber.old (bytes_of sessions.now) subscriber.new printed.stopped (string_bytes printed.lines)) }
+    ensures resumed { C.is_honest subscriber.new.applied.store →
+        IfOk result (λ printed. ResumesFed C.holds C.place subscriber.old
+        (bytes_of sessions.now) subscriber.new printed.stopped (string_bytes printed.lines)) }
     ensures fault { IfErr result IsReadFault }
 {
     let followed = follow(subscriber, sessions, CLOCK);
@@ -115,7 +129,8 @@ fn resume_sessions<P: Spools + Drop, C: ReplicaStore + Drop>(
 ///
 /// It fails where there is no memory for a store, or its rows can't be read.
 pub fn apply(alloc: Global, version: Version, sessions: &[Session]) -> Result<Printed, Fault>
-    ensures applied { IfOk result (λ printed. PrintsApplied version sessions.now printed.stopped (string_bytes printed.lines)) }
+    ensures applied { IfOk result (λ printed. PrintsApplied version sessions.now printed.stopped
+        (string_bytes printed.lines)) }
     ensures fault { IfErr result IsReadFault }
 {
     stores_on_memory_disks_are_honest();
@@ -133,7 +148,8 @@ pub fn apply_bytes<R: Input + Drop>(
     version: Version,
     file: R,
 ) -> Result<Printed, Fault>
-    ensures applied { IfOk result (λ printed. PrintsBytes R.gives R.begins R.failed version file printed.stopped (string_bytes printed.lines)) }
+    ensures applied { IfOk result (λ printed. PrintsBytes R.gives R.begins R.failed version file
+        printed.stopped (string_bytes printed.lines)) }
     ensures fault { IfErr result IsReadFault }
 {
     stores_on_memory_disks_are_honest();
@@ -147,7 +163,8 @@ pub fn apply_bytes<R: Input + Drop>(
 ///
 /// It fails where there is no memory for a store or the lines, or the store's rows can't be read.
 pub fn resume(alloc: Global, sessions: &[Session]) -> Result<Printed, Fault>
-    ensures resumed { IfOk result (λ printed. PrintsResumed sessions.now printed.stopped (string_bytes printed.lines)) }
+    ensures resumed { IfOk result (λ printed. PrintsResumed sessions.now printed.stopped
+        (string_bytes printed.lines)) }
     ensures fault { IfErr result IsReadFault }
 {
     stores_on_memory_disks_are_honest();

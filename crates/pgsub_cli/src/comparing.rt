@@ -24,7 +24,8 @@ fn confirmed_fault<P: Spools + Drop, C: ReplicaStore + Drop>(
     subscriber: &mut Subscriber<P, C>,
     fault: Fault,
 ) -> Fault
-    ensures fault { C.is_honest subscriber.new.applied.store → IsReadFault result ⊎ ((result ≡ fault) × C.serves subscriber.old.applied.store) }
+    ensures fault { C.is_honest subscriber.new.applied.store → IsReadFault result
+        ⊎ ((result ≡ fault) × C.serves subscriber.old.applied.store) }
 {
     match subscriber.rows() {
         Ok(_) => fault,
@@ -44,7 +45,9 @@ fn compare_subscribers<
     right: &mut Subscriber<Q, D>,
     right_sessions: &[Session],
 ) -> Result<Verdict, ConvergeFault>
-    ensures ends { ((s : C) → C.is_honest s) → ((s : D) → D.is_honest s) → EndsOver C.holds C.place D.holds D.place left.old (bytes_of left_sessions.now) right.old (bytes_of right_sessions.now) result }
+    ensures ends { ((s : C) → C.is_honest s) → ((s : D) → D.is_honest s) →
+        EndsOver C.holds C.place D.holds D.place left.old (bytes_of left_sessions.now) right.old
+        (bytes_of right_sessions.now) result }
 {
     let stopped = match converge(left, left_sessions, right, right_sessions, CLOCK) {
         Ok(verdict) => return Ok(verdict),
@@ -84,7 +87,8 @@ fn compare_with_new<P: Spools + Drop, C: ReplicaStore + Drop>(
     left_sessions: &[Session],
     right_sessions: &[Session],
 ) -> Result<Verdict, ConvergeFault>
-    ensures { ((s : C) → C.is_honest s) → EndsBesideNew C.holds C.place version left.old (bytes_of left_sessions.now) (bytes_of right_sessions.now) result }
+    ensures { ((s : C) → C.is_honest s) → EndsBesideNew C.holds C.place version left.old
+        (bytes_of left_sessions.now) (bytes_of right_sessions.now) result }
 {
     stores_on_memory_disks_are_honest();
     let mut right = new_side(alloc, version)?;

@@ -98,7 +98,8 @@ fn write_wire<W: fmt::Write>(f: &mut fmt::Formatter<W>, fault: WireFault) -> fmt
 }
 
 fn write_decode<W: fmt::Write>(f: &mut fmt::Formatter<W>, fault: DecodeFault) -> fmt::Result
-    ensures { DisplaysOnOk W.write_str_gives f.old result (Some (reason_text fault.reason fault.place)) f.new }
+    ensures { DisplaysOnOk W.write_str_gives f.old result
+        (Some (reason_text fault.reason fault.place)) f.new }
 {
     let place = fault.place;
     match fault.reason {

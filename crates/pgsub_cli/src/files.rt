@@ -28,8 +28,10 @@ pub trait Input {
 
     /// All its bytes, or None where they are more than `longest`. Not more than one byte after that is read.
     fn read_whole(self, alloc: Global, longest: u32) -> io::Result<Option<Vec<u8>>>
-        ensures whole { IfOk result (λ read. IfSome read (λ text. gives self text.items × (length text.items ≤ longest))) }
-        ensures longer { result ≡ Ok None → (bytes : List ℕ) × gives self bytes × (longest < length bytes) }
+        ensures whole { IfOk result (λ read. IfSome read
+            (λ text. gives self text.items × (length text.items ≤ longest))) }
+        ensures longer { result ≡ Ok None → (bytes : List ℕ) × gives self bytes
+            × (longest < length bytes) }
         ensures failed { OnErr result (failed self) };
 
     /// Feeds all its bytes as they are read to a subscriber, as one session from a disconnection on. What comes before a read that
@@ -38,7 +40,9 @@ pub trait Input {
         self,
         subscriber: &mut Subscriber<P, C>,
     ) -> Result<(), Fault>
-        ensures { C.serves subscriber.new.applied.store → FeedsFile gives begins failed C.holds C.place self subscriber.old subscriber.new (fault_in result) };
+        ensures { C.serves subscriber.new.applied.store →
+            FeedsFile gives begins failed C.holds C.place self subscriber.old subscriber.new
+            (fault_in result) };
 }
 
 impl<R: Read + Drop> Input for R {

@@ -46,13 +46,13 @@ pub(crate) fn status(ended: Result<Ending, RunFault>) -> u8
     }
 }
 
-/// The path of the store's file that a task names, if it names one. `run_store` runs such a task.
+/// The path of the store's file that a task names, if it names one. `run_store` or `run_follow` runs such a task.
 pub fn store_path(task: &Task) -> Option<&str>
     ensures { option_map (λ path. path.now) result ≡ store_path task.now }
 {
     match task {
         Task::Apply { store, .. } => store.as_deref(),
-        Task::Dump { store } => Some(store.as_str()),
+        Task::Dump { store } | Task::Follow { store, .. } => Some(store.as_str()),
         _ => None,
     }
 }
@@ -63,7 +63,7 @@ pub(crate) fn left_path(task: &Task) -> &str
 {
     match task {
         Task::Show { file, .. } | Task::Apply { file, .. } | Task::Resume { file } => file.as_str(),
-        Task::Dump { store } => store.as_str(),
+        Task::Dump { store } | Task::Follow { store, .. } => store.as_str(),
         Task::Same { left, .. } => left.as_str(),
         Task::Lsn { .. } => "",
     }
@@ -116,7 +116,8 @@ fn show_recording<R: Input + Drop, W: Output>(
     file: Option<R>,
     out: &mut W,
 ) -> Result<Ending, RunFault>
-    ensures { Prints R.gives R.begins R.failed W.takes W.failed (λ _. ⊥) (PrintsShown version) file out.old out.new result }
+    ensures { Prints R.gives R.begins R.failed W.takes W.failed (λ _. ⊥)
+        (PrintsShown version) file out.old out.new result }
 {
     let sessions = read_sessions(alloc, Side::Left, file)?;
     write_printed(Ok(show(alloc, version, sessions.as_slice())), out)
@@ -129,7 +130,8 @@ fn apply_recording<R: Input + Drop, W: Output>(
     file: Option<R>,
     out: &mut W,
 ) -> Result<Ending, RunFault>
-    ensures { Prints R.gives R.begins R.failed W.takes W.failed IsReadFault (PrintsApplied version) file out.old out.new result }
+    ensures { Prints R.gives R.begins R.failed W.takes W.failed IsReadFault
+        (PrintsApplied version) file out.old out.new result }
 {
     let sessions = read_sessions(alloc, Side::Left, file)?;
     write_printed(apply(alloc, version, sessions.as_slice()), out)
@@ -142,7 +144,8 @@ fn apply_file<R: Input + Drop, W: Output>(
     file: Option<R>,
     out: &mut W,
 ) -> Result<Ending, RunFault>
-    ensures { PrintsFile R.gives R.begins R.failed W.takes W.failed version file out.old out.new result }
+    ensures { PrintsFile R.gives R.begins R.failed W.takes W.failed version file out.old out.new
+        result }
 {
     let Some(file) = file else {
         return Err(RunFault::CannotRead(Side::Left));
@@ -156,7 +159,8 @@ fn resume_recording<R: Input + Drop, W: Output>(
     file: Option<R>,
     out: &mut W,
 ) -> Result<Ending, RunFault>
-    ensures { Prints R.gives R.begins R.failed W.takes W.failed IsReadFault PrintsResumed file out.old out.new result }
+    ensures { Prints R.gives R.begins R.failed W.takes W.failed IsReadFault PrintsResumed file
+        out.old out.new result }
 {
     let sessions = read_sessions(alloc, Side::Left, file)?;
     write_printed(resume(alloc, sessions.as_slice()), out)
@@ -209,7 +213,8 @@ fn compare_recordings<R: Input + Drop, W: Output>(
     right: Option<R>,
     out: &mut W,
 ) -> Result<Ending, RunFault>
-    ensures { Compares R.gives R.begins R.failed W.takes W.failed version left right out.old out.new result }
+    ensures { Compares R.gives R.begins R.failed W.takes W.failed version left right out.old out.new
+        result }
 {
     if left.is_some() && right.is_none() {
         return Err(RunFault::CannotRead(Side::Right));
@@ -228,7 +233,8 @@ fn run_task<R: Input + Drop, W: Output>(
     out: &mut W,
 ) -> Result<Ending, RunFault>
     requires { store_path task.now ≡ None }
-    ensures { Ends R.gives R.begins R.failed W.takes W.failed task.now left right out.old out.new result }
+    ensures { Ends R.gives R.begins R.failed W.takes W.failed task.now left right out.old out.new
+        result }
 {
     match task {
         Task::Show { version, .. } => show_recording(alloc, *version, left, out),
@@ -242,7 +248,7 @@ fn run_task<R: Input + Drop, W: Output>(
         Task::Same { version, .. } => compare_recordings(alloc, *version, left, right, out),
         Task::Resume { .. } => resume_recording(alloc, left, out),
         Task::Lsn { text } => write_number(alloc, text.as_str(), out),
-        Task::Dump { .. } => unreachable!(),
+        Task::Dump { .. } | Task::Follow { .. } => unreachable!(),
     }
 }
 
@@ -264,7 +270,9 @@ pub fn run<R: Input + Drop, W: Output, E: Output>(
 ) -> u8
     requires { store_path task.now ≡ None }
     ensures status { result ≤ 4 }
-    ensures ends { (ended : Result Ending RunFault) × (result ≡ status_of ended) × Ends R.gives R.begins R.failed W.takes W.failed task.now left right out.old out.new ended × Tells E.takes E.failed (left_path task.now) (right_path task.now) ended err.old err.new }
+    ensures ends { (ended : Result Ending RunFault) × (result ≡ status_of ended)
+        × Ends R.gives R.begins R.failed W.takes W.failed task.now left right out.old out.new ended
+        × Tells E.takes E.failed (left_path task.now) (right_path task.now) ended err.old err.new }
 {
     let ended = run_task(alloc, task, left, right, out);
     tell(alloc, ended, left_path(task), right_path(task), err);

@@ -48,7 +48,8 @@ fn show_next(
     session: &Session,
     lines: &mut String,
 ) -> Result<(), Fault>
-    ensures { AddsLines (AreShownLater version (session_bytes session.now ∷ [])) lines.old lines.new result }
+    ensures { AddsLines (AreShownLater version (session_bytes session.now ∷ [])) lines.old lines.new
+        result }
 {
     if lines.push_str(DISCONNECTION).is_err() {
         return Err(Fault::Memory);

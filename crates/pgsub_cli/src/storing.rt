@@ -61,7 +61,9 @@ fn feed_incoming<R: Input + Drop, P: Spools + Drop, C: ReplicaStore + Drop>(
     subscriber: &mut Subscriber<P, C>,
     incoming: Incoming<R>,
 ) -> Result<Printed, Fault>
-    ensures applied { C.is_honest subscriber.new.applied.store → IfOk result (λ printed. ShowsIncoming R.gives R.begins R.failed C.holds C.place incoming subscriber.old subscriber.new printed.stopped (string_bytes printed.lines)) }
+    ensures applied { C.is_honest subscriber.new.applied.store →
+        IfOk result (λ printed. ShowsIncoming R.gives R.begins R.failed C.holds C.place incoming
+        subscriber.old subscriber.new printed.stopped (string_bytes printed.lines)) }
     ensures fault { IfErr result IsReadFault }
 {
     match incoming {
@@ -71,20 +73,21 @@ fn feed_incoming<R: Input + Drop, P: Spools + Drop, C: ReplicaStore + Drop>(
 }
 
 /// A subscriber over a store, with the program's spools and limits.
-fn subscriber_over<C: ReplicaStore + Drop>(
+pub(crate) fn subscriber_over<C: ReplicaStore + Drop>(
     alloc: Global,
     store: C,
     version: Version,
 ) -> Subscriber<ByteSpools, C>
     ensures store { result.applied.store ≡ store }
-    ensures state { (tables : Tables) → seen C.place result tables ≡ subscriber_over tables (C.place store) version }
+    ensures state { (tables : Tables) → seen C.place result tables
+        ≡ subscriber_over tables (C.place store) version }
 {
     let spools = ByteSpools::new(alloc, MAX_BUFFERED);
     Subscriber::new(alloc, store, spools, version, MAX_FRAME)
 }
 
 /// A fault of a store, as that of following.
-fn store_fault(fault: StoreFault) -> Fault
+pub fn store_fault(fault: StoreFault) -> Fault
     ensures { result ≡ fault_of_store fault }
 {
     match fault {
@@ -95,7 +98,9 @@ fn store_fault(fault: StoreFault) -> Fault
 
 /// The lines of the rows and the position that a store holds. Nothing changes.
 fn held_lines<C: ReplicaStore>(alloc: Global, store: &mut C) -> Result<Printed, Fault>
-    ensures held { C.is_honest store.new → IfOk result (λ printed. PrintsHeld C.holds C.place store.old store.new printed.stopped (string_bytes printed.lines)) }
+    ensures held { C.is_honest store.new → IfOk result
+        (λ printed. PrintsHeld C.holds C.place store.old store.new printed.stopped
+        (string_bytes printed.lines)) }
     ensures fault { IfErr result IsReadFault }
 {
     let position = store.position();
@@ -118,7 +123,9 @@ fn apply_over<R: Input + Drop, C: ReplicaStore + Drop>(
     mut store: C,
     input: Option<(Version, Incoming<R>)>,
 ) -> (Result<Printed, Fault>, C)
-    ensures applied { C.is_honest result.1 → IfOk result.0 (λ printed. PrintsOver R.gives R.begins R.failed C.holds C.place input store result.1 printed.stopped (string_bytes printed.lines)) }
+    ensures applied { C.is_honest result.1 → IfOk result.0
+        (λ printed. PrintsOver R.gives R.begins R.failed C.holds C.place input store result.1
+        printed.stopped (string_bytes printed.lines)) }
     ensures fault { IfErr result.0 IsReadFault }
 {
     fed_sessions_are_followed();
@@ -134,7 +141,8 @@ fn apply_over<R: Input + Drop, C: ReplicaStore + Drop>(
 /// Tells why a task was stopped before it opened its store. Returns the exit status.
 pub fn tell_stopped<E: Output>(alloc: Global, task: &Task, fault: RunFault, err: &mut E) -> u8
     ensures status { result ≡ status_of (Err fault) }
-    ensures tells { Tells E.takes E.failed (left_path task.now) (right_path task.now) (Err fault) err.old err.new }
+    ensures tells { Tells E.takes E.failed (left_path task.now) (right_path task.now)
+        (Err fault) err.old err.new }
 {
     let ended = Err(fault);
     tell(alloc, ended, left_path(task), right_path(task), err);
@@ -169,7 +177,11 @@ pub fn run_store<R: Input + Drop, C: ReplicaStore + Drop, W: Output, E: Output>(
     err: &mut E,
 ) -> (u8, C)
     ensures status { result.0 ≤ 4 }
-    ensures ends { (ended : Result Ending RunFault) × (result.0 ≡ status_of ended) × Writes W.takes W.failed IsReadFault (λ stopped lines. C.is_honest result.1 → PrintsOver R.gives R.begins R.failed C.holds C.place input store result.1 stopped lines) out.old out.new ended × Tells E.takes E.failed [] [] ended err.old err.new }
+    ensures ends { (ended : Result Ending RunFault) × (result.0 ≡ status_of ended)
+        × Writes W.takes W.failed IsReadFault
+        (λ stopped lines. C.is_honest result.1 →
+        PrintsOver R.gives R.begins R.failed C.holds C.place input store result.1 stopped lines)
+        out.old out.new ended × Tells E.takes E.failed [] [] ended err.old err.new }
 {
     let (printed, store) = apply_over(alloc, store, input);
     let ended = write_printed(printed, out);

@@ -1,12 +1,12 @@
 //! The program's line of a fault has the words in which the libraries print it.
 
-use crate::fault::RunFault;
-use crate::fault_text::StopLine;
 use pgapply::StoreFault;
 use pglogical::{DecodeFault, Reason};
 use pgorder::OrderFault;
 use pgrel::RelFault;
 use pgspool::SpoolFault;
+use pgsub_cli::fault::RunFault;
+use pgsub_cli::fault_text::StopLine;
 use pgsub_core::Fault;
 use pgtuple::TupleFault;
 use pgwire::WireFault;

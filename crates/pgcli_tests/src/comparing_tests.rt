@@ -1,8 +1,8 @@
 //! Pairs of recordings, and what their comparison prints. The line of a frame is an XLogData message with the message that is named.
 
-use crate::running::run;
 use pgcommand::Task;
 use pgorder::Version;
+use pgsub_cli::running::run;
 use std::alloc::{AllocError, Global};
 use std::io;
 use std::io::{ErrorKind, Read, Write};

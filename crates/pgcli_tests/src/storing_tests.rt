@@ -1,11 +1,11 @@
 //! What is applied to a store, and how a store that isn't opened is told.
 
-use crate::fault::RunFault;
-use crate::storing::{Incoming, read_input, run_store, tell_stopped, tell_unopened};
 use pgapply::StoreFault;
 use pgcommand::Task;
 use pgorder::Version;
 use pgstore::Store;
+use pgsub_cli::fault::RunFault;
+use pgsub_cli::storing::{Incoming, read_input, run_store, tell_stopped, tell_unopened};
 use pgsub_core::Side;
 use std::test::Fail;
 

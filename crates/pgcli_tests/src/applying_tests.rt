@@ -1,8 +1,8 @@
 //! Files whose bytes are fed as they are, and recordings from which a server would be asked to go on.
 
-use crate::running::{run, store_path};
 use pgcommand::Task;
 use pgorder::Version;
+use pgsub_cli::running::{run, store_path};
 use std::alloc::{AllocError, Global};
 use std::io;
 use std::io::{ErrorKind, Read};
@@ -88,6 +88,7 @@ fn raw_task(alloc: Global) -> Result<Task, AllocError> {
     Ok(Task::Apply {
         version: Version::Two,
         raw: true,
+        progress: false,
         store: None,
         file: String::from_str(alloc, "in.bin")?,
     })

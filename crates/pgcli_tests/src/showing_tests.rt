@@ -1,7 +1,7 @@
 //! Command lines that print frames or an LSN, over recordings in memory.
 
-use crate::running::{run, store_path};
 use pgcommand::{CommandFault, Task, command_of};
+use pgsub_cli::running::{run, store_path};
 use std::alloc::{AllocError, Global};
 use std::process::Abort;
 use std::test::Fail;

@@ -4,9 +4,9 @@ ghost use Rattle.std.specs.Prelude.{◌≡◌, None};
 ghost use Rattle.pgsub_cli.specs.Runs.{store_path};
 
 use crate::cases::{BEFORE, DISCONNECTION, FAULTS, NOTHING, ROW_BEFORE, TRANSACTIONS};
-use crate::running::run;
 use pgcommand::Task;
 use pgorder::Version;
+use pgsub_cli::running::run;
 use std::alloc::{AllocError, Global};
 use std::fmt::Write as _;
 use std::io;
@@ -76,6 +76,7 @@ fn applying(file: String) -> Task
     Task::Apply {
         version: Version::One,
         raw: false,
+        progress: false,
         store: None,
         file,
     }

@@ -1,0 +1,34 @@
+use Rattle.std.proofs.Common.{ℕ, List, Option, Some, subst, sym}
+use Rattle.std.specs.Prelude.{⊤}
+use Rattle.pgorder.specs.declared.Version.{Version}
+use Rattle.pgsub_core.specs.declared.fault.Fault.{Fault}
+use Rattle.pgsub_core.specs.Faults.{IsReadFault}
+use Rattle.pgsub_cli.specs.declared.storing.Incoming.{Incoming}
+use Rattle.pgsub_cli.specs.declared.reporting.Counted.{Counted}
+use Rattle.pgsub_cli.specs.declared.reporting.Reported.{Reported}
+use Rattle.pgsub_cli.specs.Reports.{ReaderBegins, ReaderGives}
+use Rattle.pgsub_cli.specs.Storing.{PrintsOver}
+use Rattle.pgsub_cli.proofs.WithinLines.{prints_within, writes_weaker}
+use Rattle.pgsub_cli.proofs.reporting.run_reported.Goals as goal
+
+pub returns-clause-ends : goal.returns-clause-ends
+returns-clause-ends g c =
+    let it = g.C.ReplicaStore in
+    let gives : g.row.R.Denot → List ℕ → Type 0 = ReaderGives g.R.Read.remaining in
+    let begins : g.row.R.Denot → List ℕ → Type 0 = ReaderBegins g.R.Read.remaining in
+    let failed : g.row.R.Denot → Type 0 = λ _. ⊤ in
+    let reader : Counted g.row.R.Denot g.row.K.Denot g.row.P.Denot → g.row.R.Denot = λ q. q.reader in
+    let within : Reported g.row.C.Denot g.row.K.Denot g.row.P.Denot → g.row.C.Denot = λ s. s.store in
+    let input : Option (Version × Incoming g.row.R.Denot) = Some (c.args.version, c.args.incoming) in
+    let counted : Option (Version × Incoming (Counted g.row.R.Denot g.row.K.Denot g.row.P.Denot)) = Some (c.args.version, c.count_bytes.result) in
+    let there = c.run_store-status.result.1 in
+    let told : Option Fault → List ℕ → Type 0 = λ stopped lines. it.is_honest (within there)
+    → PrintsOver (λ q. gives (reader q)) (λ q. begins (reader q)) (λ q. failed (reader q)) (λ s. it.holds (within s)) (λ s. it.place (within s)) counted c.new.result there stopped lines in
+    let wanted : Option Fault → List ℕ → Type 0 = λ stopped lines. it.is_honest c.into_store.result → PrintsOver gives begins failed it.holds it.place input c.args.store c.into_store.result stopped lines in
+    let shown : (stopped : Option Fault) (lines : List ℕ) → told stopped lines → wanted stopped lines = λ stopped lines h honest.
+    subst (λ s. PrintsOver gives begins failed it.holds it.place input s c.into_store.result stopped lines) c.new.ensures
+    (subst (λ s. PrintsOver gives begins failed it.holds it.place input (within c.new.result) s stopped lines) (sym c.into_store.ensures)
+    (prints_within reader within gives begins failed it.holds it.place c.args.version c.args.incoming c.count_bytes.result c.new.result there stopped lines c.count_bytes.ensures
+    (h (subst it.is_honest c.into_store.ensures honest)))) in
+    let e = c.run_store-status.ensures.ends in
+    (e.0, e.1, writes_weaker {W = g.row.W.Denot} g.W.Output.takes g.W.Output.failed IsReadFault told wanted c.args.out.now c.run_store-status.new.out e.0 shown e.2, e.3)

@@ -1,0 +1,292 @@
+//! Tells, while a store takes commits, how far that is. What a reader gives and what a store holds are as without it.
+
+ghost use Rattle.std.specs.Prelude.{◌≡◌, ◌≤◌, ◌+◌, ◌⊎◌, [], Result, Some, IfOk, ⊤};
+ghost use Rattle.pgsub_core.specs.Faults.{IsReadFault};
+ghost use Rattle.pgsub_cli.specs.declared.fault.Ending.{Ending};
+ghost use Rattle.pgsub_cli.specs.declared.fault.RunFault.{RunFault};
+ghost use Rattle.pgsub_cli.specs.Reports.{CountsIncoming, IsCounted, ReaderBegins, ReaderGives, TellsProgress, bytes_text, nothing_of, progress_line, with_bytes, with_commit};
+ghost use Rattle.pgsub_cli.specs.Runs.{Tells, Writes, status_of};
+ghost use Rattle.pgsub_cli.specs.Storing.{PrintsOver};
+
+use crate::files::Output;
+use crate::storing::{Incoming, run_store};
+use pgapply::{DumpRow, ReplicaStore, StoreFault, Work};
+use pglsn::Lsn;
+use pgorder::Version;
+use std::alloc::Global;
+use std::cell::RefCell;
+use std::io::Read;
+use std::time::{Clock, Duration, Instant};
+use std::{fmt, io};
+
+/// How far applying is.
+#[derive(Clone, Copy, Debug, PartialEq, Eq)]
+pub struct Progress {
+    /// The bytes that were read.
+    pub read: u64,
+    /// All that there are, None where that isn't known.
+    pub total: Option<u64>,
+    /// The commits that were stored.
+    pub commits: u64,
+    /// Their changes.
+    pub changes: u64,
+    /// The end LSN of the last one.
+    pub position: Lsn,
+    /// The changes of each second since the start.
+    pub rate: u64,
+}
+
+/// The bytes that were read, of how many.
+#[derive(Clone, Copy)]
+struct BytesText {
+    read: u64,
+    total: Option<u64>,
+}
+
+impl fmt::Display for BytesText {
+    ghost output = { λ text. Some (bytes_text text.read text.total) };
+
+    fn fmt<W: fmt::Write>(&self, f: &mut fmt::Formatter<W>) -> fmt::Result {
+        let read = self.read;
+        match self.total {
+            Some(total) => write!(f, "{read} of {total}"),
+            None => write!(f, "{read}"),
+        }
+    }
+}
+
+impl fmt::Display for Progress {
+    ghost output = { λ progress. Some (progress_line progress) };
+
+    fn fmt<W: fmt::Write>(&self, f: &mut fmt::Formatter<W>) -> fmt::Result {
+        let (read, total) = (self.read, self.total);
+        let bytes = BytesText { read, total };
+        let (commits, changes) = (self.commits, self.changes);
+        let (position, rate) = (self.position, self.rate);
+        writeln!(
+            f,
+            "pgsub: {bytes} bytes read, {commits} commits, {changes} changes, position {position}, {rate} changes/s"
+        )
+    }
+}
+
+/// So many seconds are between two lines at least.
+const PAUSE: u64 = 1;
+
+/// Tells a writer how far applying is, at most once a second by its clock.
+#[derive(Drop)]
+pub struct Reporter<K: Clock + Drop, E: Output + Drop> {
+    alloc: Global,
+    clock: K,
+    err: E,
+    start: Instant,
+    last: Instant,
+    progress: Progress,
+}
+
+/// So many changes in this time, as changes of a second.
+fn rate(changes: u64, time: Duration) -> u64 {
+    let millis = time
+        .as_secs()
+        .saturating_mul(1000)
+        .saturating_add(u64::from(time.subsec_millis()));
+    changes.saturating_mul(1000) / millis.max(1)
+}
+
+impl<K: Clock + Drop, E: Output + Drop> Reporter<K, E> {
+    /// One that has told nothing yet. `total` is how many bytes there are to be read, None where that isn't known.
+    ///
+    /// # Errors
+    ///
+    /// The clock can't be read.
+    pub fn new(alloc: Global, clock: K, err: E, total: Option<u64>) -> io::Result<Reporter<K, E>>
+        ensures { IfOk result (λ reporter. (reporter.err ≡ err)
+            × (reporter.progress ≡ nothing_of total)) }
+    {
+        let start = Instant::now(&clock)?;
+        Ok(Reporter {
+            alloc,
+            clock,
+            err,
+            start,
+            last: start,
+            progress: Progress {
+                read: 0,
+                total,
+                commits: 0,
+                changes: 0,
+                position: Lsn(0),
+                rate: 0,
+            },
+        })
+    }
+
+    /// Tells how far it is, if the last line, or the start, was a second ago. Where there is no memory for the line, or it can't be
+    /// written, the next one may follow.
+    fn tell(&mut self)
+        ensures told { TellsProgress E.takes E.failed self.old.last self.new.last self.new.progress
+            self.old.err self.new.err }
+        ensures counts { IsCounted self.new.progress self.old.progress }
+    {
+        let Ok(now) = Instant::now(&self.clock) else {
+            return;
+        };
+        if now.duration_since(self.last) < Duration::from_secs(PAUSE) {
+            return;
+        }
+        self.last = now;
+        self.progress.rate = rate(self.progress.changes, now.duration_since(self.start));
+        if let Ok(line) = format!(in self.alloc; "{}", self.progress) {
+            let _ = self.err.write_lines(line.as_str());
+        }
+    }
+
+    /// Notes bytes that were read.
+    pub fn note_bytes(&mut self, count: u64)
+        ensures told { TellsProgress E.takes E.failed self.old.last self.new.last self.new.progress
+            self.old.err self.new.err }
+        ensures counts { IsCounted self.new.progress (with_bytes count self.old.progress) }
+    {
+        self.progress.read = self.progress.read.saturating_add(count);
+        self.tell();
+    }
+
+    /// Notes a commit with so many changes, which was stored and ends at `end`.
+    pub fn note_commit(&mut self, end: Lsn, changes: usize)
+        ensures told { TellsProgress E.takes E.failed self.old.last self.new.last self.new.progress
+            self.old.err self.new.err }
+        ensures counts { IsCounted self.new.progress (with_commit end changes self.old.progress) }
+    {
+        self.progress.commits = self.progress.commits.saturating_add(1);
+        self.progress.changes = self.progress.changes.saturating_add(changes as u64);
+        self.progress.position = end;
+        self.tell();
+    }
+}
+
+/// A store whose commits are told.
+#[derive(Drop)]
+pub struct Reported<'a, C: ReplicaStore + Drop, K: Clock + Drop, E: Output + Drop> {
+    store: C,
+    reporter: &'a RefCell<Reporter<K, E>>,
+}
+
+impl<'a, C: ReplicaStore + Drop, K: Clock + Drop, E: Output + Drop> Reported<'a, C, K, E> {
+    /// The store, whose commits are told to the reporter from now on.
+    pub fn new(store: C, reporter: &'a RefCell<Reporter<K, E>>) -> Reported<'a, C, K, E>
+        ensures { result.store ≡ store }
+    {
+        Reported { store, reporter }
+    }
+
+    /// The store.
+    pub fn into_store(self) -> C
+        ensures { result ≡ self.entry.store }
+    {
+        self.store
+    }
+}
+
+impl<C: ReplicaStore + Drop, K: Clock + Drop, E: Output + Drop> ReplicaStore
+    for Reported<'_, C, K, E> {
+    ghost serves = { λ s. C.serves s.store };
+
+    ghost is_honest = { λ s. C.is_honest s.store };
+
+    ghost holds = { λ s tables. C.holds s.store tables };
+
+    ghost place = { λ s. C.place s.store };
+
+    ghost reopens = { λ s other. C.reopens s.store other.store };
+
+    fn position(&self) -> Lsn {
+        self.store.position()
+    }
+
+    fn take(&mut self, end: Lsn, work: &Work<'_>) -> Result<(), StoreFault> {
+        let taken = self.store.take(end, work);
+        if taken.is_ok() {
+            if let Ok(mut reporter) = self.reporter.try_borrow_mut() {
+                reporter.note_commit(end, work.entries().len());
+            }
+        }
+        taken
+    }
+
+    fn rows(&mut self) -> Result<Vec<DumpRow>, StoreFault> {
+        self.store.rows()
+    }
+}
+
+/// A reader whose bytes are told.
+#[derive(Drop)]
+pub struct Counted<'a, R: Read + Drop, K: Clock + Drop, E: Output + Drop> {
+    reader: R,
+    reporter: &'a RefCell<Reporter<K, E>>,
+}
+
+impl<'a, R: Read + Drop, K: Clock + Drop, E: Output + Drop> Counted<'a, R, K, E> {
+    /// The reader, whose bytes are told to the reporter from now on.
+    pub fn new(reader: R, reporter: &'a RefCell<Reporter<K, E>>) -> Counted<'a, R, K, E>
+        ensures { result.reader ≡ reader }
+    {
+        Counted { reader, reporter }
+    }
+}
+
+impl<R: Read + Drop, K: Clock + Drop, E: Output + Drop> Read for Counted<'_, R, K, E> {
+    ghost remaining = { λ counted. R.remaining counted.reader };
+
+    fn read(&mut self, buf: &mut [u8]) -> io::Result<usize> {
+        let count = self.reader.read(buf)?;
+        if let Ok(mut reporter) = self.reporter.try_borrow_mut() {
+            reporter.note_bytes(count as u64);
+        }
+        Ok(count)
+    }
+}
+
+/// What comes, of which the bytes are told as they are read.
+fn count_bytes<'a, R: Read + Drop, K: Clock + Drop, E: Output + Drop>(
+    incoming: Incoming<R>,
+    reporter: &'a RefCell<Reporter<K, E>>,
+) -> Incoming<Counted<'a, R, K, E>>
+    ensures { CountsIncoming (λ c. c.reader) incoming result }
+{
+    match incoming {
+        Incoming::Sessions(sessions) => Incoming::Sessions(sessions),
+        Incoming::Raw(file) => Incoming::Raw(Counted::new(file, reporter)),
+    }
+}
+
+/// Applies to an opened store what comes of a recording or a file, as `run_store` does, and tells the reporter meanwhile. What is
+/// printed, what the store holds then, what standard error gets for a fault and the exit status are as without it.
+pub fn run_reported<
+    R: Read + Drop,
+    C: ReplicaStore + Drop,
+    K: Clock + Drop,
+    P: Output + Drop,
+    W: Output,
+    E: Output,
+>(
+    alloc: Global,
+    store: C,
+    version: Version,
+    incoming: Incoming<R>,
+    reporter: Reporter<K, P>,
+    out: &mut W,
+    err: &mut E,
+) -> (u8, C)
+    ensures status { result.0 ≤ 4 }
+    ensures ends { (ended : Result Ending RunFault) × (result.0 ≡ status_of ended)
+        × Writes W.takes W.failed IsReadFault
+        (λ stopped lines. C.is_honest result.1 →
+        PrintsOver (ReaderGives R.remaining) (ReaderBegins R.remaining) (λ _. ⊤) C.holds C.place
+        (Some (version, incoming)) store result.1 stopped lines) out.old out.new ended
+        × Tells E.takes E.failed [] [] ended err.old err.new }
+{
+    let reporter = RefCell::new(reporter);
+    let input = Some((version, count_bytes(incoming, &reporter)));
+    let (status, told) = run_store(alloc, Reported::new(store, &reporter), input, out, err);
+    (status, told.into_store())
+}
