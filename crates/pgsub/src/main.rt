@@ -1,23 +1,27 @@
-//! The program: shows, applies and compares recorded sessions of a server, and keeps in a file what they lead to.
+//! The program: follows a server, shows, applies and compares recorded sessions of one, and keeps in a file what they lead to.
 #![tactic(auto)]
 
 ghost use Rattle.std.specs.Prelude.{◌≡◌, ◌≢◌, ◌⊎◌};
 ghost use Rattle.clap.specs.Values.{kind_of};
 ghost use Rattle.clap.specs.declared.error.kind.ErrorKind.TheVariants as kind;
 
+use pgapply::ReplicaStore;
 use pgcommand::{CommandFault, Task, command_of};
+use pgfollow::{Clock, Link};
 use pgorder::Version;
 use pgstore::Store;
 use pgsub_cli::fault::RunFault;
-use pgsub_cli::storing::{Incoming, read_input, tell_stopped, tell_unopened};
-use pgsub_cli::{run, run_store, store_path};
+use pgsub_cli::reporting::{Reporter, run_reported};
+use pgsub_cli::storing::{Incoming, read_input, store_fault, tell_stopped, tell_unopened};
+use pgsub_cli::{run, run_follow, run_store, store_path};
 use pgsub_core::Side;
 use sqlite::Unknown;
 use std::alloc::AllocError;
-use std::env;
 use std::fs::File;
 use std::io::ErrorKind;
 use std::process::ExitCode;
+use std::time::{SystemTime, UNIX_EPOCH};
+use std::{env, fs};
 
 /// The status of a usage error.
 const USAGE: u8 = 2;
@@ -37,8 +41,10 @@ fn words(rt: &HostRuntime) -> Result<Option<Vec<String>>, AllocError> {
 /// Prints help or the version, or tells on standard error why the words ask for no task. Where standard error can't be written, the
 /// status alone tells.
 fn tell_usage(rt: &HostRuntime, error: &clap::Error) -> u8
-    ensures usage { kind_of error.now ≢ kind.DisplayHelp → kind_of error.now ≢ kind.DisplayVersion → result ≡ 2 }
-    ensures asked { (kind_of error.now ≡ kind.DisplayHelp) ⊎ (kind_of error.now ≡ kind.DisplayVersion) → (result ≡ 0) ⊎ (result ≡ 3) }
+    ensures usage { kind_of error.now ≢ kind.DisplayHelp → kind_of error.now ≢ kind.DisplayVersion →
+        result ≡ 2 }
+    ensures asked { (kind_of error.now ≡ kind.DisplayHelp)
+        ⊎ (kind_of error.now ≡ kind.DisplayVersion) → (result ≡ 0) ⊎ (result ≡ 3) }
 {
     if error.use_stderr() {
         let _ = error.print(rt);
@@ -66,7 +72,7 @@ fn files_of(rt: &HostRuntime, task: &Task) -> (Option<File>, Option<File>) {
             let left = opened(rt, left.as_str());
             (left, opened(rt, right.as_str()))
         }
-        Task::Dump { .. } | Task::Lsn { .. } => (None, None),
+        Task::Dump { .. } | Task::Follow { .. } | Task::Lsn { .. } => (None, None),
     }
 }
 
@@ -93,18 +99,161 @@ fn input_of(
     }
 }
 
+/// Whether standard error is to be told how far it is.
+fn tells_progress(task: &Task) -> bool {
+    match task {
+        Task::Apply { progress, .. } => *progress,
+        _ => false,
+    }
+}
+
+/// The number of bytes of a file, None where it isn't a plain one.
+fn length_of(rt: &HostRuntime, path: &str) -> Option<u64> {
+    match fs::metadata(rt, path) {
+        Ok(about) if about.is_file() => Some(about.len()),
+        _ => None,
+    }
+}
+
+/// How many bytes of the file are read already, and how many there are, None where that isn't known.
+fn bytes_to_read(rt: &HostRuntime, task: &Task, incoming: &Incoming<File>) -> (u64, Option<u64>) {
+    let Task::Apply { file, .. } = task else {
+        return (0, None);
+    };
+    let total = length_of(rt, file.as_str());
+    match incoming {
+        // A recording is read whole before its first session.
+        Incoming::Sessions(_) => (total.unwrap_or(0), total),
+        Incoming::Raw(_) => (0, total),
+    }
+}
+
+/// Applies to a store what comes, and tells meanwhile how far it is. Where the clock can't be read, it tells nothing. Returns the exit
+/// status and the store.
+fn run_told<C: ReplicaStore + Drop>(
+    rt: &HostRuntime,
+    task: &Task,
+    store: C,
+    version: Version,
+    incoming: Incoming<File>,
+) -> (u8, C) {
+    let (mut out, mut err) = (rt.stdout(), rt.stderr());
+    let (read, total) = bytes_to_read(rt, task, &incoming);
+    let Ok(mut reporter) = Reporter::new(rt.alloc(), rt, rt.stderr(), total) else {
+        let input = Some((version, incoming));
+        return run_store(rt.alloc(), store, input, &mut out, &mut err);
+    };
+    reporter.note_bytes(read);
+    run_reported(
+        rt.alloc(),
+        store,
+        version,
+        incoming,
+        reporter,
+        &mut out,
+        &mut err,
+    )
+}
+
+/// Runs a task over an opened store. Returns the exit status and the store.
+fn run_opened<C: ReplicaStore + Drop>(
+    rt: &HostRuntime,
+    task: &Task,
+    store: C,
+    input: Option<(Version, Incoming<File>)>,
+) -> (u8, C) {
+    let (mut out, mut err) = (rt.stdout(), rt.stderr());
+    let Some((version, incoming)) = input else {
+        let nothing: Option<(Version, Incoming<File>)> = None;
+        return run_store(rt.alloc(), store, nothing, &mut out, &mut err);
+    };
+    if tells_progress(task) {
+        return run_told(rt, task, store, version, incoming);
+    }
+    let input = Some((version, incoming));
+    run_store(rt.alloc(), store, input, &mut out, &mut err)
+}
+
 /// Runs a task over the store in the file at a path. What it applies is read before the store is opened.
 ///
 /// The store's files never stand for a standard stream that was closed at the start: the SQL library opens them behind those.
+/// At the end the log goes into the store's own file, which holds everything then. Where that fails nothing is lost: the next run reads
+/// the log.
 fn run_over(rt: &HostRuntime, task: &Task, path: &str) -> u8 {
-    let (mut out, mut err) = (rt.stdout(), rt.stderr());
+    let mut err = rt.stderr();
     let input = match input_of(rt, task, path) {
         Ok(input) => input,
         Err(fault) => return tell_stopped(rt.alloc(), task, fault, &mut err),
     };
     match Store::open_from(rt.alloc(), rt, path, Unknown) {
-        Ok(store) => run_store(rt.alloc(), store, input, &mut out, &mut err).0,
+        Ok(store) => {
+            let (status, store) = run_opened(rt, task, store, input);
+            let _ = store.into_connection().close();
+            status
+        }
         Err(fault) => tell_unopened(rt.alloc(), fault, &mut err),
+    }
+}
+
+/// The system's clock.
+#[derive(Drop)]
+struct SystemClock<'r> {
+    rt: &'r HostRuntime,
+}
+
+/// 2000-01-01 00:00 UTC, in microseconds since 1970.
+const YEAR_2000: i64 = 946_684_800_000_000;
+
+impl Clock for SystemClock<'_> {
+    // The year 2000 where the system's clock can't be read.
+    fn now(&mut self) -> i64 {
+        let Ok(time) = SystemTime::now(self.rt) else {
+            return 0;
+        };
+        let Ok(since) = time.duration_since(UNIX_EPOCH) else {
+            return 0;
+        };
+        let micros = i64::try_from(since.as_micros()).unwrap_or(i64::MAX);
+        micros.saturating_sub(YEAR_2000)
+    }
+}
+
+/// Follows a server over the store in the file at a path: its bytes come from standard input, and statuses go to standard output. At the
+/// end the log goes into the store's own file.
+fn run_live(rt: &HostRuntime, version: Version, path: &str) -> u8 {
+    let mut err = rt.stderr();
+    match Store::open_from(rt.alloc(), rt, path, Unknown) {
+        Ok(store) => {
+            let mut link = Link::new(rt.stdin(), rt.stdout());
+            let mut clock = SystemClock { rt };
+            let (status, store) = run_follow(
+                rt.alloc(),
+                store,
+                version,
+                &mut link,
+                &mut clock,
+                &mut err,
+            );
+            let _ = store.into_connection().close();
+            status
+        }
+        Err(fault) => tell_unopened(rt.alloc(), fault, &mut err),
+    }
+}
+
+/// Applies a recording or a file to a store in memory, which ends with the program, and tells meanwhile how far it is.
+fn run_in_memory(rt: &HostRuntime, task: &Task) -> u8 {
+    let mut err = rt.stderr();
+    let input = match input_of(rt, task, "") {
+        Ok(input) => input,
+        Err(fault) => return tell_stopped(rt.alloc(), task, fault, &mut err),
+    };
+    match Store::on_memory_disks(rt.alloc()) {
+        Ok(store) => run_opened(rt, task, store, input).0,
+        Err(fault) => {
+            let stopped = RunFault::Stream(store_fault(fault));
+            tell_stopped(rt.alloc(), task, stopped, &mut err)
+        }
     }
 }
 
@@ -115,8 +264,14 @@ fn run_words(rt: &HostRuntime, words: &[String]) -> Result<u8, AllocError> {
         Err(CommandFault::Usage(error)) => return Ok(tell_usage(rt, &error)),
         Err(CommandFault::Memory) => return Err(AllocError),
     };
+    if let Task::Follow { version, store } = &task {
+        return Ok(run_live(rt, *version, store.as_str()));
+    }
     if let Some(path) = store_path(&task) {
         return Ok(run_over(rt, &task, path));
+    }
+    if tells_progress(&task) {
+        return Ok(run_in_memory(rt, &task));
     }
     let (left, right) = files_of(rt, &task);
     let (mut out, mut err) = (rt.stdout(), rt.stderr());
