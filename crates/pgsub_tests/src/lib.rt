@@ -12,6 +12,8 @@ mod messages;
 #[cfg(test)]
 mod pairs;
 #[cfg(test)]
+mod places;
+#[cfg(test)]
 mod pumped;
 #[cfg(test)]
 mod refusing;

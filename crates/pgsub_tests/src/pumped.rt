@@ -83,15 +83,15 @@ fn pump_all<P: Spools + Drop, C: ReplicaStore + Drop>(
 }
 
 /// Pumps the first bytes over a new store, and feeds the others.
-fn fail_after<C: ReplicaStore + Drop>(
+fn fail_after<P: Spools + Drop, C: ReplicaStore + Drop>(
     rt: &(impl Abort + AllocGlobal),
     store: C,
-    front: &[u8],
-    rest: &[u8],
+    spools: P,
+    bytes: &[u8],
+    count: usize,
 ) -> Result<(), Fail> {
-    let alloc = rt.alloc();
-    let spools = ByteSpools::new(alloc, AMPLE);
-    let mut subscriber = Subscriber::new(alloc, store, spools, Version::Two, MAX_FRAME);
+    let (front, rest) = bytes.split_at(count.min(bytes.len()));
+    let mut subscriber = Subscriber::new(rt.alloc(), store, spools, Version::Two, MAX_FRAME);
     pump_and_feed(rt, &mut subscriber, front, rest)
 }
 
@@ -101,8 +101,12 @@ fn a_reader_that_fails_after_each_byte(rt: HostRuntime) -> Result<(), Fail> {
     let bytes = bytes_of(alloc, "t1")?;
     assert!(rt; bytes.len() == 227);
     for count in 0..=bytes.len() {
-        let (front, rest) = bytes.as_slice().split_at(count);
-        fail_after(&rt, Store::in_memory(alloc)?, front, rest)?;
+        let encoded = ByteSpools::new(alloc, AMPLE);
+        let store = Store::in_memory(alloc)?;
+        fail_after(&rt, store, encoded, bytes.as_slice(), count)?;
+        let decoded = ListSpools::new(alloc, AMPLE);
+        let store = Store::in_memory(alloc)?;
+        fail_after(&rt, store, decoded, bytes.as_slice(), count)?;
     }
     Ok(())
 }

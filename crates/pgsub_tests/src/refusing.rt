@@ -52,13 +52,15 @@ fn has_rows_of_a_commit<P: Spools + Drop, C: ReplicaStore + Drop>(
     Ok(are_rows(rows.as_slice(), wanted))
 }
 
-/// Follows a session to its end, once more where memory was refused; then the rows in between are those of a commit.
+/// Follows a session to its end, once more where memory was refused; then the rows in between are those of a commit. Where a store on
+/// disks has shut, the position is still that of a commit.
 fn follow_in_the_end<P: Spools + Drop, C: ReplicaStore + Drop>(
     rt: &impl Abort,
     subscriber: &mut Subscriber<P, C>,
     sessions: &[Session],
 ) -> Result<(), Fault> {
     let followed = follow(subscriber, sessions, NOW);
+    assert!(rt; rows_at(subscriber.position()).is_some());
     if followed != Err(Fault::Memory) {
         return followed;
     }
@@ -91,16 +93,21 @@ fn takes_all_in_memory<P: Spools + Drop>(
     Ok(takes_all(rt, store, spools, sessions)?)
 }
 
-/// The same over disks in memory. Where a disk can't grow, the store may shut with `Refused`, and all is taken anew.
-fn takes_all_on_disks(rt: &(impl Abort + AllocGlobal), sessions: &[Session]) -> Result<bool, Fail> {
+/// The same over disks in memory. Where a disk can't grow, the store may shut with `Refused`, and all is taken anew by other spools.
+fn takes_all_on_disks<P: Spools + Drop>(
+    rt: &(impl Abort + AllocGlobal),
+    spools: P,
+    anew: P,
+    sessions: &[Session],
+) -> Result<bool, Fail> {
     if let Ok(store) = Store::on_memory_disks(rt.alloc()) {
-        let taken = takes_all(rt, store, ByteSpools::new(rt.alloc(), AMPLE), sessions);
+        let taken = takes_all(rt, store, spools, sessions);
         if taken != Err(Fault::Store(StoreFault::Refused)) {
             return Ok(taken?);
         }
     }
     let store = Store::on_memory_disks(rt.alloc())?;
-    Ok(takes_all(rt, store, ByteSpools::new(rt.alloc(), AMPLE), sessions)?)
+    Ok(takes_all(rt, store, anew, sessions)?)
 }
 
 // The only answer beside those that would have come is Memory, and nothing is lost.
@@ -119,8 +126,12 @@ fn refused_memory_changes_nothing(rt: HostRuntime) -> Result<(), Fail> {
 #[test]
 fn on_disks_refused_memory_changes_nothing(rt: HostRuntime) -> Result<(), Fail> {
     for session in [IN_PAIRS, IN_BLOCKS] {
-        let sessions = sessions_in_the_end(rt.alloc(), session)?;
-        assert!(rt; takes_all_on_disks(&rt, sessions.as_slice())?);
+        let alloc = rt.alloc();
+        let sessions = sessions_in_the_end(alloc, session)?;
+        let (spools, anew) = (ByteSpools::new(alloc, AMPLE), ByteSpools::new(alloc, AMPLE));
+        assert!(rt; takes_all_on_disks(&rt, spools, anew, sessions.as_slice())?);
+        let (spools, anew) = (ListSpools::new(alloc, AMPLE), ListSpools::new(alloc, AMPLE));
+        assert!(rt; takes_all_on_disks(&rt, spools, anew, sessions.as_slice())?);
     }
     Ok(())
 }

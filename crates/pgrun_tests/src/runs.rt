@@ -1,0 +1,76 @@
+//! One run over a store on two disks.
+
+use crate::disks::{close, open};
+use crate::fault::Wrong;
+use pgorder::Version;
+use pgsub_cli::run_store;
+use pgsub_cli::storing::{Incoming, read_input};
+use sqlite::Files;
+use sqlite_disk::Memory;
+use std::alloc::{AllocError, Global};
+
+/// A run: `apply` of a recording, or `dump` where there is none, and what comes of it.
+pub(crate) struct Run {
+    /// The lines of the recording.
+    pub(crate) recording: Option<&'static [&'static str]>,
+    /// What it prints.
+    pub(crate) out: &'static str,
+    /// What it tells on standard error.
+    pub(crate) err: &'static str,
+    /// Its exit status.
+    pub(crate) status: u8,
+}
+
+/// The text of a recording.
+fn text_of(alloc: Global, lines: &[&str]) -> Result<String, AllocError> {
+    let mut text = String::new(alloc);
+    for line in lines {
+        text.push_str(line)?;
+        text.push('\n')?;
+    }
+    Ok(text)
+}
+
+/// What is given to a run. All of the recording is read before the store is opened.
+fn input_of(
+    alloc: Global,
+    recording: Option<&[&str]>,
+) -> Result<Option<(Version, Incoming<&'static [u8]>)>, Wrong> {
+    let Some(lines) = recording else {
+        return Ok(None);
+    };
+    let text = text_of(alloc, lines)?;
+    match read_input(alloc, false, Some(text.as_bytes())) {
+        Ok(Incoming::Sessions(sessions)) => Ok(Some((Version::Two, Incoming::Sessions(sessions)))),
+        _ => Err(Wrong::Unread),
+    }
+}
+
+/// Compares what a run printed and told, and its exit status.
+fn compare(run: &Run, out: &[u8], err: &[u8], status: u8) -> Result<(), Wrong> {
+    if out != run.out.as_bytes() {
+        return Err(Wrong::Printed);
+    }
+    if err != run.err.as_bytes() {
+        return Err(Wrong::Told);
+    }
+    if status != run.status {
+        return Err(Wrong::Status(status));
+    }
+    Ok(())
+}
+
+/// Runs it over the store on these disks, which are given back, and compares what comes of it.
+pub(crate) fn check_run(
+    alloc: Global,
+    disks: Files<Memory>,
+    run: &Run,
+) -> Result<Files<Memory>, Wrong> {
+    let input = input_of(alloc, run.recording)?;
+    let store = open(alloc, disks)?;
+    let (mut out, mut err) = (Vec::new(alloc), Vec::new(alloc));
+    let (status, store) = run_store(alloc, store, input, &mut out, &mut err);
+    let disks = close(store)?;
+    compare(run, out.as_slice(), err.as_slice(), status)?;
+    Ok(disks)
+}

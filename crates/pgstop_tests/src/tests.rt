@@ -1,0 +1,94 @@
+//! Each number of calls that a disk passes on before it stops.
+
+use crate::disks::{Calls, Left, NEVER, close, nothing, open};
+use crate::recordings::{CARRIED, IN_BLOCKS, Recording, bytes_of};
+use crate::runs::{feed, may_come_of_a_stop, state_of};
+use std::alloc::Global;
+use std::test::Fail;
+
+/// A run on two new disks that stop after so many calls.
+fn run(alloc: Global, bytes: &[u8], calls: Calls) -> Result<Left, Fail> {
+    match open(alloc, &nothing(alloc), calls)? {
+        Ok(store) => {
+            let (fed, store) = feed(alloc, store, bytes);
+            if !may_come_of_a_stop(&fed) {
+                return Err(Fail::from("another fault"));
+            }
+            close(alloc, store)
+        }
+        Err(left) => Ok(left),
+    }
+}
+
+/// What was left is one of the states, and the session leads on to the last of them.
+fn run_again(
+    alloc: Global,
+    bytes: &[u8],
+    left: &Left,
+    recording: &Recording,
+) -> Result<usize, Fail> {
+    let calls = Calls {
+        log: NEVER,
+        db: NEVER,
+    };
+    let Ok(mut store) = open(alloc, left, calls)? else {
+        return Err(Fail::from("what was left can't be opened"));
+    };
+    let state = state_of(&mut store, recording.states)?;
+    let (fed, mut store) = feed(alloc, store, bytes);
+    if fed.is_err()
+        || state_of(&mut store, recording.states)?.saturating_add(1) != recording.states.len()
+    {
+        return Err(Fail::from("the session doesn't lead to the end"));
+    }
+    Ok(state)
+}
+
+/// Stops a disk after so many calls, for each number until a run meets no stop. Each state must be left by some run.
+fn sweep(alloc: Global, recording: &Recording, is_log: bool) -> Result<(), Fail> {
+    let bytes = bytes_of(alloc, recording.messages)?;
+    let mut last = 0;
+    for number in 0..NEVER {
+        let calls = if is_log {
+            Calls {
+                log: number,
+                db: NEVER,
+            }
+        } else {
+            Calls {
+                log: NEVER,
+                db: number,
+            }
+        };
+        let left = run(alloc, bytes.as_slice(), calls)?;
+        let state = run_again(alloc, bytes.as_slice(), &left, recording)?;
+        if state < last {
+            return Err(Fail::from("a later stop leaves less"));
+        }
+        last = state;
+        if !left.has_stopped {
+            return Ok(());
+        }
+    }
+    Err(Fail::from("each run meets a stop"))
+}
+
+#[test]
+fn the_log_stops_in_blocks(rt: HostRuntime) -> Result<(), Fail> {
+    sweep(rt.alloc(), &IN_BLOCKS, true)
+}
+
+#[test]
+fn the_database_file_stops_in_blocks(rt: HostRuntime) -> Result<(), Fail> {
+    sweep(rt.alloc(), &IN_BLOCKS, false)
+}
+
+#[test]
+fn the_log_stops_while_rows_are_carried(rt: HostRuntime) -> Result<(), Fail> {
+    sweep(rt.alloc(), &CARRIED, true)
+}
+
+#[test]
+fn the_database_file_stops_while_rows_are_carried(rt: HostRuntime) -> Result<(), Fail> {
+    sweep(rt.alloc(), &CARRIED, false)
+}
