@@ -50,7 +50,8 @@ impl<C: ReplicaStore + Drop> Watched<C> {
     /// Notes the relations of a work.
     pub fn note(&mut self, work: &Work<'_>) -> Result<(), AllocError>
         ensures store { self.new.store ≡ self.old.store }
-        ensures noted { OnOk result (self.new.changed.items ≡ self.old.changed.items ++ map (λ (def : RelationDef). def.oid) work.now.definitions) }
+        ensures noted { OnOk result (self.new.changed.items
+            ≡ self.old.changed.items ++ map (λ (def : RelationDef). def.oid) work.now.definitions) }
     {
         for def in work.definitions() {
             self.changed.push(def.oid)?;

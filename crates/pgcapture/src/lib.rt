@@ -103,8 +103,12 @@ fn take_line(
     sessions: &mut Vec<Session>,
     pieces: &mut Vec<Bytes>,
 ) -> Result<(), CaptureFault>
-    ensures taken { OnOk result ((rest : Captured) → joined sessions.new.items pieces.new.items rest ≡ joined sessions.old.items pieces.old.items (with_line number (meaning_of line.now) rest)) }
-    ensures refused { IfErr result (λ fault. (fault ≡ CaptureFault.Memory) ⊎ ((fault ≡ CaptureFault.NotHexadecimal number) × (meaning_of line.now ≡ NoLine))) }
+    ensures taken { OnOk result ((rest : Captured) →
+        joined sessions.new.items pieces.new.items rest
+        ≡ joined sessions.old.items pieces.old.items
+        (with_line number (meaning_of line.now) rest)) }
+    ensures refused { IfErr result (λ fault. (fault ≡ CaptureFault.Memory)
+        ⊎ ((fault ≡ CaptureFault.NotHexadecimal number) × (meaning_of line.now ≡ NoLine))) }
 {
     if is_skipped(line) {
         return Ok(());
@@ -128,7 +132,8 @@ fn end_session(
     sessions: &mut Vec<Session>,
     pieces: &mut Vec<Bytes>,
 ) -> Result<(), CaptureFault>
-    ensures ended { OnOk result ((sessions.new.items ≡ sessions.old.items ++ session_of pieces.old.items ∷ []) × (pieces.new.items ≡ [])) }
+    ensures ended { OnOk result ((sessions.new.items
+        ≡ sessions.old.items ++ session_of pieces.old.items ∷ []) × (pieces.new.items ≡ [])) }
     ensures refused { IfErr result (λ fault. fault ≡ CaptureFault.Memory) }
 {
     let ended = mem::replace(pieces, Vec::new(alloc));

@@ -108,8 +108,10 @@ impl Counts {
 
     /// Counts a message and the bytes of its body.
     pub fn count(&mut self, kind: Kind, body_len: usize)
-        ensures kind { self.new.by_kind ≡ slice_set self.old.by_kind (place kind) (one_more (slice_index self.old.by_kind (place kind))) }
-        ensures bytes { self.new ≡ record self.old { by_kind = self.new.by_kind; body_bytes = both self.old.body_bytes body_len } }
+        ensures kind { self.new.by_kind ≡ slice_set self.old.by_kind (place kind)
+            (one_more (slice_index self.old.by_kind (place kind))) }
+        ensures bytes { self.new ≡ record self.old
+            { by_kind = self.new.by_kind; body_bytes = both self.old.body_bytes body_len } }
     {
         let place = kind as usize;
         self.by_kind[place] = self.by_kind[place].saturating_add(1);
@@ -123,7 +125,8 @@ impl Counts {
         ensures frames { self.new.frames ≡ both self.old.frames other.now.frames }
         ensures keepalives { self.new.keepalives ≡ both self.old.keepalives other.now.keepalives }
         ensures bytes { self.new.body_bytes ≡ both self.old.body_bytes other.now.body_bytes }
-        ensures kinds { (k : ℕ) → k < 14 → slice_index self.new.by_kind k ≡ both (slice_index self.old.by_kind k) (slice_index other.now.by_kind k) }
+        ensures kinds { (k : ℕ) → k < 14 → slice_index self.new.by_kind k
+            ≡ both (slice_index self.old.by_kind k) (slice_index other.now.by_kind k) }
     {
         self.sessions = self.sessions.saturating_add(other.sessions);
         self.pieces = self.pieces.saturating_add(other.pieces);

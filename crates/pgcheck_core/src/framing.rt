@@ -98,7 +98,8 @@ impl FrameReader {
     /// Takes the frames that the piece completes. A fault ends the frames.
     fn take(&mut self, piece: &[u8]) -> Result<(), AllocError>
         requires { IsReady self.old }
-        ensures { OnOk result ((max : ℕ) (before : List ℕ) → HasTaken max before self.old → HasTaken max (before ++ piece.now) self.new) }
+        ensures { OnOk result ((max : ℕ) (before : List ℕ) → HasTaken max before self.old →
+            HasTaken max (before ++ piece.now) self.new) }
     {
         if self.reading.fault.is_some() {
             return Ok(());

@@ -48,7 +48,8 @@ pub enum Found {
 ///
 /// Out of memory.
 pub fn check_text(alloc: Global, text: &[u8]) -> Result<Checked, AllocError>
-    ensures { IfOk result (λ checked. MatchOption checked.found (IsSoundText text.now checked.counts) (λ found. IsFound text.now found)) }
+    ensures { IfOk result (λ checked. MatchOption checked.found
+        (IsSoundText text.now checked.counts) (λ found. IsFound text.now found)) }
 {
     let mut counts = Counts::new();
     let sessions = match read_capture(alloc, text) {

@@ -45,7 +45,8 @@ struct Checker {
 
 /// The frames of a session that are the same in all cuts, or the cut in which they aren't.
 fn frames_in_all_cuts(alloc: Global, pieces: &[Bytes]) -> Result<Result<Reading, Cut>, AllocError>
-    ensures { IfOk result (λ answer. IfOk answer (IsReadAs longest_payload (flat_map (λ (piece : List ℕ). piece) pieces.now))) }
+    ensures { IfOk result (λ answer. IfOk answer
+        (IsReadAs longest_payload (flat_map (λ (piece : List ℕ). piece) pieces.now))) }
 {
     let bytes = joined(alloc, pieces)?;
     let frames = frames_of_chunks(alloc, bytes.as_slice(), bytes.len())?;
@@ -86,7 +87,8 @@ fn message_difference(
     message: &Message,
     body: &[u8],
 ) -> Result<Option<Difference>, AllocError>
-    ensures { IfOk result (λ found. (found ≡ None) ↔ (IsSpellableMessage message.now × (body.now ≡ message_spelling message.now))) }
+    ensures { IfOk result (λ found. (found ≡ None) ↔
+        (IsSpellableMessage message.now × (body.now ≡ message_spelling message.now))) }
 {
     if !message.spellable() {
         return Ok(Some(Difference::NotEncodable));
@@ -110,7 +112,9 @@ fn place_behind_xid(in_block: bool) -> usize
 
 /// Whether the body is the spelling but for what stands in front of this place in it, behind the letter.
 fn same_but_xid(spelling: &[u8], body: &[u8], behind: usize) -> bool
-    ensures { IsTrue result ↔ ((1 ≤ length spelling.now) × (behind ≤ length body.now) × (1 ≤ length body.now) × (take 1 spelling.now ≡ take 1 body.now) × (drop 1 spelling.now ≡ drop behind body.now)) }
+    ensures { IsTrue result ↔ ((1 ≤ length spelling.now) × (behind ≤ length body.now)
+        × (1 ≤ length body.now) × (take 1 spelling.now ≡ take 1 body.now)
+        × (drop 1 spelling.now ≡ drop behind body.now)) }
 {
     if spelling.is_empty() || body.is_empty() || body.len() < behind {
         return false;
@@ -126,7 +130,8 @@ fn item_difference(
     body: &[u8],
     in_block: bool,
 ) -> Result<Option<Difference>, AllocError>
-    ensures { IfOk result (λ found. (xid : Option ℕ) → HasXidExactlyInBlock in_block xid → IsSpellable item.now → body.now ≡ item_spelling xid item.now → found ≡ None) }
+    ensures { IfOk result (λ found. (xid : Option ℕ) → HasXidExactlyInBlock in_block xid →
+        IsSpellable item.now → body.now ≡ item_spelling xid item.now → found ≡ None) }
 {
     if !item.spellable() {
         return Ok(Some(Difference::NotEncodable));
@@ -151,7 +156,8 @@ fn borrowed_difference(
     body: &[u8],
     in_block: bool,
 ) -> Result<Option<Difference>, AllocError>
-    ensures { IfOk result (λ found. (m : LogicalMessage) → Says in_block m body.now → found ≡ None) }
+    ensures { IfOk result (λ found. (m : LogicalMessage) → Says in_block m body.now →
+        found ≡ None) }
 {
     let Ok(borrowed) = decode_ref(body, in_block) else {
         return Ok(Some(Difference::Borrowed));
@@ -227,7 +233,10 @@ impl Checker {
     /// Checks the pieces of a session, up to the first difference.
     fn check(&mut self, pieces: &[Bytes]) -> Result<Option<Difference>, AllocError>
         requires { HasChecked [] self.old }
-        ensures { IfOk result (λ found. MatchOption found (IsChecked longest_payload (flat_map (λ (piece : List ℕ). piece) pieces.now) self.new) (λ difference. HasDifference longest_payload (flat_map (λ (piece : List ℕ). piece) pieces.now) self.new.counts difference)) }
+        ensures { IfOk result (λ found. MatchOption found
+            (IsChecked longest_payload (flat_map (λ (piece : List ℕ). piece) pieces.now) self.new)
+            (λ difference. HasDifference longest_payload
+            (flat_map (λ (piece : List ℕ). piece) pieces.now) self.new.counts difference)) }
     {
         let frames = match frames_in_all_cuts(self.alloc, pieces)? {
             Ok(frames) => frames,
@@ -245,7 +254,9 @@ impl Checker {
     }
 
     fn check_frame(&mut self, released: &Released) -> Result<Option<Difference>, AllocError>
-        ensures { IfOk result (λ found. (fs : List Frame) → HasChecked fs self.old → MatchOption found (HasChecked (fs ++ frame_of released.now ∷ []) self.new) (λ difference. StopsAt fs (frame_of released.now) self.new.counts difference)) }
+        ensures { IfOk result (λ found. (fs : List Frame) → HasChecked fs self.old →
+            MatchOption found (HasChecked (fs ++ frame_of released.now ∷ []) self.new)
+            (λ difference. StopsAt fs (frame_of released.now) self.new.counts difference)) }
     {
         self.counts.frames = self.counts.frames.saturating_add(1);
         match released {
@@ -305,8 +316,12 @@ impl Checker {
 
 /// Checks the pieces of a session, up to the first thing that isn't as it should be.
 pub fn check_session(alloc: Global, pieces: &[Bytes]) -> Result<CheckedSession, AllocError>
-    ensures checked { IfOk result (λ checked. MatchOption checked.difference (IsSound longest_payload (flat_map (λ (piece : List ℕ). piece) pieces.now) checked.counts) (λ difference. HasDifference longest_payload (flat_map (λ (piece : List ℕ). piece) pieces.now) checked.counts difference)) }
-    ensures session { IfOk result (λ checked. (checked.counts.sessions ≡ 1) × (checked.counts.pieces ≡ length pieces.now)) }
+    ensures checked { IfOk result (λ checked. MatchOption checked.difference
+        (IsSound longest_payload (flat_map (λ (piece : List ℕ). piece) pieces.now) checked.counts)
+        (λ difference. HasDifference longest_payload
+        (flat_map (λ (piece : List ℕ). piece) pieces.now) checked.counts difference)) }
+    ensures session { IfOk result (λ checked. (checked.counts.sessions ≡ 1)
+        × (checked.counts.pieces ≡ length pieces.now)) }
 {
     let mut checker = Checker::new(alloc);
     let difference = checker.check(pieces)?;

@@ -17,7 +17,8 @@ use std::alloc::{AllocError, Global};
 
 /// The compact text of a value, and a line feed.
 fn line_of(alloc: Global, value: &Value) -> Result<String, AllocError>
-    ensures { IfOk result (λ text. has_float (view value.now) ≡ false → string_bytes text ≡ line (view value.now)) }
+    ensures { IfOk result (λ text. has_float (view value.now) ≡ false →
+        string_bytes text ≡ line (view value.now)) }
 {
     let mut text = value.to_string(alloc)?;
     text.push('\n')?;
@@ -31,7 +32,8 @@ fn data_json(
     clock: i64,
     message: &MessageRef<'_>,
 ) -> Result<Value, AllocError>
-    ensures { IfOk result (λ value. view value ≡ data_data start end clock (message_value message.now)) }
+    ensures { IfOk result (λ value. view value
+        ≡ data_data start end clock (message_value message.now)) }
 {
     let start = lsn_json(alloc, start)?;
     let end = lsn_json(alloc, end)?;
@@ -60,7 +62,8 @@ pub fn data_line(
     clock: i64,
     message: &MessageRef<'_>,
 ) -> Result<String, AllocError>
-    ensures { IfOk result (λ text. string_bytes text ≡ line (data_data start end clock (message_value message.now))) }
+    ensures { IfOk result (λ text. string_bytes text
+        ≡ line (data_data start end clock (message_value message.now))) }
 {
     let value = data_json(alloc, start, end, clock, message)?;
     line_of(alloc, &value)

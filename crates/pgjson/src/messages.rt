@@ -44,7 +44,8 @@ fn logical_json(
     prefix: &str,
     content: &[u8],
 ) -> Result<Value, AllocError>
-    ensures { IfOk result (λ value. view value ≡ logical_data xid transactional lsn prefix.now content.now) }
+    ensures { IfOk result (λ value. view value
+        ≡ logical_data xid transactional lsn prefix.now content.now) }
 {
     let lsn = lsn_json(alloc, lsn)?;
     let digits = hex::encode(alloc, content)?;

@@ -1,4 +1,4 @@
-//! A disk by its calls. `pgstore`'s tests run a whole store on such disks.
+//! A disk by its calls. `pgstore_tests` runs a whole store on such disks.
 
 use crate::disk::MemoryDisk;
 use sqlite_disk::Disk;

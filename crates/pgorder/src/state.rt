@@ -84,24 +84,31 @@ impl Order {
 
         // After any messages that leave this state: Ok exactly where the shape goes on, with the message's event, and else
         // the first fault that holds.
-        ensures shape { AnswersByShape self.old.version self.old.state (message_value message.now) result }
+        ensures shape { AnswersByShape self.old.version self.old.state
+            (message_value message.now) result }
 
-        ensures taken { IfOk result (λ event. order_step self.old.version self.old.state (message_value message.now) ≡ Ok (self.new.state, event)) }
+        ensures taken { IfOk result (λ event. order_step self.old.version self.old.state
+            (message_value message.now) ≡ Ok (self.new.state, event)) }
         ensures version { self.new.version ≡ self.old.version }
 
         // The fault is that of the message, or memory ran out where the message would be taken.
-        ensures fault { IfErr result (λ fault. fault ≢ OrderFault.Memory → order_step self.old.version self.old.state (message_value message.now) ≡ Err fault) }
-        ensures memory { result ≡ Err OrderFault.Memory → IsFirstSegment (message_value message.now) × IsOk (order_step self.old.version self.old.state (message_value message.now)) }
+        ensures fault { IfErr result (λ fault. fault ≢ OrderFault.Memory →
+            order_step self.old.version self.old.state (message_value message.now) ≡ Err fault) }
+        ensures memory { result ≡ Err OrderFault.Memory → IsFirstSegment (message_value message.now)
+            × IsOk (order_step self.old.version self.old.state (message_value message.now)) }
         ensures unchanged { OnErr result (self.new ≡ self.old) }
     {
         self.answer(message)
     }
 
     fn answer(&mut self, message: &MessageRef<'_>) -> Result<Event, OrderFault>
-        ensures taken { IfOk result (λ event. order_step self.old.version self.old.state (message_value message.now) ≡ Ok (self.new.state, event)) }
+        ensures taken { IfOk result (λ event. order_step self.old.version self.old.state
+            (message_value message.now) ≡ Ok (self.new.state, event)) }
         ensures version { self.new.version ≡ self.old.version }
-        ensures fault { IfErr result (λ fault. fault ≢ OrderFault.Memory → order_step self.old.version self.old.state (message_value message.now) ≡ Err fault) }
-        ensures memory { result ≡ Err OrderFault.Memory → IsFirstSegment (message_value message.now) × IsOk (order_step self.old.version self.old.state (message_value message.now)) }
+        ensures fault { IfErr result (λ fault. fault ≢ OrderFault.Memory →
+            order_step self.old.version self.old.state (message_value message.now) ≡ Err fault) }
+        ensures memory { result ≡ Err OrderFault.Memory → IsFirstSegment (message_value message.now)
+            × IsOk (order_step self.old.version self.old.state (message_value message.now)) }
         ensures unchanged { OnErr result (self.new ≡ self.old) }
     {
         match message {
@@ -141,7 +148,8 @@ impl Order {
 
     // In a block the subxid is the message's xid, in a pair that of Begin.
     fn item(&self, subxid: Option<u32>) -> Result<Event, OrderFault>
-        ensures { Answers (step_item self.now.state self.now.state.context subxid) self.now.state result }
+        ensures { Answers (step_item self.now.state self.now.state.context subxid) self.now.state
+            result }
     {
         match self.context {
             Context::Outside => Err(OrderFault::OutsideTransaction),
@@ -157,7 +165,8 @@ impl Order {
     }
 
     fn begin(&mut self, final_lsn: Lsn, xid: u32) -> Result<Event, OrderFault>
-        ensures answer { Answers (step_begin self.old.state self.old.state.context final_lsn xid) self.new.state result }
+        ensures answer { Answers (step_begin self.old.state self.old.state.context final_lsn xid)
+            self.new.state result }
         ensures version { self.new.version ≡ self.old.version }
         ensures unchanged { OnErr result (self.new ≡ self.old) }
     {
@@ -171,7 +180,8 @@ impl Order {
     }
 
     fn commit(&mut self, lsn: Lsn, end: Lsn) -> Result<Event, OrderFault>
-        ensures answer { Answers (step_commit self.old.state self.old.state.context lsn end) self.new.state result }
+        ensures answer { Answers (step_commit self.old.state self.old.state.context lsn end)
+            self.new.state result }
         ensures version { self.new.version ≡ self.old.version }
         ensures unchanged { OnErr result (self.new ≡ self.old) }
     {
@@ -189,8 +199,13 @@ impl Order {
 
     // Only this takes memory, and only where the segment is the first one.
     fn stream_start(&mut self, xid: u32, first: bool) -> Result<Event, OrderFault>
-        ensures answer { result ≢ Err OrderFault.Memory → Answers (in_version_2 self.old.version (step_stream_start self.old.state self.old.state.context xid first)) self.new.state result }
-        ensures memory { result ≡ Err OrderFault.Memory → IsTrue first × IsOk (in_version_2 self.old.version (step_stream_start self.old.state self.old.state.context xid first)) }
+        ensures answer { result ≢ Err OrderFault.Memory →
+            Answers (in_version_2 self.old.version
+            (step_stream_start self.old.state self.old.state.context xid first)) self.new.state
+            result }
+        ensures memory { result ≡ Err OrderFault.Memory → IsTrue first
+            × IsOk (in_version_2 self.old.version
+            (step_stream_start self.old.state self.old.state.context xid first)) }
         ensures version { self.new.version ≡ self.old.version }
         ensures unchanged { OnErr result (self.new ≡ self.old) }
     {
@@ -203,8 +218,10 @@ impl Order {
 
     fn start_outside(&mut self, xid: u32, first: bool) -> Result<Event, OrderFault>
         requires { self.old.state.context ≡ Outside }
-        ensures answer { result ≢ Err OrderFault.Memory → Answers (step_stream_start self.old.state Outside xid first) self.new.state result }
-        ensures memory { result ≡ Err OrderFault.Memory → IsTrue first × IsOk (step_stream_start self.old.state Outside xid first) }
+        ensures answer { result ≢ Err OrderFault.Memory →
+            Answers (step_stream_start self.old.state Outside xid first) self.new.state result }
+        ensures memory { result ≡ Err OrderFault.Memory → IsTrue first
+            × IsOk (step_stream_start self.old.state Outside xid first) }
         ensures version { self.new.version ≡ self.old.version }
         ensures unchanged { OnErr result (self.new ≡ self.old) }
     {
@@ -225,7 +242,8 @@ impl Order {
     }
 
     fn stream_stop(&mut self) -> Result<Event, OrderFault>
-        ensures answer { Answers (in_version_2 self.old.version (step_stream_stop self.old.state self.old.state.context)) self.new.state result }
+        ensures answer { Answers (in_version_2 self.old.version
+            (step_stream_stop self.old.state self.old.state.context)) self.new.state result }
         ensures version { self.new.version ≡ self.old.version }
         ensures unchanged { OnErr result (self.new ≡ self.old) }
     {
@@ -240,7 +258,9 @@ impl Order {
     }
 
     fn stream_commit(&mut self, xid: u32, lsn: Lsn, end: Lsn) -> Result<Event, OrderFault>
-        ensures answer { Answers (in_version_2 self.old.version (step_stream_commit self.old.state self.old.state.context xid lsn end)) self.new.state result }
+        ensures answer { Answers (in_version_2 self.old.version
+            (step_stream_commit self.old.state self.old.state.context xid lsn end)) self.new.state
+            result }
         ensures version { self.new.version ≡ self.old.version }
         ensures unchanged { OnErr result (self.new ≡ self.old) }
     {
@@ -259,7 +279,9 @@ impl Order {
 
     // The abort of a transaction that isn't open is ignored.
     fn stream_abort(&mut self, xid: u32, subxid: u32) -> Result<Event, OrderFault>
-        ensures answer { Answers (in_version_2 self.old.version (step_stream_abort self.old.state self.old.state.context xid subxid)) self.new.state result }
+        ensures answer { Answers (in_version_2 self.old.version
+            (step_stream_abort self.old.state self.old.state.context xid subxid)) self.new.state
+            result }
         ensures version { self.new.version ≡ self.old.version }
         ensures unchanged { OnErr result (self.new ≡ self.old) }
     {
@@ -272,7 +294,8 @@ impl Order {
 
     fn abort_outside(&mut self, xid: u32, subxid: u32) -> Event
         requires { self.old.state.context ≡ Outside }
-        ensures answer { step_stream_abort self.old.state Outside xid subxid ≡ Ok (self.new.state, result) }
+        ensures answer { step_stream_abort self.old.state Outside xid subxid
+            ≡ Ok (self.new.state, result) }
         ensures version { self.new.version ≡ self.old.version }
     {
         if xid == subxid {

@@ -18,7 +18,8 @@ use std::alloc::Global;
 
 /// The logical message of a body, if it may come next.
 fn next_message<'b>(order: &mut Order, body: &'b [u8]) -> Result<MessageRef<'b>, Fault>
-    ensures taken { IfOk result (λ message. TakesBody body.now (message_value message) order.old order.new) }
+    ensures taken { IfOk result (λ message. TakesBody body.now
+        (message_value message) order.old order.new) }
     ensures refused { IfErr result (RefusesBody body.now order.old) }
 {
     let message = match decode_ref(body, order.in_block()) {
@@ -40,7 +41,8 @@ fn xlog_line(
     clock: i64,
     body: &[u8],
 ) -> Result<String, Fault>
-    ensures taken { IfOk result (λ line. TakesData start end clock body.now (string_bytes line) order.old order.new) }
+    ensures taken { IfOk result (λ line. TakesData start end clock body.now
+        (string_bytes line) order.old order.new) }
     ensures refused { IfErr result (RefusesBody body.now order.old) }
 {
     let message = next_message(order, body)?;
@@ -50,7 +52,8 @@ fn xlog_line(
 
 /// The line of CopyData with this payload.
 fn payload_line(alloc: Global, order: &mut Order, payload: &[u8]) -> Result<String, Fault>
-    ensures taken { IfOk result (λ line. TakesFrame (CopyData payload.now) (string_bytes line) order.old order.new) }
+    ensures taken { IfOk result (λ line. TakesFrame (CopyData payload.now)
+        (string_bytes line) order.old order.new) }
     ensures refused { IfErr result (RefusesPayload payload.now order.old) }
 {
     let message = match decode_server(payload) {
@@ -77,7 +80,8 @@ pub(crate) fn frame_line(
     order: &mut Order,
     frame: &Frame<'_>,
 ) -> Result<String, Fault>
-    ensures taken { IfOk result (λ line. TakesFrame (frame_value frame.now) (string_bytes line) order.old order.new) }
+    ensures taken { IfOk result (λ line. TakesFrame (frame_value frame.now)
+        (string_bytes line) order.old order.new) }
     ensures refused { IfErr result (RefusesFrame (frame_value frame.now) order.old) }
 {
     match frame {

@@ -34,8 +34,10 @@ fn show_whole(
     order: &mut Order,
     lines: &mut String,
 ) -> Result<(), Fault>
-    ensures shown { OnOk result (ShowsWhole deframer.old order.old (string_bytes lines.old) deframer.new order.new (string_bytes lines.new)) }
-    ensures refused { IfErr result (RefusesWhole deframer.old order.old (string_bytes lines.old) (string_bytes lines.new)) }
+    ensures shown { OnOk result (ShowsWhole deframer.old order.old
+        (string_bytes lines.old) deframer.new order.new (string_bytes lines.new)) }
+    ensures refused { IfErr result (RefusesWhole deframer.old order.old (string_bytes lines.old)
+        (string_bytes lines.new)) }
 {
     let Some(frame) = deframer.whole() else {
         return Ok(());
@@ -56,8 +58,10 @@ fn show_piece(
 ) -> Result<(), Fault>
     requires waits { Waits deframer.old }
     requires sound { deframer.old.fault ≡ None }
-    ensures shown { OnOk result (ShowsPiece piece.now deframer.old order.old (string_bytes lines.old) deframer.new order.new (string_bytes lines.new)) }
-    ensures refused { IfErr result (StopsInPiece piece.now deframer.old order.old (string_bytes lines.old) (string_bytes lines.new)) }
+    ensures shown { OnOk result (ShowsPiece piece.now deframer.old order.old
+        (string_bytes lines.old) deframer.new order.new (string_bytes lines.new)) }
+    ensures refused { IfErr result (StopsInPiece piece.now deframer.old order.old
+        (string_bytes lines.old) (string_bytes lines.new)) }
     ensures waits { OnOk result (Waits deframer.new × (deframer.new.fault ≡ None)) }
 {
     let mut rest = piece;
@@ -83,7 +87,9 @@ pub fn show_session(
     lines: &mut String,
 ) -> Result<(), Fault>
     requires { max_frame ≤ 2147483643 }
-    ensures { (text : List ℕ) × (string_bytes lines.new ≡ string_bytes lines.old ++ text) × IsShownAs version max_frame (flat_map (λ (piece : List ℕ). piece) pieces.now) text (fault_in result) }
+    ensures { (text : List ℕ) × (string_bytes lines.new ≡ string_bytes lines.old ++ text)
+        × IsShownAs version max_frame (flat_map (λ (piece : List ℕ). piece) pieces.now) text
+        (fault_in result) }
 {
     let mut deframer = Deframer::new(alloc, max_frame);
     let mut order = Order::new(alloc, version);

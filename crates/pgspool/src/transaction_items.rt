@@ -25,7 +25,8 @@ pub trait TransactionItems: Drop {
 
     /// Borrows the item at an index.
     fn item(&self, index: usize) -> Option<ItemRef<'_>>
-        ensures value { result ≡ option_map (λ (l : LabelledItem). l.1) (slice_get (listed self.now) index) }
+        ensures value { result ≡ option_map (λ (l : LabelledItem). l.1)
+            (slice_get (listed self.now) index) }
         ensures spellable { IfSome result (λ i. IsSpellable i) };
 
     /// Adds an item that costs this many bytes.
