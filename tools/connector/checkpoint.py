@@ -1,0 +1,121 @@
+"""What is known of a store from one run to the next, in a file beside it, and what a start concludes from it.
+
+The file is `STORE.connector`: one line of JSON, padded to 512 bytes and overwritten in place. It is locked as long as a
+connector or a filter that it started is alive, so that a filter of a killed connector can end its commit before the next
+one opens the store.
+
+| Field | Means |
+|---|---|
+| `phase` | `new`: nothing yet; `copying`: rows are being copied; `copied`: all rows are in `STORE.copying`, and the slot is made next; `following` |
+| `system`, `database`, `slot` | whose changes the store holds |
+| `confirmed` | at least what was ever sent as flushed because of a keepalive, and at most what the store had confirmed |
+| `position` | the store's position was at least this |
+"""
+
+import dataclasses
+import fcntl
+import json
+import os
+import time
+
+from .texts import lsn_text, warn
+
+SIZE = 512
+PATIENCE = 60
+NEW, COPYING, COPIED, FOLLOWING = "new", "copying", "copied", "following"
+
+
+class Unfit(Exception):
+    """The store and the slot don't fit together: going on could lose changes."""
+
+
+class FileError(Exception):
+    """A file beside the store can't be used."""
+
+
+@dataclasses.dataclass
+class Known:
+    """The fields of the file."""
+
+    phase: str = NEW
+    system: str = ""
+    database: str = ""
+    slot: str = ""
+    confirmed: int = 0
+    position: int = 0
+
+
+class Checkpoint:
+    """The file, open and locked."""
+
+    def __init__(self, store):
+        self.path = store + ".connector"
+        try:
+            self.file = os.open(self.path, os.O_RDWR | os.O_CREAT, 0o666)
+        except OSError as error:
+            raise FileError(f"{self.path}: {error.strerror}") from None
+        self.lock()
+        self.known = self.read()
+
+    def lock(self):
+        until = time.monotonic() + PATIENCE
+        told = False
+        while True:
+            try:
+                fcntl.flock(self.file, fcntl.LOCK_EX | fcntl.LOCK_NB)
+                return
+            except BlockingIOError:
+                if time.monotonic() >= until:
+                    raise FileError(f"{self.path}: another process follows into this store") from None
+            if not told:
+                warn(f"another connector or its filter still has the store: waiting up to {PATIENCE} seconds")
+                told = True
+            time.sleep(0.2)
+
+    def read(self):
+        line = os.pread(self.file, SIZE, 0).strip()
+        if not line:
+            return Known()
+        try:
+            return Known(**json.loads(line))
+        except (ValueError, TypeError):
+            raise FileError(f"{self.path}: not a checkpoint of this program") from None
+
+    def write(self, durably, **fields):
+        """Changes fields. Where `durably`, the disk has them before this returns."""
+        self.known = dataclasses.replace(self.known, **fields)
+        line = json.dumps(dataclasses.asdict(self.known)).encode()
+        if len(line) >= SIZE:
+            raise FileError(f"{self.path}: names too long for a checkpoint")
+        try:
+            os.pwrite(self.file, line.ljust(SIZE - 1) + b"\n", 0)
+            if durably:
+                os.fdatasync(self.file)
+        except OSError as error:
+            raise FileError(f"{self.path}: {error.strerror}") from None
+
+    def note(self, confirmed, position):
+        """Notes what is about to be confirmed to the server, before it is.
+
+        What lies above the store's position is known from a keepalive alone, and the next start can't see it in the store.
+        So that has to outlast a power cut. The rest is in the store itself.
+        """
+        known = self.known
+        confirmed, position = max(confirmed, known.confirmed), max(position, known.position)
+        if (confirmed, position) != (known.confirmed, known.position):
+            self.write(confirmed > position and confirmed > known.confirmed, confirmed=confirmed, position=position)
+
+
+def check_gap(known, position, slot_at):
+    """Checks that no commit with changes lies between the store's position and what the slot sends next.
+
+    The slot is ahead of the position of a good store where a keepalive moved it there: then this file says so. It is ahead of
+    a store that was put back from a backup too, or where somebody else read from the slot or made it anew.
+    """
+    if slot_at <= position:
+        return
+    gap = f"the store is at {lsn_text(position)} and the slot at {lsn_text(slot_at)}: changes between may be missing"
+    if position < known.position:
+        raise Unfit(f"{gap}; the store was at {lsn_text(known.position)} before, so this is an older one")
+    if slot_at > known.confirmed:
+        raise Unfit(f"{gap}; up to {lsn_text(known.confirmed)} was confirmed from here, so somebody else moved the slot")
