@@ -4,17 +4,17 @@ import random
 
 from . import tables as model
 from . import wire
-from .damage import byte_damage, damaged_tail, frame_damage
+from .damage import byte_damage, damaged_tail, frame_damage, frames_of
+from .followed import Followed, without_clocks
 from .history import Maker
 from .reader import MAX_BYTES, MAX_FRAME, Reader
 from .shown import Shown
-from .recording import BadLine, damaged_text, recording, sessions_of
+from .recording import LONGEST, BadLine, damaged_text, recording, sessions_of
 from .stream import Delivery
 from .wire import Change, Column, Definition, lsn_text
 
 
-# a recording above this is too long, and so are the items of a transaction
-LONGEST = 67108864
+# more bytes than this aren't run
 ENOUGH = 30000000
 
 
@@ -22,9 +22,11 @@ class Difference(Exception):
     """The program did something else than the model."""
 
 
-def compare(what, program, words, status, out, err):
-    """Runs the program and compares what it does."""
-    got = program.run(*words)
+def compare(what, program, words, status, out, err, given=None):
+    """Runs the program and compares what it does; with a given file on standard input, the clocks of statuses aside."""
+    got = program.run(*words, given=given) if given else program.run(*words)
+    if given:
+        got = got[0], without_clocks(got[1]), got[2]
     wanted = (status, out, err)
     if got != wanted:
         names = ("status", "standard output", "standard error")
@@ -35,7 +37,7 @@ def compare(what, program, words, status, out, err):
 
 def show(it):
     if isinstance(it, bytes):
-        it = it.decode(errors="replace")
+        it = it.hex() if b"\0" in it else it.decode(errors="replace")
         return it if len(it) < 1500 else f"{it[:700]} .. {it[-700:]}"
     return str(it)
 
@@ -67,19 +69,44 @@ def well_formed(case, program):
     words = version_words(rng, version)
     status, line = int(delivery.fault is not None), stop_line(delivery.fault)
     luck = rng.random()
+    if luck < 0.15:
+        stored(program, delivery.sessions, version, words, (status, rows, line))
+        return
     if len(delivery.sessions) == 1 and luck < 0.5:
         file = program.file("session.raw", delivery.sessions[0])
         compare("raw bytes", program, ["apply", "--raw", *words, file], status, rows, line)
         return
     file = program.file("recording.pgx", recording(rng, delivery.sessions))
     compare("a recording", program, ["apply", *words, file], status, rows, line)
-    if luck > 0.9 and version == 2:
-        out = f"position {lsn_text(delivery.position)}\nconfirmed {lsn_text(delivery.confirmed)}\n".encode()
-        compare("what may be confirmed", program, ["resume", file], status, out, line)
-    elif luck > 0.85:
+    if luck > 0.85 and version == 2:
+        resumed(program, delivery, file)
+    elif luck > 0.82:
         shown(program, delivery.sessions, version, words, file)
-    elif luck > 0.75:
+    elif luck > 0.73:
         same(rng, program, maker, history, (delivery, file), words)
+
+
+def resumed(program, read, file):
+    """What `resume` prints: the position, and what may be confirmed."""
+    out = f"position {lsn_text(read.position)}\nconfirmed {lsn_text(read.confirmed)}\n".encode()
+    compare("what may be confirmed", program, ["resume", file], int(read.fault is not None), out, stop_line(read.fault))
+
+
+def stored(program, sessions, version, words, ends=None):
+    """A run for each session over a store in a file, up to the first fault; the last one ends so, where that is known."""
+    store = program.path_of("copy.db")
+    read = Reader(version)
+    for number, content in enumerate(sessions):
+        read = read.restarted().follow([content])
+        status, rows, line = int(read.fault is not None), model.dump(read.tables, read.position), stop_line(read.fault)
+        if ends and (read.fault or number == len(sessions) - 1) and ends != (status, rows, line):
+            raise AssertionError(f"two models differ: {(status, rows, line)} and {ends}")
+        file = program.file(f"session.{number}.raw", content)
+        compare("a store in a file", program, ["apply", "--store", store, "--raw", *words, file], status, rows, line)
+        if read.fault:
+            break
+    words = ["dump", "--store", program.copied_alone(store)]
+    compare("what the file alone holds", program, words, 0, model.dump(read.tables, read.position), b"")
 
 
 def shown(program, sessions, version, words, file):
@@ -133,13 +160,19 @@ def damaged(case, program):
             raise AssertionError(f"two models differ: {show(rows)} and {show(expected)}")
     status, line = int(read.fault is not None), stop_line(read.fault)
     words = version_words(rng, read.version)
+    if rng.random() < 0.1:
+        stored(program, sessions, read.version, words, (status, rows, line))
+        return
     if len(sessions) == 1 and rng.random() < 0.6:
         file = program.file("session.raw", sessions[0])
         words = ["apply", "--raw", *words, file]
     else:
         file = program.file("recording.pgx", recording(rng, sessions))
-        if rng.random() < 0.1:
+        luck = rng.random()
+        if luck < 0.1:
             shown(program, sessions, read.version, words, file)
+        elif luck < 0.25 and read.version == 2:
+            resumed(program, read, file)
         words = ["apply", *words, file]
     compare("damaged", program, words, status, rows, line)
 
@@ -164,6 +197,59 @@ def damage(rng, delivery):
     if rng.random() < 0.05:
         rng.shuffle(sessions)
     return sessions, False
+
+
+def followed(case, program):
+    """A history that comes to `follow` on standard input: the statuses that it writes, and what its file then holds."""
+    rng = random.Random(case)
+    maker = Maker(rng)
+    version = rng.choice((1, 2, 2))
+    delivery = Delivery(rng, maker.values, maker.history(), maker.oids, version)
+    if rng.random() < 0.3:
+        sessions, _ = damage(rng, delivery)
+    else:
+        sessions = delivery.sessions
+    whole = [b"".join(frame for frame, _ in frames) + wire.COPY_DONE for frames in delivery.frames[:-1]]
+    content = b"".join(whole) + sessions[-1]
+    if len(content) > ENOUGH:
+        return
+    store, read = program.path_of("copy.db"), Reader(version)
+    words = ["--store", store, *version_words(rng, version)]
+    at = rng.randint(0, len(content)) if rng.random() < 0.3 else len(content)
+    for number, part in enumerate((content[:at], content[at:]) if at < len(content) else (content,)):
+        read = read.restarted()
+        written = Followed(read).follow(part).written
+        file = program.file(f"input.{number}", part)
+        compare("following", program, ["follow", *words], read.status(), written, stop_line(read.fault), file)
+    compare("what the file holds", program, ["dump", "--store", store], 0, model.dump(read.tables, read.position), b"")
+
+
+def recorded(paths, case, program):
+    """A recording of a server, mostly of its first frames alone and damaged."""
+    rng = random.Random(case)
+    with open(rng.choice(paths), "rb") as file:
+        sessions = [b"".join(chunks) for chunks in sessions_of(file.read())]
+    at = rng.randrange(len(sessions))
+    frames, rest = frames_of(sessions[at])
+    if rng.random() < 0.9:
+        frames, rest = frames[: rng.randint(1, 300)], b""
+        sessions = sessions[: at + 1]
+    luck = rng.random()
+    if luck < 0.6:
+        frames = frame_damage(rng, frames)
+    content = b"".join(frames) + rest
+    sessions[at] = byte_damage(rng, content) if 0.4 < luck < 0.9 else content
+    version = rng.choice((1, 2, 2, 2))
+    words = version_words(rng, version)
+    read = Reader(version).follow(sessions)
+    ends = int(read.fault is not None), model.dump(read.tables, read.position), stop_line(read.fault)
+    if rng.random() < 0.2:
+        stored(program, sessions, version, words, ends)
+        return
+    file = program.file("recording.pgx", recording(rng, sessions))
+    compare("a damaged recording", program, ["apply", *words, file], *ends)
+    if rng.random() < 0.2:
+        shown(program, sessions, version, words, file)
 
 
 def at_a_limit(rng, program):

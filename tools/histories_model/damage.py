@@ -34,9 +34,33 @@ def byte_damage(rng, content):
     return bytes(content)
 
 
+def frames_of(content):
+    """The whole frames that bytes begin with, and what follows them."""
+    frames, at = [], 0
+    while len(content) - at >= 5:
+        end = at + 1 + struct.unpack_from(">I", content, at + 1)[0]
+        if end > len(content):
+            break
+        frames.append(content[at:end])
+        at = end
+    return frames, content[at:]
+
+
 def put_length(frame):
     """The frame with the length that it has."""
     return frame[:1] + struct.pack(">I", len(frame) - 1) + frame[5:]
+
+
+def is_commit(frame):
+    return frame[5:6] == b"w" and frame[30:31] in (b"C", b"c")
+
+
+def commit_damage(rng, frame):
+    """A Commit or Stream Commit of which an LSN, the flags or the xid have changed."""
+    body = bytearray(frame[30:])
+    # (it may have been shortened before)
+    body[rng.randrange(max(1, len(body) - 8))] ^= 1 << rng.randrange(8)
+    return frame[:30] + bytes(body)
 
 
 def frame_damage(rng, frames):
@@ -56,6 +80,9 @@ def frame_damage(rng, frames):
             del frames[at]
         elif luck < 0.5:
             frames.insert(other, frames[at])
+        elif luck < 0.6 and any(map(is_commit, frames)):
+            at = rng.choice([place for place, frame in enumerate(frames) if is_commit(frame)])
+            frames[at] = commit_damage(rng, frames[at])
         elif luck < 0.85 and len(frames[at]) > 30:
             body = byte_damage(rng, frames[at][30:])
             frames[at] = put_length(frames[at][:30] + body)
@@ -64,10 +91,6 @@ def frame_damage(rng, frames):
         else:
             frames[at] = put_length(frames[at][: rng.randint(5, len(frames[at]))])
     return frames
-
-
-def is_commit(frame):
-    return frame[5:6] == b"w" and frame[30:31] in (b"C", b"c")
 
 
 def damaged_tail(rng, frames):

@@ -5,13 +5,15 @@ They are the model's reader with a bug, in place of the program.
 
 from . import tables as model
 from .reader import Reader
-from .recording import sessions_of
+from .recording import LONGEST, BadLine, sessions_of
 from .shown import Shown
 from .wire import NULL, UNSENT, Change, lsn_text
 
 
 class KeepsRolledBack(Reader):
     """a rolled-back subtransaction is kept"""
+
+    layer = "spools"
 
     def streamed(self, letter, fields):
         if letter != b"A" or fields[0] == fields[1]:
@@ -20,6 +22,8 @@ class KeepsRolledBack(Reader):
 
 class CutsAtLast(Reader):
     """an abort cuts at the last item of the subtransaction, not the first"""
+
+    layer = "spools"
 
     def drop(self, xid, first=0):
         labels = [label for label, _, _ in self.spools[xid]]
@@ -31,6 +35,8 @@ class CutsAtLast(Reader):
 class AppliesTwice(Reader):
     """a repeat is applied again"""
 
+    layer = "subscriber"
+
     def commit(self, xid, end):
         position, self.position = self.position, -1
         super().commit(xid, end)
@@ -39,6 +45,8 @@ class AppliesTwice(Reader):
 
 class SkipsRelations(Reader):
     """the Relation messages of a repeat are skipped too"""
+
+    layer = "relation cache"
 
     def commit(self, xid, end):
         if end <= self.position:
@@ -50,6 +58,8 @@ class SkipsRelations(Reader):
 
 class CachesEarly(Reader):
     """a Relation message fills the cache when it arrives"""
+
+    layer = "relation cache"
 
     def message(self, content):
         super().message(content)
@@ -65,6 +75,8 @@ class CachesEarly(Reader):
 class KeepsSpools(Reader):
     """open transactions outlive a disconnection"""
 
+    layer = "spools"
+
     def disconnect(self):
         spools, held = getattr(self, "spools", {}), getattr(self, "held", 0)
         super().disconnect()
@@ -73,6 +85,8 @@ class KeepsSpools(Reader):
 
 class ConfirmsInside(Reader):
     """a keepalive inside a transaction is confirmed"""
+
+    layer = "subscriber"
 
     def payload(self, payload):
         place = self.place
@@ -86,6 +100,8 @@ class ConfirmsInside(Reader):
 class IgnoresTruncate(Reader):
     """a Truncate is ignored"""
 
+    layer = "store"
+
     def apply(self, tables, change):
         if change.letter != b"T":
             super().apply(tables, change)
@@ -93,6 +109,8 @@ class IgnoresTruncate(Reader):
 
 class NullForUnsent(Reader):
     """null is written for a cell that wasn't sent"""
+
+    layer = "store"
 
     def apply(self, tables, change):
         if change.letter == b"U" and UNSENT not in (change.new if change.old is None else change.old):
@@ -104,6 +122,8 @@ class NullForUnsent(Reader):
 class LosesCopy(Reader):
     """a second copy of a row is lost"""
 
+    layer = "store"
+
     def apply(self, tables, change):
         super().apply(tables, change)
         for definition in change.definitions:
@@ -114,6 +134,8 @@ class LosesCopy(Reader):
 
 class KeepsOldIdentities(Reader):
     """rows that are carried over keep their old identities"""
+
+    layer = "identity"
 
     def apply(self, tables, change):
         definition = change.definitions[0] if change.definitions else None
@@ -130,6 +152,8 @@ class KeepsOldIdentities(Reader):
 class Overwrites(Reader):
     """an Insert overwrites the row whose identity is stored already"""
 
+    layer = "store"
+
     def apply(self, tables, change):
         definition = change.definitions[0] if change.definitions else None
         if change.letter == b"I" and definition.keyed and len(change.new) == definition.width and definition.oid in tables:
@@ -137,8 +161,64 @@ class Overwrites(Reader):
         super().apply(tables, change)
 
 
+class SwapsLsns(Reader):
+    """the two LSNs of a Stream Commit are swapped"""
+
+    layer = "messages"
+
+    def step(self, letter, fields, length):
+        if letter == b"c":
+            xid, lsn, end, time = fields
+            fields = (xid, end, lsn, time)
+        super().step(letter, fields, length)
+
+
+class TakesAnySegment(Reader):
+    """a first segment of an open transaction is accepted, and a later one of an unknown one"""
+
+    layer = "order"
+
+    def streamed(self, letter, fields):
+        if letter == b"S":
+            fields = (fields[0], int(fields[0] not in self.spools))
+        super().streamed(letter, fields)
+
+
+class TakesAnyCommit(Reader):
+    """a Commit with another LSN than its Begin's is accepted"""
+
+    layer = "order"
+
+    def step(self, letter, fields, length):
+        if letter == b"C" and self.place == "pair":
+            fields = (None, self.final, *fields[2:])
+        super().step(letter, fields, length)
+
+
+class SearchesByNew(Reader):
+    """an Update of a keyed table looks for its row by the new tuple, though an old one was sent"""
+
+    layer = "identity"
+
+    def apply(self, tables, change):
+        if change.letter == b"U" and change.definitions[0].keyed:
+            change = Change(change.letter, change.definitions, None, None, change.new)
+        super().apply(tables, change)
+
+
+class EndsWell(Reader):
+    """a rejected stream ends with status 0"""
+
+    layer = "program"
+
+    def status(self):
+        return 0
+
+
 class DropsTruncatedHeader(Reader):
     """the part of a frame's header that a chunk ends with is dropped"""
+
+    layer = "frames"
 
     def joined(self, chunks):
         content = b""
@@ -152,8 +232,9 @@ class DropsTruncatedHeader(Reader):
         return content
 
 
-PLANTED = (KeepsRolledBack, CutsAtLast, AppliesTwice, SkipsRelations, CachesEarly, KeepsSpools, ConfirmsInside, IgnoresTruncate,
-           NullForUnsent, LosesCopy, KeepsOldIdentities, Overwrites, DropsTruncatedHeader)
+PLANTED = (DropsTruncatedHeader, SwapsLsns, TakesAnySegment, TakesAnyCommit, KeepsRolledBack, CutsAtLast, KeepsSpools, SkipsRelations,
+           CachesEarly, KeepsOldIdentities, SearchesByNew, IgnoresTruncate, NullForUnsent, LosesCopy, Overwrites, AppliesTwice,
+           ConfirmsInside, EndsWell)
 
 
 class Planted:
@@ -161,14 +242,34 @@ class Planted:
 
     def __init__(self, reader, folder):
         self.reader, self.folder = reader, folder
-        self.files = {}
+        self.files, self.stores = {}, {}
+
+    def path_of(self, name):
+        """The name of a store that isn't there yet."""
+        self.stores.pop(name, None)
+        return name
 
     def file(self, name, content):
         self.files[name] = content
         return name
 
-    def read(self, words, name):
+    def copied_alone(self, store):
+        """The store: it has no log."""
+        return store
+
+    def reader_for(self, words):
+        """The reader that a command begins with: over its store, if it names one."""
         reader = (Shown if words[0] == "show" else self.reader)(1 if "1" in words or "--proto=1" in words else 2)
+        if "--store" in words:
+            store = words[words.index("--store") + 1]
+            reader = self.stores[store].restarted() if store in self.stores else reader
+            self.stores[store] = reader
+        return reader
+
+    def read(self, words, name):
+        reader = self.reader_for(words)
+        if words[0] == "dump":
+            return reader
         content = self.files[name]
         if "--raw" in words:
             return reader.follow([content])
@@ -177,7 +278,12 @@ class Planted:
     def run(self, *words):
         if words[0] == "same":
             return self.same(words)
-        read = self.read(words, words[-1])
+        if "--raw" not in words and words[0] != "dump" and len(self.files[words[-1]]) > LONGEST:
+            return 3, b"", b"pgsub: capture too long\n"
+        try:
+            read = self.read(words, words[-1])
+        except BadLine as bad:
+            return 3, b"", f"pgsub: capture line {bad}: not hexadecimal\n".encode()
         line = f"pgsub: {read.fault}\n".encode() if read.fault else b""
         if words[0] == "resume":
             out = f"position {lsn_text(read.position)}\nconfirmed {lsn_text(read.confirmed)}\n".encode()
@@ -185,7 +291,7 @@ class Planted:
             out = read.text()
         else:
             out = model.dump(read.tables, read.position)
-        return int(bool(read.fault)), out, line
+        return read.status(), out, line
 
     def same(self, words):
         sides = [self.read(words, name) for name in words[-2:]]

@@ -2,6 +2,7 @@
 
 import os
 import resource
+import shutil
 import signal
 
 MEMORY = 1 << 30
@@ -9,6 +10,8 @@ MEMORY = 1 << 30
 SECONDS = 2.0
 SECONDS_MEGABYTE = 1.0
 PATIENCE = 300.0
+# the C library takes memory in few large steps, which halves the time of a run: most of a short one is the store's first eight megabytes
+LARGE_STEPS = {"GLIBC_TUNABLES": "glibc.malloc.hugetlb=1:glibc.malloc.top_pad=16777216"}
 
 
 class TimedOut(Exception):
@@ -30,19 +33,31 @@ class Program:
 
     def __init__(self, path, folder):
         self.path, self.folder = path, folder
-        self.out, self.err = os.path.join(folder, "out"), os.path.join(folder, "err")
+        self.out, self.err = self.path_of("out"), self.path_of("err")
+        self.environment = {**os.environ, **LARGE_STEPS}
+
+    def path_of(self, name):
+        return os.path.join(self.folder, name)
 
     def file(self, name, content):
-        path = os.path.join(self.folder, name)
+        path = self.path_of(name)
         with open(path, "wb") as file:
             file.write(content)
         return path
 
-    def run(self, *words):
+    def copied_alone(self, store):
+        """A copy of a store's file without its log, which a run that has ended has put into the file."""
+        alone = self.path_of("alone.db")
+        if os.path.exists(store):
+            shutil.copyfile(store, alone)
+        return alone
+
+    def run(self, *words, given="/dev/null"):
         """Runs it: the status, standard output and standard error; a negative status is that of a signal."""
         create = os.O_WRONLY | os.O_CREAT | os.O_TRUNC
-        actions = [(os.POSIX_SPAWN_OPEN, 1, self.out, create, 0o600), (os.POSIX_SPAWN_OPEN, 2, self.err, create, 0o600)]
-        pid = os.posix_spawn(self.path, [self.path, *words], os.environ, file_actions=actions)
+        actions = [(os.POSIX_SPAWN_OPEN, 0, given, os.O_RDONLY, 0), (os.POSIX_SPAWN_OPEN, 1, self.out, create, 0o600),
+                   (os.POSIX_SPAWN_OPEN, 2, self.err, create, 0o600)]
+        pid = os.posix_spawn(self.path, [self.path, *words], self.environment, file_actions=actions)
         signal.setitimer(signal.ITIMER_REAL, PATIENCE)
         try:
             _, ended, used = os.wait4(pid, 0)
@@ -53,7 +68,8 @@ class Program:
             return "no end", b"", b""
         status = os.waitstatus_to_exitcode(ended)
         taken = used.ru_utime + used.ru_stime
-        if taken > SECONDS + SECONDS_MEGABYTE * os.path.getsize(words[-1]) / 1e6:
+        size = os.path.getsize(given) + (os.path.getsize(words[-1]) if os.path.exists(words[-1]) else 0)
+        if taken > SECONDS + SECONDS_MEGABYTE * size / 1e6:
             status = f"{status} after {taken:.1f} s"
         with open(self.out, "rb") as out, open(self.err, "rb") as err:
             return status, out.read(), err.read()

@@ -201,11 +201,19 @@ class Reader:
         self.fault = None
         self.disconnect()
 
+    def restarted(self):
+        """A new subscriber over the rows and the position that this one has stored."""
+        new = type(self)(self.version)
+        new.tables, new.position, new.confirmed = self.tables, self.position, self.position
+        return new
+
     def disconnect(self):
         self.place, self.top, self.final = None, None, None
         self.cache = {}
         self.spools = {}
         self.held = 0
+        self.rest, self.is_done = b"", False
+        self.received, self.replies = self.confirmed, []
 
     def follow(self, sessions):
         try:
@@ -219,28 +227,39 @@ class Reader:
         return self
 
     def session(self, content):
+        self.feed(content)
+
+    def feed(self, piece):
+        """Reads further bytes of a session, up to the first fault."""
+        content = self.rest + piece
+        self.rest = content[self.frames(content) :]
+
+    def frames(self, content):
+        """Reads the whole frames of some bytes; the offset behind them."""
         at = 0
         while at < len(content):
             letter = content[at]
+            if self.is_done:
+                raise wire_fault(4)
             if letter not in b"dc":
                 raise wire_fault(1, letter)
             if len(content) - at < 5:
-                return
+                break
             length = struct.unpack_from(">I", content, at + 1)[0]
             if length < 4 or length > 2147483647 or letter == ord("c") and length != 4:
                 raise wire_fault(2)
             if length - 4 > MAX_FRAME:
                 raise wire_fault(3)
             if len(content) - at - 1 < length:
-                return
+                break
             payload = content[at + 5 : at + 1 + length]
             at += 1 + length
             if letter == ord("c"):
+                self.is_done = True
                 self.done()
-                if at < len(content):
-                    raise wire_fault(4)
-                return
-            self.payload(payload)
+            else:
+                self.payload(payload)
+        return at
 
     def done(self):
         """At CopyDone."""
@@ -254,6 +273,7 @@ class Reader:
             if len(payload) < 25:
                 raise wire_fault(6)
             self.message(payload[25:])
+            self.received = max(self.received, self.confirmed, *struct.unpack(">QQ", payload[1:17]))
             return
         if len(payload) != 18:
             raise wire_fault(6 if len(payload) < 18 else 7)
@@ -261,9 +281,16 @@ class Reader:
             raise wire_fault(8)
         self.keepalive(*struct.unpack(">QqB", payload[1:]))
 
-    def keepalive(self, end, _clock, _reply):
+    def keepalive(self, end, _clock, reply):
         if self.place is None:
             self.confirmed = max(self.confirmed, end)
+        self.received = max(self.received, self.confirmed, end)
+        if reply:
+            self.replies.append(self.status_fields())
+
+    def status_fields(self):
+        """What a status says now: written, flushed, applied."""
+        return self.received, self.confirmed, self.confirmed
 
     def message(self, content):
         letter, fields = decode(content, self.place == "block")
@@ -339,6 +366,10 @@ class Reader:
     def joined(self, chunks):
         """The bytes of a session from its chunks."""
         return b"".join(chunks)
+
+    def status(self):
+        """The exit status of the program that read this."""
+        return int(self.fault is not None)
 
     def commit(self, xid, end):
         """Applies a commit, or only remembers the definitions of one that was applied before."""

@@ -1,5 +1,7 @@
 """Recordings: a line of hexadecimal digits for each chunk, cut anywhere, and `--` between sessions."""
 
+# a recording above this is too long
+LONGEST = 67108864
 DIGITS = frozenset(b"0123456789abcdefABCDEF")
 
 

@@ -6,6 +6,9 @@
 # program passes with what is stored, and stops where it says that memory has run out, with status 1, and prints nothing else, or what is
 # stored, or that no commit was taken. Whatever else it answers is counted as a crash. A crash makes the status 1, and so does a test named
 # refused_memory_changes_nothing that doesn't pass each time. RT names the toolchain, if not rt.
+# run.sh --all CRATE/WORD..: each test runs once with all its requests refused, and has to pass all the same; for tests of calls that take
+# no memory, as pglogical_tests/first_faults and pglogical_tests/without_memory.
+# run.sh --built ..: the tests are those that an earlier rt test has built; proving them anew can take minutes.
 set -eu
 here="$(cd "$(dirname "$0")" && pwd)"
 top="$(cd "$here/../.." && pwd)"
@@ -14,8 +17,18 @@ trap 'rm -r "$work"' EXIT
 gcc -O1 -fno-builtin -shared -fPIC -o "$work/refuse.so" "$here/refuse.c"
 ulimit -c 0
 bad=0
+every=
+built=
+while [[ "${1:-}" = --* ]]; do
+    case "$1" in
+        --all) every=yes ;;
+        --built) built=yes ;;
+        *) echo "run.sh: there is no option $1" >&2; exit 2 ;;
+    esac
+    shift
+done
 
-# run_refusing N COMMAND..: the command with request N refused, none for 0
+# run_refusing N COMMAND..: the command with request N refused, none for 0, all for -1
 run_refusing() {
     REFUSE="$1" REFUSE_COUNT="$work/count" LD_PRELOAD="$work/refuse.so" "${@:2}" > "$work/out" 2> "$work/err"
 }
@@ -72,12 +85,29 @@ refuse_each() {
     case "$name" in *refused_memory_changes_nothing) [ "$passed" -eq "$all" ] || bad=1 ;; esac
 }
 
+# refuse_all NAME COMMAND..: the command with all its requests refused
+refuse_all() {
+    if run_refusing -1 "${@:2}" 2> "$work/shell"; then
+        echo "$1: $(cat "$work/count") requests, all refused, and passed"
+    else
+        echo "$1: didn't pass with all requests refused"
+        cat "$work/out" "$work/err"
+        bad=1
+    fi
+}
+
 # refuse_tests CRATE WORD
 refuse_tests() {
     local program="$top/crates/$1/out/${1}_tests" name
-    (cd "$top/crates/$1" && "${RT:-rt}" test) > "$work/log" 2>&1 || { tail "$work/log"; exit 1; }
+    if [ -z "$built" ] || [ ! -x "$program" ]; then
+        (cd "$top/crates/$1" && "${RT:-rt}" test) > "$work/log" 2>&1 || { tail "$work/log"; exit 1; }
+    fi
     for name in $("$program" --list | sed -n 's/: test$//p' | grep -F -- "$2"); do
-        refuse_each "$1 $name" end_of_test "$program" "$name"
+        if [ -n "$every" ]; then
+            refuse_all "$1 $name" "$program" "$name"
+        else
+            refuse_each "$1 $name" end_of_test "$program" "$name"
+        fi
     done
 }
 

@@ -1,0 +1,101 @@
+"""Runs cases, several at once, and prints those that differ."""
+
+import multiprocessing
+import os
+import shutil
+import signal
+import tempfile
+import time
+import traceback
+from queue import Empty
+
+from . import cases, program
+
+
+def run_case(name, call, runner, keep):
+    """Runs one case in an empty folder; what differs, or None."""
+    for file in os.listdir(runner.folder):
+        os.unlink(os.path.join(runner.folder, file))
+    try:
+        call(runner)
+        return None
+    except cases.Difference as difference:
+        told = str(difference)
+    except Exception:
+        told = "the tool failed\n" + traceback.format_exc()
+    kept = os.path.join(keep, name.replace(" ", "_").replace("/", "_"))
+    shutil.copytree(runner.folder, kept, dirs_exist_ok=True)
+    with open(os.path.join(kept, "difference"), "w") as file:
+        file.write(told + "\n")
+    return f"{name}: {told}\n   files: {kept}"
+
+
+def work(made, options, folder, worker, queue):
+    """Runs a worker's share of the cases; the queue takes what differs or None of each, and at the end the worker's number."""
+    signal.signal(signal.SIGTERM, signal.SIG_DFL)
+    signal.signal(signal.SIGINT, signal.SIG_IGN)
+    program.limit_memory()
+    try:
+        runner = program.Program(options.program, tempfile.mkdtemp(dir=folder))
+        for number, (name, call) in enumerate(made()):
+            if number % options.jobs == worker:
+                queue.put(run_case(name, call, runner, options.keep))
+    except Exception:
+        queue.put("the tool failed\n" + traceback.format_exc())
+    queue.put(worker)
+
+
+def run_all(made, options, folder):
+    """Runs all cases that `made` gives, and prints those that differ; how many were run, and how many differ."""
+    began = time.monotonic()
+    signal.signal(signal.SIGTERM, signal.default_int_handler)
+    queue = multiprocessing.Queue()
+    workers = [multiprocessing.Process(target=work, args=(made, options, folder, worker, queue)) for worker in range(options.jobs)]
+    for worker in workers:
+        worker.start()
+    done = differ = 0
+    running = len(workers)
+    while running and differ < options.stop_after:
+        try:
+            told = queue.get(timeout=10)
+        except KeyboardInterrupt:
+            break
+        except Empty:
+            if any(worker.is_alive() for worker in workers):
+                continue
+            told, running = "the tool failed: a worker was killed", 0
+        if isinstance(told, int):
+            running -= 1
+            continue
+        done += 1
+        if told:
+            differ += 1
+            print(told, flush=True)
+        if done % 5000 == 0:
+            print(f"{done} cases, {differ} differ, {time.monotonic() - began:.0f} s", flush=True)
+    for worker in workers:
+        if running:
+            worker.terminate()
+        worker.join()
+    return done, differ
+
+
+def add_options(parser, top):
+    """The options that all tools have which run cases."""
+    parser.add_argument("--program", default=os.path.join(top, "crates/pgsub/out/pgsub"), help="the program to run")
+    parser.add_argument("--jobs", type=int, default=1, help="how many run at once (default 1)")
+    parser.add_argument("--keep", default="differences", help="where the files of cases that differ go (default: differences)")
+    parser.add_argument("--stop-after", type=int, default=10, metavar="N", help="stop after N differences (default 10)")
+
+
+def checked_options(parser, options, runs_program=True):
+    if runs_program and not os.access(options.program, os.X_OK):
+        parser.error(f"there is no program {options.program}: build it, or name it with --program")
+    options.program = os.path.abspath(options.program)
+    options.keep = os.path.abspath(options.keep)
+    return options
+
+
+def work_folder():
+    """A folder for the files of the cases, in memory where there is one."""
+    return tempfile.TemporaryDirectory(prefix="histories-", dir="/dev/shm" if os.path.isdir("/dev/shm") else None)
