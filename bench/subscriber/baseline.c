@@ -1,6 +1,6 @@
-/* The subscriber by hand in C over libsqlite3, with its database in memory: baseline FILE reads the bytes of one session and prints the rows
- * and the position as `pgsub apply --raw FILE` does. It has the tables and the statements of pgtables, prepared once, and a SQL transaction
- * for each commit. It does less than pgsub: tables have a key, cells are text or null, there is no Truncate, texts are printed without escapes,
+/* The subscriber by hand in C over libsqlite3: baseline FILE [DATABASE] reads the bytes of one session and prints the rows and the position as
+ * `pgsub apply --raw FILE` does. Its database is in memory, or in a new file with a write-ahead log that is synced at each commit. It has the
+ * tables and the statements of pgtables, prepared once, and a SQL transaction for each commit. It does less than pgsub: tables have a key, cells are text or null, there is no Truncate, texts are printed without escapes,
  * any fault ends the program, nothing limits what is open. */
 #include "../pgoutput.h"
 #include <fcntl.h>
@@ -44,9 +44,10 @@ static int is_equal(struct bytes left, struct bytes right)
 static const char *const tables =
     "CREATE TABLE rel (oid INTEGER PRIMARY KEY NOT NULL, nsp TEXT NOT NULL, name TEXT NOT NULL, letter INTEGER NOT NULL, cols BLOB NOT NULL) STRICT;"
     "CREATE TABLE held (oid INTEGER NOT NULL, ident BLOB NOT NULL, body BLOB NOT NULL, copies INTEGER NOT NULL, PRIMARY KEY (oid, ident)) STRICT;"
-    "CREATE TABLE pos (id INTEGER PRIMARY KEY NOT NULL CHECK (id = 0), lsn BLOB NOT NULL) STRICT";
+    "CREATE TABLE pos (id INTEGER PRIMARY KEY NOT NULL CHECK (id = 0), lsn BLOB NOT NULL) STRICT;"
+    "INSERT INTO pos (id, lsn) VALUES (0, x'0000000000000000')";
 
-enum { BEGIN, COMMIT, DEFINE, FIND, ADD, PUT, DELETE, REACH, READ, STATEMENTS };
+enum { BEGIN, COMMIT, DEFINE, FIND, ADD, SET, PUT, DELETE, REACH, READ, STATEMENTS };
 
 static const char *const statements[STATEMENTS] = {
     [BEGIN] = "BEGIN",
@@ -55,10 +56,11 @@ static const char *const statements[STATEMENTS] = {
                " name = excluded.name, letter = excluded.letter, cols = excluded.cols",
     [FIND] = "SELECT body, copies FROM held WHERE oid = ?1 AND ident = ?2",
     [ADD] = "INSERT INTO held (oid, ident, body, copies) VALUES (?1, ?2, ?3, 1)",
+    [SET] = "UPDATE held SET body = ?3 WHERE oid = ?1 AND ident = ?2",
     [PUT] = "INSERT INTO held (oid, ident, body, copies) VALUES (?1, ?2, ?3, 1) ON CONFLICT (oid, ident) DO UPDATE SET body = excluded.body,"
             " copies = excluded.copies",
     [DELETE] = "DELETE FROM held WHERE oid = ?1 AND ident = ?2",
-    [REACH] = "INSERT INTO pos (id, lsn) VALUES (0, ?1) ON CONFLICT (id) DO UPDATE SET lsn = excluded.lsn",
+    [REACH] = "UPDATE pos SET lsn = ?1 WHERE id = 0",
     [READ] = "SELECT held.oid, rel.nsp, rel.name, held.body, held.copies FROM held JOIN rel ON rel.oid = held.oid ORDER BY held.oid, held.ident",
 };
 
@@ -71,9 +73,10 @@ static void check(int code)
         fail(sqlite3_errmsg(database));
 }
 
-static void open_store(void)
+static void open_store(const char *path)
 {
-    check(sqlite3_open(":memory:", &database));
+    check(sqlite3_open(path, &database));
+    check(sqlite3_exec(database, "PRAGMA journal_mode = wal; PRAGMA synchronous = full", 0, 0, 0));
     check(sqlite3_exec(database, tables, 0, 0, 0));
     for (int k = 0; k < STATEMENTS; k++)
         check(sqlite3_prepare_v3(database, statements[k], -1, SQLITE_PREPARE_PERSISTENT, &prepared[k], 0));
@@ -271,9 +274,13 @@ static void update(struct message *m)
     static struct buffer old_identity, new_identity, stored, body;
     const struct relation *r = changed_relation(m->oid);
     struct bytes old = identity_of(r, m->kind == 'N' ? &m->row : &m->old, &old_identity);
+    struct bytes row = m->row.encoded;
+    if (!has_unchanged(&m->row) && is_equal(old, identity_of(r, &m->row, &new_identity))) {
+        put_row(SET, r->oid, old, row);
+        return;
+    }
     if (!find_row(r->oid, old, &stored))
         return;
-    struct bytes row = m->row.encoded;
     if (has_unchanged(&m->row))
         row = filled(&m->row, bytes_of(&stored), &body);
     struct bytes new = identity_of(r, &m->row, &new_identity);
@@ -560,12 +567,12 @@ int main(int argc, char **argv)
     static unsigned char chunk[65536];
     static struct message m;
     struct deframer d = {0};
-    if (argc != 2)
-        fail("usage: baseline FILE");
+    if (argc != 2 && argc != 3)
+        fail("usage: baseline FILE [DATABASE]");
     int file = open(argv[1], O_RDONLY);
     if (file < 0)
         fail("the file can't be opened");
-    open_store();
+    open_store(argc == 3 ? argv[2] : ":memory:");
     ssize_t len;
     while ((len = read(file, chunk, sizeof chunk)) > 0)
         read_chunk(&d, chunk, len, &m);
