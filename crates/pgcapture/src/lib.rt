@@ -4,6 +4,14 @@
 //! either case. A line `--` is a disconnection: it ends a session and begins the next. Empty lines
 //! and lines that begin with `#` are skipped. A line ends with a line feed alone, which the last
 //! line may lack; so a carriage return makes a line unreadable.
+//!
+//! ```text
+//! for session in read_capture(alloc, text)? {
+//!     for chunk in session.pieces.as_slice() {
+//!         feed(chunk);
+//!     }
+//! }
+//! ```
 #![tactic(auto)]
 
 ghost use Rattle.std.specs.Prelude.{◌≡◌, ◌<◌, ◌++◌, ◌∷◌, ◌⊎◌, ◌↔◌, [], ◌==◌, length, false};

@@ -2,6 +2,10 @@
 //! into chunks, both decoders read each message, the messages come in order, and each is encoded to
 //! the bytes that it was read from. It is a tool for developers: where the proofs speak of the code,
 //! these checks run the built program over what a real server sent.
+//!
+//! ```text
+//! let checked = check_text(alloc, text)?;            // of a recording
+//! ```
 #![tactic(auto)]
 
 ghost use Rattle.std.specs.Prelude.{IfOk, MatchOption};

@@ -1,4 +1,12 @@
 //! Follows a server as a filter: the bytes of sessions come from a reader, and statuses go to a writer.
+//!
+//! ```text
+//! let mut link = Link::new(rt.stdin(), rt.stdout());
+//! follow_live(alloc, &mut link, &mut clock, &mut subscriber)?;
+//! ```
+//!
+//! Whoever carries the bytes starts each session at what the last status has confirmed, and puts a CopyDone behind a session that ended
+//! without one.
 #![tactic(auto)]
 
 pub mod clock;

@@ -2,6 +2,11 @@
 //!
 //! A disk that may crash has to keep what was last synced beside what was written since. These disks end with their
 //! process, so each write stands at once, and a sync has nothing to do.
+//!
+//! ```text
+//! let conn = open(alloc)?;                           // an empty database
+//! let files = stop(conn);                            // its two disks, as a crash leaves them
+//! ```
 #![tactic(auto)]
 
 pub mod disk;

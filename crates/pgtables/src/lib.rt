@@ -2,6 +2,14 @@
 //!
 //! `rel` has the definition of each relation by its OID, `held` its rows by OID and the spelling of their identity, and
 //! `pos` the position up to which they stand. A contract sees them as two maps and a list of bytes.
+//!
+//! ```text
+//! create_tables(&mut tx)?;
+//! put_first_position(&mut tx, &[0; 8])?;
+//! put_row(&mut tx, oid, identity, body, 1)?;
+//! put_position(&mut tx, &end.to_be_bytes())?;
+//! let row = find_row(&mut tx, oid, identity)?;
+//! ```
 #![tactic(auto)]
 
 pub mod dumped;

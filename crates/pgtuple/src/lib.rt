@@ -1,4 +1,16 @@
 //! Cells and tuples.
+//!
+//! ```text
+//! let (tuple, len) = decode_ref(bytes)?;             // borrowed; the tuple takes `len` bytes
+//! for cell in tuple.cells() {
+//!     match cell {
+//!         CellRef::Text(text) => print(text),
+//!         CellRef::Null | CellRef::Unchanged => ..,
+//!         _ => ..,
+//!     }
+//! }
+//! encode(&tuple, &mut out)?;                         // the same `len` bytes
+//! ```
 #![tactic(auto)]
 
 mod ascii;

@@ -1,6 +1,19 @@
 //! Frames of a replication session, and the messages that a server sends in them.
 //!
 //! PostgreSQL documentation, Message Formats (CopyData, CopyDone) and Streaming Replication Protocol.
+//!
+//! ```text
+//! let mut deframer = Deframer::new(alloc, 16777216);
+//! let mut taken = deframer.feed(chunk)?;             // up to the end of a frame, or of the chunk
+//! while let Some(frame) = deframer.whole() {
+//!     match frame {
+//!         Frame::Data(payload) => handle(decode_server(payload)?),
+//!         Frame::Done => ..,                         // the session has ended
+//!     }
+//!     deframer.release();
+//!     taken += deframer.feed(&chunk[taken..])?;
+//! }
+//! ```
 #![tactic(auto)]
 
 mod deframer;
