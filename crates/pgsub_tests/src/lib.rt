@@ -8,6 +8,8 @@
 #[cfg(test)]
 mod blocks;
 #[cfg(test)]
+mod counting;
+#[cfg(test)]
 mod messages;
 #[cfg(test)]
 mod pairs;
