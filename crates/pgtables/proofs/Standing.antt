@@ -1,4 +1,4 @@
--- Tables that are some of ours by their parts are those whole, as `Listed` tells of all.
+-- Tables that are some of a store's by their parts are those whole.
 use Rattle.std.proofs.Common.{◌≡◌, Bool, true, false, List, [], ◌∷◌, inl, inr, refl, sym, ap, subst, ◌∙◌}
 use Rattle.std.specs.List.{AllByRecursion}
 use Rattle.sqlite.specs.Table.{Table}
@@ -8,9 +8,9 @@ use Rattle.sqlite_schema.specs.declared.schema.View.{View}
 use Rattle.sqlite_rules.specs.Lists.{Has}
 use Rattle.sqlite_rules.proofs.ListLemmas.{all_has}
 use Rattle.sqlite_catalog.specs.Listing.{automatic, IsGuarded}
-use Rattle.pgtables.specs.Schema.{rel, held_table, held_index, pos_at, store_schema}
+use Rattle.pgtables.specs.Schema.{rel, held_table, held_index, pos_at}
 use Rattle.pgtables.specs.declared.remains.Remains.{Remains}
-use Rattle.pgtables.specs.Remains.{AreRemains, IsIndexOfRows, Stands, listed, schema_of}
+use Rattle.pgtables.specs.Remains.{AreRemains, IsIndexOfRows, listed, schema_of}
 use Rattle.pgtables.proofs.Listed.{our_index}
 
 abbrev pub tables_over : Bool → Bool → Bool → List Table
@@ -45,9 +45,3 @@ standing schema left is guarded =
     let h = left.has_rows in
     let p = left.has_position in
     parts d h p schema.tables schema.indexes schema.views is.tables (indexed d h p schema is.tables is.indexes guarded) is.views
-
-abbrev pub all_tables : Remains
-all_tables = record { has_definitions = true; has_rows = true; has_position = true }
-
-pub all_stand : (has : Remains → Bool) (schema : Schema) → has all_tables ≡ true → schema ≡ store_schema → Stands has schema
-all_stand has schema stands is = record { left = all_tables; is = is; stands = stands }

@@ -14,7 +14,7 @@
 
 pub mod dumped;
 pub mod find;
-pub mod found;
+mod found;
 pub mod opened;
 pub mod put;
 pub mod remains;
@@ -24,8 +24,7 @@ pub mod settled;
 
 pub use dumped::{DumpReader, dump};
 pub use find::{find_definition, find_row, rows_of};
-pub use found::{has_no_tables, has_our_tables};
-pub use opened::{FoundPosition, RowCheck, check_rows, read_definitions, read_position};
+pub use opened::{FoundPosition, RowCheck};
 pub use put::{
     add_row, delete_row, delete_rows, put_definition, put_position, put_row, update_row,
 };

@@ -6,7 +6,6 @@ ghost use Rattle.std.specs.Int.{w64, to_be_bytes};
 ghost use Rattle.sqlite.specs.Held.{state};
 ghost use Rattle.sqlite.specs.State.{HasCleanDisk, Survives};
 ghost use Rattle.sqlite.specs.View.{doubt};
-ghost use Rattle.pgtables.specs.Schema.{store_schema};
 ghost use Rattle.pgtables.specs.Kept.{AreDefined, AreHeld, IfServing, tables_of};
 ghost use Rattle.pgtables.specs.Remains.{Stands};
 ghost use Rattle.pgtables.specs.Opened.{AreAccepted, AreDefinitionsRead, ArePlacesRead, IsDefinitionRead, IsFoundPosition, IsPlaceRead, IsRowAccepted, ListsDefinitions};
@@ -41,73 +40,7 @@ pub enum FoundPosition {
     Malformed,
 }
 
-/// The definitions by rising OID, or `None` where a row of `rel` isn't one of a definition. Nothing changes.
-pub fn read_definitions<S: Alter>(
-    conn: &mut Connection<S>,
-    alloc: Global,
-) -> Result<Option<Vec<(u32, StoredDefinition)>>, Error>
-    requires settled { (state S.Store conn.old).in_transaction ≡ false }
-    requires ours { IfServing S.Store conn.old
-        ((state S.Store conn.old).now.schema ≡ store_schema) }
-    ensures settled { (state S.Store conn.new).in_transaction ≡ false }
-    ensures clean { doubt (state S.Store conn.old).is_clean ≤ doubt
-        (state S.Store conn.new).is_clean }
-    ensures found { HasCleanDisk (state S.Store conn.new) →
-        IfOk result (λ found. IfSome found
-        (λ all. AreDefined ((state S.Store conn.old).now.trees 0)
-        × ListsDefinitions (tables_of S.Store conn.old) all.items)) }
-    ensures serving { HasCleanDisk (state S.Store conn.new) →
-        OnOk result (IsTrue (state S.Store conn.new).is_open) }
-    ensures unchanged { IfServing S.Store conn.new
-        (IsTrue (state S.Store conn.old).is_open
-        × ((state S.Store conn.new).now ≡ (state S.Store conn.old).now)) }
-    ensures crash { Survives (state S.Store conn.old) (state S.Store conn.new) (λ _. ⊥) }
-{
-    read_standing_definitions(conn, alloc)
-}
-
-/// Whether each row of `held` is accepted. It reads each once, in the memory of one row. Nothing changes.
-pub fn check_rows<S: Alter, C: RowCheck>(conn: &mut Connection<S>, check: &C) -> Result<bool, Error>
-    requires settled { (state S.Store conn.old).in_transaction ≡ false }
-    requires ours { IfServing S.Store conn.old
-        ((state S.Store conn.old).now.schema ≡ store_schema) }
-    ensures settled { (state S.Store conn.new).in_transaction ≡ false }
-    ensures clean { doubt (state S.Store conn.old).is_clean ≤ doubt
-        (state S.Store conn.new).is_clean }
-    ensures held { HasCleanDisk (state S.Store conn.new) → result ≡ Ok true →
-        AreHeld ((state S.Store conn.old).now.trees 1)
-        × AreAccepted C.RowCheck.accepts check.now (tables_of S.Store conn.old) }
-    ensures serving { HasCleanDisk (state S.Store conn.new) →
-        OnOk result (IsTrue (state S.Store conn.new).is_open) }
-    ensures unchanged { IfServing S.Store conn.new
-        (IsTrue (state S.Store conn.old).is_open
-        × ((state S.Store conn.new).now ≡ (state S.Store conn.old).now)) }
-    ensures crash { Survives (state S.Store conn.old) (state S.Store conn.new) (λ _. ⊥) }
-{
-    check_standing_rows(conn, check)
-}
-
-/// What `pos` holds. Nothing changes.
-pub fn read_position<S: Alter>(conn: &mut Connection<S>) -> Result<FoundPosition, Error>
-    requires settled { (state S.Store conn.old).in_transaction ≡ false }
-    requires ours { IfServing S.Store conn.old
-        ((state S.Store conn.old).now.schema ≡ store_schema) }
-    ensures settled { (state S.Store conn.new).in_transaction ≡ false }
-    ensures clean { doubt (state S.Store conn.old).is_clean ≤ doubt
-        (state S.Store conn.new).is_clean }
-    ensures found { HasCleanDisk (state S.Store conn.new) →
-        IfOk result (IsFoundPosition ((state S.Store conn.old).now.trees 3)) }
-    ensures serving { HasCleanDisk (state S.Store conn.new) →
-        OnOk result (IsTrue (state S.Store conn.new).is_open) }
-    ensures unchanged { IfServing S.Store conn.new
-        (IsTrue (state S.Store conn.old).is_open
-        × ((state S.Store conn.new).now ≡ (state S.Store conn.old).now)) }
-    ensures crash { Survives (state S.Store conn.old) (state S.Store conn.new) (λ _. ⊥) }
-{
-    read_standing_position(conn)
-}
-
-/// The definitions by rising OID, as `read_definitions` tells them, where `rel` stands.
+/// The definitions by rising OID, or `None` where a row of `rel` isn't one of a definition. `rel` stands, and nothing changes.
 pub(crate) fn read_standing_definitions<S: Alter>(
     conn: &mut Connection<S>,
     alloc: Global,
@@ -138,7 +71,7 @@ pub(crate) fn read_standing_definitions<S: Alter>(
     read_rising(alloc, rows.as_slice())
 }
 
-/// Whether each row of `held` is accepted, where the table stands.
+/// Whether each row of `held` is accepted. It reads each once, in the memory of one row. The table stands, and nothing changes.
 pub(crate) fn check_standing_rows<S: Alter, C: RowCheck>(
     conn: &mut Connection<S>,
     check: &C,
@@ -180,7 +113,7 @@ pub(crate) fn check_standing_rows<S: Alter, C: RowCheck>(
     Err(Error::SqliteFailure(ErrorCode::OutOfMemory))
 }
 
-/// What `pos` holds, where it stands.
+/// What `pos` holds. It stands, and nothing changes.
 pub(crate) fn read_standing_position<S: Alter>(
     conn: &mut Connection<S>,
 ) -> Result<FoundPosition, Error>

@@ -2,10 +2,10 @@
 
 ghost use Rattle.std.specs.Prelude.{◌≤◌};
 
+use crate::tests::ALL;
 use pgtables::{
-    FoundPosition, Remains, RowCheck, check_remaining_rows, check_rows, create_tables,
-    drop_remains, find_remains, has_our_tables, read_definitions, read_position,
-    read_remaining_definitions, read_remaining_position,
+    FoundPosition, Remains, RowCheck, check_remaining_rows, create_tables, drop_remains,
+    find_remains, read_remaining_definitions, read_remaining_position,
 };
 use sqlite::{Alter, Connection, Error, ErrorCode};
 use std::alloc::Global;
@@ -82,46 +82,34 @@ const CASES: &[Case] = &[
     ),
 ];
 
-fn oids_of<S: Alter>(conn: &mut Connection<S>, alloc: Global) -> Result<Option<Vec<u32>>, Error> {
-    if !conn.is_autocommit() || !has_our_tables(conn) {
+/// What is read of tables of which these stand: the OIDs of the definitions, whether rows that stand at most so often are accepted, and
+/// the position.
+fn read_tables<S: Alter>(
+    conn: &mut Connection<S>,
+    left: Remains,
+    alloc: Global,
+    most: u32,
+) -> Result<(Option<Vec<u32>>, bool, FoundPosition), Error> {
+    if !conn.is_autocommit() || find_remains(conn) != Some(left) {
         return Err(Error::InvalidQuery);
     }
-    let Some(all) = read_definitions(conn, alloc)? else {
-        return Ok(None);
+    let found = read_remaining_definitions(conn, left, alloc)?;
+    if !conn.is_autocommit() || find_remains(conn) != Some(left) {
+        return Err(Error::InvalidQuery);
+    }
+    let is_accepted = check_remaining_rows(conn, left, &UpTo { copies: most })?;
+    if !conn.is_autocommit() || find_remains(conn) != Some(left) {
+        return Err(Error::InvalidQuery);
+    }
+    let position = read_remaining_position(conn, left)?;
+    let Some(all) = found else {
+        return Ok((None, is_accepted, position));
     };
     let mut oids = Vec::new(alloc);
     for entry in all.as_slice() {
         oids.push(entry.0)?;
     }
-    Ok(Some(oids))
-}
-
-fn are_accepted<S: Alter>(conn: &mut Connection<S>, most: u32) -> Result<bool, Error> {
-    if !conn.is_autocommit() || !has_our_tables(conn) {
-        return Err(Error::InvalidQuery);
-    }
-    check_rows(conn, &UpTo { copies: most })
-}
-
-fn position_of<S: Alter>(conn: &mut Connection<S>) -> Result<FoundPosition, Error> {
-    if !conn.is_autocommit() || !has_our_tables(conn) {
-        return Err(Error::InvalidQuery);
-    }
-    read_position(conn)
-}
-
-/// Whether these are the OIDs of the definitions.
-fn are_oids<S: Alter>(
-    conn: &mut Connection<S>,
-    alloc: Global,
-    oids: Option<&[u32]>,
-) -> Result<bool, Error> {
-    let found = oids_of(conn, alloc)?;
-    Ok(match (&found, oids) {
-        (Some(found), Some(oids)) => found.as_slice() == oids,
-        (None, None) => true,
-        _ => false,
-    })
+    Ok((Some(oids), is_accepted, position))
 }
 
 /// What is read of the tables with a case's rows.
@@ -130,9 +118,11 @@ fn check_case(rt: &impl Abort, alloc: Global, case: &Case) -> Result<(), Fail> {
     let mut conn = Connection::open_in_memory(alloc)?;
     conn.execute_batch(TABLES)?;
     conn.execute_batch(rows)?;
-    assert!(rt; are_oids(&mut conn, alloc, *oids)?, "{rows}");
-    assert!(rt; are_accepted(&mut conn, 7)? == *accepted, "{rows}");
-    assert!(rt; position_of(&mut conn)? == *position, "{rows}");
+    let (found, is_accepted, at) = read_tables(&mut conn, ALL, alloc, 7)?;
+    let found = found.as_ref().map(|all| all.as_slice());
+    assert!(rt; found == *oids, "{rows}");
+    assert!(rt; is_accepted == *accepted, "{rows}");
+    assert!(rt; at == *position, "{rows}");
     Ok(())
 }
 
@@ -159,7 +149,8 @@ fn no_second_position_is_taken(rt: HostRuntime) -> Result<(), Fail> {
             Err(Error::SqliteFailure(ErrorCode::ConstraintViolation(_)))
         )
     );
-    assert!(rt; position_of(&mut conn)? == FoundPosition::At(0x130));
+    let (_, _, position) = read_tables(&mut conn, ALL, rt.alloc(), 0)?;
+    assert!(rt; position == FoundPosition::At(0x130));
     Ok(())
 }
 
@@ -179,26 +170,6 @@ const DROPS: &[(&str, bool, bool, bool)] = &[
         false,
     ),
 ];
-
-/// How many definitions stand, whether no row does, and the position.
-fn remains_of<S: Alter>(
-    conn: &mut Connection<S>,
-    left: Remains,
-    alloc: Global,
-) -> Result<(usize, bool, FoundPosition), Error> {
-    if !conn.is_autocommit() || find_remains(conn) != Some(left) {
-        return Err(Error::InvalidQuery);
-    }
-    let count = read_remaining_definitions(conn, left, alloc)?.map_or(0, |all| all.len());
-    if !conn.is_autocommit() || find_remains(conn) != Some(left) {
-        return Err(Error::InvalidQuery);
-    }
-    let has_none = check_remaining_rows(conn, left, &UpTo { copies: 0 })?;
-    if !conn.is_autocommit() || find_remains(conn) != Some(left) {
-        return Err(Error::InvalidQuery);
-    }
-    Ok((count, has_none, read_remaining_position(conn, left)?))
-}
 
 /// Makes the tables in place of those that stand.
 fn remake<S: Alter>(conn: &mut Connection<S>) -> Result<(), Error> {
@@ -230,7 +201,8 @@ fn check_drops(rt: &impl Abort, alloc: Global, drops: &str, left: Remains) -> Re
     conn.execute_batch(TABLES)?;
     conn.execute_batch(ROWS)?;
     conn.execute_batch(drops)?;
-    let (count, has_none, position) = remains_of(&mut conn, left, alloc)?;
+    let (oids, has_none, position) = read_tables(&mut conn, left, alloc, 0)?;
+    let count = oids.map_or(0, |oids| oids.len());
     assert!(rt;
         count == if left.has_definitions { 1 } else { 0 },
         "{drops}"
@@ -238,8 +210,8 @@ fn check_drops(rt: &impl Abort, alloc: Global, drops: &str, left: Remains) -> Re
     assert!(rt; has_none == !left.has_rows, "{drops}");
     assert!(rt; position == position_left(left), "{drops}");
     remake(&mut conn)?;
-    assert!(rt; has_our_tables(&conn), "{drops}");
-    assert!(rt; position_of(&mut conn)? == FoundPosition::At(0), "{drops}");
+    let (_, _, position) = read_tables(&mut conn, ALL, alloc, 0)?;
+    assert!(rt; position == FoundPosition::At(0), "{drops}");
     Ok(())
 }
 

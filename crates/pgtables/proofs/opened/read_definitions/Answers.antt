@@ -1,6 +1,0 @@
-use Rattle.std.proofs.Common.{refl}
-use Rattle.pgtables.proofs.Standing.{all_stand}
-use Rattle.pgtables.proofs.opened.read_definitions.Goals as goal
-
-pub read_standing_definitions-requires-clause-stands : goal.read_standing_definitions-requires-clause-stands
-read_standing_definitions-requires-clause-stands g c clean is_open = all_stand (λ left. left.has_definitions) _ refl (c.requires.ours clean is_open)
