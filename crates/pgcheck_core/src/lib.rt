@@ -15,8 +15,6 @@ mod counts;
 mod difference;
 mod framing;
 mod sessions;
-#[cfg(test)]
-mod tests;
 
 pub use counts::{Counts, Kind};
 pub use difference::Difference;

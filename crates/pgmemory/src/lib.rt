@@ -17,6 +17,3 @@ pub mod stopping;
 pub use disk::MemoryDisk;
 pub use opening::open;
 pub use stopping::stop;
-
-#[cfg(test)]
-mod tests;

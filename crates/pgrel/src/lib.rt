@@ -27,6 +27,3 @@ pub use identity::{
 };
 pub use laws::{keyed_tables_have_key_columns, resolved_rows_are_whole, shapes_are_compared_whole};
 pub use pglogical::{Column, RelationDef};
-
-#[cfg(test)]
-mod tests;

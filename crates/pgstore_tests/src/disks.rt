@@ -1,6 +1,6 @@
-//! A disk by its calls. `pgstore_tests` runs a whole store on such disks.
+//! A disk in memory by its calls.
 
-use crate::disk::MemoryDisk;
+use pgmemory::MemoryDisk;
 use sqlite_disk::Disk;
 use std::test::Fail;
 

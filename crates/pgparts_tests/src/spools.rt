@@ -1,7 +1,7 @@
 //! Both spools over the same tables of steps.
 
-use crate::{ByteSpools, ListSpools, SpoolFault, Spools, copy_items, hold_one};
 use pglogical::{Column, Item, RelationDef};
+use pgspool::{ByteSpools, ListSpools, SpoolFault, Spools, copy_items, hold_one};
 use pgtuple::{Cell, Seq, Text, Tuple};
 use std::alloc::{AllocError, Global};
 use std::process::Abort;

@@ -1,8 +1,11 @@
 //! Identities, shapes and definitions of a few tables.
 ghost use Rattle.std.specs.Prelude.{◌≡◌, IfOk};
 
-use super::*;
 use pglogical::OldKind;
+use pgrel::{
+    Book, Column, RelFault, RelationDef, carry, check_insert, keyed, resolve, row_identity,
+    same_shape, search_identity,
+};
 use pgtuple::{CellRef, Seq, Text, Tuple};
 use std::alloc::{AllocError, Global};
 use std::process::Abort;
