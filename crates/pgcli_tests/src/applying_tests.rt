@@ -1,13 +1,12 @@
 //! Files whose bytes are fed as they are, and recordings from which a server would be asked to go on.
 
-use pgcommand::Task;
-use pgorder::Version;
-use pgsub_cli::running::{run, store_path};
-use std::alloc::{AllocError, Global};
-use std::io;
-use std::io::{ErrorKind, Read};
-use std::process::Abort;
+use crate::runs::{Answer, File, check, recording};
+use std::io::ErrorKind;
 use std::test::Fail;
+
+const APPLY_RAW: &str = "pgsub apply --raw in.bin";
+
+const RESUME: &str = "pgsub resume in.pgx";
 
 /// The bytes of a transaction that stores a row.
 const TRANSACTION: &[u8] =
@@ -55,60 +54,6 @@ const OF_40_RELATION_T: &str =
     "6400000049770000000000000000000000000000000000000000000000005200000028000040007075626c69630074006400020169640000000017ffffffff00760000000019ffffffff";
 
 const STOP: &str = "640000001e7700000000000000000000000000000000000000000000000045";
-/// What a run prints, and its status.
-#[derive(Clone, Copy, Drop)]
-struct Answer {
-    out: &'static str,
-    err: &'static str,
-    status: u8,
-}
-
-/// Runs a task over this file, which gives this answer.
-fn check<R: Read + Drop>(
-    rt: &(impl Abort + AllocGlobal),
-    task: &Task,
-    shows: &str,
-    file: Option<R>,
-    answer: Answer,
-) -> Result<(), Fail> {
-    if store_path(task).is_some() {
-        return Err(Fail::from(shows));
-    }
-    let alloc = rt.alloc();
-    let (mut out, mut err) = (Vec::new(alloc), Vec::new(alloc));
-    let status = run(alloc, task, file, None, &mut out, &mut err);
-    assert!(rt; out.as_slice() == answer.out.as_bytes(), "{shows}: {out:?}");
-    assert!(rt; err.as_slice() == answer.err.as_bytes(), "{shows}: {err:?}");
-    assert!(rt; status == answer.status, "{shows}: {status}");
-    Ok(())
-}
-
-/// The task that feeds a file's bytes.
-fn raw_task(alloc: Global) -> Result<Task, AllocError> {
-    Ok(Task::Apply {
-        version: Version::Two,
-        raw: true,
-        progress: false,
-        store: None,
-        file: String::from_str(alloc, "in.bin")?,
-    })
-}
-
-/// Gives its bytes five at a call, and then fails.
-#[derive(Clone, Copy, Drop)]
-struct Failing<'t> {
-    rest: &'t [u8],
-}
-
-impl<'t> Read for Failing<'t> {
-    fn read(&mut self, buf: &mut [u8]) -> io::Result<usize> {
-        if self.rest.is_empty() {
-            return Err(io::Error::from(ErrorKind::Other));
-        }
-        let count = buf.len().min(5);
-        self.rest.read(&mut buf[..count])
-    }
-}
 
 /// So many bytes of the transaction, and the rows that they leave.
 const FRONTS: [(usize, &str); 5] = [
@@ -121,23 +66,26 @@ const FRONTS: [(usize, &str); 5] = [
 
 #[test]
 fn the_first_bytes_of_a_file_are_fed(rt: HostRuntime) -> Result<(), Fail> {
-    let task = raw_task(rt.alloc())?;
     let (err, status) = ("", 0);
     for (count, out) in FRONTS {
-        let front = TRANSACTION.get(..count);
-        check(&rt, &task, out, front, Answer { out, err, status })?;
+        let front = TRANSACTION.get(..count).map(File::of);
+        let answer = Answer { out, err, status };
+        check(&rt, APPLY_RAW, out, front, None, answer)?;
     }
     Ok(())
 }
 
 #[test]
 fn a_read_that_fails_leaves_what_was_fed(rt: HostRuntime) -> Result<(), Fail> {
-    let task = raw_task(rt.alloc())?;
     let (err, status) = ("pgsub: read\n", 3);
     for (count, out) in FRONTS {
-        let rest = TRANSACTION.get(..count).unwrap_or(b"");
-        let file = Some(Failing { rest });
-        check(&rt, &task, out, file, Answer { out, err, status })?;
+        let file = File {
+            rest: TRANSACTION.get(..count).unwrap_or(b""),
+            at_once: 5,
+            error: Some(ErrorKind::Other),
+        };
+        let answer = Answer { out, err, status };
+        check(&rt, APPLY_RAW, out, Some(file), None, answer)?;
     }
     Ok(())
 }
@@ -155,24 +103,24 @@ const FAULTS: [(usize, &[u8], &str, &str); 2] = [
 
 #[test]
 fn a_file_of_bytes_stops_at_its_first_fault(rt: HostRuntime) -> Result<(), Fail> {
-    let task = raw_task(rt.alloc())?;
     let status = 1;
     for (count, later, out, err) in FAULTS {
         let front = TRANSACTION.get(..count).unwrap_or(b"");
         let mut bytes = Vec::from_slice(rt.alloc(), front)?;
         bytes.extend_from_slice(later)?;
-        let file = Some(bytes.as_slice());
-        check(&rt, &task, err, file, Answer { out, err, status })?;
+        let file = Some(File::of(bytes.as_slice()));
+        let answer = Answer { out, err, status };
+        check(&rt, APPLY_RAW, err, file, None, answer)?;
     }
     Ok(())
 }
 
 #[test]
 fn a_file_that_is_not_there(rt: HostRuntime) -> Result<(), Fail> {
-    let task = raw_task(rt.alloc())?;
     let (out, err, status) = ("", "pgsub: cannot read in.bin\n", 3);
-    let missing: Option<&[u8]> = None;
-    check(&rt, &task, "no file", missing, Answer { out, err, status })
+    let missing: Option<File<'_>> = None;
+    let answer = Answer { out, err, status };
+    check(&rt, APPLY_RAW, "no file", missing, None, answer)
 }
 
 /// A recording, and what is reached by it.
@@ -266,24 +214,12 @@ static RESUMED: &[Resumed] = &[
     },
 ];
 
-/// The recording of these lines.
-fn recording(alloc: Global, lines: &[&str]) -> Result<String, AllocError> {
-    let mut text = String::new(alloc);
-    for line in lines {
-        text.push_str(line)?;
-        text.push('\n')?;
-    }
-    Ok(text)
-}
-
 #[test]
 fn what_is_reached_is_printed(rt: HostRuntime) -> Result<(), Fail> {
-    let alloc = rt.alloc();
-    let file = String::from_str(alloc, "in.pgx")?;
-    let task = Task::Resume { file };
     for row in RESUMED {
-        let text = recording(alloc, row.lines)?;
-        check(&rt, &task, row.shows, Some(text.as_bytes()), row.answer)?;
+        let text = recording(rt.alloc(), row.lines)?;
+        let file = Some(File::of(text.as_bytes()));
+        check(&rt, RESUME, row.shows, file, None, row.answer)?;
     }
     Ok(())
 }

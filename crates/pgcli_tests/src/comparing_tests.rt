@@ -1,13 +1,13 @@
 //! Pairs of recordings, and what their comparison prints. The line of a frame is an XLogData message with the message that is named.
 
-use pgcommand::Task;
-use pgorder::Version;
-use pgsub_cli::running::run;
-use std::alloc::{AllocError, Global};
-use std::io;
-use std::io::{ErrorKind, Read, Write};
+use crate::runs::{Answer, File, check, recording};
+use std::io::ErrorKind;
 use std::process::Abort;
 use std::test::Fail;
+
+pub(crate) const SAME: &str = "pgsub same left.pgx right.pgx";
+
+const SAME_IN_VERSION_1: &str = "pgsub same --proto 1 left.pgx right.pgx";
 
 const BEGIN_100: &str =
     "64000000327700000000000000000000000000000000000000000000000042000000000000010000000000000000000000000a";
@@ -301,63 +301,21 @@ static STREAMED: [Pair; 2] = [
     },
 ];
 
-/// A recording of these lines.
-fn recording(alloc: Global, lines: &[&str]) -> Result<String, AllocError> {
-    let mut text = String::new(alloc);
-    for line in lines {
-        text.push_str(line)?;
-        text.push('\n')?;
-    }
-    Ok(text)
-}
-
-/// What a run must print, and its status.
-#[derive(Clone, Copy, Drop)]
-struct Answer {
-    out: &'static str,
-    err: &'static str,
-    status: u8,
-}
-
-/// Compares two files, which gives this answer.
-fn check<R: Read + Drop>(
-    rt: &(impl Abort + AllocGlobal),
-    shows: &str,
-    version: Version,
-    left_file: Option<R>,
-    right_file: Option<R>,
-    answer: Answer,
-) -> Result<(), Fail> {
-    let alloc = rt.alloc();
-    let left = String::from_str(alloc, "left.pgx")?;
-    let right = String::from_str(alloc, "right.pgx")?;
-    let task = Task::Same {
-        version,
-        left,
-        right,
-    };
-    let (mut out, mut err) = (Vec::new(alloc), Vec::new(alloc));
-    let status = run(alloc, &task, left_file, right_file, &mut out, &mut err);
-    assert!(rt; out.as_slice() == answer.out.as_bytes(), "{shows}: {out:?}");
-    assert!(rt; err.as_slice() == answer.err.as_bytes(), "{shows}: {err:?}");
-    assert!(rt; status == answer.status, "{shows}: {status}");
-    Ok(())
-}
-
-/// Compares the recordings of a pair.
-fn check_pair(rt: &(impl Abort + AllocGlobal), version: Version, pair: &Pair) -> Result<(), Fail> {
+/// Compares the recordings of a pair by a command line.
+fn check_pair(rt: &(impl Abort + AllocGlobal), line: &str, pair: &Pair) -> Result<(), Fail> {
     let left = recording(rt.alloc(), pair.left)?;
     let right = recording(rt.alloc(), pair.right)?;
     let (out, err, status) = (pair.out, pair.err, pair.status);
-    let (left_file, right_file) = (Some(left.as_bytes()), Some(right.as_bytes()));
+    let left_file = Some(File::of(left.as_bytes()));
+    let right_file = Some(File::of(right.as_bytes()));
     let answer = Answer { out, err, status };
-    check(rt, pair.shows, version, left_file, right_file, answer)
+    check(rt, line, pair.shows, left_file, right_file, answer)
 }
 
 #[test]
 fn each_verdict_has_its_line(rt: HostRuntime) -> Result<(), Fail> {
     for pair in &VERDICTS {
-        check_pair(&rt, Version::Two, pair)?;
+        check_pair(&rt, SAME, pair)?;
     }
     Ok(())
 }
@@ -365,7 +323,7 @@ fn each_verdict_has_its_line(rt: HostRuntime) -> Result<(), Fail> {
 #[test]
 fn a_fault_names_its_side(rt: HostRuntime) -> Result<(), Fail> {
     for pair in &FAULTS {
-        check_pair(&rt, Version::Two, pair)?;
+        check_pair(&rt, SAME, pair)?;
     }
     Ok(())
 }
@@ -373,7 +331,7 @@ fn a_fault_names_its_side(rt: HostRuntime) -> Result<(), Fail> {
 #[test]
 fn the_version_is_that_of_both_sides(rt: HostRuntime) -> Result<(), Fail> {
     for pair in &STREAMED {
-        check_pair(&rt, Version::One, pair)?;
+        check_pair(&rt, SAME_IN_VERSION_1, pair)?;
     }
     Ok(())
 }
@@ -407,70 +365,25 @@ static UNREAD: [Unread; 7] = [
 fn both_files_are_read_before_one_is_followed(rt: HostRuntime) -> Result<(), Fail> {
     let (out, status) = ("", 3);
     for (left, right, err) in &UNREAD {
-        let (left, right, err) = (*left, *right, *err);
+        let (left, right, err) = (left.map(File::of), right.map(File::of), *err);
         let answer = Answer { out, err, status };
-        check(&rt, err, Version::Two, left, right, answer)?;
+        check(&rt, SAME, err, left, right, answer)?;
     }
     Ok(())
 }
 
-/// Gives its bytes, and then fails if it is to.
-#[derive(Clone, Copy, Drop)]
-struct Failing<'t> {
-    rest: &'t [u8],
-    fails: bool,
-}
-
-impl<'t> Read for Failing<'t> {
-    fn read(&mut self, buf: &mut [u8]) -> io::Result<usize> {
-        if self.rest.is_empty() && self.fails {
-            return Err(io::Error::from(ErrorKind::Other));
-        }
-        self.rest.read(buf)
-    }
-}
-
 #[test]
 fn a_read_that_fails_names_its_file(rt: HostRuntime) -> Result<(), Fail> {
-    let (out, status, rest) = ("", 3, b"78\n".as_slice());
-    let file = |fails| Some(Failing { rest, fails });
-    let err = "pgsub: cannot read right.pgx\n";
-    let answer = Answer { out, err, status };
-    check(&rt, err, Version::Two, file(false), file(true), answer)?;
-    let err = "pgsub: cannot read left.pgx\n";
-    let answer = Answer { out, err, status };
-    check(&rt, err, Version::Two, file(true), file(false), answer)
-}
-
-/// Accepts nothing.
-#[derive(Drop)]
-struct Closed;
-
-impl Write for Closed {
-    fn write(&mut self, _buf: &[u8]) -> io::Result<usize> {
-        Err(io::Error::from(ErrorKind::BrokenPipe))
+    let (out, status) = ("", 3);
+    let whole = File::of(b"78\n");
+    let mut failing = whole;
+    failing.error = Some(ErrorKind::Other);
+    for (left, right, err) in [
+        (whole, failing, "pgsub: cannot read right.pgx\n"),
+        (failing, whole, "pgsub: cannot read left.pgx\n"),
+    ] {
+        let answer = Answer { out, err, status };
+        check(&rt, SAME, err, Some(left), Some(right), answer)?;
     }
-
-    fn flush(&mut self) -> io::Result<()> {
-        Err(io::Error::from(ErrorKind::BrokenPipe))
-    }
-}
-
-#[test]
-fn a_verdict_that_cannot_be_written_has_status_3(rt: HostRuntime) -> Result<(), Fail> {
-    let alloc = rt.alloc();
-    let task = Task::Same {
-        version: Version::Two,
-        left: String::from_str(alloc, "left.pgx")?,
-        right: String::from_str(alloc, "right.pgx")?,
-    };
-    let file = Some(b"".as_slice());
-    let (mut out, mut err) = (Closed, Vec::new(alloc));
-    let status = run(alloc, &task, file, file, &mut out, &mut err);
-    assert!(rt;
-        err.as_slice() == b"pgsub: cannot write\n".as_slice(),
-        "{err:?}"
-    );
-    assert!(rt; status == 3, "{status}");
     Ok(())
 }

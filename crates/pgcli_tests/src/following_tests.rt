@@ -1,5 +1,6 @@
 //! A server is followed over a store: what is written, what is stored, and how it ends.
 
+use crate::runs::File;
 use pgapply::ReplicaStore;
 use pgfollow::{Clock, Link};
 use pglsn::Lsn;
@@ -8,7 +9,7 @@ use pgstore::Store;
 use pgsub_cli::following::run_follow;
 use std::alloc::{AllocError, Global};
 use std::io;
-use std::io::{ErrorKind, Read, Write};
+use std::io::{ErrorKind, Write};
 use std::process::Abort;
 use std::test::Fail;
 
@@ -22,24 +23,6 @@ const NEXT_SESSION: &[u8] =
 
 /// CopyDone, with which a session ends.
 const COPY_DONE: &[u8] = b"c\0\0\0\x04";
-
-/// Gives at most so many bytes at a call, and after the last one an error or the end.
-#[derive(Clone, Copy, Drop)]
-struct Reader<'t> {
-    rest: &'t [u8],
-    at_once: usize,
-    fails: bool,
-}
-
-impl<'t> Read for Reader<'t> {
-    fn read(&mut self, buf: &mut [u8]) -> io::Result<usize> {
-        if self.rest.is_empty() && self.fails {
-            return Err(io::Error::from(ErrorKind::Other));
-        }
-        let count = buf.len().min(self.at_once);
-        self.rest.read(&mut buf[..count])
-    }
-}
 
 /// Takes at most so many bytes at a call, and none after so many.
 #[derive(Drop)]
@@ -107,7 +90,7 @@ fn told_bytes(alloc: Global, told: &[u64], most: usize) -> Result<Vec<u8>, Alloc
 /// Follows the bytes of a reader over an empty store, and writes to a writer that takes at most so many bytes.
 fn check(
     rt: &(impl Abort + AllocGlobal),
-    reader: Reader<'_>,
+    reader: File<'_>,
     most: usize,
     expected: &Expected<'_>,
 ) -> Result<(), Fail> {
@@ -146,10 +129,10 @@ fn statuses_follow_what_is_stored(rt: HostRuntime) -> Result<(), Fail> {
         status: 0,
     };
     for (at_once, expected) in [(AMPLE, &whole), (250, &whole), (5, &parts), (1, &parts)] {
-        let reader = Reader {
+        let reader = File {
             rest: SESSION,
             at_once,
-            fails: false,
+            error: None,
         };
         check(&rt, reader, AMPLE, expected)?;
     }
@@ -166,10 +149,10 @@ fn the_next_session_follows_copy_done(rt: HostRuntime) -> Result<(), Fail> {
         (AMPLE, [0, 0x180, 0x180, 0x280, 0x280].as_slice()),
         (1, [0, 0x130, 0x180, 0x180, 0x230, 0x280, 0x280].as_slice()),
     ] {
-        let reader = Reader {
+        let reader = File {
             rest: sessions.as_slice(),
             at_once,
-            fails: false,
+            error: None,
         };
         let expected = Expected {
             told,
@@ -191,10 +174,10 @@ fn a_failed_read_ends_it(rt: HostRuntime) -> Result<(), Fail> {
         (249, [0, 0x130].as_slice(), 0x130),
         (250, [0, 0x130, 0x180, 0x180].as_slice(), 0x130),
     ] {
-        let reader = Reader {
+        let reader = File {
             rest: SESSION.get(..count).unwrap_or(b""),
             at_once: 1,
-            fails: true,
+            error: Some(ErrorKind::Other),
         };
         let expected = Expected {
             told,
@@ -210,10 +193,10 @@ fn a_failed_read_ends_it(rt: HostRuntime) -> Result<(), Fail> {
 #[test]
 fn a_failed_write_ends_it(rt: HostRuntime) -> Result<(), Fail> {
     for (most, position) in [(0, 0), (38, 0), (39, 0x130), (50, 0x130), (78, 0x130)] {
-        let reader = Reader {
+        let reader = File {
             rest: SESSION,
             at_once: 5,
-            fails: false,
+            error: None,
         };
         let expected = Expected {
             told: &[0, 0x130, 0x180],
@@ -228,10 +211,10 @@ fn a_failed_write_ends_it(rt: HostRuntime) -> Result<(), Fail> {
 
 #[test]
 fn a_rejected_stream_confirms_no_more(rt: HostRuntime) -> Result<(), Fail> {
-    let reader = Reader {
+    let reader = File {
         rest: b"x",
         at_once: AMPLE,
-        fails: false,
+        error: None,
     };
     let expected = Expected {
         told: &[0],

@@ -19,6 +19,8 @@ mod following_tests;
 #[cfg(test)]
 mod reporting_tests;
 #[cfg(test)]
+mod runs;
+#[cfg(test)]
 mod showing_tests;
 #[cfg(test)]
 mod storing_tests;

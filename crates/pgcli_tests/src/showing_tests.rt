@@ -1,8 +1,6 @@
 //! Command lines that print frames or an LSN, over recordings in memory.
 
-use pgcommand::{CommandFault, Task, command_of};
-use pgsub_cli::running::{run, store_path};
-use std::alloc::{AllocError, Global};
+use crate::runs::{Answer, File, check, recording};
 use std::process::Abort;
 use std::test::Fail;
 
@@ -261,51 +259,19 @@ static NUMBERS: [Row; 8] = [
     },
 ];
 
-/// The task of a command line.
-fn task_of(alloc: Global, line: &str) -> Result<Task, Fail> {
-    let mut words = Vec::new(alloc);
-    for word in line.split(' ') {
-        words.push(String::from_str(alloc, word)?)?;
-    }
-    match command_of(alloc, words.as_slice()) {
-        Ok(task) => Ok(task),
-        Err(CommandFault::Usage(_)) => Err(Fail::from("usage")),
-        Err(CommandFault::Memory) => Err(Fail::from(AllocError)),
-    }
-}
-
-/// The text of a recording with these lines.
-fn recording(alloc: Global, lines: &[&str]) -> Result<String, AllocError> {
-    let mut text = String::new(alloc);
-    for line in lines {
-        text.push_str(line)?;
-        text.push('\n')?;
-    }
-    Ok(text)
-}
-
 /// Runs the command line of a row.
-fn check(rt: &(impl Abort + AllocGlobal), row: &Row) -> Result<(), Fail> {
-    let alloc = rt.alloc();
-    let task = task_of(alloc, row.line)?;
-    if store_path(&task).is_some() {
-        return Err(Fail::from(row.line));
-    }
-    let text = recording(alloc, row.file.unwrap_or(&[]))?;
-    let file = row.file.map(|_| text.as_bytes());
-    let (mut out, mut err) = (Vec::new(alloc), Vec::new(alloc));
-    let status = run(alloc, &task, file, None, &mut out, &mut err);
-    let line = row.line;
-    assert!(rt; out.as_slice() == row.out.as_bytes(), "{line}: {out:?}");
-    assert!(rt; err.as_slice() == row.err.as_bytes(), "{line}: {err:?}");
-    assert!(rt; status == row.status, "{line}: {status}");
-    Ok(())
+fn check_row(rt: &(impl Abort + AllocGlobal), row: &Row) -> Result<(), Fail> {
+    let text = recording(rt.alloc(), row.file.unwrap_or(&[]))?;
+    let file = row.file.map(|_| File::of(text.as_bytes()));
+    let (out, err, status) = (row.out, row.err, row.status);
+    let answer = Answer { out, err, status };
+    check(rt, row.line, row.line, file, None, answer)
 }
 
 #[test]
 fn frames_are_shown(rt: HostRuntime) -> Result<(), Fail> {
     for row in &SHOWN {
-        check(&rt, row)?;
+        check_row(&rt, row)?;
     }
     Ok(())
 }
@@ -313,7 +279,7 @@ fn frames_are_shown(rt: HostRuntime) -> Result<(), Fail> {
 #[test]
 fn the_number_of_an_lsn_is_written(rt: HostRuntime) -> Result<(), Fail> {
     for row in &NUMBERS {
-        check(&rt, row)?;
+        check_row(&rt, row)?;
     }
     Ok(())
 }

@@ -1,12 +1,9 @@
 //! Whole runs over recordings in memory.
 
-ghost use Rattle.std.specs.Prelude.{◌≡◌, None};
-ghost use Rattle.pgsub_cli.specs.Runs.{store_path};
-
 use crate::cases::{BEFORE, DISCONNECTION, FAULTS, NOTHING, ROW_BEFORE, TRANSACTIONS};
-use pgcommand::Task;
-use pgorder::Version;
-use pgsub_cli::running::run;
+use crate::comparing_tests::SAME;
+use crate::runs::{Answer, File, check, task_of};
+use pgsub_cli::running::{run, store_path};
 use std::alloc::{AllocError, Global};
 use std::fmt::Write as _;
 use std::io;
@@ -14,13 +11,7 @@ use std::io::{ErrorKind, Read, Write};
 use std::process::Abort;
 use std::test::Fail;
 
-/// What a run prints, and its status.
-#[derive(Clone, Copy, Drop)]
-struct Answer<'t> {
-    out: &'t str,
-    err: &'t str,
-    status: u8,
-}
+const APPLY: &str = "pgsub apply --proto 1 in.pgx";
 
 /// Appends hexadecimal digits without the blanks between them, a chunk of a byte a line or all in one chunk.
 fn push_digits(text: &mut String, hex: &str, in_bytes: bool) -> Result<(), AllocError> {
@@ -69,37 +60,6 @@ fn push_lines(
     Ok(())
 }
 
-/// To apply this recording in version 1.
-fn applying(file: String) -> Task
-    ensures { store_path result ≡ None }
-{
-    Task::Apply {
-        version: Version::One,
-        raw: false,
-        progress: false,
-        store: None,
-        file,
-    }
-}
-
-/// Runs `apply` over this file, which gives this answer.
-fn check<R: Read + Drop>(
-    rt: &(impl Abort + AllocGlobal),
-    shows: &str,
-    file: Option<R>,
-    answer: Answer<'_>,
-) -> Result<(), Fail> {
-    let alloc = rt.alloc();
-    let file_name = String::from_str(alloc, "in.pgx")?;
-    let task = applying(file_name);
-    let (mut out, mut err) = (Vec::new(alloc), Vec::new(alloc));
-    let status = run(alloc, &task, file, None, &mut out, &mut err);
-    assert!(rt; out.as_slice() == answer.out.as_bytes(), "{shows}: {out:?}");
-    assert!(rt; err.as_slice() == answer.err.as_bytes(), "{shows}: {err:?}");
-    assert!(rt; status == answer.status, "{shows}: {status}");
-    Ok(())
-}
-
 /// The recording of these lines after others, each line a chunk, or a line for each byte.
 fn recording(
     alloc: Global,
@@ -119,12 +79,9 @@ fn what_is_stored_is_printed(rt: HostRuntime) -> Result<(), Fail> {
         let (shows, out, err) = (row.shows, row.out, row.err);
         let text = recording(rt.alloc(), &[], row.lines, false)?;
         let status = u8::from(!err.is_empty());
-        check(
-            &rt,
-            shows,
-            Some(text.as_bytes()),
-            Answer { out, err, status },
-        )?;
+        let file = Some(File::of(text.as_bytes()));
+        let answer = Answer { out, err, status };
+        check(&rt, APPLY, shows, file, None, answer)?;
     }
     Ok(())
 }
@@ -134,7 +91,9 @@ fn a_fault_has_its_line_and_what_was_stored_is_printed(rt: HostRuntime) -> Resul
     for (lines, err) in FAULTS {
         let text = recording(rt.alloc(), BEFORE, lines, false)?;
         let (out, status) = (ROW_BEFORE, 1);
-        check(&rt, err, Some(text.as_bytes()), Answer { out, err, status })?;
+        let file = Some(File::of(text.as_bytes()));
+        let answer = Answer { out, err, status };
+        check(&rt, APPLY, err, file, None, answer)?;
     }
     Ok(())
 }
@@ -143,43 +102,26 @@ fn a_fault_has_its_line_and_what_was_stored_is_printed(rt: HostRuntime) -> Resul
 fn chunks_of_one_byte_and_a_truncated_frame(rt: HostRuntime) -> Result<(), Fail> {
     let (err, status) = ("", 0);
     let text = recording(rt.alloc(), BEFORE, BEFORE, true)?;
+    let file = Some(File::of(text.as_bytes()));
     let out = ROW_BEFORE;
-    let shows = "a repeat in chunks of a byte";
+    let answer = Answer { out, err, status };
     check(
         &rt,
-        shows,
-        Some(text.as_bytes()),
-        Answer { out, err, status },
+        APPLY,
+        "a repeat in chunks of a byte",
+        file,
+        None,
+        answer,
     )?;
     let text = recording(rt.alloc(), &[], BEFORE, true)?;
     let out = NOTHING;
-    for count in [0usize, 3, 12, 15, 300, 800] {
-        let front = text.as_bytes().get(..count).unwrap_or(b"");
-        check(
-            &rt,
-            "a truncated frame",
-            Some(front),
-            Answer { out, err, status },
-        )?;
+    let answer = Answer { out, err, status };
+    for count in [0usize, 3, 12, 15, 300, 732] {
+        let front = text.as_bytes().get(..count).ok_or("so many bytes")?;
+        let file = Some(File::of(front));
+        check(&rt, APPLY, "a truncated frame", file, None, answer)?;
     }
     Ok(())
-}
-
-/// Gives its bytes five at a call, and then this error.
-#[derive(Clone, Copy, Drop)]
-struct Failing<'t> {
-    rest: &'t [u8],
-    error: ErrorKind,
-}
-
-impl<'t> Read for Failing<'t> {
-    fn read(&mut self, buf: &mut [u8]) -> io::Result<usize> {
-        if self.rest.is_empty() {
-            return Err(io::Error::from(self.error));
-        }
-        let count = buf.len().min(5);
-        self.rest.read(&mut buf[..count])
-    }
 }
 
 /// Gives so many bytes of one comment.
@@ -221,39 +163,86 @@ impl Write for Closing {
     }
 }
 
+/// Runs a command line whose standard output takes so many bytes, with a standard error that takes all, and with one that takes seven.
+fn check_room(
+    rt: &(impl Abort + AllocGlobal),
+    line: &str,
+    left: Option<File<'_>>,
+    right: Option<File<'_>>,
+    room: usize,
+) -> Result<(), Fail> {
+    let alloc = rt.alloc();
+    let task = task_of(alloc, line)?;
+    if store_path(&task).is_some() {
+        return Err(Fail::from(line));
+    }
+    let (mut out, mut err) = (Closing { room }, Vec::new(alloc));
+    let status = run(alloc, &task, left, right, &mut out, &mut err);
+    assert!(rt; status == 3, "{line}: {status} after {room} bytes");
+    assert!(rt;
+        err.as_slice() == b"pgsub: cannot write\n".as_slice(),
+        "{err:?}"
+    );
+    let (mut out, mut err) = (Closing { room }, Closing { room: 7 });
+    let status = run(alloc, &task, left, right, &mut out, &mut err);
+    assert!(rt;
+        status == 3,
+        "{line}: {status} after {room} bytes, and standard error fails"
+    );
+    Ok(())
+}
+
 #[test]
 fn an_output_that_fails_has_status_3(rt: HostRuntime) -> Result<(), Fail> {
-    let alloc = rt.alloc();
-    let text = recording(alloc, &[], BEFORE, false)?;
-    let file = String::from_str(alloc, "in.pgx")?;
-    let task = applying(file);
+    let text = recording(rt.alloc(), &[], BEFORE, false)?;
+    let file = Some(File::of(text.as_bytes()));
     for room in [0usize, 5, 43] {
-        let mut out = Closing { room };
-        let mut err = Vec::new(alloc);
-        let status = run(
-            alloc,
-            &task,
-            Some(text.as_bytes()),
-            None,
-            &mut out,
-            &mut err,
-        );
-        assert_eq!(rt; status, 3, "after {room} bytes");
-        assert!(rt;
-            err.as_slice() == b"pgsub: cannot write\n".as_slice(),
-            "{err:?}"
-        );
-        let mut out = Closing { room };
-        let mut err = Closing { room: 7 };
-        let status = run(
-            alloc,
-            &task,
-            Some(text.as_bytes()),
-            None,
-            &mut out,
-            &mut err,
-        );
-        assert_eq!(rt; status, 3, "after {room} bytes, and standard error fails");
+        check_room(&rt, APPLY, file, None, room)?;
+    }
+    let empty = Some(File::of(b""));
+    check_room(&rt, SAME, empty, empty, 0)
+}
+
+/// A recording with a line that can't be read, and the number of that line.
+static BAD_LINES: [(&str, &[u8], &str); 6] = [
+    (
+        "half a byte",
+        b"6",
+        "pgsub: capture line 1: not hexadecimal\n",
+    ),
+    (
+        "a blank",
+        b"\n 64\n",
+        "pgsub: capture line 2: not hexadecimal\n",
+    ),
+    (
+        "a letter",
+        b"#\n6g\n",
+        "pgsub: capture line 2: not hexadecimal\n",
+    ),
+    (
+        "three dashes",
+        b"64\n---\n",
+        "pgsub: capture line 2: not hexadecimal\n",
+    ),
+    (
+        "a carriage return",
+        b"64\n64\r\n",
+        "pgsub: capture line 2: not hexadecimal\n",
+    ),
+    (
+        "lines count from 1",
+        b"# first\n\n64\n--\nxy\n",
+        "pgsub: capture line 5: not hexadecimal\n",
+    ),
+];
+
+#[test]
+fn a_line_that_is_not_hexadecimal_is_told(rt: HostRuntime) -> Result<(), Fail> {
+    let (out, status) = ("", 3);
+    for (shows, text, err) in BAD_LINES {
+        let answer = Answer { out, err, status };
+        check(&rt, APPLY, shows, Some(File::of(text)), None, answer)?;
     }
     Ok(())
 }
@@ -261,57 +250,38 @@ fn an_output_that_fails_has_status_3(rt: HostRuntime) -> Result<(), Fail> {
 #[test]
 fn a_recording_that_is_not_read_leaves_the_output_empty(rt: HostRuntime) -> Result<(), Fail> {
     let out = "";
-    let unread = |err, status| Answer { out, err, status };
-    let missing: Option<&[u8]> = None;
-    check(
-        &rt,
-        "no file",
-        missing,
-        unread("pgsub: cannot read in.pgx\n", 3),
-    )?;
-    let line_2 = "pgsub: capture line 2: not hexadecimal\n";
-    let bad_lines: [(&str, &[u8], &str); 6] = [
-        (
-            "half a byte",
-            b"6",
-            "pgsub: capture line 1: not hexadecimal\n",
-        ),
-        ("a blank", b"\n 64\n", line_2),
-        ("a letter", b"#\n6g\n", line_2),
-        ("three dashes", b"64\n---\n", line_2),
-        ("a carriage return", b"64\n64\r\n", line_2),
-        (
-            "lines count from 1",
-            b"# first\n\n64\n--\nxy\n",
-            "pgsub: capture line 5: not hexadecimal\n",
-        ),
-    ];
-    for (shows, text, line) in bad_lines {
-        check(&rt, shows, Some(text), unread(line, 3))?;
-    }
-    for (error, line, status) in [
-        (ErrorKind::Other, "pgsub: cannot read in.pgx\n", 3),
-        (ErrorKind::OutOfMemory, "pgsub: memory\n", 1),
+    for (error, err, status) in [
+        (None, "pgsub: cannot read in.pgx\n", 3),
+        (Some(ErrorKind::Other), "pgsub: cannot read in.pgx\n", 3),
+        (Some(ErrorKind::OutOfMemory), "pgsub: memory\n", 1),
     ] {
-        let rest = b"64000000".as_slice();
-        let shows = "a reader that fails in mid-stream";
+        let (rest, at_once) = (b"64000000".as_slice(), 5);
+        let file = error.map(|error| File {
+            rest,
+            at_once,
+            error: Some(error),
+        });
+        let answer = Answer { out, err, status };
+        check(&rt, APPLY, err, file, None, answer)?;
+    }
+    Ok(())
+}
+
+#[test]
+fn a_recording_has_a_greatest_length(rt: HostRuntime) -> Result<(), Fail> {
+    for (left, out, err, status) in [
+        (67108865, "", "pgsub: capture too long\n", 3),
+        (67108864, NOTHING, "", 0),
+    ] {
+        let answer = Answer { out, err, status };
         check(
             &rt,
-            shows,
-            Some(Failing { rest, error }),
-            unread(line, status),
+            APPLY,
+            "one comment",
+            Some(Comment { left }),
+            None,
+            answer,
         )?;
     }
-    let left = 67108865;
-    let shows = "a byte above the limit";
-    let too_long = unread("pgsub: capture too long\n", 3);
-    check(&rt, shows, Some(Comment { left }), too_long)?;
-    let left = 67108864;
-    let (out, err, status) = (NOTHING, "", 0);
-    check(
-        &rt,
-        "the longest recording",
-        Some(Comment { left }),
-        Answer { out, err, status },
-    )
+    Ok(())
 }

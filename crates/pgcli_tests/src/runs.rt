@@ -1,0 +1,93 @@
+//! A run of a command line over files in memory, and what it must print.
+
+use pgcommand::{CommandFault, Task, command_of};
+use pgsub_cli::running::{run, store_path};
+use std::alloc::{AllocError, Global};
+use std::io;
+use std::io::{ErrorKind, Read};
+use std::process::Abort;
+use std::test::Fail;
+
+/// What a run prints, and its exit status.
+#[derive(Clone, Copy, Drop)]
+pub(crate) struct Answer {
+    pub(crate) out: &'static str,
+    pub(crate) err: &'static str,
+    pub(crate) status: u8,
+}
+
+/// A file: it gives at most so many bytes at a call, and after the last one an error or the end.
+#[derive(Clone, Copy, Drop)]
+pub(crate) struct File<'t> {
+    pub(crate) rest: &'t [u8],
+    pub(crate) at_once: usize,
+    pub(crate) error: Option<ErrorKind>,
+}
+
+impl<'t> File<'t> {
+    /// It gives all of these bytes, as many at a call as are asked for.
+    pub(crate) fn of(rest: &'t [u8]) -> File<'t> {
+        File {
+            rest,
+            at_once: usize::MAX,
+            error: None,
+        }
+    }
+}
+
+impl<'t> Read for File<'t> {
+    fn read(&mut self, buf: &mut [u8]) -> io::Result<usize> {
+        match self.error {
+            Some(error) if self.rest.is_empty() => Err(io::Error::from(error)),
+            _ => {
+                let count = buf.len().min(self.at_once);
+                self.rest.read(&mut buf[..count])
+            }
+        }
+    }
+}
+
+/// The recording of these lines.
+pub(crate) fn recording(alloc: Global, lines: &[&str]) -> Result<String, AllocError> {
+    let mut text = String::new(alloc);
+    for line in lines {
+        text.push_str(line)?;
+        text.push('\n')?;
+    }
+    Ok(text)
+}
+
+/// The task of a command line.
+pub(crate) fn task_of(alloc: Global, line: &str) -> Result<Task, Fail> {
+    let mut words = Vec::new(alloc);
+    for word in line.split(' ') {
+        words.push(String::from_str(alloc, word)?)?;
+    }
+    match command_of(alloc, words.as_slice()) {
+        Ok(task) => Ok(task),
+        Err(CommandFault::Usage(_)) => Err(Fail::from(line)),
+        Err(CommandFault::Memory) => Err(Fail::from(AllocError)),
+    }
+}
+
+/// Runs a command line over the files that it names, which gives this answer.
+pub(crate) fn check<R: Read + Drop>(
+    rt: &(impl Abort + AllocGlobal),
+    line: &str,
+    shows: &str,
+    left: Option<R>,
+    right: Option<R>,
+    answer: Answer,
+) -> Result<(), Fail> {
+    let alloc = rt.alloc();
+    let task = task_of(alloc, line)?;
+    if store_path(&task).is_some() {
+        return Err(Fail::from(line));
+    }
+    let (mut out, mut err) = (Vec::new(alloc), Vec::new(alloc));
+    let status = run(alloc, &task, left, right, &mut out, &mut err);
+    assert!(rt; out.as_slice() == answer.out.as_bytes(), "{shows}: {out:?}");
+    assert!(rt; err.as_slice() == answer.err.as_bytes(), "{shows}: {err:?}");
+    assert!(rt; status == answer.status, "{shows}: {status}");
+    Ok(())
+}
