@@ -1,11 +1,11 @@
 //! A server is followed over a store: what is written, what is stored, and how it ends.
 
 use crate::runs::File;
+use crate::stores::{Trial, on_memory_disks};
 use pgapply::ReplicaStore;
 use pgfollow::{Clock, Link};
 use pglsn::Lsn;
 use pgorder::Version;
-use pgstore::Store;
 use pgsub_cli::following::run_follow;
 use std::alloc::{AllocError, Global};
 use std::io;
@@ -88,28 +88,59 @@ fn told_bytes(alloc: Global, told: &[u64], most: usize) -> Result<Vec<u8>, Alloc
 }
 
 /// Follows the bytes of a reader over an empty store, and writes to a writer that takes at most so many bytes.
+#[derive(Drop)]
+struct Follows<'t> {
+    reader: File<'t>,
+    most: usize,
+    expected: Expected<'t>,
+}
+
+impl Trial for Follows<'_> {
+    fn run<C: ReplicaStore + Drop>(
+        &self,
+        rt: &(impl Abort + AllocGlobal),
+        store: C,
+    ) -> Result<(), Fail> {
+        let (alloc, expected) = (rt.alloc(), &self.expected);
+        let writer = Writer {
+            taken: Vec::new(alloc),
+            at_once: 7,
+            most: self.most,
+        };
+        let mut link = Link::new(self.reader, writer);
+        let mut err = Vec::new(alloc);
+        let (status, store) = run_follow(
+            alloc,
+            store,
+            Version::Two,
+            &mut link,
+            &mut Still,
+            &mut err,
+        );
+        let told = told_bytes(alloc, expected.told, self.most)?;
+        assert!(rt; link.writer().taken.as_slice() == told.as_slice());
+        assert!(rt; store.position() == Lsn(expected.position));
+        assert!(rt; err.as_slice() == expected.err.as_bytes(), "{err:?}");
+        assert!(rt; status == expected.status, "{status}");
+        Ok(())
+    }
+}
+
 fn check(
     rt: &(impl Abort + AllocGlobal),
     reader: File<'_>,
     most: usize,
     expected: &Expected<'_>,
 ) -> Result<(), Fail> {
-    let alloc = rt.alloc();
-    let writer = Writer {
-        taken: Vec::new(alloc),
-        at_once: 7,
-        most,
-    };
-    let mut link = Link::new(reader, writer);
-    let mut err = Vec::new(alloc);
-    let store = Store::on_memory_disks(alloc)?;
-    let (status, store) = run_follow(alloc, store, Version::Two, &mut link, &mut Still, &mut err);
-    let told = told_bytes(alloc, expected.told, most)?;
-    assert!(rt; link.writer().taken.as_slice() == told.as_slice());
-    assert!(rt; store.position() == Lsn(expected.position));
-    assert!(rt; err.as_slice() == expected.err.as_bytes(), "{err:?}");
-    assert!(rt; status == expected.status, "{status}");
-    Ok(())
+    let expected = *expected;
+    on_memory_disks(
+        rt,
+        &Follows {
+            reader,
+            most,
+            expected,
+        },
+    )
 }
 
 const AMPLE: usize = 100000;

@@ -23,6 +23,8 @@ mod runs;
 #[cfg(test)]
 mod showing_tests;
 #[cfg(test)]
+mod stores;
+#[cfg(test)]
 mod storing_tests;
 #[cfg(test)]
 mod tests;

@@ -1,12 +1,14 @@
 //! What is told of a long run, and that nothing else is another one.
 
+use crate::stores::{Trial, on_memory_disks};
+use pgapply::ReplicaStore;
 use pglsn::Lsn;
 use pgorder::Version;
-use pgstore::Store;
 use pgsub_cli::reporting::{Progress, Reporter, run_reported};
 use pgsub_cli::storing::Incoming;
 use std::cell::Cell;
 use std::io;
+use std::process::Abort;
 use std::test::Fail;
 use std::time::{Clock, Duration};
 
@@ -70,27 +72,39 @@ fn a_line_comes_once_a_second_at_most(rt: HostRuntime) -> Result<(), Fail> {
     Ok(())
 }
 
+/// A run of which is told how far it is.
+struct IsTold;
+
+impl Trial for IsTold {
+    fn run<C: ReplicaStore + Drop>(
+        &self,
+        rt: &(impl Abort + AllocGlobal),
+        store: C,
+    ) -> Result<(), Fail> {
+        let alloc = rt.alloc();
+        let reporter = Reporter::new(alloc, new_clock(), Vec::new(alloc), None)?;
+        let (mut out, mut err) = (Vec::new(alloc), Vec::new(alloc));
+        let incoming = Incoming::Raw(b"x".as_slice());
+        let (status, _) = run_reported(
+            alloc,
+            store,
+            Version::Two,
+            incoming,
+            reporter,
+            &mut out,
+            &mut err,
+        );
+        assert_eq!(rt; out.as_slice(), b"position 0/0\n".as_slice());
+        assert_eq!(rt;
+            err.as_slice(),
+            b"pgsub: wire 1 UnknownFrame 120\n".as_slice()
+        );
+        assert_eq!(rt; status, 1);
+        Ok(())
+    }
+}
+
 #[test]
 fn a_run_that_is_told_ends_as_another(rt: HostRuntime) -> Result<(), Fail> {
-    let alloc = rt.alloc();
-    let reporter = Reporter::new(alloc, new_clock(), Vec::new(alloc), None)?;
-    let store = Store::on_memory_disks(alloc)?;
-    let (mut out, mut err) = (Vec::new(alloc), Vec::new(alloc));
-    let incoming = Incoming::Raw(b"x".as_slice());
-    let (status, _) = run_reported(
-        alloc,
-        store,
-        Version::Two,
-        incoming,
-        reporter,
-        &mut out,
-        &mut err,
-    );
-    assert_eq!(rt; out.as_slice(), b"position 0/0\n".as_slice());
-    assert_eq!(rt;
-        err.as_slice(),
-        b"pgsub: wire 1 UnknownFrame 120\n".as_slice()
-    );
-    assert_eq!(rt; status, 1);
-    Ok(())
+    on_memory_disks(&rt, &IsTold)
 }

@@ -1,32 +1,45 @@
 //! What is applied to a store, and how a store that isn't opened is told.
 
-use pgapply::StoreFault;
+use crate::stores::{Trial, on_memory_disks};
+use pgapply::{ReplicaStore, StoreFault};
 use pgcommand::Task;
 use pgorder::Version;
-use pgstore::Store;
 use pgsub_cli::fault::RunFault;
 use pgsub_cli::storing::{Incoming, read_input, run_store, tell_stopped, tell_unopened};
 use pgsub_core::Side;
+use std::process::Abort;
 use std::test::Fail;
+
+/// The bytes of a file, which are no frames.
+struct FeedsBytes;
+
+impl Trial for FeedsBytes {
+    fn run<C: ReplicaStore + Drop>(
+        &self,
+        rt: &(impl Abort + AllocGlobal),
+        store: C,
+    ) -> Result<(), Fail> {
+        let alloc = rt.alloc();
+        let file = Some(b"x".as_slice());
+        let Ok(Incoming::Raw(bytes)) = read_input(alloc, true, file) else {
+            return Err(Fail::from("the file isn't taken as bytes"));
+        };
+        let input = Some((Version::Two, Incoming::Raw(bytes)));
+        let (mut out, mut err) = (Vec::new(alloc), Vec::new(alloc));
+        let (status, _) = run_store(alloc, store, input, &mut out, &mut err);
+        assert_eq!(rt; out.as_slice(), b"position 0/0\n".as_slice());
+        assert_eq!(rt;
+            err.as_slice(),
+            b"pgsub: wire 1 UnknownFrame 120\n".as_slice()
+        );
+        assert_eq!(rt; status, 1);
+        Ok(())
+    }
+}
 
 #[test]
 fn the_bytes_of_a_file_are_fed_to_a_store(rt: HostRuntime) -> Result<(), Fail> {
-    let alloc = rt.alloc();
-    let file = Some(b"x".as_slice());
-    let Ok(Incoming::Raw(bytes)) = read_input(alloc, true, file) else {
-        return Err(Fail::from("the file isn't taken as bytes"));
-    };
-    let input = Some((Version::Two, Incoming::Raw(bytes)));
-    let store = Store::on_memory_disks(alloc)?;
-    let (mut out, mut err) = (Vec::new(alloc), Vec::new(alloc));
-    let (status, _) = run_store(alloc, store, input, &mut out, &mut err);
-    assert_eq!(rt; out.as_slice(), b"position 0/0\n".as_slice());
-    assert_eq!(rt;
-        err.as_slice(),
-        b"pgsub: wire 1 UnknownFrame 120\n".as_slice()
-    );
-    assert_eq!(rt; status, 1);
-    Ok(())
+    on_memory_disks(&rt, &FeedsBytes)
 }
 
 #[test]

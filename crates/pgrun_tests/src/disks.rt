@@ -1,9 +1,9 @@
 //! Two disks in memory that outlast the runs over them.
 
 use crate::fault::Wrong;
-use pgmemory::stop;
+use crate::runs::{Input, Run, check_run, input_of};
 use pgstore::Store;
-use sqlite::{Connection, FileStore, Files, Options};
+use sqlite::{Alter, Connection, FileStore, Files, Options};
 use sqlite_disk::{Disk, Memory};
 use std::alloc::Global;
 
@@ -25,30 +25,42 @@ fn options() -> Options {
     }
 }
 
-/// The store on these disks.
-pub(crate) fn open(alloc: Global, disks: Files<Memory>) -> Result<Store<FileStore<Memory>>, Wrong> {
+/// Opens the disks.
+fn connect(alloc: Global, disks: Files<Memory>) -> Result<Connection<FileStore<Memory>>, Wrong> {
     if !disks.log.may_be_used() || !disks.db.may_be_used() {
         return Err(Wrong::Unopened);
     }
-    let conn = match Connection::open_files(alloc, disks, options()) {
-        Ok(conn) => conn,
+    match Connection::open_files(alloc, disks, options()) {
+        Ok(conn) => Ok(conn),
         Err((_, left)) => {
             let _ = left.into_files();
-            return Err(Wrong::Unopened);
-        }
-    };
-    match Store::adopt(alloc, conn) {
-        Ok(store) => Ok(store),
-        Err((_, conn)) => {
-            let _ = stop(conn);
-            Err(Wrong::Unadopted)
+            Err(Wrong::Unopened)
         }
     }
 }
 
-/// The disks of a store.
-pub(crate) fn close(store: Store<FileStore<Memory>>) -> Result<Files<Memory>, Wrong> {
-    match store.into_connection().close_files() {
+/// Makes a run over the store of a connection, which is given back.
+fn run_over<S: Alter + Drop>(
+    alloc: Global,
+    conn: Connection<S>,
+    input: Input,
+    run: &Run,
+) -> Result<Connection<S>, Wrong> {
+    match Store::adopt(alloc, conn) {
+        Ok(store) => Ok(check_run(alloc, store, input, run)?.into_connection()),
+        Err(_) => Err(Wrong::Unadopted),
+    }
+}
+
+/// Makes a run over the store on these disks, which are given back. All of the recording is read before the store is opened.
+pub(crate) fn run_on(
+    alloc: Global,
+    disks: Files<Memory>,
+    run: &Run,
+) -> Result<Files<Memory>, Wrong> {
+    let input = input_of(alloc, run.recording)?;
+    let conn = run_over(alloc, connect(alloc, disks)?, input, run)?;
+    match conn.close_files() {
         Ok(disks) => Ok(disks),
         Err((_, left)) => {
             let _ = left.close();

@@ -1,12 +1,10 @@
-//! One run over a store on two disks.
+//! One run over a store.
 
-use crate::disks::{close, open};
 use crate::fault::Wrong;
+use pgapply::ReplicaStore;
 use pgorder::Version;
 use pgsub_cli::run_store;
 use pgsub_cli::storing::{Incoming, read_input};
-use sqlite::Files;
-use sqlite_disk::Memory;
 use std::alloc::{AllocError, Global};
 
 /// A run: `apply` of a recording, or `dump` where there is none, and what comes of it.
@@ -31,11 +29,11 @@ fn text_of(alloc: Global, lines: &[&str]) -> Result<String, AllocError> {
     Ok(text)
 }
 
-/// What is given to a run. All of the recording is read before the store is opened.
-fn input_of(
-    alloc: Global,
-    recording: Option<&[&str]>,
-) -> Result<Option<(Version, Incoming<&'static [u8]>)>, Wrong> {
+/// What a run applies, if anything.
+pub(crate) type Input = Option<(Version, Incoming<&'static [u8]>)>;
+
+/// What is given to a run.
+pub(crate) fn input_of(alloc: Global, recording: Option<&[&str]>) -> Result<Input, Wrong> {
     let Some(lines) = recording else {
         return Ok(None);
     };
@@ -60,17 +58,15 @@ fn compare(run: &Run, out: &[u8], err: &[u8], status: u8) -> Result<(), Wrong> {
     Ok(())
 }
 
-/// Runs it over the store on these disks, which are given back, and compares what comes of it.
-pub(crate) fn check_run(
+/// Makes a run over a store, which is given back, and compares what comes of it.
+pub(crate) fn check_run<C: ReplicaStore + Drop>(
     alloc: Global,
-    disks: Files<Memory>,
+    store: C,
+    input: Input,
     run: &Run,
-) -> Result<Files<Memory>, Wrong> {
-    let input = input_of(alloc, run.recording)?;
-    let store = open(alloc, disks)?;
+) -> Result<C, Wrong> {
     let (mut out, mut err) = (Vec::new(alloc), Vec::new(alloc));
     let (status, store) = run_store(alloc, store, input, &mut out, &mut err);
-    let disks = close(store)?;
     compare(run, out.as_slice(), err.as_slice(), status)?;
-    Ok(disks)
+    Ok(store)
 }

@@ -1,11 +1,11 @@
 //! Runs over a store that is opened anew for each.
 
-use crate::disks::new_disks;
+use crate::disks::{new_disks, run_on};
 use crate::fault::Wrong;
 use crate::rows::{
     CLASHES, GOES_ON_AFTER_A_KEEPALIVE, LOST_BETWEEN_BLOCKS, LOST_IN_A_STREAM, SENT_AGAIN,
 };
-use crate::runs::{Run, check_run};
+use crate::runs::Run;
 use std::alloc::Global;
 use std::test::Fail;
 
@@ -13,7 +13,7 @@ use std::test::Fail;
 fn check(alloc: Global, runs: &[Run]) -> Result<(), Wrong> {
     let mut disks = new_disks(alloc);
     for run in runs {
-        disks = check_run(alloc, disks, run)?;
+        disks = run_on(alloc, disks, run)?;
     }
     Ok(())
 }

@@ -1,8 +1,9 @@
 //! Stores on disks that stop.
 
+use crate::runs::Trial;
 use pgmemory::stop;
 use pgstore::{Store, StoreFault};
-use sqlite::{Connection, FileStore, Files, Options};
+use sqlite::{Alter, Connection, FileStore, Files, Options};
 use sqlite_disk::{Disk, Fuse, Memory};
 use std::alloc::Global;
 use std::test::Fail;
@@ -93,33 +94,32 @@ fn connect(
     }
 }
 
-/// The store of a connection, or what is left where its adoption met the stop.
-fn adopt(
+/// The store of a connection, or the connection where its adoption met the stop.
+fn adopt<S: Alter + Drop>(
     alloc: Global,
-    conn: Connection<FileStore<Stopping>>,
-) -> Result<Result<Store<FileStore<Stopping>>, Left>, Fail> {
+    conn: Connection<S>,
+) -> Result<Result<Store<S>, Connection<S>>, Fail> {
     match Store::adopt(alloc, conn) {
         Ok(store) => Ok(Ok(store)),
-        Err((StoreFault::Refused | StoreFault::Memory, conn)) => {
-            Ok(Err(left_on(alloc, stop(conn))?))
-        }
+        Err((StoreFault::Refused | StoreFault::Memory, conn)) => Ok(Err(conn)),
         Err(_) => Err(Fail::from("another fault of adoption")),
     }
 }
 
-/// The store on what was left, or what is left of it where a disk stopped at the opening.
-pub(crate) fn open(
+/// Opens a store on what was left, and tries this over it where no disk stopped at the opening. Returns what is left then.
+pub(crate) fn try_over(
     alloc: Global,
     left: &Left,
     calls: Calls,
-) -> Result<Result<Store<FileStore<Stopping>>, Left>, Fail> {
-    match connect(alloc, files_of(alloc, left, calls)?)? {
-        Ok(conn) => adopt(alloc, conn),
-        Err(left) => Ok(Err(left)),
-    }
-}
-
-/// What is left of a store that nothing more is said to.
-pub(crate) fn close(alloc: Global, store: Store<FileStore<Stopping>>) -> Result<Left, Fail> {
-    left_on(alloc, stop(store.into_connection()))
+    trial: &mut impl Trial,
+) -> Result<Left, Fail> {
+    let conn = match connect(alloc, files_of(alloc, left, calls)?)? {
+        Ok(conn) => conn,
+        Err(left) => return Ok(left),
+    };
+    let conn = match adopt(alloc, conn)? {
+        Ok(store) => trial.run(alloc, store)?.into_connection(),
+        Err(conn) => conn,
+    };
+    left_on(alloc, stop(conn))
 }

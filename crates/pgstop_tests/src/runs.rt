@@ -1,6 +1,6 @@
 //! Runs over a store, and what it holds.
 
-use crate::recordings::{Cells, State};
+use crate::recordings::{Cells, Recording, State};
 use pgapply::{DumpRow, ReplicaStore};
 use pglsn::Lsn;
 use pgorder::Version;
@@ -11,12 +11,13 @@ use pgtuple::Cell;
 use std::alloc::Global;
 use std::test::Fail;
 
+/// What is tried over an opened store, which is given back. It is proved once, for any `ReplicaStore`.
+pub(crate) trait Trial {
+    fn run<C: ReplicaStore + Drop>(&mut self, alloc: Global, store: C) -> Result<C, Fail>;
+}
+
 /// Feeds a session's bytes to a new subscriber over a store, and gives the store back.
-pub(crate) fn feed<C: ReplicaStore + Drop>(
-    alloc: Global,
-    store: C,
-    bytes: &[u8],
-) -> (Result<(), Fault>, C) {
+fn feed<C: ReplicaStore + Drop>(alloc: Global, store: C, bytes: &[u8]) -> (Result<(), Fault>, C) {
     let spools = ByteSpools::new(alloc, 1_000_000);
     let mut subscriber = Subscriber::new(alloc, store, spools, Version::Two, 64_000);
     let fed = subscriber.feed(bytes, 7);
@@ -24,7 +25,7 @@ pub(crate) fn feed<C: ReplicaStore + Drop>(
 }
 
 /// Whether it went well, or a disk that stopped may be the cause.
-pub(crate) fn may_come_of_a_stop(fed: &Result<(), Fault>) -> bool {
+fn may_come_of_a_stop(fed: &Result<(), Fault>) -> bool {
     matches!(
         fed,
         Ok(()) | Err(Fault::Store(StoreFault::Refused)) | Err(Fault::Memory)
@@ -61,7 +62,7 @@ fn are_rows(rows: &[DumpRow], wanted: &[Cells]) -> bool {
 }
 
 /// Which of the states a store is in, counted from 0.
-pub(crate) fn state_of<C: ReplicaStore>(store: &mut C, states: &[State]) -> Result<usize, Fail> {
+fn state_of<C: ReplicaStore>(store: &mut C, states: &[State]) -> Result<usize, Fail> {
     let position = store.position();
     let Ok(rows) = store.rows() else {
         return Err(Fail::from("the rows can't be read"));
@@ -72,4 +73,41 @@ pub(crate) fn state_of<C: ReplicaStore>(store: &mut C, states: &[State]) -> Resu
         }
     }
     Err(Fail::from("it is in none of the states"))
+}
+
+/// A run on disks that may stop.
+#[derive(Drop)]
+pub(crate) struct Stops<'t> {
+    pub(crate) bytes: &'t [u8],
+}
+
+impl Trial for Stops<'_> {
+    fn run<C: ReplicaStore + Drop>(&mut self, alloc: Global, store: C) -> Result<C, Fail> {
+        let (fed, store) = feed(alloc, store, self.bytes);
+        if !may_come_of_a_stop(&fed) {
+            return Err(Fail::from("another fault"));
+        }
+        Ok(store)
+    }
+}
+
+/// A run on what a stop left: it is one of the states, and the session leads on to the last of them.
+#[derive(Drop)]
+pub(crate) struct GoesOn<'t> {
+    pub(crate) bytes: &'t [u8],
+    pub(crate) recording: &'t Recording,
+    /// The state in which the store was opened.
+    pub(crate) state: Option<usize>,
+}
+
+impl Trial for GoesOn<'_> {
+    fn run<C: ReplicaStore + Drop>(&mut self, alloc: Global, mut store: C) -> Result<C, Fail> {
+        let states = self.recording.states;
+        self.state = Some(state_of(&mut store, states)?);
+        let (fed, mut store) = feed(alloc, store, self.bytes);
+        if fed.is_err() || state_of(&mut store, states)?.saturating_add(1) != states.len() {
+            return Err(Fail::from("the session doesn't lead to the end"));
+        }
+        Ok(store)
+    }
 }

@@ -1,26 +1,17 @@
 //! Each number of calls that a disk passes on before it stops.
 
-use crate::disks::{Calls, Left, NEVER, close, nothing, open};
+use crate::disks::{Calls, Left, NEVER, nothing, try_over};
 use crate::recordings::{CARRIED, IN_BLOCKS, Recording, bytes_of};
-use crate::runs::{feed, may_come_of_a_stop, state_of};
+use crate::runs::{GoesOn, Stops};
 use std::alloc::Global;
 use std::test::Fail;
 
 /// A run on two new disks that stop after so many calls.
 fn run(alloc: Global, bytes: &[u8], calls: Calls) -> Result<Left, Fail> {
-    match open(alloc, &nothing(alloc), calls)? {
-        Ok(store) => {
-            let (fed, store) = feed(alloc, store, bytes);
-            if !may_come_of_a_stop(&fed) {
-                return Err(Fail::from("another fault"));
-            }
-            close(alloc, store)
-        }
-        Err(left) => Ok(left),
-    }
+    try_over(alloc, &nothing(alloc), calls, &mut Stops { bytes })
 }
 
-/// What was left is one of the states, and the session leads on to the last of them.
+/// A run on what was left. Returns the state in which that is.
 fn run_again(
     alloc: Global,
     bytes: &[u8],
@@ -31,17 +22,16 @@ fn run_again(
         log: NEVER,
         db: NEVER,
     };
-    let Ok(mut store) = open(alloc, left, calls)? else {
-        return Err(Fail::from("what was left can't be opened"));
+    let mut run = GoesOn {
+        bytes,
+        recording,
+        state: None,
     };
-    let state = state_of(&mut store, recording.states)?;
-    let (fed, mut store) = feed(alloc, store, bytes);
-    if fed.is_err()
-        || state_of(&mut store, recording.states)?.saturating_add(1) != recording.states.len()
-    {
-        return Err(Fail::from("the session doesn't lead to the end"));
+    let _left = try_over(alloc, left, calls, &mut run)?;
+    match run.state {
+        Some(state) => Ok(state),
+        None => Err(Fail::from("what was left can't be opened")),
     }
-    Ok(state)
 }
 
 /// Stops a disk after so many calls, for each number until a run meets no stop. Each state must be left by some run.

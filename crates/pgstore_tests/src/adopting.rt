@@ -1,6 +1,7 @@
 //! Stores over connections that others have filled, in memory and on disks in memory.
 
 use crate::cases::FILLED;
+use crate::stores::{ConnectionTrial, Trial, in_memory, on_connections, on_memory_disks};
 use crate::tests::{shown, take};
 use pgapply::StoreFault;
 use pglsn::Lsn;
@@ -35,77 +36,129 @@ fn expect_refused<S: Alter + Drop>(
 }
 
 /// A store with rows in keyed tables and bags is closed, adopted, and goes on.
-fn check_again<S: Alter + Drop>(
-    rt: &(impl Abort + AllocGlobal),
-    mut store: Store<S>,
-) -> Result<(), Fail> {
-    take(rt, &mut store, 0x0100_0000_0000_0130, FILLED.0)?;
-    let mut again = adopt(rt, store.into_connection())?;
-    assert_eq!(rt; again.position(), Lsn(0x0100_0000_0000_0130));
-    assert_eq!(rt; shown(rt.alloc(), &mut again)?.as_str(), FILLED.2);
-    take(rt, &mut again, 0x0100_0000_0000_0131, &[])?;
-    let mut last = adopt(rt, again.into_connection())?;
-    assert_eq!(rt; last.position(), Lsn(0x0100_0000_0000_0131));
-    assert_eq!(rt; shown(rt.alloc(), &mut last)?.as_str(), FILLED.2);
-    Ok(())
+struct GoesOn;
+
+impl Trial for GoesOn {
+    fn run<S: Alter + Drop>(
+        &self,
+        rt: &(impl Abort + AllocGlobal),
+        mut store: Store<S>,
+    ) -> Result<(), Fail> {
+        take(rt, &mut store, 0x0100_0000_0000_0130, FILLED.0)?;
+        let mut again = adopt(rt, store.into_connection())?;
+        assert_eq!(rt; again.position(), Lsn(0x0100_0000_0000_0130));
+        assert_eq!(rt; shown(rt.alloc(), &mut again)?.as_str(), FILLED.2);
+        take(rt, &mut again, 0x0100_0000_0000_0131, &[])?;
+        let mut last = adopt(rt, again.into_connection())?;
+        assert_eq!(rt; last.position(), Lsn(0x0100_0000_0000_0131));
+        assert_eq!(rt; shown(rt.alloc(), &mut last)?.as_str(), FILLED.2);
+        Ok(())
+    }
 }
 
 #[test]
 fn filled_stores_are_adopted(rt: HostRuntime) -> Result<(), Fail> {
-    check_again(&rt, Store::in_memory(rt.alloc())?)?;
-    check_again(&rt, Store::on_memory_disks(rt.alloc())?)
+    in_memory(&rt, &GoesOn)?;
+    on_memory_disks(&rt, &GoesOn)
 }
 
 /// A store without rows is adopted at 0/0.
-fn check_empty<S: Alter + Drop>(
-    rt: &(impl Abort + AllocGlobal),
-    conn: Connection<S>,
-) -> Result<(), Fail> {
-    let mut store = adopt(rt, conn)?;
-    assert_eq!(rt; store.position(), Lsn(0));
-    assert_eq!(rt; shown(rt.alloc(), &mut store)?.as_str(), "");
-    take(rt, &mut store, 0x130, FILLED.0)?;
-    assert_eq!(rt; shown(rt.alloc(), &mut store)?.as_str(), FILLED.2);
-    Ok(())
+struct BeginsAnew;
+
+impl ConnectionTrial for BeginsAnew {
+    fn run<S: Alter + Drop>(
+        &self,
+        rt: &(impl Abort + AllocGlobal),
+        conn: Connection<S>,
+    ) -> Result<(), Fail> {
+        let mut store = adopt(rt, conn)?;
+        assert_eq!(rt; store.position(), Lsn(0));
+        assert_eq!(rt; shown(rt.alloc(), &mut store)?.as_str(), "");
+        take(rt, &mut store, 0x130, FILLED.0)?;
+        assert_eq!(rt; shown(rt.alloc(), &mut store)?.as_str(), FILLED.2);
+        Ok(())
+    }
+}
+
+impl Trial for BeginsAnew {
+    fn run<S: Alter + Drop>(
+        &self,
+        rt: &(impl Abort + AllocGlobal),
+        store: Store<S>,
+    ) -> Result<(), Fail> {
+        ConnectionTrial::run(self, rt, store.into_connection())
+    }
 }
 
 #[test]
 fn empty_connections_are_adopted(rt: HostRuntime) -> Result<(), Fail> {
-    check_empty(&rt, Connection::open_in_memory(rt.alloc())?)?;
-    check_empty(&rt, pgmemory::open(rt.alloc())?)?;
-    check_empty(&rt, Store::in_memory(rt.alloc())?.into_connection())
+    on_connections(&rt, &BeginsAnew)?;
+    in_memory(&rt, &BeginsAnew)
+}
+
+/// A store without rows loses its position, and is adopted at 0/0.
+struct LosesItsPosition;
+
+impl Trial for LosesItsPosition {
+    fn run<S: Alter + Drop>(
+        &self,
+        rt: &(impl Abort + AllocGlobal),
+        store: Store<S>,
+    ) -> Result<(), Fail> {
+        let mut conn = store.into_connection();
+        conn.execute_batch("DELETE FROM pos")?;
+        ConnectionTrial::run(&BeginsAnew, rt, conn)
+    }
 }
 
 #[test]
 fn empty_tables_get_a_position(rt: HostRuntime) -> Result<(), Fail> {
-    let mut conn = Store::in_memory(rt.alloc())?.into_connection();
-    conn.execute_batch("DELETE FROM pos")?;
-    check_empty(&rt, conn)?;
-    let mut conn = Store::on_memory_disks(rt.alloc())?.into_connection();
-    conn.execute_batch("DELETE FROM pos")?;
-    check_empty(&rt, conn)
+    in_memory(&rt, &LosesItsPosition)?;
+    on_memory_disks(&rt, &LosesItsPosition)
+}
+
+/// After some statements the connection isn't adopted, with this fault.
+#[derive(Drop)]
+struct IsRefused {
+    statements: &'static str,
+    fault: StoreFault,
+}
+
+impl ConnectionTrial for IsRefused {
+    fn run<S: Alter + Drop>(
+        &self,
+        rt: &(impl Abort + AllocGlobal),
+        mut conn: Connection<S>,
+    ) -> Result<(), Fail> {
+        conn.execute_batch(self.statements)?;
+        expect_refused(rt, conn, self.fault)
+    }
+}
+
+impl Trial for IsRefused {
+    fn run<S: Alter + Drop>(
+        &self,
+        rt: &(impl Abort + AllocGlobal),
+        store: Store<S>,
+    ) -> Result<(), Fail> {
+        ConnectionTrial::run(self, rt, store.into_connection())
+    }
 }
 
 #[test]
 fn other_tables_are_no_store(rt: HostRuntime) -> Result<(), Fail> {
-    for tables in [
-        "CREATE TABLE other (x INTEGER)",
-        "CREATE TABLE rel (oid INTEGER PRIMARY KEY NOT NULL)",
-    ] {
-        let mut conn = Connection::open_in_memory(rt.alloc())?;
-        conn.execute_batch(tables)?;
-        expect_refused(&rt, conn, StoreFault::NotAStore)?;
-    }
-    let mut conn = Store::in_memory(rt.alloc())?.into_connection();
-    conn.execute_batch("CREATE TABLE other (x INTEGER)")?;
-    expect_refused(&rt, conn, StoreFault::NotAStore)
+    let fault = StoreFault::NotAStore;
+    let statements = "CREATE TABLE other (x INTEGER)";
+    on_connections(&rt, &IsRefused { statements, fault })?;
+    in_memory(&rt, &IsRefused { statements, fault })?;
+    let statements = "CREATE TABLE rel (oid INTEGER PRIMARY KEY NOT NULL)";
+    on_connections(&rt, &IsRefused { statements, fault })
 }
 
 #[test]
 fn transactions_are_refused(rt: HostRuntime) -> Result<(), Fail> {
-    let mut conn = Store::in_memory(rt.alloc())?.into_connection();
-    conn.execute_batch("BEGIN")?;
-    expect_refused(&rt, conn, StoreFault::Refused)
+    let (statements, fault) = ("BEGIN", StoreFault::Refused);
+    in_memory(&rt, &IsRefused { statements, fault })
 }
 
 /// What no store writes, over a store with the row 1 a in t and x in the bag f.
@@ -149,26 +202,37 @@ const RIGHT: &[&str] = &[
     "DELETE FROM held",
 ];
 
-#[test]
-fn wrong_rows_are_no_store(rt: HostRuntime) -> Result<(), Fail> {
-    for change in WRONG {
-        let mut store = Store::in_memory(rt.alloc())?;
-        take(&rt, &mut store, 0x130, FILLED.0)?;
+/// A filled store in which a statement changes something, and whether it is a store still.
+#[derive(Drop)]
+struct Changed {
+    change: &'static str,
+    is_right: bool,
+}
+
+impl Trial for Changed {
+    fn run<S: Alter + Drop>(
+        &self,
+        rt: &(impl Abort + AllocGlobal),
+        mut store: Store<S>,
+    ) -> Result<(), Fail> {
+        take(rt, &mut store, 0x130, FILLED.0)?;
         let mut conn = store.into_connection();
-        conn.execute_batch(change)?;
-        expect_refused(&rt, conn, StoreFault::NotAStore)?;
+        conn.execute_batch(self.change)?;
+        if !self.is_right {
+            return expect_refused(rt, conn, StoreFault::NotAStore);
+        }
+        let _store = adopt(rt, conn)?;
+        Ok(())
     }
-    Ok(())
 }
 
 #[test]
-fn right_rows_are_a_store(rt: HostRuntime) -> Result<(), Fail> {
-    for change in RIGHT {
-        let mut store = Store::in_memory(rt.alloc())?;
-        take(&rt, &mut store, 0x130, FILLED.0)?;
-        let mut conn = store.into_connection();
-        conn.execute_batch(change)?;
-        let _store = adopt(&rt, conn)?;
+fn only_right_rows_are_a_store(rt: HostRuntime) -> Result<(), Fail> {
+    for (changes, is_right) in [(WRONG, false), (RIGHT, true)] {
+        for change in changes {
+            let change = *change;
+            in_memory(&rt, &Changed { change, is_right })?;
+        }
     }
     Ok(())
 }
@@ -210,38 +274,59 @@ fn check_remade<S: Alter + Drop>(
     Ok(())
 }
 
-fn check_dropped<S: Alter + Drop>(
-    rt: &(impl Abort + AllocGlobal),
-    mut store: Store<S>,
-    drops: &str,
+/// A filled store of which tables are dropped, and the position at which it is adopted, or `None` where it isn't.
+#[derive(Drop)]
+struct Dropped {
+    drops: &'static str,
     position: Option<u64>,
-) -> Result<(), Fail> {
-    take(rt, &mut store, 0x130, FILLED.0)?;
-    let mut conn = store.into_connection();
-    conn.execute_batch(drops)?;
-    match position {
-        Some(position) => check_remade(rt, conn, Lsn(position)),
-        None => expect_refused(rt, conn, StoreFault::NotAStore),
+}
+
+impl Trial for Dropped {
+    fn run<S: Alter + Drop>(
+        &self,
+        rt: &(impl Abort + AllocGlobal),
+        mut store: Store<S>,
+    ) -> Result<(), Fail> {
+        take(rt, &mut store, 0x130, FILLED.0)?;
+        let mut conn = store.into_connection();
+        conn.execute_batch(self.drops)?;
+        match self.position {
+            Some(position) => check_remade(rt, conn, Lsn(position)),
+            None => expect_refused(rt, conn, StoreFault::NotAStore),
+        }
     }
 }
 
 #[test]
 fn dropped_tables_are_made(rt: HostRuntime) -> Result<(), Fail> {
     for (drops, position) in DROPPED {
-        check_dropped(&rt, Store::in_memory(rt.alloc())?, drops, *position)?;
-        check_dropped(&rt, Store::on_memory_disks(rt.alloc())?, drops, *position)?;
+        let (drops, position) = (*drops, *position);
+        in_memory(&rt, &Dropped { drops, position })?;
+        on_memory_disks(&rt, &Dropped { drops, position })?;
     }
     Ok(())
 }
 
+/// The definitions of a store whose rows were dropped are kept.
+struct KeepsDefinitions;
+
+impl Trial for KeepsDefinitions {
+    fn run<S: Alter + Drop>(
+        &self,
+        rt: &(impl Abort + AllocGlobal),
+        mut store: Store<S>,
+    ) -> Result<(), Fail> {
+        take(rt, &mut store, 0x130, FILLED.0)?;
+        let mut conn = store.into_connection();
+        conn.execute_batch("DROP TABLE held")?;
+        let mut conn = adopt(rt, conn)?.into_connection();
+        let definitions = conn.query_all("SELECT oid FROM rel", &[])?;
+        assert_eq!(rt; definitions.len(), 3);
+        Ok(())
+    }
+}
+
 #[test]
 fn definitions_outlast_their_rows(rt: HostRuntime) -> Result<(), Fail> {
-    let mut store = Store::in_memory(rt.alloc())?;
-    take(&rt, &mut store, 0x130, FILLED.0)?;
-    let mut conn = store.into_connection();
-    conn.execute_batch("DROP TABLE held")?;
-    let mut conn = adopt(&rt, conn)?.into_connection();
-    let definitions = conn.query_all("SELECT oid FROM rel", &[])?;
-    assert_eq!(rt; definitions.len(), 3);
-    Ok(())
+    in_memory(&rt, &KeepsDefinitions)
 }

@@ -11,4 +11,6 @@ mod cases;
 #[cfg(test)]
 mod disks;
 #[cfg(test)]
+mod stores;
+#[cfg(test)]
 mod tests;

@@ -28,6 +28,8 @@ mod states;
 #[cfg(test)]
 mod steps;
 #[cfg(test)]
+mod stores;
+#[cfg(test)]
 mod tests;
 #[cfg(test)]
 mod transactions;

@@ -3,11 +3,11 @@
 use crate::row::Step::{At, Disconnect, Rows};
 use crate::row::{AMPLE, Row, T_1_A, T_2_G, T_3_G, T_4_G, T_5_G};
 use crate::steps::{BadSession, MAX_FRAME, NOW, bytes_of, take_steps};
+use crate::stores::{Trial, in_memory, on_memory_disks};
 use pgapply::StoreFault::{Clash, NoIdentity, UnchangedInInsert, UnknownIdentity, Width};
 use pgapply::{ReplicaStore, StoreFault};
 use pgorder::Version;
 use pgspool::{ByteSpools, ListSpools, Spools};
-use pgstore::Store;
 use pgsub_core::{Fault, Subscriber};
 use std::alloc::Global;
 use std::process::Abort;
@@ -101,22 +101,62 @@ fn check_over<P: Spools + Drop, C: ReplicaStore + Drop>(
     reject_and_take(rt, &mut subscriber, count, bad)
 }
 
-/// A bad change at each place, by both forms of spools, over stores in memory and on disks in memory.
-fn check_places(rt: &(impl Abort + AllocGlobal), bad: (&str, StoreFault)) -> Result<(), Fail> {
-    let alloc = rt.alloc();
-    for count in 0..=GOOD.len() {
-        let encoded = ByteSpools::new(alloc, AMPLE);
-        check_over(rt, Store::in_memory(alloc)?, encoded, count, bad)?;
-        let decoded = ListSpools::new(alloc, AMPLE);
-        check_over(rt, Store::on_memory_disks(alloc)?, decoded, count, bad)?;
+/// A bad change after so many others.
+#[derive(Drop)]
+struct RejectsAt {
+    count: usize,
+    bad: (&'static str, StoreFault),
+    is_encoded: bool,
+}
+
+impl Trial for RejectsAt {
+    fn run<C: ReplicaStore + Drop>(
+        &self,
+        rt: &(impl Abort + AllocGlobal),
+        store: C,
+    ) -> Result<(), Fail> {
+        if self.is_encoded {
+            let spools = ByteSpools::new(rt.alloc(), AMPLE);
+            check_over(rt, store, spools, self.count, self.bad)
+        } else {
+            let spools = ListSpools::new(rt.alloc(), AMPLE);
+            check_over(rt, store, spools, self.count, self.bad)
+        }
     }
-    Ok(())
+}
+
+/// A bad change at a place, by both forms of spools, over stores in memory and on disks in memory.
+fn check_place(
+    rt: &(impl Abort + AllocGlobal),
+    count: usize,
+    bad: (&'static str, StoreFault),
+) -> Result<(), Fail> {
+    let is_encoded = true;
+    in_memory(
+        rt,
+        &RejectsAt {
+            count,
+            bad,
+            is_encoded,
+        },
+    )?;
+    let is_encoded = false;
+    on_memory_disks(
+        rt,
+        &RejectsAt {
+            count,
+            bad,
+            is_encoded,
+        },
+    )
 }
 
 #[test]
 fn a_bad_change_at_each_place(rt: HostRuntime) -> Result<(), Fail> {
     for bad in BAD {
-        check_places(&rt, *bad)?;
+        for count in 0..=GOOD.len() {
+            check_place(&rt, count, *bad)?;
+        }
     }
     Ok(())
 }

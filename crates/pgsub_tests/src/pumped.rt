@@ -3,11 +3,11 @@
 use crate::row::Step::{At, Rows};
 use crate::row::{AMPLE, Row, T_1_A};
 use crate::steps::{MAX_FRAME, NOW, bytes_of, take_steps};
+use crate::stores::{Trial, in_memory};
 use pgapply::ReplicaStore;
 use pglsn::Lsn;
 use pgorder::{OrderFault, Version};
 use pgspool::{ByteSpools, ListSpools, Spools};
-use pgstore::Store;
 use pgsub_core::{Fault, Source, Subscriber, pump};
 use std::io;
 use std::io::{ErrorKind, Read};
@@ -95,41 +95,74 @@ fn fail_after<P: Spools + Drop, C: ReplicaStore + Drop>(
     pump_and_feed(rt, &mut subscriber, front, rest)
 }
 
+/// A reader that fails after so many of the bytes.
+#[derive(Drop)]
+struct FailsAfter<'t> {
+    bytes: &'t [u8],
+    count: usize,
+    is_encoded: bool,
+}
+
+impl Trial for FailsAfter<'_> {
+    fn run<C: ReplicaStore + Drop>(
+        &self,
+        rt: &(impl Abort + AllocGlobal),
+        store: C,
+    ) -> Result<(), Fail> {
+        if self.is_encoded {
+            let spools = ByteSpools::new(rt.alloc(), AMPLE);
+            fail_after(rt, store, spools, self.bytes, self.count)
+        } else {
+            let spools = ListSpools::new(rt.alloc(), AMPLE);
+            fail_after(rt, store, spools, self.bytes, self.count)
+        }
+    }
+}
+
 #[test]
 fn a_reader_that_fails_after_each_byte(rt: HostRuntime) -> Result<(), Fail> {
-    let alloc = rt.alloc();
-    let bytes = bytes_of(alloc, "t1")?;
+    let bytes = bytes_of(rt.alloc(), "t1")?;
+    let bytes = bytes.as_slice();
     assert!(rt; bytes.len() == 227);
     for count in 0..=bytes.len() {
-        let encoded = ByteSpools::new(alloc, AMPLE);
-        let store = Store::in_memory(alloc)?;
-        fail_after(&rt, store, encoded, bytes.as_slice(), count)?;
-        let decoded = ListSpools::new(alloc, AMPLE);
-        let store = Store::in_memory(alloc)?;
-        fail_after(&rt, store, decoded, bytes.as_slice(), count)?;
+        for is_encoded in [true, false] {
+            in_memory(
+                &rt,
+                &FailsAfter {
+                    bytes,
+                    count,
+                    is_encoded,
+                },
+            )?;
+        }
     }
     Ok(())
 }
 
 /// Pumps readers over a new store: one of a transaction, a byte at each call, and one of a Commit in a session of its own.
-fn read_to_the_end<C: ReplicaStore + Drop>(
-    rt: &(impl Abort + AllocGlobal),
-    store: C,
-) -> Result<(), Fail> {
-    let alloc = rt.alloc();
-    let spools = ListSpools::new(alloc, AMPLE);
-    let mut subscriber = Subscriber::new(alloc, store, spools, Version::Two, MAX_FRAME);
-    let bytes = bytes_of(alloc, "t1")?;
-    assert!(rt; pump_all(rt, &mut subscriber, bytes.as_slice(), 1).is_ok());
-    take_steps(rt, &mut subscriber, &STORED, 1)?;
-    subscriber.disconnect();
-    let bytes = bytes_of(alloc, "commit:130")?;
-    let pumped = pump_all(rt, &mut subscriber, bytes.as_slice(), 4096);
-    assert!(rt; pumped == Err(Fault::Order(OrderFault::CommitWithoutBegin)));
-    take_steps(rt, &mut subscriber, &STORED, 1)
+struct ReadsToTheEnd;
+
+impl Trial for ReadsToTheEnd {
+    fn run<C: ReplicaStore + Drop>(
+        &self,
+        rt: &(impl Abort + AllocGlobal),
+        store: C,
+    ) -> Result<(), Fail> {
+        let alloc = rt.alloc();
+        let spools = ListSpools::new(alloc, AMPLE);
+        let mut subscriber = Subscriber::new(alloc, store, spools, Version::Two, MAX_FRAME);
+        let bytes = bytes_of(alloc, "t1")?;
+        assert!(rt; pump_all(rt, &mut subscriber, bytes.as_slice(), 1).is_ok());
+        take_steps(rt, &mut subscriber, &STORED, 1)?;
+        subscriber.disconnect();
+        let bytes = bytes_of(alloc, "commit:130")?;
+        let pumped = pump_all(rt, &mut subscriber, bytes.as_slice(), 4096);
+        assert!(rt; pumped == Err(Fault::Order(OrderFault::CommitWithoutBegin)));
+        take_steps(rt, &mut subscriber, &STORED, 1)
+    }
 }
 
 #[test]
 fn a_reader_is_read_to_its_end(rt: HostRuntime) -> Result<(), Fail> {
-    read_to_the_end(&rt, Store::in_memory(rt.alloc())?)
+    in_memory(&rt, &ReadsToTheEnd)
 }

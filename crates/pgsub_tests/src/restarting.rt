@@ -3,10 +3,10 @@
 use crate::row::Step::{At, Feed, Replies, Rows, Status};
 use crate::row::{AMPLE, Row, T_1_A, T_2_B};
 use crate::steps::{MAX_FRAME, take_steps};
+use crate::stores::{Trial, in_memory};
 use pgapply::ReplicaStore;
 use pgorder::Version;
 use pgspool::{ByteSpools, ListSpools};
-use pgstore::Store;
 use pgsub_core::Subscriber;
 use std::process::Abort;
 use std::test::Fail;
@@ -34,18 +34,26 @@ static SECOND: Row = Row {
 };
 
 /// Fills a store by one subscriber, and goes on with another over it.
-fn restart<C: ReplicaStore + Drop>(rt: &(impl Abort + AllocGlobal), store: C) -> Result<(), Fail> {
-    let alloc = rt.alloc();
-    let spools = ByteSpools::new(alloc, AMPLE);
-    let mut first = Subscriber::new(alloc, store, spools, Version::One, MAX_FRAME);
-    take_steps(rt, &mut first, &FIRST, 51)?;
-    let spools = ListSpools::new(alloc, AMPLE);
-    let store = first.into_store();
-    let mut second = Subscriber::new(alloc, store, spools, Version::Two, MAX_FRAME);
-    take_steps(rt, &mut second, &SECOND, 51)
+struct Restarts;
+
+impl Trial for Restarts {
+    fn run<C: ReplicaStore + Drop>(
+        &self,
+        rt: &(impl Abort + AllocGlobal),
+        store: C,
+    ) -> Result<(), Fail> {
+        let alloc = rt.alloc();
+        let spools = ByteSpools::new(alloc, AMPLE);
+        let mut first = Subscriber::new(alloc, store, spools, Version::One, MAX_FRAME);
+        take_steps(rt, &mut first, &FIRST, 51)?;
+        let spools = ListSpools::new(alloc, AMPLE);
+        let store = first.into_store();
+        let mut second = Subscriber::new(alloc, store, spools, Version::Two, MAX_FRAME);
+        take_steps(rt, &mut second, &SECOND, 51)
+    }
 }
 
 #[test]
 fn a_new_subscriber_goes_on_at_the_position_of_its_store(rt: HostRuntime) -> Result<(), Fail> {
-    restart(&rt, Store::in_memory(rt.alloc())?)
+    in_memory(&rt, &Restarts)
 }

@@ -4,9 +4,10 @@ use crate::blocks::BLOCKS;
 use crate::row::Row;
 use crate::states::{STATES, VERSION_1};
 use crate::steps::{Way, check};
+use crate::stores::{Trial, in_memory, on_memory_disks};
 use crate::transactions::{BAD_CHANGES, TRANSACTIONS};
+use pgapply::ReplicaStore;
 use pgorder::Version;
-use pgstore::Store;
 use std::process::Abort;
 use std::test::Fail;
 
@@ -52,10 +53,27 @@ const IN_VERSION_1: Way = Way {
     chunk_len: 1048576,
 };
 
+/// Takes the steps of a row.
+#[derive(Drop)]
+struct TakesRow {
+    row: Row,
+    way: Way,
+}
+
+impl Trial for TakesRow {
+    fn run<C: ReplicaStore + Drop>(
+        &self,
+        rt: &(impl Abort + AllocGlobal),
+        store: C,
+    ) -> Result<(), Fail> {
+        check(rt, store, &self.row, self.way)
+    }
+}
+
 /// Takes rows over stores in memory.
 fn check_in_memory(rt: &(impl Abort + AllocGlobal), rows: &[Row], way: Way) -> Result<(), Fail> {
     for row in rows {
-        check(rt, Store::in_memory(rt.alloc())?, row, way)?;
+        in_memory(rt, &TakesRow { row: *row, way })?;
     }
     Ok(())
 }
@@ -63,7 +81,7 @@ fn check_in_memory(rt: &(impl Abort + AllocGlobal), rows: &[Row], way: Way) -> R
 /// Takes rows over B-trees on disks in memory.
 fn check_on_disks(rt: &(impl Abort + AllocGlobal), rows: &[Row], way: Way) -> Result<(), Fail> {
     for row in rows {
-        check(rt, Store::on_memory_disks(rt.alloc())?, row, way)?;
+        on_memory_disks(rt, &TakesRow { row: *row, way })?;
     }
     Ok(())
 }
