@@ -9,6 +9,7 @@ use Rattle.pgwire.specs.declared.status.Status.{Status}
 use Rattle.pgapply.specs.Value.{Tables}
 use Rattle.pgsub_core.specs.declared.fault.Fault.{Fault}
 use Rattle.pgsub_core.specs.declared.fault.Fault.TheVariants as fault
+use Rattle.pgsub_core.specs.Faults.{IsOfFeeding}
 use Rattle.pgsub_core.specs.Subscribed.{Subscribed, disconnect}
 use Rattle.pgsub_core.specs.SubscriberValue.{SubscriberValue, seen, Feeds, FeedsUntil}
 use Rattle.pgsub_core.specs.Crashing.{LeavesOldOr, FedOver, StandsAsFed}
@@ -23,6 +24,11 @@ piece_len = 65536
 abbrev pub ended_by : {A : Type 0} → Result A FollowFault → Option FollowFault
 ended_by (Ok done) = None
 ended_by (Err f) = Some f
+
+-- Following ends with a read or a write that failed, or with what feeding an open subscriber can return.
+abbrev pub IsOfFollowing : FollowFault → Type 0
+IsOfFollowing (follow.Stream f) = IsOfFeeding f
+IsOfFollowing f = Unit {0}
 
 -- nothing is unread, or 2^64 - 1 reads were made
 abbrev pub IsReadOut : Option (List ℕ) → ℕ → Type 0
