@@ -44,48 +44,51 @@ fn task_text(alloc: Global, task: &Task) -> Result<String, AllocError> {
     }
 }
 
+/// Command lines, each with its task.
+const TASKS: &[(&str, &str)] = &[
+    ("pgsub show F", "show Two F"),
+    ("pgsub show --proto 1 F", "show One F"),
+    ("pgsub show F --proto=2", "show Two F"),
+    ("pgsub apply F", "apply Two false false F"),
+    ("pgsub apply --proto=1 --raw F", "apply One true false F"),
+    ("pgsub apply F --raw --proto 01", "apply One true false F"),
+    ("pgsub apply -- --raw", "apply Two false false --raw"),
+    ("pgsub apply -", "apply Two false false -"),
+    ("pgsub apply --store S F", "apply Two false false into S: F"),
+    (
+        "pgsub apply F --raw --store=S --proto 1",
+        "apply One true false into S: F",
+    ),
+    ("pgsub apply --store= F", "apply Two false false into : F"),
+    (
+        "pgsub apply --store F -- --store",
+        "apply Two false false into F: --store",
+    ),
+    ("pgsub apply --progress F", "apply Two false true F"),
+    (
+        "pgsub apply F --raw --store S --progress",
+        "apply Two true true into S: F",
+    ),
+    ("pgsub dump --store S", "dump S"),
+    ("pgsub dump --store=S", "dump S"),
+    ("pgsub follow --store S", "follow Two S"),
+    ("pgsub follow --proto 1 --store=S", "follow One S"),
+    ("pgsub follow --store S --proto=2", "follow Two S"),
+    ("pgsub same A B", "same Two A B"),
+    ("pgsub same A --proto 1 B", "same One A B"),
+    ("pgsub resume F", "resume F"),
+    ("pgsub lsn /1", "lsn /1"),
+    ("pgsub lsn -- -1", "lsn -1"),
+];
+
 #[test]
 fn reads_tasks(rt: HostRuntime) -> Result<(), Fail> {
-    for (line, expected) in [
-        ("pgsub show F", "show Two F"),
-        ("pgsub show --proto 1 F", "show One F"),
-        ("pgsub show F --proto=2", "show Two F"),
-        ("pgsub apply F", "apply Two false false F"),
-        ("pgsub apply --proto=1 --raw F", "apply One true false F"),
-        ("pgsub apply F --raw --proto 01", "apply One true false F"),
-        ("pgsub apply -- --raw", "apply Two false false --raw"),
-        ("pgsub apply -", "apply Two false false -"),
-        ("pgsub apply --store S F", "apply Two false false into S: F"),
-        (
-            "pgsub apply F --raw --store=S --proto 1",
-            "apply One true false into S: F",
-        ),
-        ("pgsub apply --store= F", "apply Two false false into : F"),
-        (
-            "pgsub apply --store F -- --store",
-            "apply Two false false into F: --store",
-        ),
-        ("pgsub apply --progress F", "apply Two false true F"),
-        (
-            "pgsub apply F --raw --store S --progress",
-            "apply Two true true into S: F",
-        ),
-        ("pgsub dump --store S", "dump S"),
-        ("pgsub dump --store=S", "dump S"),
-        ("pgsub follow --store S", "follow Two S"),
-        ("pgsub follow --proto 1 --store=S", "follow One S"),
-        ("pgsub follow --store S --proto=2", "follow Two S"),
-        ("pgsub same A B", "same Two A B"),
-        ("pgsub same A --proto 1 B", "same One A B"),
-        ("pgsub resume F", "resume F"),
-        ("pgsub lsn /1", "lsn /1"),
-        ("pgsub lsn -- -1", "lsn -1"),
-    ] {
+    for (line, expected) in TASKS {
         let Ok(task) = asked(rt.alloc(), line)? else {
-            return Err(Fail::from(line));
+            return Err(Fail::from(*line));
         };
         let text = task_text(rt.alloc(), &task)?;
-        assert_eq!(rt; text.as_str(), expected);
+        assert_eq!(rt; text.as_str(), *expected);
     }
     Ok(())
 }
@@ -102,79 +105,81 @@ fn rejected(alloc: Global, line: &str) -> Result<Option<(ErrorKind, i32, bool)>,
     }
 }
 
+/// Command lines that ask for no task, each with the kind of its error.
+const REJECTED: &[(&str, ErrorKind)] = &[
+    ("pgsub", ErrorKind::MissingSubcommand),
+    ("pgsub nothing", ErrorKind::InvalidSubcommand),
+    ("pgsub apply", ErrorKind::MissingRequiredArgument),
+    ("pgsub apply F G", ErrorKind::UnknownArgument),
+    ("pgsub apply --proto 3 F", ErrorKind::ValueValidation),
+    ("pgsub apply --proto x F", ErrorKind::ValueValidation),
+    (
+        "pgsub apply --proto 1 --proto 1 F",
+        ErrorKind::ArgumentConflict,
+    ),
+    ("pgsub apply --raw --raw F", ErrorKind::ArgumentConflict),
+    ("pgsub apply --raw=1 F", ErrorKind::TooManyValues),
+    ("pgsub apply --progress=1 F", ErrorKind::TooManyValues),
+    (
+        "pgsub dump --progress --store S",
+        ErrorKind::UnknownArgument,
+    ),
+    ("pgsub apply --store S", ErrorKind::MissingRequiredArgument),
+    (
+        "pgsub apply --store S --store S F",
+        ErrorKind::ArgumentConflict,
+    ),
+    ("pgsub apply F --store", ErrorKind::InvalidValue),
+    ("pgsub dump", ErrorKind::MissingRequiredArgument),
+    ("pgsub dump F", ErrorKind::UnknownArgument),
+    ("pgsub dump --store S F", ErrorKind::UnknownArgument),
+    (
+        "pgsub dump --store S --store T",
+        ErrorKind::ArgumentConflict,
+    ),
+    ("pgsub dump --raw --store S", ErrorKind::UnknownArgument),
+    ("pgsub follow", ErrorKind::MissingRequiredArgument),
+    ("pgsub follow --store S F", ErrorKind::UnknownArgument),
+    (
+        "pgsub follow --store S --proto 3",
+        ErrorKind::ValueValidation,
+    ),
+    ("pgsub follow --raw --store S", ErrorKind::UnknownArgument),
+    ("pgsub follow --store", ErrorKind::InvalidValue),
+    (
+        "pgsub follow --store S --store T",
+        ErrorKind::ArgumentConflict,
+    ),
+    ("pgsub show --store S F", ErrorKind::UnknownArgument),
+    ("pgsub same --store S A B", ErrorKind::UnknownArgument),
+    ("pgsub resume --store S F", ErrorKind::UnknownArgument),
+    ("pgsub same A", ErrorKind::MissingRequiredArgument),
+    ("pgsub resume --proto 1 F", ErrorKind::UnknownArgument),
+    ("pgsub lsn -1", ErrorKind::UnknownArgument),
+    ("pgsub --help", ErrorKind::DisplayHelp),
+    ("pgsub -h", ErrorKind::DisplayHelp),
+    ("pgsub help", ErrorKind::DisplayHelp),
+    ("pgsub help apply", ErrorKind::DisplayHelp),
+    ("pgsub apply --help", ErrorKind::DisplayHelp),
+    ("pgsub --version", ErrorKind::DisplayVersion),
+    ("pgsub -V", ErrorKind::DisplayVersion),
+];
+
+/// The exit code of an error of this kind, and whether it goes to standard error.
+fn outcome(kind: ErrorKind) -> (i32, bool) {
+    match kind {
+        ErrorKind::DisplayHelp | ErrorKind::DisplayVersion => (0, false),
+        _ => (2, true),
+    }
+}
+
 #[test]
 fn rejects_the_rest(rt: HostRuntime) -> Result<(), Fail> {
-    for (line, kind) in [
-        ("pgsub", ErrorKind::MissingSubcommand),
-        ("pgsub nothing", ErrorKind::InvalidSubcommand),
-        ("pgsub apply", ErrorKind::MissingRequiredArgument),
-        ("pgsub apply F G", ErrorKind::UnknownArgument),
-        ("pgsub apply --proto 3 F", ErrorKind::ValueValidation),
-        ("pgsub apply --proto x F", ErrorKind::ValueValidation),
-        (
-            "pgsub apply --proto 1 --proto 1 F",
-            ErrorKind::ArgumentConflict,
-        ),
-        ("pgsub apply --raw --raw F", ErrorKind::ArgumentConflict),
-        ("pgsub apply --raw=1 F", ErrorKind::TooManyValues),
-        ("pgsub apply --progress=1 F", ErrorKind::TooManyValues),
-        (
-            "pgsub dump --progress --store S",
-            ErrorKind::UnknownArgument,
-        ),
-        ("pgsub apply --store S", ErrorKind::MissingRequiredArgument),
-        (
-            "pgsub apply --store S --store S F",
-            ErrorKind::ArgumentConflict,
-        ),
-        ("pgsub apply F --store", ErrorKind::InvalidValue),
-        ("pgsub dump", ErrorKind::MissingRequiredArgument),
-        ("pgsub dump F", ErrorKind::UnknownArgument),
-        ("pgsub dump --store S F", ErrorKind::UnknownArgument),
-        (
-            "pgsub dump --store S --store T",
-            ErrorKind::ArgumentConflict,
-        ),
-        ("pgsub dump --raw --store S", ErrorKind::UnknownArgument),
-        ("pgsub follow", ErrorKind::MissingRequiredArgument),
-        ("pgsub follow --store S F", ErrorKind::UnknownArgument),
-        (
-            "pgsub follow --store S --proto 3",
-            ErrorKind::ValueValidation,
-        ),
-        ("pgsub follow --raw --store S", ErrorKind::UnknownArgument),
-        ("pgsub follow --store", ErrorKind::InvalidValue),
-        (
-            "pgsub follow --store S --store T",
-            ErrorKind::ArgumentConflict,
-        ),
-        ("pgsub show --store S F", ErrorKind::UnknownArgument),
-        ("pgsub same --store S A B", ErrorKind::UnknownArgument),
-        ("pgsub resume --store S F", ErrorKind::UnknownArgument),
-        ("pgsub same A", ErrorKind::MissingRequiredArgument),
-        ("pgsub resume --proto 1 F", ErrorKind::UnknownArgument),
-        ("pgsub lsn -1", ErrorKind::UnknownArgument),
-    ] {
+    for (line, kind) in REJECTED {
         let found = rejected(rt.alloc(), line)?;
-        assert!(rt; found == Some((kind, 2, true)), "{line}: {found:?}");
-    }
-    for line in [
-        "pgsub --help",
-        "pgsub -h",
-        "pgsub help",
-        "pgsub help apply",
-        "pgsub apply --help",
-    ] {
-        let found = rejected(rt.alloc(), line)?;
+        let (code, to_stderr) = outcome(*kind);
         assert!(rt;
-            found == Some((ErrorKind::DisplayHelp, 0, false)),
-            "{line}: {found:?}"
-        );
-    }
-    for line in ["pgsub --version", "pgsub -V"] {
-        let found = rejected(rt.alloc(), line)?;
-        assert!(rt;
-            found == Some((ErrorKind::DisplayVersion, 0, false)),
+            found == Some((*kind, code, to_stderr)),
             "{line}: {found:?}"
         );
     }
