@@ -266,8 +266,11 @@ impl Checker {
     }
 
     fn check_payload(&mut self, payload: &[u8]) -> Result<Option<Difference>, AllocError>
-        ensures taken { IfOk result (λ found. (server : List ServerMessage) (messages : List LogicalMessage) → IsShaped Two messages → HasRead server messages self.old
-            → MatchOption found (TakesPayload server messages payload.now self.new) (λ difference. IsRefused messages payload.now difference)) }
+        ensures taken { IfOk result (λ found.
+            (server : List ServerMessage) (messages : List LogicalMessage)
+            → IsShaped Two messages → HasRead server messages self.old
+            → MatchOption found (TakesPayload server messages payload.now self.new)
+            (λ difference. IsRefused messages payload.now difference)) }
         ensures frames { self.new.counts.frames ≡ self.old.counts.frames }
     {
         match decode_server(payload) {
@@ -281,8 +284,10 @@ impl Checker {
     }
 
     fn check_body(&mut self, body: &[u8]) -> Result<Option<Difference>, AllocError>
-        ensures taken { IfOk result (λ found. (messages : List LogicalMessage) → IsShaped Two messages → IsBehind messages self.old.order
-            → MatchOption found (TakesBody messages body.now self.old self.new) (λ difference. IsRefusedBody messages body.now difference)) }
+        ensures taken { IfOk result (λ found. (messages : List LogicalMessage)
+            → IsShaped Two messages → IsBehind messages self.old.order
+            → MatchOption found (TakesBody messages body.now self.old self.new)
+            (λ difference. IsRefusedBody messages body.now difference)) }
         ensures frames { self.new.counts.frames ≡ self.old.counts.frames }
     {
         let in_block = self.order.in_block();
@@ -301,8 +306,10 @@ impl Checker {
         body: &[u8],
     ) -> Result<Option<Difference>, AllocError>
         requires { Says (is_in_block self.old.order.state.context) message.now body.now }
-        ensures taken { IfOk result (λ found. (messages : List LogicalMessage) → IsShaped Two messages → IsBehind messages self.old.order
-            → MatchOption found (TakesBody messages body.now self.old self.new) (λ difference. IsRefusedBody messages body.now difference)) }
+        ensures taken { IfOk result (λ found. (messages : List LogicalMessage)
+            → IsShaped Two messages → IsBehind messages self.old.order
+            → MatchOption found (TakesBody messages body.now self.old self.new)
+            (λ difference. IsRefusedBody messages body.now difference)) }
         ensures frames { self.new.counts.frames ≡ self.old.counts.frames }
     {
         let in_block = self.order.in_block();

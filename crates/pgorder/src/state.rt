@@ -38,7 +38,10 @@ impl Model for Order {
 
     ghost coded = { stream_order_code };
 
-    ghost view = { λ o. record { version = o.version; state = record { context = context_of o.context; open_xids = o.open_xids } } };
+    ghost view = { λ o. record {
+      version = o.version;
+      state = record { context = context_of o.context; open_xids = o.open_xids };
+    } };
 }
 
 impl Order {

@@ -41,7 +41,8 @@ impl Model for EncodedItems {
 
     ghost view = { λ s. held_in s.marks.items s.buffer.items };
 
-    ghost invariant = { λ s. AreEncoded (held_in s.marks.items s.buffer.items) s.marks.items s.buffer.items s.firsts.entries s.bytes };
+    ghost invariant = { λ s. AreEncoded (held_in s.marks.items s.buffer.items) s.marks.items
+        s.buffer.items s.firsts.entries s.bytes };
 }
 
 // Where the item at this index begins, or the end where there is none.

@@ -28,9 +28,13 @@ impl<T: TransactionItems> Model for SpoolsOf<T> {
 
     ghost use Rattle.pgspool.specs.Spooled.{held_by, IsCounted};
 
-    ghost view = { λ s. record { held = held_by T.listed s.transactions.entries; most = s.max_bytes } };
+    ghost view = { λ s. record {
+      held = held_by T.listed s.transactions.entries;
+      most = s.max_bytes;
+    } };
 
-    ghost invariant = { λ s. IsCounted (held_by T.listed s.transactions.entries) s.bytes s.max_bytes };
+    ghost invariant = { λ s.
+        IsCounted (held_by T.listed s.transactions.entries) s.bytes s.max_bytes };
 }
 
 impl<T: TransactionItems> SpoolsOf<T> {

@@ -48,7 +48,8 @@ pub trait Input {
 impl<R: Read + Drop> Input for R {
     ghost gives = { λ reader bytes. IfSome (R.remaining reader) (λ known. bytes ≡ known) };
 
-    ghost begins = { λ reader bytes. IfSome (R.remaining reader) (λ known. (rest : List ℕ) × (known ≡ bytes ++ rest)) };
+    ghost begins = { λ reader bytes. IfSome (R.remaining reader)
+        (λ known. (rest : List ℕ) × (known ≡ bytes ++ rest)) };
 
     ghost failed = { λ _. ⊤ };
 

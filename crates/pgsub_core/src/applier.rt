@@ -59,7 +59,17 @@ impl<P: Spools + Drop, C: ReplicaStore + Drop> Model for Applier<P, C> {
 
     ghost coded = { applied_code C.code };
 
-    ghost view = { λ a. record { store = a.store; confirmed = a.confirmed; received = a.received; version = a.order.version; limit = P.most a.spools; order = a.order.state; held = P.held a.spools; relations = a.book; replies = a.replies.items } };
+    ghost view = { λ a. record {
+      store = a.store;
+      confirmed = a.confirmed;
+      received = a.received;
+      version = a.order.version;
+      limit = P.most a.spools;
+      order = a.order.state;
+      held = P.held a.spools;
+      relations = a.book;
+      replies = a.replies.items;
+    } };
 }
 
 // Out of memory in the order of messages is the subscriber's own.
