@@ -1,3 +1,4 @@
+-- Part of the statement.
 -- PostgreSQL documentation, Logical Replication, Subscription: what a crash behind a call may leave of the store of a subscriber. A
 -- store that has shut counts too. What is left is told by what another subscriber is fed, one over the store that is left.
 use Rattle.std.specs.Prelude.{◌≡◌, ◌≤◌, ◌⊎◌, ℕ, List, Ok, max}

@@ -1,3 +1,4 @@
+-- Part of the statement.
 -- PostgreSQL documentation, Streaming Replication Protocol: what the bytes of sessions do, one session after the other, each from a
 -- disconnection on; of a history or not.
 use Rattle.std.specs.Prelude.{◌≡◌, ◌⊎◌, ◌++◌, ℕ, ℤ, List, [], ◌∷◌, Bool, Option, Some, None}
