@@ -109,9 +109,12 @@ class Checkpoint:
 def check_gap(known, position, slot_at):
     """Checks that no commit with changes lies between the store's position and what the slot sends next.
 
+    Of a store without this file nobody knows from which server its rows are; that one's positions may be beyond this one's.
     The slot is ahead of the position of a good store where a keepalive moved it there: then this file says so. It is ahead of
     a store that was put back from a backup too, or where somebody else read from the slot or made it anew.
     """
+    if known.phase == NEW and position > 0:
+        raise Unfit(f"nothing is known of where the store at {lsn_text(position)} is from: its checkpoint isn't there")
     if slot_at <= position:
         return
     gap = f"the store is at {lsn_text(position)} and the slot at {lsn_text(slot_at)}: changes between may be missing"

@@ -18,11 +18,11 @@ import time
 from . import checkpoint as known_of
 from .checkpoint import FileError, Unfit
 from .filtering import FilterEnded
-from .following import LONGEST_DELAY, Stopped
+from .following import LONGEST_DELAY
 from .libpq import Connection, ServerError
 from .publishing import create_publications, published_tables, stored_in
 from .server import identify, settle, slot_position
-from .texts import counted, identifier, literal, lsn_text, parse_lsn, warn
+from .texts import Stopped, counted, identifier, literal, lsn_text, parse_lsn, warn
 
 PART = 4 << 20
 # for how many milliseconds a slot waits for a running transaction while tables are locked
@@ -92,7 +92,7 @@ class Copier:
             try:
                 return self.attempt()
             except FilterEnded as ended:
-                if ended.is_rejection():
+                if ended.status > 0:
                     raise
                 warn(f"{ended}: the copy begins anew")
             except ServerError as error:
@@ -125,7 +125,7 @@ class Copier:
         options, known = self.options, self.checkpoint.known
         self.plain = self.replication = None
         self.progress.state = "copying"
-        self.replication = Connection(self.pq, options.dsn, replication=True, name=options.slot)
+        self.replication = Connection(self.pq, options.dsn, replication=True, name=options.slot, check=self.check_stop)
         settle(self.replication)
         system, database, _ = identify(self.replication)
         slot_at = slot_position(self.replication, options.slot)
@@ -156,7 +156,7 @@ class Copier:
     def prepare(self):
         """Makes the temporary slot, and a transaction under its snapshot in which no published table can be altered."""
         options = self.options
-        self.plain = plain = Connection(self.pq, options.dsn, name=f"{options.slot} copy")
+        self.plain = plain = Connection(self.pq, options.dsn, name=f"{options.slot} copy", check=self.check_stop)
         settle(plain)
         plain.run("SET row_security = off")
         tables = published_tables(plain, options.publication[0])

@@ -17,8 +17,13 @@ ROOM = 1 << 20
 PIECE = 1 << 16
 
 
+# What the filter says as its last line.
+REFUSED, MEMORY, FULL = "pgsub: store 8 Refused", "pgsub: memory", "pgsub: spool 1 SpoolFull"
+REJECTED, UNOPENED = 1, 3
+
+
 class FilterEnded(Exception):
-    """The filter ended: with a status above 0 it rejected the stream, below 0 a signal ended it."""
+    """The filter ended: with a status above 0 by a fault, below 0 by a signal."""
 
     def __init__(self, status, said):
         ended = f"the filter ended with status {status}" if status >= 0 else f"signal {-status} ended the filter"
@@ -27,7 +32,16 @@ class FilterEnded(Exception):
         self.said = said
 
     def is_rejection(self):
-        return self.status > 0
+        """Whether the same would come of another try. A disk that is full, or too little memory, may pass."""
+        return self.status > 0 and not (self.status == REJECTED and self.said in (REFUSED, MEMORY))
+
+    def is_full(self):
+        """Whether too much of open transactions was buffered."""
+        return self.status == REJECTED and self.said == FULL
+
+    def is_unopened(self):
+        """Whether the store couldn't be opened, as where another process has it open."""
+        return self.status == UNOPENED and self.said == REFUSED
 
 
 class FilterFault(Exception):

@@ -9,16 +9,14 @@ from .checkpoint import Unfit, check_gap
 from .filtering import FilterEnded
 from .libpq import COPY_BOTH, Connection, ServerError
 from .server import identify, sender_timeout, settle, slot_position
-from .texts import identifier, literal, lsn_text, warn
+from .texts import Stopped, counted, identifier, lsn_text, replication_literal, warn
 
 LONGEST_DELAY = 60
+# After how many seconds each a store that can't be opened is tried again: about as long as another connector is waited for.
+OPENED_AFTER = (1, 2, 4, 8, 15, 30)
 # An error that the server doesn't expect of itself. PostgreSQL 15 has one (`could not map filenode .. to relation OID`) where it
 # streams a transaction beside a TRUNCATE, at each try. The same transaction comes well once it is whole, or not at all.
 INTERNAL = "XX000"
-
-
-class Stopped(Exception):
-    """The end was asked for by a signal."""
 
 
 class Follower:
@@ -44,29 +42,49 @@ class Follower:
             try:
                 self.start_filter()
                 self.session()
+            except Stopped:
+                break
             except FilterEnded as ended:
-                if ended.is_rejection():
-                    raise
-                warn(f"{ended}: it is started again")
-                self.progress.restarts += 1
+                self.note_end(ended)
             except ServerError as error:
                 if error.is_lasting() or not (self.was_connected or error.sqlstate):
                     raise
                 warn(f"{error}")
                 self.progress.last_error = str(error)
-                if error.sqlstate == INTERNAL and self.streams:
-                    warn("the server can't stream a large transaction: they come whole from now on")
-                    self.streams = False
+                if error.sqlstate == INTERNAL:
+                    self.stop_streaming("the server can't stream a large transaction")
             finally:
                 self.disconnect()
             if not self.take_snapshot():
                 self.wait()
         self.finish_filter()
 
-    def take_snapshot(self):
-        """Copies the store for readers, where that is due and no filter has it open."""
-        if self.filter.is_running() or not self.snapshots.is_due(self.position):
+    def check_stop(self):
+        if self.stop_asked:
+            raise Stopped
+
+    def note_end(self, ended):
+        """Notes why the filter ended. Raises where the same would come of another try."""
+        if not (ended.is_full() and self.stop_streaming("open transactions were too much at a time")):
+            if ended.is_rejection():
+                raise ended
+            warn(f"{ended}: it is started again")
+        self.progress.last_error = str(ended)
+        self.progress.restarts += 1
+
+    def stop_streaming(self, why):
+        """Asks for whole transactions from now on. Returns false where they come so already."""
+        if not self.streams:
             return False
+        warn(f"{why}: they come whole from now on")
+        self.streams = False
+        return True
+
+    def take_snapshot(self):
+        """Copies the store for readers, where that is due. No session is open, and the filter is ended for it."""
+        if not self.snapshots.is_due(self.position):
+            return False
+        self.finish_filter()
         self.progress.state = "copying the store"
         self.snapshots.take(self.position)
         return True
@@ -75,9 +93,27 @@ class Follower:
         if self.filter.is_running():
             return
         self.progress.state = "opening the store"
-        self.position = self.filter.start()
+        self.position = self.open_store()
         self.ends.clear()
         self.progress.note_confirmed(self.position, self.position)
+
+    def open_store(self):
+        """Starts the filter. A store that somebody else has open, to dump it say, is waited for."""
+        for delay in OPENED_AFTER:
+            try:
+                return self.filter.start()
+            except FilterEnded as ended:
+                if not ended.is_unopened():
+                    raise
+            warn(f"the store can't be opened now: it is tried again in {counted(delay, 'second')}")
+            self.sleep(delay)
+        return self.filter.start()
+
+    def sleep(self, seconds):
+        until = time.monotonic() + seconds
+        while (left := until - time.monotonic()) > 0:
+            self.check_stop()
+            time.sleep(min(left, 0.2))
 
     def wait(self):
         """Waits before the next session, each time longer, and serves the filter meanwhile."""
@@ -85,22 +121,20 @@ class Follower:
         if not self.stop_asked:
             self.progress.state = "waiting to connect again"
         until = time.monotonic() + self.delay
-        while not self.stop_asked and (left := until - time.monotonic()) > 0:
+        while not self.stop_asked and not self.snapshots.is_due(self.position) and (left := until - time.monotonic()) > 0:
             if not self.filter.is_running():
                 time.sleep(min(left, 0.2))
                 continue
             try:
                 self.note_statuses(self.filter.serve(min(left, 0.5))[2])
             except FilterEnded as ended:
-                if ended.is_rejection():
-                    raise
-                warn(f"{ended}: it is started again")
+                self.note_end(ended)
 
     def connect(self):
         """Connects, checks that the store and the slot fit together, and starts the session."""
         options, known = self.options, self.checkpoint.known
         self.progress.state = "connecting"
-        connection = Connection(self.pq, options.dsn, replication=True, name=options.slot)
+        connection = Connection(self.pq, options.dsn, replication=True, name=options.slot, check=self.check_stop)
         self.connection = connection
         settle(connection)
         system, database, log_end = identify(connection)
@@ -142,7 +176,7 @@ class Follower:
     def command(self, at):
         options = self.options
         names = ", ".join(identifier(name) for name in options.publication)
-        words = [f"proto_version '{options.proto}'", f"publication_names {literal(names)}"]
+        words = [f"proto_version '{options.proto}'", f"publication_names {replication_literal(names)}"]
         if self.streams:
             words.append("streaming 'on'")
         return f"START_REPLICATION SLOT {identifier(options.slot)} LOGICAL {lsn_text(at)} ({', '.join(words)})"

@@ -2,14 +2,16 @@
 
 import ctypes
 import ctypes.util
+import select
 
 from .texts import warn
 
 EMPTY_QUERY, COMMAND_OK, TUPLES_OK, COPY_OUT, COPY_BOTH = 0, 1, 2, 3, 8
 SQLSTATE = ord("C")
 # The classes and codes of errors that another try doesn't mend: the feature, the login, the database, the rights, the state
-# of the slot. In use (55006) and the like may pass.
+# of the slot. In use and the like may pass.
 LASTING = ("0A", "28", "3D", "42", "55000", "22023")
+IN_USE = "55006"
 
 
 NOTICE = ctypes.CFUNCTYPE(None, ctypes.c_void_p, ctypes.c_char_p)
@@ -52,8 +54,12 @@ def load_libpq():
         ("PQsetNoticeProcessor", pointer, [pointer, NOTICE, pointer]),
         ("PQparameterStatus", text, [pointer, text]),
         ("PQerrorMessage", text, [pointer]),
-        ("PQexec", pointer, [pointer, text]),
+        ("PQsendQuery", number, [pointer, text]),
+        ("PQisBusy", number, [pointer]),
         ("PQgetResult", pointer, [pointer]),
+        ("PQgetCancel", pointer, [pointer]),
+        ("PQcancel", number, [pointer, text, number]),
+        ("PQfreeCancel", None, [pointer]),
         ("PQresultStatus", number, [pointer]),
         ("PQresultErrorMessage", text, [pointer]),
         ("PQresultErrorField", text, [pointer, number]),
@@ -79,9 +85,10 @@ class Connection:
     """A connection to a server, for replication where asked.
 
     What `dsn` says of these goes before: a limit of 10 seconds to connect, and a lost peer is noticed within about a minute.
+    `check` is called each half second while an answer is waited for; what it raises ends the wait and cancels the command.
     """
 
-    def __init__(self, pq, dsn, replication=False, name="pgsub", quiet=False):
+    def __init__(self, pq, dsn, replication=False, name="pgsub", quiet=False, check=lambda: None):
         options = {
             "application_name": name,
             "connect_timeout": "10",
@@ -97,6 +104,7 @@ class Connection:
         names = (ctypes.c_char_p * (len(options) + 1))(*(it.encode() for it in options), None)
         values = (ctypes.c_char_p * (len(options) + 1))(*(it.encode() for it in options.values()), None)
         self.pq = pq
+        self.check = check
         self.unsent = False
         self.raw = pq.PQconnectdbParams(names, values, 1)
         if pq.PQstatus(self.raw) != 0:
@@ -108,9 +116,44 @@ class Connection:
     def error(self):
         return self.pq.PQerrorMessage(self.raw).decode(errors="replace").strip()
 
+    def wait(self):
+        """Waits until something has come, and reads it. A signal is heard meanwhile: libpq's own waits are deaf to them."""
+        try:
+            while not select.select([self.socket()], [], [], 0.5)[0]:
+                self.check()
+        except BaseException:
+            self.cancel()
+            raise
+        self.consume()
+
+    def cancel(self):
+        """Asks the server to end the command that runs, which it else goes on with after the connection is closed."""
+        said, handle = ctypes.create_string_buffer(256), self.pq.PQgetCancel(self.raw)
+        if handle:
+            self.pq.PQcancel(handle, said, len(said))
+            self.pq.PQfreeCancel(handle)
+
+    def next_result(self):
+        """The next result of the command that runs, None after the last."""
+        while self.pq.PQisBusy(self.raw):
+            self.wait()
+        return self.pq.PQgetResult(self.raw)
+
+    def last_result(self):
+        """The last result of the command that runs, or the one with which it begins to copy."""
+        last = None
+        while result := self.next_result():
+            self.pq.PQclear(last)
+            last = result
+            if self.pq.PQresultStatus(last) in (COPY_OUT, COPY_BOTH):
+                break
+        return last
+
     def execute(self, command, wanted):
         """Runs a command and returns its result, which the caller clears."""
-        result = self.pq.PQexec(self.raw, command.encode())
+        if not self.pq.PQsendQuery(self.raw, command.encode()):
+            raise ServerError(self.error())
+        result = self.last_result()
         if self.pq.PQresultStatus(result) not in wanted:
             raise self.error_of(result)
         return result
@@ -154,20 +197,13 @@ class Connection:
 
     def copied_rows(self, command):
         """Yields the lines of a COPY TO STDOUT, as they come."""
-        pq, payload = self.pq, ctypes.c_void_p()
-        pq.PQclear(self.execute(command, (COPY_OUT,)))
-        while (length := pq.PQgetCopyData(self.raw, ctypes.byref(payload), 0)) > 0:
-            line = ctypes.string_at(payload, length)
-            pq.PQfreemem(payload)
-            yield line
-        if length == -2:
-            raise ServerError(self.error())
-        result = pq.PQgetResult(self.raw)
-        while result:
-            if pq.PQresultStatus(result) != COMMAND_OK:
-                raise self.error_of(result)
-            pq.PQclear(result)
-            result = pq.PQgetResult(self.raw)
+        self.pq.PQclear(self.execute(command, (COPY_OUT,)))
+        while (line := self.next_payload()) is not None:
+            if line:
+                yield line
+            else:
+                self.wait()
+        self.pq.PQclear(self.last_result())
 
     def consume(self):
         """Reads what has come on the socket."""
@@ -186,8 +222,8 @@ class Connection:
             return taken
         if length == -2:
             raise ServerError(self.error())
-        result = self.pq.PQgetResult(self.raw)
-        if result and self.pq.PQresultErrorMessage(result):
+        result = self.next_result()
+        if self.pq.PQresultErrorMessage(result):
             raise self.error_of(result)
         self.pq.PQclear(result)
         return None

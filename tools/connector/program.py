@@ -4,22 +4,23 @@ import argparse
 import os
 import signal
 import sys
+import traceback
 
 from . import checkpoint as known_of
 from .checkpoint import Checkpoint, FileError, Unfit
 from .copying import Copier
 from .filtering import Filter, FilterEnded, FilterFault
-from .following import Follower, Stopped
+from .following import Follower
 from .libpq import Connection, ServerError, load_libpq
 from .progress import Progress, Reporter
 from .publishing import create_publications, drop_publications
 from .recording import LONGEST, Recorder, Recording
 from .snapshots import Snapshots
 from .server import settle, slot_position
-from .texts import PROGRAM, identifier, parse_lsn, warn
+from .texts import PROGRAM, Stopped, identifier, parse_lsn, warn
 
 TOP = os.path.dirname(os.path.dirname(os.path.dirname(os.path.abspath(__file__))))
-USAGE, FILE, SERVER, UNFIT = 2, 3, 4, 5
+USAGE, FILE, SERVER, UNFIT, BUG = 2, 3, 4, 5, 6
 
 
 def arguments(about, words):
@@ -124,11 +125,11 @@ def make_filter(options, checkpoint, path):
     return Filter(words, (checkpoint.file,))
 
 
-def create_slot(pq, options):
-    """Makes publications and slot, without rows, where they aren't there."""
+def create_slot(pq, options, check):
+    """Makes publications and slot, without rows, where they aren't there. Where `check` raises meanwhile, the slot isn't made."""
     for name in create_publications(pq, options):
         warn(f"made the publication {name}")
-    connection = Connection(pq, options.dsn, replication=True, name=options.slot)
+    connection = Connection(pq, options.dsn, replication=True, name=options.slot, check=check)
     try:
         settle(connection)
         if slot_position(connection, options.slot) is None:
@@ -153,7 +154,7 @@ def follow(pq, options):
         reporter.start()
     try:
         if not os.path.exists(options.store):
-            begin(pq, options, checkpoint, copier)
+            begin(pq, options, checkpoint, copier, follower.check_stop)
         follower.run()
         progress.state = "stopped"
     except Stopped:
@@ -169,7 +170,7 @@ def follow(pq, options):
             reporter.finish()
 
 
-def begin(pq, options, checkpoint, copier):
+def begin(pq, options, checkpoint, copier, check):
     """What a start does where there is no store."""
     known = checkpoint.known
     if options.create and not options.no_copy:
@@ -177,19 +178,19 @@ def begin(pq, options, checkpoint, copier):
     elif known.phase == known_of.FOLLOWING and not options.accept_gap:
         raise Unfit(f"{options.store} is gone, and the slot {known.slot} went on: remove {checkpoint.path} to begin anew")
     elif options.create:
-        create_slot(pq, options)
+        create_slot(pq, options, check)
     elif not options.no_copy:
         raise Unfit(f"there is no store {options.store}: --create makes it, with publication and slot; see --help")
 
 
 def record(pq, options):
     made = []
+    recorder = Recorder(pq, options, Recording(options.record, options.append, options.bytes))
+    stop_by_signals(recorder)
     if options.create == "temporary":
         made = create_publications(pq, options)
     elif options.create:
-        create_slot(pq, options)
-    recorder = Recorder(pq, options, Recording(options.record, options.append, options.bytes))
-    stop_by_signals(recorder)
+        create_slot(pq, options, recorder.check_stop)
     try:
         recorder.run()
     finally:
@@ -205,6 +206,8 @@ def main(about, words):
             follow(pq, options)
         else:
             record(pq, options)
+    except Stopped:
+        return 0
     except FilterEnded as ended:
         warn(f"stopped: {ended}")
         return ended.status
@@ -220,6 +223,9 @@ def main(about, words):
     except OSError as error:
         warn(f"{error.filename}: {error.strerror}")
         return FILE
+    except Exception:  # noqa: BLE001
+        traceback.print_exc()
+        return BUG
     return 0
 
 

@@ -9,7 +9,7 @@ from .libpq import Connection, ServerError
 from .texts import lsn_text, parse_lsn, warn
 
 INTERVAL = 1.0
-# every so many intervals the server is asked where its log ends, and the rate is taken over as many
+# each so many intervals the server is asked where its log ends, and the rate is taken over as many
 ASK_EACH = 5
 
 
@@ -57,24 +57,19 @@ class Progress:
         return {name: value for name, value in shown.items() if value is not None}
 
 
-class Reporter(threading.Thread):
-    """Writes the status file, and asks the server where its log ends on a connection of its own."""
+class LogEnd(threading.Thread):
+    """Asks the server where its log ends, on a connection of its own. An answer may take as long as a connection is tried."""
 
-    def __init__(self, pq, options, progress):
+    def __init__(self, pq, options, progress, ended):
         super().__init__(daemon=True)
-        self.pq, self.options, self.progress = pq, options, progress
-        self.ended = threading.Event()
+        self.pq, self.options, self.progress, self.ended = pq, options, progress, ended
         self.connection = None
-        self.rates = [(time.monotonic(), 0)]
 
     def run(self):
-        turn = 0
-        while not self.ended.is_set():
-            if turn % ASK_EACH == 0 and self.progress.sessions:
+        while not self.ended.wait(INTERVAL):
+            if self.progress.sessions:
                 self.ask()
-            self.write()
-            turn += 1
-            self.ended.wait(INTERVAL)
+                self.ended.wait((ASK_EACH - 1) * INTERVAL)
 
     def ask(self):
         try:
@@ -85,6 +80,23 @@ class Reporter(threading.Thread):
             if self.connection:
                 self.connection.close()
             self.connection = None
+
+
+class Reporter(threading.Thread):
+    """Writes the status file."""
+
+    def __init__(self, pq, options, progress):
+        super().__init__(daemon=True)
+        self.options, self.progress = options, progress
+        self.ended = threading.Event()
+        self.log_end = LogEnd(pq, options, progress, self.ended)
+        self.rates = [(time.monotonic(), 0)]
+
+    def run(self):
+        self.log_end.start()
+        while not self.ended.is_set():
+            self.write()
+            self.ended.wait(INTERVAL)
 
     def rate(self):
         self.rates = [*self.rates[-ASK_EACH:], (time.monotonic(), self.progress.changes() + self.progress.copied_rows)]

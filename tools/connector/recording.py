@@ -8,7 +8,7 @@ import time
 from .filtering import COPY_DONE
 from .libpq import COPY_BOTH, Connection
 from .server import settle
-from .texts import PROGRAM, counted, identifier, literal, lsn_text, parse_lsn, warn
+from .texts import PROGRAM, Stopped, counted, identifier, lsn_text, parse_lsn, replication_literal, warn
 
 LONGEST = 64 << 20
 EPOCH = 946684800
@@ -86,9 +86,15 @@ class Recorder:
         self.progress = Progress()
         self.stop_asked = False
 
+    def check_stop(self):
+        if self.stop_asked:
+            raise Stopped
+
     def run(self):
         options = self.options
-        self.connection = connection = Connection(self.pq, options.dsn, replication=True, name=options.slot)
+        self.connection = connection = Connection(
+            self.pq, options.dsn, replication=True, name=options.slot, check=self.check_stop
+        )
         try:
             settle(connection)
             if options.create == "temporary":
@@ -112,7 +118,7 @@ class Recorder:
     def command(self):
         options = self.options
         names = ", ".join(identifier(name) for name in options.publication)
-        words = [f"proto_version '{options.proto}'", f"publication_names {literal(names)}"]
+        words = [f"proto_version '{options.proto}'", f"publication_names {replication_literal(names)}"]
         words += [f"{word} 'true'" for word in ("streaming", "binary", "messages") if getattr(options, word)]
         return f"START_REPLICATION SLOT {identifier(options.slot)} LOGICAL {lsn_text(options.start)} ({', '.join(words)})"
 

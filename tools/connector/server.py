@@ -1,6 +1,7 @@
 """What is asked of a server, and the settings of each session."""
 
 from .checkpoint import Unfit
+from .libpq import IN_USE, ServerError
 from .texts import literal, parse_lsn
 
 # The text of values depends on these; they are those of PostgreSQL's own subscriptions, and the time zone, so that equal values
@@ -42,6 +43,8 @@ def slot_position(connection, slot):
         return None
     if rows[0][0] != "pgoutput" or rows[0][1] != "t":
         raise Unfit(f"the slot {slot} is not one of pgoutput in this database")
+    if rows[0][2] is None:
+        raise ServerError(f"the slot {slot} is still being made", IN_USE)
     return int(rows[0][2])
 
 

@@ -5,6 +5,7 @@ import os
 import shutil
 import sqlite3
 import time
+import urllib.parse
 
 from .texts import lsn_text, warn
 
@@ -51,9 +52,10 @@ class Snapshots:
 
 def position_in(path):
     """The position of a store in one file; None where it has none."""
-    with contextlib.closing(sqlite3.connect(f"file:{path}?mode=ro&immutable=1", uri=True)) as store:
-        try:
+    name = f"file:{urllib.parse.quote(os.fsencode(path))}?mode=ro&immutable=1"
+    try:
+        with contextlib.closing(sqlite3.connect(name, uri=True)) as store:
             row = store.execute("SELECT lsn FROM pos").fetchone()
-        except sqlite3.DatabaseError:
-            return None
+    except sqlite3.DatabaseError:
+        return None
     return int.from_bytes(row[0], "big") if row else None

@@ -20,10 +20,19 @@ def lsn_text(lsn):
     return f"{lsn >> 32:X}/{lsn & 0xFFFFFFFF:X}"
 
 
+class Stopped(Exception):
+    """The end was asked for by a signal."""
+
+
 def literal(text):
     """A string constant of SQL, whatever standard_conforming_strings says."""
     quoted = text.replace("'", "''")
     return " E'" + quoted.replace("\\", "\\\\") + "'" if "\\" in text else "'" + quoted + "'"
+
+
+def replication_literal(text):
+    """A string constant of a replication command, in which a backslash is a character as any other."""
+    return "'" + text.replace("'", "''") + "'"
 
 
 def identifier(text):

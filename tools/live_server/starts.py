@@ -7,6 +7,8 @@ import subprocess
 import sys
 import time
 
+from connector.texts import identifier
+
 from . import shapes
 from .cluster import Cluster
 from .follower import Failed, compare, is_confirmed, rows_of_server, rows_of_store, wait_until
@@ -77,11 +79,19 @@ class Case:
     def follow(self, *more):
         """Follows until all is confirmed and a keepalive has moved the slot beyond the last commit, and ends."""
         child = self.start(*more)
-        supervisor = Nothing()
+        self.catch_up(child)
+        return self.stop(child)
+
+    def catch_up(self, child):
         end = self.cluster.value("SELECT pg_current_wal_insert_lsn() FROM pg_logical_emit_message(false, '', '')")
-        wait_until(supervisor, self.cluster, lambda: child.poll() is not None or self.is_confirmed(end), 60, self.name)
+        self.wait_until(lambda: child.poll() is not None or self.is_confirmed(end))
         time.sleep(0.3)
-        child.send_signal(signal.SIGTERM)
+
+    def wait_until(self, condition):
+        wait_until(Nothing(), self.cluster, condition, 60, self.name)
+
+    def stop(self, child, number=signal.SIGTERM):
+        child.send_signal(number)
         said = child.communicate(timeout=60)[1].decode()
         if child.returncode != OK:
             raise Failed(f"{self.name}: status {child.returncode}: {said}")
@@ -105,8 +115,8 @@ class Case:
         code = KILLED_AT.format(tools=TOOLS, name=name, before="real(*words)" if after else "pass")
         self.ends(77, "", "--create", program=(sys.executable, "-c", code))
 
-    def is_equal(self):
-        compare(rows_of_server(self.cluster, "pgsub"), rows_of_store(self.options.pgsub, self.store)[0])
+    def is_equal(self, publication="pgsub"):
+        compare(rows_of_server(self.cluster, publication), rows_of_store(self.options.pgsub, self.store)[0])
 
     def files(self):
         return [it for it in (self.store, self.store + LOG) if os.path.exists(it)]
@@ -169,6 +179,84 @@ def backups(case):
     case.end()
 
 
+def without_checkpoint(case):
+    case.begin("rejects a store without its checkpoint, until it is said to be of this server")
+    case.follow("--create")
+    os.unlink(case.store + ".connector")
+    case.ends(UNFIT, "its checkpoint isn't there")
+    case.change()
+    case.follow("--accept-gap")
+    case.is_equal()
+    case.follow()
+    case.end()
+
+
+def open_elsewhere(case):
+    case.begin("waits for a store that somebody else has open")
+    case.follow("--create")
+    case.change()
+    words = [case.options.pgsub, "follow", "--store", case.store]
+    with subprocess.Popen(words, stdin=subprocess.PIPE, stdout=subprocess.PIPE) as holder:
+        holder.stdout.read(1)
+        child = case.start()
+        while b"is tried again" not in (line := child.stderr.readline()):
+            if not line:
+                raise Failed(f"{case.name}: status {child.wait()}")
+        holder.communicate()
+    case.catch_up(child)
+    case.stop(child)
+    case.is_equal()
+    case.end()
+
+
+def signals(case):
+    case.begin("ends at a signal while the server makes the slot, and leaves none")
+    for words in (["--create"], ["--create", "--no-copy"]):
+        writer = case.cluster.connect()
+        writer.run("BEGIN")
+        writer.run("INSERT INTO stock VALUES (99, 9)")
+        child = case.start(*words)
+        waiting = "SELECT count(*) FROM pg_stat_activity WHERE state = 'active' AND query LIKE 'CREATE_REPLICATION_SLOT %'"
+        case.wait_until(lambda: case.cluster.value(waiting) == "1")
+        began = time.monotonic()
+        case.stop(child, signal.SIGINT)
+        if time.monotonic() - began > 5:
+            raise Failed(f"{case.name}: it took more than 5 seconds")
+        case.wait_until(lambda: case.cluster.value("SELECT count(*) FROM pg_replication_slots") == "0")
+        writer.close()
+    case.follow("--create")
+    case.is_equal()
+    case.end()
+
+
+def snapshots(case):
+    case.begin("copies the store for readers, also while the server is away")
+    rows = case.store + " rows?#%41.db"
+    child = case.start("--create", "--snapshot", rows)
+    case.catch_up(child)
+    case.cluster.stop("fast")
+    child.send_signal(signal.SIGUSR1)
+    case.wait_until(lambda: os.path.exists(rows))
+    case.cluster.start()
+    compare(rows_of_server(case.cluster, "pgsub"), rows_of_store(case.options.pgsub, rows)[0])
+    case.change()
+    case.catch_up(child)
+    case.stop(child)
+    case.is_equal()
+    case.end()
+
+
+def odd_names(case):
+    case.begin("follows a publication with quotes and a backslash in its name")
+    name = "it's \\ an \"odd\" one"
+    case.follow("--create", "--publication", name)
+    case.change()
+    case.follow("--publication", name)
+    case.is_equal(name)
+    case.cluster.run(f"DROP PUBLICATION {identifier(name)}")
+    case.end()
+
+
 def gone(case):
     case.begin("rejects where the store is gone, and begins anew where its slot and checkpoint are gone too")
     case.ends(UNFIT, "there is no store")
@@ -228,6 +316,24 @@ def rejected(case):
     case.end()
 
 
+def open_transactions(case):
+    case.begin("takes transactions whole where they are too much to be open at a time")
+    case.follow("--create")
+    case.cluster.run("CREATE TABLE large (id int PRIMARY KEY, word text)", "ALTER TABLE large ALTER word SET STORAGE EXTERNAL")
+    writers = [case.cluster.connect() for _ in range(2)]
+    for begun, writer in enumerate(writers):
+        writer.run("BEGIN")
+        writer.run(f"INSERT INTO large SELECT it, repeat('y', 1000000) FROM generate_series({100 * begun}, {100 * begun + 39}) it")
+    for writer in writers:
+        writer.run("COMMIT")
+        writer.close()
+    if "they come whole from now on" not in case.follow():
+        raise Failed(f"{case.name}: they fitted")
+    case.is_equal()
+    case.cluster.run("DROP TABLE large")
+    case.end()
+
+
 def lost_slots(case):
     case.begin("ends where the server gave up the slot's log")
     case.follow("--create")
@@ -278,7 +384,10 @@ def cut_copies(case):
 def run(pq, options, folder):
     case = Case(pq, options, folder)
     try:
-        for part in (shapes.check, going_on, backups, gone, others, rejected, lost_slots, without_copy, cut_copies):
+        for part in (
+            shapes.check, going_on, backups, without_checkpoint, open_elsewhere, signals, snapshots, odd_names, gone, others,
+            rejected, open_transactions, lost_slots, without_copy, cut_copies,
+        ):
             part(case)
         left = case.cluster.value("SELECT count(*) FROM pg_replication_slots")
         if left != "0":
