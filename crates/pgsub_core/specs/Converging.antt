@@ -1,6 +1,6 @@
 -- Part of the statement.
 -- How two subscribers are compared, by rows and positions.
-use Rattle.std.specs.Prelude.{◌≡◌, ◌⊎◌, ◌&&◌, ◌==◌, ℕ, ℤ, List, Bool, Option, Some, None, Result, Ok, Err, IfOk, nat_eq, if◌then◌else◌}
+use Rattle.std.specs.Prelude.{◌≡◌, ◌⊎◌, ◌&&◌, ◌==◌, ℕ, ℤ, List, Bool, Option, Some, None, Result, Ok, Err, IfOk, nat_eq, codes, if◌then◌else◌}
 use Rattle.std.specs.Cmp.Lexicographic.{pointwise}
 use Rattle.pgtuple.specs.Equal.{cell_eq}
 use Rattle.pgapply.specs.Value.{Tables}
@@ -24,6 +24,11 @@ use Rattle.pgsub_core.specs.Verdicts.{IsVerdict, LeftIsFollowed, RightIsFollowed
 
 abbrev pub same_row : DumpRow → DumpRow → Bool
 same_row a b = (a.oid == b.oid) && (pointwise nat_eq a.namespace b.namespace && (pointwise nat_eq a.name b.name && (pointwise cell_eq a.cells b.cells && (a.copies == b.copies))))
+
+-- a side as it is printed
+abbrev pub side_text : Side → List ℕ
+side_text Left = codes "left"
+side_text Right = codes "right"
 
 -- the fault of a side where the comparison ends with one
 abbrev pub failed_side : Result Verdict ConvergeFault → Option (Side × Fault)
