@@ -1,5 +1,5 @@
 -- What a subscriber does is the same at any clock and with any bytes waiting to be sent, but for these bytes.
-use Rattle.std.proofs.Common.{◌≡◌, ◌∙◌, ◌++◌, ℕ, ℤ, List, [], ◌∷◌, Bool, true, false, cond, Result, Ok, Err, refl, sym, ap, subst}
+use Rattle.std.proofs.Common.{◌≡◌, ℕ, ℤ, List, [], ◌∷◌, Bool, true, false, cond, Result, Ok, Err, refl, sym, ap, subst}
 use Rattle.pglogical.specs.Reading.{message_at}
 use Rattle.pglogical.specs.declared.message.Message.{Message}
 use Rattle.pglogical.specs.declared.fault.DecodeFault.{DecodeFault}
@@ -14,9 +14,8 @@ use Rattle.pgsub_core.specs.Stream.{Sent, Data, Kind, BeginsPair, CommitsPair, H
 use Rattle.pgsub_core.specs.Stream as stream
 use Rattle.pgsub_core.specs.Replica.{Outcome, Running, Stopped, then_run}
 use Rattle.pgsub_core.specs.ApplyState.{ApplyState, ApplyResult, step}
-use Rattle.pgsub_core.specs.Subscribed.{Subscribed, apply_state_of, progress_of}
+use Rattle.pgsub_core.specs.Subscribed.{Subscribed, apply_state_of}
 use Rattle.pgsub_core.specs.Taking.{take, taken_with, take_message, take_payload, take_frame, take_frames, handled, passes_limit, message_passes_limit}
-use Rattle.pgsub_core.specs.Handled.{IsLeft, KeepsSettings}
 use Rattle.pgsub_core.specs.Feeding.{IsFedWhole, IsFedUntil}
 
 -- the same with these bytes waiting to be sent

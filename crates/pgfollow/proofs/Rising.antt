@@ -1,7 +1,6 @@
 -- Statuses that rise.
 use Rattle.std.proofs.Common.{◌≡◌, ◌≤◌, ◌∙◌, ◌++◌, ℕ, ℤ, List, [], ◌∷◌, Bool, true, false, cond, nat_eq, Result, Ok, Err, refl, sym, ap, subst, append_assoc, append-nil, arith}
 use Rattle.std.specs.List.{AllByRecursion, flat_map}
-use Rattle.std.specs.FinMap as map
 use Rattle.std.proofs.lemmas.Grind.{flat_map-append}
 use Rattle.pglogical.specs.Reading.{message_at}
 use Rattle.pglogical.specs.declared.message.Message.{Message}
@@ -12,13 +11,12 @@ use Rattle.pgwire.specs.Payloads.{ServerMessage, XLogData, Keepalive, payload_at
 use Rattle.pgwire.specs.declared.fault.WireFault.{WireFault}
 use Rattle.pgwire.specs.Statuses.{status_frame}
 use Rattle.pgwire.specs.declared.status.Status.{Status}
-use Rattle.pgsub_core.specs.declared.fault.Fault.{Fault}
 use Rattle.pgsub_core.specs.History.{Transaction}
 use Rattle.pgsub_core.specs.Safe.{NothingBetween}
 use Rattle.pgsub_core.specs.Stream.{Sent, Data}
 use Rattle.pgsub_core.specs.Stream as stream
-use Rattle.pgsub_core.specs.Replica.{Outcome, Running, Stopped, then_run}
-use Rattle.pgsub_core.specs.Subscribed.{Subscribed, IsSafeFor, status_of}
+use Rattle.pgsub_core.specs.Replica.{Running}
+use Rattle.pgsub_core.specs.Subscribed.{Subscribed, status_of}
 use Rattle.pgsub_core.specs.Taking.{take, take_message, take_payload, take_frame, take_frames}
 use Rattle.pgsub_core.specs.Confirming.{IsSafeStatus, AreSafeReplies}
 use Rattle.pgsub_core.specs.Feeding.{IsFedWhole}

@@ -1,5 +1,5 @@
 -- What is told after a part of a session's bytes.
-use Rattle.std.proofs.Common.{◌≡◌, ◌≢◌, ◌∙◌, ◌++◌, inl, inr, ℕ, ℤ, List, [], ◌∷◌, Bool, true, false, cond, nat_eq, Option, Some, None, Result, Ok, Err, OnOk, OnErr, IfErr, refl, sym, ap, subst, append_assoc, append-nil}
+use Rattle.std.proofs.Common.{◌≡◌, ◌≢◌, ◌∙◌, ◌++◌, inr, ℕ, ℤ, List, [], ◌∷◌, Bool, true, false, cond, nat_eq, Option, Some, Result, Ok, Err, OnOk, OnErr, IfErr, refl, sym, ap, subst, append_assoc, append-nil}
 use Rattle.std.specs.FinMap as map
 use Rattle.std.specs.Io.KnownBytes.{Appends, Consumes}
 use Rattle.std.proofs.KnownBytes.{Appends-nil, Appends-trans, Consumes-nil, Consumes-trans}
@@ -11,7 +11,7 @@ use Rattle.pgsub_core.specs.Subscribed.{Subscribed, disconnect, with_status}
 use Rattle.pgsub_core.specs.SubscriberValue.{SubscriberValue, seen}
 use Rattle.pgfollow.specs.declared.fault.FollowFault.{FollowFault}
 use Rattle.pgfollow.specs.declared.fault.FollowFault.TheVariants as follow
-use Rattle.pgfollow.specs.Live.{IsFront, IsStart, IsGreeted, StopsGreeting, Step, IsFedPart, IsStep, AreSteps, LiveSteps, LiveStops, LiveEnds, FollowsPiece, IsFollowedPart, IsUntold, StopsPart, StopsFront, StopsPiece, news, status_at, settled, parts_of, told_of, told_in}
+use Rattle.pgfollow.specs.Live.{IsFront, IsGreeted, StopsGreeting, Step, IsFedPart, AreSteps, LiveSteps, LiveStops, LiveEnds, FollowsPiece, IsFollowedPart, StopsPart, StopsPiece, news, status_at, settled, parts_of, told_of, told_in}
 
 -- ---- by what a call gives
 

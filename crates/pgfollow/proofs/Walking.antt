@@ -1,7 +1,6 @@
 -- The parts of a history's sessions, one after the other: what is told after each is stored.
 use Rattle.std.proofs.Common.{◌≡◌, ◌≤◌, ◌∙◌, ◌++◌, ◌⊎◌, inl, inr, ℕ, ℤ, List, [], ◌∷◌, Bool, true, false, cond, Option, Some, None, Ok, pos, refl, sym, ap, subst, append_assoc, append-nil, arith}
 use Rattle.std.specs.FinMap as map
-use Rattle.std.specs.Io.KnownBytes.{Appends}
 use Rattle.pgapply.specs.Value.{Tables}
 use Rattle.pgapply.specs.Taken as held
 use Rattle.pgsub_core.specs.declared.fault.Fault.{Fault}
@@ -11,20 +10,20 @@ use Rattle.pgsub_core.specs.Safe.{NothingBetween}
 use Rattle.pgsub_core.specs.Stream.{Sent}
 use Rattle.pgsub_core.specs.Subscribed.{Subscribed, IsSafeFor, disconnect}
 use Rattle.pgsub_core.specs.SubscriberValue.{SubscriberValue, seen, Feeds, FeedsUntil}
-use Rattle.pgsub_core.specs.Feeding.{IsFed, IsFedWhole, IsFedUntil}
+use Rattle.pgsub_core.specs.Feeding.{IsFedWhole, IsFedUntil}
 use Rattle.pgsub_core.specs.Following.{AreFedWhole}
 use Rattle.pgsub_core.specs.Handled.{IsSent}
 use Rattle.pgsub_core.specs.Confirming.{AreSafeReplies}
-use Rattle.pgsub_core.specs.Crashing.{LeavesOldOr, FedOver, StandsAsFed, IsLeftSafely}
+use Rattle.pgsub_core.specs.Crashing.{LeavesOldOr, FedOver, IsLeftSafely}
 use Rattle.pgsub_core.proofs.FollowSteps.{until_of}
 use Rattle.pgsub_core.proofs.Followed.{fed_more, fed_then_stopped, confirmed_stored}
 use Rattle.pgsub_core.proofs.Pieces.{two_pieces, piece_then_stop, nothing_fed}
 use Rattle.pgfollow.specs.declared.fault.FollowFault.{FollowFault}
 use Rattle.pgfollow.specs.declared.fault.FollowFault.TheVariants as follow
-use Rattle.pgfollow.specs.Live.{IsStart, IsGreeted, StopsGreeting, Step, IsFedPart, IsStep, AreSteps, LiveSteps, LiveStops, LiveEnds, IsUnfed, IsUntold, StopsPart, news, settled, told_of, told_in}
+use Rattle.pgfollow.specs.Live.{IsStart, IsGreeted, StopsGreeting, Step, IsStep, AreSteps, LiveSteps, LiveStops, LiveEnds, IsUnfed, IsUntold, StopsPart, news, settled, told_of, told_in}
 use Rattle.pgfollow.specs.Told.{AreRising, sessions_from, LeavesSafely, IsToldSafely, AreToldSafely, TellsSafely, TellsRising, FollowsLive, steps_in, pending_in, mid_in}
-use Rattle.pgfollow.proofs.Clocks.{quiet, whole_quiet, StopsAlike, until_quiet}
-use Rattle.pgfollow.proofs.Rising.{rising_join, rising_by, rising_safe, none_rise, fed_rises, news_rise}
+use Rattle.pgfollow.proofs.Clocks.{quiet, whole_quiet, until_quiet}
+use Rattle.pgfollow.proofs.Rising.{rising_join, rising_safe, none_rise, fed_rises, news_rise}
 
 more_stored : (history : List Transaction) (p q c : ℕ) → p ≤ q → NothingBetween history p c → NothingBetween history q c
 more_stored [] p q c le nothing = tt

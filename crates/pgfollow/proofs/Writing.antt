@@ -1,8 +1,7 @@
 -- Bytes that are written in several calls.
-use Rattle.std.proofs.Common.{◌≡◌, ◌∙◌, ◌++◌, ◌≤◌, ◌-◌, ℕ, List, [], Option, take, drop, length, refl, sym, ap, subst, append_assoc, append-nil, take-append-drop}
+use Rattle.std.proofs.Common.{◌≡◌, ◌∙◌, ◌++◌, ℕ, List, [], Option, take, drop, refl, sym, ap, append_assoc, take-append-drop}
 use Rattle.std.proofs.KnownBytes.{Appends-nil, Appends-trans}
 use Rattle.std.specs.Io.KnownBytes.{Appends}
-use Rattle.pgfollow.specs.Live.{IsFront}
 
 -- before the first call
 pub none_written : (a : Option (List ℕ)) (bytes : List ℕ) → (front : List ℕ) × (bytes ≡ front ++ bytes) × Appends a a front

@@ -1,9 +1,8 @@
 -- Part of the statement.
 -- PostgreSQL documentation, Streaming Replication Protocol, Standby status update: what following a server does, one part of its bytes
 -- after the other, and what is written after each.
-use Rattle.std.specs.Prelude.{◌≡◌, ◌≤◌, ◌⊎◌, ◌++◌, ◌-◌, ◌^◌, ℕ, ℤ, List, [], ◌∷◌, Bool, true, false, Option, Some, None, Result, Ok, Err, nat_eq, length, if◌then◌else◌}
-use Rattle.std.specs.List.{flat_map}
-use Rattle.std.specs.Io.KnownBytes.{Appends, Consumes, IsAtEnd, Keeps}
+use Rattle.std.specs.Prelude.{◌≡◌, ◌≤◌, ◌⊎◌, ◌++◌, ◌-◌, ◌^◌, ℕ, ℤ, List, [], ◌∷◌, Bool, true, false, Option, Some, None, Result, Ok, Err, nat_eq, if◌then◌else◌}
+use Rattle.std.specs.Io.KnownBytes.{Appends, Consumes, IsAtEnd}
 use Rattle.pgwire.specs.Statuses.{status_frame}
 use Rattle.pgwire.specs.declared.status.Status.{Status}
 use Rattle.pgapply.specs.Value.{Tables}

@@ -1,6 +1,6 @@
 -- Part of the statement.
 -- PostgreSQL documentation, Streaming Replication Protocol, Standby status update: that what is told of a history is stored.
-use Rattle.std.specs.Prelude.{◌≡◌, ◌≤◌, ◌⊎◌, ◌++◌, ℕ, List, [], ◌∷◌, Bool, Option, Some, None, if◌then◌else◌}
+use Rattle.std.specs.Prelude.{◌≡◌, ◌≤◌, ◌⊎◌, ◌++◌, ℕ, List, [], ◌∷◌, Option, Some, None, if◌then◌else◌}
 use Rattle.std.specs.List.{flat_map}
 use Rattle.pgwire.specs.Statuses.{status_frame}
 use Rattle.pgwire.specs.declared.status.Status.{Status}

@@ -6,7 +6,7 @@ use Rattle.pglogical.specs.declared.column_ref.ColumnRef.{ColumnRef}
 use Rattle.pglogical.specs.LentColumns.{column_value}
 use Rattle.pglogical.specs.Answers.{Gives}
 use Rattle.pglogical.specs.Reading.{◌>>=◌, At, Read, column_at, columns_at}
-use Rattle.pglogical.specs.Columns.{columns_read, IsRead, IsReadTo}
+use Rattle.pglogical.specs.Columns.{columns_read, IsRead}
 use Rattle.pglogical.proofs.Fields.{bind_ok, ok_is}
 
 read_is : (read : Read (List Column)) → IsRead read → (at : At) × (read ≡ Ok (columns_read read, at))

@@ -1,9 +1,7 @@
 -- The steps of the loops over the columns and the cells of a row.
-use Rattle.std.proofs.Common.{◌≡◌, ◌<◌, ◌+◌, List, [], ◌∷◌, ◌++◌, ℕ, zero, suc, length, drop, ap, ◌∙◌, refl, arith, Some}
-use Rattle.std.specs.Prelude.{Bool, true, false, slice_get, slice_index_or, Option, None, option_map, if◌then◌else◌}
-use Rattle.std.specs.Option.{option_to_list}
+use Rattle.std.proofs.Common.{◌≡◌, ◌<◌, ◌+◌, List, [], ◌∷◌, ℕ, zero, suc, length, drop, ap, ◌∙◌, refl, arith, Some}
+use Rattle.std.specs.Prelude.{slice_get, slice_index_or}
 use Rattle.std.proofs.lemmas.Option.{slice_get_read}
-use Rattle.pgtuple.specs.declared.cell.Cell.{Cell}
 use Rattle.pglogical.specs.declared.item.Column.{Column}
 use Rattle.pgrel.specs.Identity.{key_cells}
 

@@ -1,5 +1,5 @@
 -- Behind CopyDone nothing is taken.
-use Rattle.std.proofs.Common.{◌≡◌, ◌<◌, ◌≤◌, ◌++◌, inl, inr, ℕ, ℤ, List, [], Bool, true, length, take, drop, refl, sym, ap, subst, arith, append-nil, length-append, length-drop}
+use Rattle.std.proofs.Common.{◌≡◌, ◌<◌, ◌++◌, inl, inr, ℕ, ℤ, List, [], Bool, true, length, take, drop, refl, sym, ap, subst, arith, append-nil, length-append, length-drop}
 use Rattle.std.proofs.lemmas.List.{take-append-drop}
 use Rattle.pgwire.specs.Frames.{AreFrames, frames, has_copy_done}
 use Rattle.pgwire.specs.declared.fault.WireFault.TheVariants as wire_fault

@@ -1,5 +1,5 @@
 -- The definitions that were read are those of `rel`.
-use Rattle.std.proofs.Common.{◌≡◌, ◌⊎◌, inl, inr, ℕ, ◌<◌, ◌≤◌, ℤ, ◌<ℤ◌, pos, Bool, true, false, List, [], ◌∷◌, ◌++◌, map, drop, Option, Some, None, refl, sym, ap, subst, subst₂, ◌∙◌, arith, true≢false, nat_cmp, Less, lt-ltb}
+use Rattle.std.proofs.Common.{◌≡◌, inl, inr, ℕ, ◌<◌, ◌≤◌, ◌<ℤ◌, pos, Bool, true, false, List, [], ◌∷◌, ◌++◌, map, drop, Option, Some, None, refl, sym, ap, subst, subst₂, ◌∙◌, arith, true≢false, nat_cmp, Less, lt-ltb}
 use Rattle.std.specs.Prelude.{T, ◌&&◌, MatchOption, IfSome}
 use Rattle.std.specs.List.{AllByRecursion, AllZip}
 use Rattle.std.specs.Cmp.{nat_cmp_is}

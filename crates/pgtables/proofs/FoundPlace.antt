@@ -1,5 +1,5 @@
 -- The position that was read is that of `pos`.
-use Rattle.std.proofs.Common.{◌≡◌, inl, inr, ℕ, pos, Bool, true, false, true≢false, List, [], ◌∷◌, map, length, drop, Some, refl, sym, ap, subst, ◌∙◌, arith}
+use Rattle.std.proofs.Common.{◌≡◌, inl, inr, pos, Bool, true, false, true≢false, List, [], ◌∷◌, map, length, drop, Some, refl, sym, ap, subst, ◌∙◌, arith}
 use Rattle.std.specs.Int.{w64, to_be_bytes}
 use Rattle.std.proofs.lemmas.Bool.{and_parts}
 use Rattle.std.proofs.lemmas.List.Sorted.{length_permutation}
@@ -22,7 +22,7 @@ use Rattle.pgtables.specs.Remains.{Stands}
 use Rattle.pgtables.proofs.Standing.{over, pos_listed}
 use Rattle.pgtables.specs.declared.opened.FoundPosition.{FoundPosition}
 use Rattle.pgtables.specs.declared.opened.FoundPosition.TheVariants.{Missing, At, Malformed}
-use Rattle.pgtables.specs.Opened.{ArePlacesRead, IsFoundPosition, IsPlaceRead}
+use Rattle.pgtables.specs.Opened.{ArePlacesRead, IsFoundPosition}
 use Rattle.pgtables.proofs.Steps.{bare}
 use Rattle.pgtables.proofs.FoundTexts.{by_rowid, place_text, place_shown, place_command, place_read_only, place_read}
 use Rattle.pgtables.proofs.FoundRows.{in_answer, all_shown, never, after, null_is}

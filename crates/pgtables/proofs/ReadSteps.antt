@@ -1,5 +1,5 @@
 -- A text that writes nothing is read outside a transaction, row by row or whole, and changes nothing.
-use Rattle.std.proofs.Common.{◌≡◌, inl, inr, ℕ, List, [], ◌∷◌, ◌++◌, Option, Some, None, Ok, Err, Result, ◌≤◌, IfOk, IfErr, IfSome, OnOk, OnErr, IsTrue, IsSome, Bool, true, false, if◌then◌else◌, true≢false, refl, sym, ap, subst, ◌∙◌, arith}
+use Rattle.std.proofs.Common.{◌≡◌, inl, inr, ℕ, List, [], ◌∷◌, ◌++◌, Option, Some, None, Ok, Err, Result, ◌≤◌, IfOk, IfErr, IfSome, OnOk, OnErr, IsTrue, IsSome, Bool, true, false, if◌then◌else◌, true≢false, refl, sym, subst, ◌∙◌, arith}
 use Rattle.std.specs.Prelude.{option_copied, Vec}
 use Rattle.std.specs.declared.alloc.Global.{Global}
 use Rattle.std.specs.Borrow.{Bor}
@@ -8,7 +8,7 @@ use Rattle.sqlite.specs.declared.error.Error.{Error}
 use Rattle.sqlite.specs.Order.{Row}
 use Rattle.sqlite.specs.Tree.{Trees}
 use Rattle.sqlite.specs.Store.{Ghosts}
-use Rattle.sqlite.specs.Effect.{Database, IsDatabase, Reads}
+use Rattle.sqlite.specs.Effect.{IsDatabase, Reads}
 use Rattle.sqlite.specs.View.{doubt}
 use Rattle.sqlite.specs.Held.{Held, state}
 use Rattle.sqlite.specs.State.{State, HasCleanDisk, IsUnchanged, Survives, CommitsShowing, Shown, FailsToQuery}

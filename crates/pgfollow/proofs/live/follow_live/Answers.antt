@@ -1,4 +1,4 @@
-use Rattle.std.proofs.Common.{refl, sym, ap, subst}
+use Rattle.std.proofs.Common.{sym, ap, subst}
 use Rattle.pgfollow.specs.Live.{ended_by}
 use Rattle.pgfollow.proofs.Walking.{followed_live, not_greeted}
 use Rattle.pgfollow.proofs.live.follow_live.Goals as goal

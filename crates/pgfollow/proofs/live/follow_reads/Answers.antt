@@ -1,4 +1,4 @@
-use Rattle.std.proofs.Common.{◌∙◌, take, refl, ap}
+use Rattle.std.proofs.Common.{◌∙◌, take, ap}
 use Rattle.pgfollow.proofs.Telling.{live_none, live_turn, turn_stops}
 use Rattle.pgfollow.proofs.live.follow_reads.Goals as goal
 

@@ -1,4 +1,4 @@
-use Rattle.std.proofs.Common.{◌≡◌, ◌++◌, [], length, drop, ap, sym, ◌∙◌, subst, append-nil, arith}
+use Rattle.std.proofs.Common.{◌≡◌, ◌++◌, length, ap, sym, ◌∙◌, subst, append-nil, arith}
 use Rattle.pgtuple.specs.Limits.{IsTuple}
 use Rattle.pgrel.specs.Identity.{key_cells}
 use Rattle.pgrel.proofs.Loops.{drop_all}

@@ -1,8 +1,8 @@
-use Rattle.std.proofs.Common.{Ok, refl, ap, subst, ◌∙◌, rules}
+use Rattle.std.proofs.Common.{Ok, refl, ap, ◌∙◌, rules}
 use Rattle.sqlite.specs.Held.{state}
 use Rattle.sqlite.specs.State.{HasCleanDisk}
 use Rattle.pgtables.proofs.FoundTexts.{rows_text, rows_read_only}
-use Rattle.pgtables.proofs.ReadSteps.{begins, refused_stays, refused_survives, one_more, whole}
+use Rattle.pgtables.proofs.ReadSteps.{begins, refused_stays, refused_survives, one_more}
 use Rattle.pgtables.proofs.FoundHeld.{ArePassed, none_passed, found_on, rows_found}
 use Rattle.pgtables.proofs.opened.check_standing_rows.Goals as goal
 

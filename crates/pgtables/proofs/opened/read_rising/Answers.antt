@@ -1,7 +1,7 @@
-use Rattle.std.proofs.Common.{◌≡◌, ◌<◌, ◌∷◌, ◌++◌, [], Some, IfSome, sym, ap, subst, ◌∙◌, take}
+use Rattle.std.proofs.Common.{◌<◌, ◌∷◌, ◌++◌, [], IfSome, sym, ap, subst, ◌∙◌, take}
 use Rattle.std.proofs.lemmas.List.{take_more, take_all}
 use Rattle.pgtables.specs.Opened.{AreDefinitionsRead, IsDefinitionRead}
-use Rattle.pgtables.proofs.FoundDefinitions.{AreUpTo, definition_on}
+use Rattle.pgtables.proofs.FoundDefinitions.{definition_on}
 use Rattle.pgtables.proofs.opened.read_rising.Goals as goal
 
 pub loop-row-init : goal.loop-row-init
