@@ -8,3 +8,4 @@ pub mod ShownLines
 pub mod BothRead
 pub mod KeptLines
 mod WithinLines
+pub mod Ended

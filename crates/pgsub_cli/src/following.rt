@@ -1,9 +1,9 @@
 //! Follows a server over a store that outlasts the run, wherever that keeps what it holds.
 
-ghost use Rattle.std.specs.Prelude.{◌≡◌, ◌≤◌, ◌↔◌, [], true, false, Option, Some};
+ghost use Rattle.std.specs.Prelude.{◌≡◌, ◌≤◌, ◌↔◌, [], true, false, Option, Some, IfSome};
 ghost use Rattle.pgfollow.specs.declared.fault.FollowFault.{FollowFault};
 ghost use Rattle.pgfollow.specs.declared.fault.FollowFault.TheVariants as follow;
-ghost use Rattle.pgfollow.specs.Live.{ended_by};
+ghost use Rattle.pgfollow.specs.Live.{IsOfFollowing, ended_by};
 ghost use Rattle.pgsub_cli.specs.FollowedLive.{FollowsOver, ending_of};
 ghost use Rattle.pgsub_cli.specs.Runs.{Tells, status_of};
 
@@ -47,6 +47,9 @@ pub fn run_follow<R: Read + Drop, W: Write + Drop, K: Clock, C: ReplicaStore + D
     ensures status { result.0 ≤ 4 }
     ensures ends { (ended : Option FollowFault) × (result.0 ≡ status_of (ending_of ended))
         × Tells E.takes E.failed [] [] (ending_of ended) err.old err.new
+        × ((ended ≡ Some follow.Read) ↔ (link.new.read_failed ≡ true))
+        × ((ended ≡ Some follow.Write) ↔ (link.new.write_failed ≡ true))
+        × IfSome ended IsOfFollowing
         × (C.is_honest result.1 → C.serves store → FollowsOver C.holds C.place C.reopens C.serves
         (R.remaining link.old.reader) (R.remaining link.new.reader) link.new.reads
         (W.contents link.old.writer) (W.contents link.new.writer) version store result.1 ended) }

@@ -1,8 +1,10 @@
 use Rattle.std.proofs.Common.{◌∙◌, [], sym, ap, subst, Result}
-use Rattle.pgfollow.specs.Live.{ended_by}
+use Rattle.pgfollow.specs.declared.fault.FollowFault.TheVariants as follow
+use Rattle.pgfollow.specs.Live.{IsOfFollowing, ended_by}
 use Rattle.pgsub_cli.specs.declared.fault.Ending.{Ending}
 use Rattle.pgsub_cli.specs.declared.fault.RunFault.{RunFault}
 use Rattle.pgsub_cli.specs.Runs.{Tells, status_of}
+use Rattle.pgsub_cli.proofs.Ended.{ended_as, ended_is}
 use Rattle.pgsub_cli.proofs.following.run_follow.Goals as goal
 
 pub returns-clause-ends : goal.returns-clause-ends
@@ -10,6 +12,15 @@ returns-clause-ends g c = (
   ended_by c.follow_live-followed.result,
   c.status.ensures.status ∙ ap status_of c.ending-ended.ensures,
   subst (λ (x : Result Ending RunFault). Tells g.E.Output.takes g.E.Output.failed [] [] x c.args.err.now c.tell.new.err) c.ending-ended.ensures c.tell.ensures,
+  (
+    λ is. c.follow_live-followed.ensures.read.0 ((ended_is c.follow_live-followed.result follow.Read).0 is),
+    λ failed. (ended_is c.follow_live-followed.result follow.Read).1 (c.follow_live-followed.ensures.read.1 failed),
+  ),
+  (
+    λ is. c.follow_live-followed.ensures.unwritten.0 ((ended_is c.follow_live-followed.result follow.Write).0 is),
+    λ failed. (ended_is c.follow_live-followed.result follow.Write).1 (c.follow_live-followed.ensures.unwritten.1 failed),
+  ),
+  ended_as c.follow_live-followed.result IsOfFollowing c.follow_live-followed.ensures.own,
   λ honest serves. (
     c.subscriber_over-subscriber.result,
     c.follow_live-followed.new.subscriber,
