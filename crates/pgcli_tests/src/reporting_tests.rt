@@ -4,9 +4,9 @@ use crate::stores::{Trial, on_memory_disks};
 use pgapply::ReplicaStore;
 use pglsn::Lsn;
 use pgorder::Version;
-use pgsub_cli::reporting::{Progress, Reporter, run_reported};
+use pgsub_cli::reporting::{Progress, Reporter, run_opened};
 use pgsub_cli::storing::Incoming;
-use std::cell::Cell;
+use std::cell::{Cell, RefCell};
 use std::io;
 use std::process::Abort;
 use std::test::Fail;
@@ -82,18 +82,10 @@ impl Trial for IsTold {
         store: C,
     ) -> Result<(), Fail> {
         let alloc = rt.alloc();
-        let reporter = Reporter::new(alloc, new_clock(), Vec::new(alloc), None)?;
+        let reporter = RefCell::new(Reporter::new(alloc, new_clock(), Vec::new(alloc), None)?);
         let (mut out, mut err) = (Vec::new(alloc), Vec::new(alloc));
-        let incoming = Incoming::Raw(b"x".as_slice());
-        let (status, _) = run_reported(
-            alloc,
-            store,
-            Version::Two,
-            incoming,
-            reporter,
-            &mut out,
-            &mut err,
-        );
+        let input = Some((Version::Two, Incoming::Raw(b"x".as_slice())));
+        let (status, _) = run_opened(alloc, store, input, Some(&reporter), &mut out, &mut err);
         assert_eq!(rt; out.as_slice(), b"position 0/0\n".as_slice());
         assert_eq!(rt;
             err.as_slice(),

@@ -5,21 +5,22 @@ ghost use Rattle.std.specs.Prelude.{◌≡◌, ◌≢◌, ◌⊎◌};
 ghost use Rattle.clap.specs.Values.{kind_of};
 ghost use Rattle.clap.specs.declared.error.kind.ErrorKind.TheVariants as kind;
 
-use pgapply::ReplicaStore;
 use pgcommand::{CommandFault, Task, command_of};
 use pgfollow::{Clock, Link};
 use pgorder::Version;
 use pgstore::Store;
 use pgsub_cli::fault::RunFault;
-use pgsub_cli::reporting::{Reporter, run_reported};
+use pgsub_cli::reporting::Reporter;
 use pgsub_cli::storing::{Incoming, read_input, store_fault, tell_stopped, tell_unopened};
-use pgsub_cli::{run, run_follow, run_store, store_path};
+use pgsub_cli::{run, run_follow, run_opened, store_path};
 use pgsub_core::Side;
 use sqlite::Unknown;
 use std::alloc::AllocError;
+use std::cell::RefCell;
 use std::fs::File;
 use std::io::ErrorKind;
 use std::process::ExitCode;
+use std::rt::Stderr;
 use std::time::{SystemTime, UNIX_EPOCH};
 use std::{env, fs};
 
@@ -99,14 +100,6 @@ fn input_of(
     }
 }
 
-/// Whether standard error is to be told how far it is.
-fn tells_progress(task: &Task) -> bool {
-    match task {
-        Task::Apply { progress, .. } => *progress,
-        _ => false,
-    }
-}
-
 /// The number of bytes of a file, None where it isn't a plain one.
 fn length_of(rt: &HostRuntime, path: &str) -> Option<u64> {
     match fs::metadata(rt, path) {
@@ -115,63 +108,29 @@ fn length_of(rt: &HostRuntime, path: &str) -> Option<u64> {
     }
 }
 
-/// How many bytes of the file are read already, and how many there are, None where that isn't known.
-fn bytes_to_read(rt: &HostRuntime, task: &Task, incoming: &Incoming<File>) -> (u64, Option<u64>) {
-    let Task::Apply { file, .. } = task else {
-        return (0, None);
+/// What tells standard error how far a task is. None where it isn't to be told, or where the clock can't be read.
+fn reporter_of<'r>(
+    rt: &'r HostRuntime,
+    task: &Task,
+    input: &Option<(Version, Incoming<File>)>,
+) -> Option<RefCell<Reporter<&'r HostRuntime, Stderr>>> {
+    let Task::Apply {
+        file,
+        progress: true,
+        ..
+    } = task
+    else {
+        return None;
     };
     let total = length_of(rt, file.as_str());
-    match incoming {
-        // A recording is read whole before its first session.
-        Incoming::Sessions(_) => (total.unwrap_or(0), total),
-        Incoming::Raw(_) => (0, total),
-    }
-}
-
-/// Applies to a store what comes, and tells meanwhile how far it is. Where the clock can't be read, it tells nothing. Returns the exit
-/// status and the store.
-fn run_told<C: ReplicaStore + Drop>(
-    rt: &HostRuntime,
-    task: &Task,
-    store: C,
-    version: Version,
-    incoming: Incoming<File>,
-) -> (u8, C) {
-    let (mut out, mut err) = (rt.stdout(), rt.stderr());
-    let (read, total) = bytes_to_read(rt, task, &incoming);
     let Ok(mut reporter) = Reporter::new(rt.alloc(), rt, rt.stderr(), total) else {
-        let input = Some((version, incoming));
-        return run_store(rt.alloc(), store, input, &mut out, &mut err);
+        return None;
     };
-    reporter.note_bytes(read);
-    run_reported(
-        rt.alloc(),
-        store,
-        version,
-        incoming,
-        reporter,
-        &mut out,
-        &mut err,
-    )
-}
-
-/// Runs a task over an opened store. Returns the exit status and the store.
-fn run_opened<C: ReplicaStore + Drop>(
-    rt: &HostRuntime,
-    task: &Task,
-    store: C,
-    input: Option<(Version, Incoming<File>)>,
-) -> (u8, C) {
-    let (mut out, mut err) = (rt.stdout(), rt.stderr());
-    let Some((version, incoming)) = input else {
-        let nothing: Option<(Version, Incoming<File>)> = None;
-        return run_store(rt.alloc(), store, nothing, &mut out, &mut err);
-    };
-    if tells_progress(task) {
-        return run_told(rt, task, store, version, incoming);
+    if let Some((_, Incoming::Sessions(_))) = input {
+        // A recording is read whole before its first session.
+        reporter.note_bytes(total.unwrap_or(0));
     }
-    let input = Some((version, incoming));
-    run_store(rt.alloc(), store, input, &mut out, &mut err)
+    Some(RefCell::new(reporter))
 }
 
 /// Runs a task over the store in the file at a path. What it applies is read before the store is opened.
@@ -187,7 +146,10 @@ fn run_over(rt: &HostRuntime, task: &Task, path: &str) -> u8 {
     };
     match Store::open_from(rt.alloc(), rt, path, Unknown) {
         Ok(store) => {
-            let (status, store) = run_opened(rt, task, store, input);
+            let mut out = rt.stdout();
+            let reporter = reporter_of(rt, task, &input);
+            let told = reporter.as_ref();
+            let (status, store) = run_opened(rt.alloc(), store, input, told, &mut out, &mut err);
             let _ = store.into_connection().close();
             status
         }
@@ -249,7 +211,12 @@ fn run_in_memory(rt: &HostRuntime, task: &Task) -> u8 {
         Err(fault) => return tell_stopped(rt.alloc(), task, fault, &mut err),
     };
     match Store::on_memory_disks(rt.alloc()) {
-        Ok(store) => run_opened(rt, task, store, input).0,
+        Ok(store) => {
+            let mut out = rt.stdout();
+            let reporter = reporter_of(rt, task, &input);
+            let told = reporter.as_ref();
+            run_opened(rt.alloc(), store, input, told, &mut out, &mut err).0
+        }
         Err(fault) => {
             let stopped = RunFault::Stream(store_fault(fault));
             tell_stopped(rt.alloc(), task, stopped, &mut err)
@@ -270,7 +237,7 @@ fn run_words(rt: &HostRuntime, words: &[String]) -> Result<u8, AllocError> {
     if let Some(path) = store_path(&task) {
         return Ok(run_over(rt, &task, path));
     }
-    if tells_progress(&task) {
+    if let Task::Apply { progress: true, .. } = &task {
         return Ok(run_in_memory(rt, &task));
     }
     let (left, right) = files_of(rt, &task);

@@ -1,5 +1,5 @@
 -- By which fault following ended.
-use Rattle.std.proofs.Common.{◌≡◌, ◌↔◌, Option, Some, None, Result, Ok, Err, IfErr, IfSome}
+use Rattle.std.proofs.Common.{◌≡◌, ◌↔◌, Some, Result, Ok, Err, IfErr, IfSome}
 use Rattle.pgfollow.specs.declared.fault.FollowFault.{FollowFault}
 use Rattle.pgfollow.specs.Live.{ended_by}
 

@@ -1,5 +1,5 @@
 -- Lines that are written, and what they are said to be.
-use Rattle.std.proofs.Common.{◌≡◌, ℕ, List, Option, Result, Ok, Err, IfOk, IfErr, ◌⊎◌, inl, inr, sym, ap, subst, ◌∙◌, refl, string_bytes, None, Some}
+use Rattle.std.proofs.Common.{◌≡◌, ℕ, List, Option, Result, Ok, Err, IfOk, IfErr, inl, inr, sym, subst, string_bytes, None, Some}
 use Rattle.pgsub_core.specs.declared.fault.Fault.{Fault}
 use Rattle.pgsub_core.specs.declared.session.Session.{Session}
 use Rattle.pgsub_cli.specs.declared.fault.Ending.{Ending}

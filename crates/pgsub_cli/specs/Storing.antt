@@ -1,5 +1,5 @@
 -- What a run over a store is fed, what it prints, and what the store holds then.
-use Rattle.std.specs.Prelude.{◌≡◌, ◌⊎◌, ℕ, List, [], ◌∷◌, Bool, true, false, Option, Some, None, Result, Err}
+use Rattle.std.specs.Prelude.{◌≡◌, ℕ, List, [], ◌∷◌, Bool, true, false, Option, Some, None}
 use Rattle.pgorder.specs.declared.Version.{Version}
 use Rattle.pgapply.specs.declared.rows.StoreFault.{StoreFault}
 use Rattle.pgapply.specs.declared.rows.StoreFault.TheVariants as store

@@ -26,5 +26,6 @@ pub mod storing;
 
 pub use following::run_follow;
 pub use pgcommand::Task;
+pub use reporting::run_opened;
 pub use running::{run, store_path};
 pub use storing::run_store;

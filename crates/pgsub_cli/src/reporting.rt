@@ -259,9 +259,8 @@ fn count_bytes<'a, R: Read + Drop, K: Clock + Drop, E: Output + Drop>(
     }
 }
 
-/// Applies to an opened store what comes of a recording or a file, as `run_store` does, and tells the reporter meanwhile. What is
-/// printed, what the store holds then, what standard error gets for a fault and the exit status are as without it.
-pub fn run_reported<
+/// Applies to an opened store what comes, and tells the reporter meanwhile.
+fn run_reported<
     R: Read + Drop,
     C: ReplicaStore + Drop,
     K: Clock + Drop,
@@ -273,7 +272,7 @@ pub fn run_reported<
     store: C,
     version: Version,
     incoming: Incoming<R>,
-    reporter: Reporter<K, P>,
+    reporter: &RefCell<Reporter<K, P>>,
     out: &mut W,
     err: &mut E,
 ) -> (u8, C)
@@ -285,8 +284,40 @@ pub fn run_reported<
         (Some (version, incoming)) store result.1 stopped lines) out.old out.new ended
         × Tells E.takes E.failed [] [] ended err.old err.new }
 {
-    let reporter = RefCell::new(reporter);
-    let input = Some((version, count_bytes(incoming, &reporter)));
-    let (status, told) = run_store(alloc, Reported::new(store, &reporter), input, out, err);
+    let input = Some((version, count_bytes(incoming, reporter)));
+    let (status, told) = run_store(alloc, Reported::new(store, reporter), input, out, err);
     (status, told.into_store())
+}
+
+/// Runs a task over an opened store, as `run_store` does, and tells a reporter meanwhile, where there is one. What is printed, what the
+/// store holds then, what standard error gets for a fault and the exit status are as without it.
+pub fn run_opened<
+    R: Read + Drop,
+    C: ReplicaStore + Drop,
+    K: Clock + Drop,
+    P: Output + Drop,
+    W: Output,
+    E: Output,
+>(
+    alloc: Global,
+    store: C,
+    input: Option<(Version, Incoming<R>)>,
+    reporter: Option<&RefCell<Reporter<K, P>>>,
+    out: &mut W,
+    err: &mut E,
+) -> (u8, C)
+    ensures status { result.0 ≤ 4 }
+    ensures ends { (ended : Result Ending RunFault) × (result.0 ≡ status_of ended)
+        × Writes W.takes W.failed IsReadFault
+        (λ stopped lines. C.is_honest result.1 →
+        PrintsOver (ReaderGives R.remaining) (ReaderBegins R.remaining) (λ _. ⊤) C.holds C.place
+        input store result.1 stopped lines) out.old out.new ended
+        × Tells E.takes E.failed [] [] ended err.old err.new }
+{
+    match (input, reporter) {
+        (Some((version, incoming)), Some(reporter)) => {
+            run_reported(alloc, store, version, incoming, reporter, out, err)
+        }
+        (input, _) => run_store(alloc, store, input, out, err),
+    }
 }
