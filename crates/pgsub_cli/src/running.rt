@@ -46,7 +46,7 @@ pub(crate) fn status(ended: Result<Ending, RunFault>) -> u8
     }
 }
 
-/// The path of the store's file that a task names, if it names one. `run_store` or `run_follow` runs such a task.
+/// The path of the store's file that a task names, if it names one. `run_opened` or `run_follow` runs such a task.
 pub fn store_path(task: &Task) -> Option<&str>
     ensures { option_map (λ path. path.now) result ≡ store_path task.now }
 {
