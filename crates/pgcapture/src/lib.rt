@@ -26,8 +26,6 @@ ghost use Rattle.pgcapture.specs.Capture.{is_disconnection as is_disconnection_l
 ghost use Rattle.pgcapture.specs.Refused.{IsRefused};
 
 mod fault;
-#[cfg(test)]
-mod tests;
 
 pub use fault::CaptureFault;
 use hex::FromHexError;

@@ -1,5 +1,10 @@
-//! Tests of `pgcheck_core`, and no code: recordings, and what is found in them.
+//! Tests of what reads recordings, and no code: which sessions a recording has (`pgcapture`), the lines that show them (`pgshow`), and
+//! what is found in bad ones (`pgcheck_core`).
 #![tactic(auto)]
 
 #[cfg(test)]
-mod tests;
+mod checked;
+#[cfg(test)]
+mod recordings;
+#[cfg(test)]
+mod shown;

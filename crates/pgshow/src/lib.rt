@@ -16,8 +16,6 @@
 pub mod fault;
 mod frames;
 mod session;
-#[cfg(test)]
-mod tests;
 
 pub use fault::Fault;
 pub use session::show_session;

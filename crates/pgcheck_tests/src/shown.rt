@@ -1,6 +1,8 @@
-use crate::{Fault, show_session};
+//! Sessions with the lines that show them, up to the first fault.
+
 use pglogical::{DecodeFault, Reason};
 use pgorder::{OrderFault, Version};
+use pgshow::{Fault, show_session};
 use pgtuple::Bytes;
 use pgwire::WireFault;
 use std::alloc::Global;

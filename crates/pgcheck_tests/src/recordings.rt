@@ -1,6 +1,6 @@
 //! Recordings with what they hold, by the rules of the format.
 
-use crate::{CaptureFault, read_capture};
+use pgcapture::{CaptureFault, read_capture};
 use pgsub_core::Session;
 use std::alloc::{AllocError, Global};
 use std::test::Fail;
