@@ -12,7 +12,8 @@ use Rattle.pgapply.specs.Dump.{dump}
 use Rattle.pgapply.specs.Stored.{Stored}
 use Rattle.pgapply.specs.Taken as taken
 use Rattle.pgstore.specs.Spelled.{IsStored}
-use Rattle.pgstore.specs.StoreValue.{StoreValue, IsHonest, Serves, Reopens, Holds, Contains, Takes, Stays, RefusesWork, LeavesWork}
+use Rattle.pgstore.specs.Reopened.{Reopens}
+use Rattle.pgstore.specs.StoreValue.{StoreValue, IsHonest, Serves, Holds, Contains, Takes, Stays, RefusesWork, LeavesWork}
 
 module _ {S : Type 0} (g : Ghosts S) where
   abbrev pub holds_tables : StoreValue S → Tables → Type 0
@@ -37,7 +38,7 @@ module _ {S : Type 0} (g : Ghosts S) where
 
   -- what a crash may leave of a commit is what it could leave before, or the changes of the commit folded
   pub leaves_fold : (old new : StoreValue S) (changes : List Change) (end : ℕ) → Survives (state g old.conn) (state g new.conn) (LeavesWork g old changes end) → (Serves g old → (v : Stored) × Contains g old v) → IsHonest g new
-      → (other : StoreValue S) → Reopens g new other → Reopens g old other ⊎ (Serves g old × taken.LeavesFold holds_tables (λ s. s.position) old changes end other)
+      → (other : StoreValue S) → Reopens g g new other → Reopens g g old other ⊎ (Serves g old × taken.LeavesFold holds_tables (λ s. s.position) old changes end other)
   leaves_fold old new changes end survives contains honest other left = elim (survives.crash honest left.db left.left) [
     | inl was ↦ inl (record { db = left.db; left = was; opened = left.opened })
     | inr commits ↦

@@ -83,12 +83,6 @@ module _ {S : Type 0} (g : Ghosts S) where
     pub holds : IsTrue (state g s.conn).is_open → Holds s v
     pub left : (db : Trees) → (state g s.conn).may_leave db → IsAtLeast v db
 
-  -- the new one was opened on what a crash at this moment may leave of the old one
-  pub record Reopens (old new : StoreValue S) : Type 0 where
-    pub db : Trees
-    pub left : (state g old.conn).may_leave db
-    pub opened : (v : Stored) → AreOf v db → Holds new v
-
   -- what holds of each store
   pub record IsStore (conn : Held S) (position : ℕ) : Type 0 where
     pub settled : (state g conn).in_transaction ≡ false

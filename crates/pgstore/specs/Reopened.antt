@@ -1,0 +1,67 @@
+-- What a crash leaves of a store in two files, and what the store holds that is opened on them next.
+-- SQLite documentation, Write-Ahead Logging, and WAL-mode File Format, Recovery: after a crash the next open finds the last transaction
+-- whose commit is whole in the log, and nothing of a later one.
+use Rattle.std.specs.Prelude.{◌≡◌, ◌≤◌}
+use Rattle.sqlite_disk.specs.declared.Disk as disk
+use Rattle.sqlite_disk.specs.declared.Files.{Files}
+use Rattle.sqlite_store.specs.declared.store.FileStore.{FileStore}
+use Rattle.sqlite.specs.Recovery.{Image}
+use Rattle.sqlite.specs.WalFiles.{outcomes}
+use Rattle.sqlite.specs.WalReads.{AreClean}
+use Rattle.sqlite.specs.Tree.{Trees}
+use Rattle.sqlite.specs.Store.{Ghosts}
+use Rattle.sqlite.specs.Held.{Held, state}
+use Rattle.sqlite.specs.State.{Opens}
+use Rattle.sqlite.specs.Files.{file_state, over_files, HoldsDatabase}
+use Rattle.pgmemory.specs.Stopped.{Leaves}
+use Rattle.pgapply.specs.Stored.{Stored}
+use Rattle.pgstore.specs.StoreValue.{StoreValue, Adopts, AreOf, Contains, Holds, Keeps}
+
+module _ {S : Type 0} (g : Ghosts S) where
+  -- The store holds what is stored in files with this content: whatever value a database in them has.
+  abbrev pub HoldsContent : Image → StoreValue S → Type 0
+  HoldsContent content s = (db : Trees) → HoldsDatabase content db → (v : Stored) → AreOf v db → Holds g s v
+
+  -- So does one that adopted a connection which an open of such files gave.
+  abbrev pub AdoptedHoldsContent : Type 0
+  AdoptedHoldsContent =
+      (content : Image) (conn : Held S) (s : StoreValue S) → ((db : Trees) → HoldsDatabase content db → (state g conn).committed.trees ≡ db) → Opens (state g conn) → Adopts g conn s
+      → HoldsContent content s
+
+module _ {S T : Type 0} (g : Ghosts S) (h : Ghosts T) where
+  -- The new one was opened on what a crash at this moment may leave of the old one. It may be in files of another kind.
+  pub record Reopens (old : StoreValue S) (new : StoreValue T) : Type 0 where
+    pub db : Trees
+    pub left : (state g old.conn).may_leave db
+    pub opened : (v : Stored) → AreOf v db → Holds h new v
+
+  -- So where the old one serves, of which a crash leaves what it contains, the new one holds the same.
+  abbrev pub ReopensTheSame : Type 0
+  ReopensTheSame =
+      (old : StoreValue S) (new : StoreValue T) (v : Stored) → Contains g old v → Reopens old new → (w : Stored) → Holds g old w → Holds h new w
+
+  -- And where it has shut, the new one holds nothing older: its position is no lower, and at the same position it has the same tables.
+  abbrev pub ReopensNothingOlder : Type 0
+  ReopensNothingOlder =
+      (old : StoreValue S) (new : StoreValue T) (v : Stored) → Keeps g old v → Reopens old new
+      → (w : Stored) × Holds h new w × (v.position ≤ w.position) × (w.position ≡ v.position → Holds h new v)
+
+-- A crash of the store at this moment may leave this content of its two files.
+pub record CrashLeaves {D : Type 0} {g : disk.Ghosts D} (old : StoreValue (FileStore D g)) (content : Image) : Type 0 where
+  -- the files as the crash finds them, of which `Store::stop` says this
+  pub files : Files D
+  pub stopped : Leaves g (file_state old.conn).may_leave files
+  -- their disks have given back what was written
+  pub honest : AreClean g files.log files.db
+  -- and each says that its file may hold this after a crash
+  pub left : outcomes g files.log files.db content
+
+-- Whichever store a crash left this content of, the new one reopens it.
+abbrev pub ReopensLeft : {D : Type 0} {g : disk.Ghosts D} → Image → StoreValue (FileStore D g) → Type 0
+ReopensLeft {D} {g} content new = (old : StoreValue (FileStore D g)) → CrashLeaves old content → ∥ Reopens over_files over_files old new ∥₁
+
+-- Files with what a crash left hold a database, and the store that holds what is stored in them reopens the one before the crash.
+abbrev pub LeftIsReopened : {D S : Type 0} → disk.Ghosts D → Ghosts S → Type 0
+LeftIsReopened {D} {S} g h =
+    (old : StoreValue (FileStore D g)) (new : StoreValue S) (content : Image) → CrashLeaves old content → HoldsContent h content new
+    → ∥ Reopens over_files h old new ∥₁

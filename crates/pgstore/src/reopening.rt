@@ -1,0 +1,61 @@
+//! A store in two files: what a crash leaves of it, and opening what was left.
+//!
+//! SQLite documentation, Write-Ahead Logging.
+
+ghost use Rattle.std.specs.Prelude.{◌≡◌, ◌⊎◌, IsTrue, IfOk, IfErr};
+ghost use Rattle.sqlite.specs.Files.{file_state, image_of, over_files};
+ghost use Rattle.pgmemory.specs.Stopped.{Leaves};
+ghost use Rattle.pgapply.specs.Stored.{IsOwnFault};
+ghost use Rattle.pgstore.specs.StoreValue.{IsHonest, Serves};
+ghost use Rattle.pgstore.specs.Reopened.{HoldsContent, ReopensLeft};
+
+use crate::fault::Refusal;
+use crate::store::Store;
+use pgapply::StoreFault;
+use sqlite::{Connection, FileStore, Files, Options};
+use sqlite_disk::Disk;
+use std::alloc::Global;
+
+impl<D: Disk + Drop> Store<FileStore<D>> {
+    /// The two files as they are, without a word to the disks: what a crash at this moment leaves. While the disks are honest, each
+    /// content that the files may have after the crash holds a database that the store may leave.
+    pub fn stop(self) -> Files<D>
+        ensures left { Leaves D.Disk (file_state self.conn).may_leave result }
+    {
+        pgmemory::stop(self.into_connection())
+    }
+
+    /// The store in two files, as `adopt` takes it. Files without bytes get a store without tables at position 0/0.
+    ///
+    /// It holds what is stored in the files (`stood`). So if they have the content that a crash left of a store, it holds what that
+    /// store could leave (`reopens`): the same tables and position where that one served, and never an older position (law
+    /// `left_is_reopened`).
+    ///
+    /// # Errors
+    ///
+    /// `Refused` where the files can't be opened, and `Memory`; else those of `adopt`. The files are dropped then.
+    pub fn open_files(
+        alloc: Global,
+        files: Files<D>,
+        options: Options,
+    ) -> Result<Store<FileStore<D>>, StoreFault>
+        requires log { IsTrue (D.Disk.is_usable files.log) }
+        requires db { IsTrue (D.Disk.is_usable files.db) }
+        ensures serves { IfOk result (λ store. IsHonest over_files store →
+            Serves over_files store) }
+        ensures stood { IfOk result (λ store. IsHonest over_files store →
+            HoldsContent over_files (image_of D.Disk files) store) }
+        ensures reopens { IfOk result (λ store. IsHonest over_files store →
+            ReopensLeft (image_of D.Disk files) store) }
+        ensures fault { IfErr result (λ fault. IsOwnFault fault ⊎ (fault ≡ StoreFault.NotAStore)) }
+    {
+        let conn = match Connection::open_files(alloc, files, options) {
+            Ok(conn) => conn,
+            Err((error, _)) => return Err(StoreFault::from(Refusal::from(error))),
+        };
+        match Store::adopt(alloc, conn) {
+            Ok(store) => Ok(store),
+            Err((fault, _)) => Err(fault),
+        }
+    }
+}
