@@ -441,16 +441,27 @@ fn unsent_cells_are_the_old_rows(rt: HostRuntime) -> Result<(), Fail> {
 fn carried(
     rt: &impl Abort,
     alloc: Global,
+    old: &RelationDef,
+    new: &RelationDef,
+    cells: Cells,
+) -> Result<Result<Tuple, RelFault>, Fail> {
+    assert!(rt; new.spellable());
+    let row = row(alloc, cells)?;
+    assert!(rt; row.width() == old.columns.len());
+    Ok(carry(alloc, old, new, &row.borrowed()))
+}
+
+/// The row of one table as it stands in the other.
+fn carried_between(
+    rt: &impl Abort,
+    alloc: Global,
     old: &Table,
     new: &Table,
     cells: Cells,
 ) -> Result<Result<Tuple, RelFault>, Fail> {
     let old = relation(alloc, old)?;
     let new = relation(alloc, new)?;
-    let row = row(alloc, cells)?;
-    assert!(rt; row.width() == old.columns.len());
-    assert!(rt; new.spellable());
-    Ok(carry(alloc, &old, &new, &row.borrowed()))
+    carried(rt, alloc, &old, &new, cells)
 }
 
 /// The table t with its two columns in the other order, of other types and under other flags.
@@ -481,7 +492,7 @@ static CARRIED: [(Table, Table, Cells, Cells); 6] = [
 #[test]
 fn rows_carried_to_another_shape(rt: HostRuntime) -> Result<(), Fail> {
     for (place, (old, new, cells, whole)) in CARRIED.iter().enumerate() {
-        let answer = carried(&rt, rt.alloc(), old, new, *cells)?;
+        let answer = carried_between(&rt, rt.alloc(), old, new, *cells)?;
         assert!(rt; gives(answer, *whole)?, "row {place}");
     }
     Ok(())
@@ -504,25 +515,56 @@ fn has_columns(rt: &impl Abort, book: &Book, oid: u32, wanted: Option<usize>) {
     assert!(rt; columns(book, oid) == wanted.ok_or(RelFault::UnknownRelation(oid)));
 }
 
+/// Whether the last definition of this OID has the name.
+fn is_named(book: &Book, oid: u32, name: &str) -> bool {
+    match book.get(oid) {
+        Ok(def) => def.name.as_str() == name,
+        Err(_) => false,
+    }
+}
+
+/// Stops unless the definitions of the tables t and f have so many columns, and no other is known.
+fn knows(rt: &impl Abort, book: &Book, t: Option<usize>, f: Option<usize>) {
+    has_columns(rt, book, 16384, t);
+    has_columns(rt, book, 16386, f);
+    has_columns(rt, book, 0, None);
+    assert!(rt; is_named(book, 16384, "t") == t.is_some());
+    assert!(rt; is_named(book, 16386, "f") == f.is_some());
+}
+
+/// Puts the table's definition, or forgets all.
+fn put_or_clear(
+    rt: &impl Abort,
+    alloc: Global,
+    book: &mut Book,
+    table: &Option<Table>,
+) -> Result<(), RelFault> {
+    match table {
+        Some(table) => put(rt, alloc, book, table),
+        None => {
+            book.clear();
+            Ok(())
+        }
+    }
+}
+
+/// A table whose definition is put, or none where all are forgotten, and how many columns of t and of f are then known.
+static BOOK: [(Option<Table>, Option<usize>, Option<usize>); 5] = [
+    (Some(T), Some(2), None),
+    (Some(F), Some(2), Some(1)),
+    (Some(T_WITH_Z), Some(3), Some(1)),
+    (None, None, None),
+    (Some(T), Some(2), None),
+];
+
 #[test]
 fn book_is_a_map(rt: HostRuntime) -> Result<(), Fail> {
-    let alloc = rt.alloc();
-    let mut book = Book::new(alloc);
-    has_columns(&rt, &book, 16384, None);
-    put(&rt, alloc, &mut book, &T)?;
-    put(&rt, alloc, &mut book, &F)?;
-    has_columns(&rt, &book, 16384, Some(2));
-    has_columns(&rt, &book, 16386, Some(1));
-    has_columns(&rt, &book, 0, None);
-    put(&rt, alloc, &mut book, &T_WITH_Z)?;
-    has_columns(&rt, &book, 16384, Some(3));
-    has_columns(&rt, &book, 16386, Some(1));
-    assert!(rt; book.get(16386)?.name.as_str() == "f");
-    book.clear();
-    has_columns(&rt, &book, 16384, None);
-    has_columns(&rt, &book, 16386, None);
-    put(&rt, alloc, &mut book, &T)?;
-    has_columns(&rt, &book, 16384, Some(2));
+    let mut book = Book::new(rt.alloc());
+    knows(&rt, &book, None, None);
+    for (table, t, f) in &BOOK {
+        put_or_clear(&rt, rt.alloc(), &mut book, table)?;
+        knows(&rt, &book, *t, *f);
+    }
     Ok(())
 }
 

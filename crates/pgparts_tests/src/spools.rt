@@ -102,12 +102,25 @@ fn open<P: Spools>(rt: &impl Abort, spools: &mut P, xid: u32) -> Result<(), Spoo
     spools.open(xid)
 }
 
+/// What a push of the sample's item answers.
+fn pushed<P: Spools>(
+    rt: &impl Abort,
+    alloc: Global,
+    spools: &mut P,
+    xid: u32,
+    subxid: u32,
+    sample: Sample,
+) -> Result<Result<(), SpoolFault>, Fail> {
+    let item = item(alloc, sample)?;
+    Ok(push(rt, spools, xid, subxid, &item))
+}
+
 fn take<P: Spools>(rt: &impl Abort, alloc: Global, spools: &mut P, step: Step) -> Result<(), Fail> {
     match step {
         Step::Open(xid) => open(rt, spools, xid)?,
-        Step::Push(xid, subxid, sample) => push(rt, spools, xid, subxid, &item(alloc, sample)?)?,
+        Step::Push(xid, subxid, sample) => pushed(rt, alloc, spools, xid, subxid, sample)??,
         Step::Full(xid, subxid, sample) => {
-            let found = push(rt, spools, xid, subxid, &item(alloc, sample)?);
+            let found = pushed(rt, alloc, spools, xid, subxid, sample)?;
             assert!(rt; found == Err(SpoolFault::SpoolFull));
         }
         Step::Cut(xid, subxid) => spools.cut(xid, subxid),
@@ -140,7 +153,20 @@ fn take_all<P: Spools>(
     Ok(())
 }
 
-/// Takes the steps on both spools under one limit, and stops where they then hold other items than these.
+/// Takes the steps, and stops where the spools then hold other items than these.
+fn holds_after<P: Spools>(
+    rt: &impl Abort,
+    alloc: Global,
+    spools: &mut P,
+    xid: u32,
+    steps: &[Row],
+    left: &[Sample],
+) -> Result<(), Fail> {
+    take_all(rt, alloc, spools, xid, steps)?;
+    holds(rt, alloc, spools, xid, left)
+}
+
+/// The same on both spools under one limit.
 fn both_hold(
     rt: &impl Abort,
     alloc: Global,
@@ -150,11 +176,31 @@ fn both_hold(
     left: &[Sample],
 ) -> Result<(), Fail> {
     let mut lists = ListSpools::new(alloc, max_bytes);
-    take_all(rt, alloc, &mut lists, xid, steps)?;
-    holds(rt, alloc, &lists, xid, left)?;
+    holds_after(rt, alloc, &mut lists, xid, steps, left)?;
     let mut bytes = ByteSpools::new(alloc, max_bytes);
-    take_all(rt, alloc, &mut bytes, xid, steps)?;
-    holds(rt, alloc, &bytes, xid, left)
+    holds_after(rt, alloc, &mut bytes, xid, steps, left)
+}
+
+fn is_sample(alloc: Global, found: &Item, sample: Sample) -> Result<bool, Fail> {
+    let item = item(alloc, sample)?;
+    Ok(*found == item)
+}
+
+/// Stops where these are other items than the samples'.
+fn are_samples(rt: &impl Abort, alloc: Global, held: &[Item], left: &[Sample]) -> Result<(), Fail> {
+    assert!(rt; held.len() == left.len());
+    for (index, (found, sample)) in held.iter().zip(left).enumerate() {
+        assert!(rt; is_sample(alloc, found, *sample)?, "item {index}");
+    }
+    Ok(())
+}
+
+/// Stops unless each item up to this number is lent, and none behind.
+fn lends<P: Spools>(rt: &impl Abort, spools: &P, xid: u32, count: usize) {
+    for index in 0..count {
+        assert!(rt; spools.item(xid, index).is_some());
+    }
+    assert!(rt; spools.item(xid, count).is_none());
 }
 
 /// Stops where a transaction holds other items than these, told by copies and one by one.
@@ -165,14 +211,9 @@ fn holds<P: Spools>(
     xid: u32,
     left: &[Sample],
 ) -> Result<(), Fail> {
+    lends(rt, spools, xid, left.len());
     let held = copy_items(alloc, spools, xid)?;
-    assert!(rt; held.len() == left.len());
-    for (index, (found, sample)) in held.iter().zip(left).enumerate() {
-        assert!(rt; *found == item(alloc, *sample)?, "item {index}");
-        assert!(rt; spools.item(xid, index).is_some());
-    }
-    assert!(rt; spools.item(xid, left.len()).is_none());
-    Ok(())
+    are_samples(rt, alloc, &held, left)
 }
 
 const T_1A: Sample = Sample::Insert(16384, &["1", "a"]);
@@ -309,44 +350,75 @@ fn clear_forgets_all(rt: HostRuntime) -> Result<(), Fail> {
 /// Holds one item of a new transaction.
 fn hold<P: Spools>(
     rt: &impl Abort,
-    alloc: Global,
     spools: &mut P,
     xid: u32,
-) -> Result<Result<(), SpoolFault>, Fail> {
-    let item = item(alloc, T_1A)?;
+    item: &Item,
+) -> Result<(), SpoolFault> {
     assert!(rt; !spools.is_open(xid));
     assert!(rt; item.borrowed().spellable());
-    Ok(hold_one(spools, xid, &item.borrowed()))
+    hold_one(spools, xid, &item.borrowed())
 }
 
-#[test]
-fn one_item_opens_its_transaction(rt: HostRuntime) -> Result<(), Fail> {
-    let mut spools = ByteSpools::new(rt.alloc(), 28);
-    hold(&rt, rt.alloc(), &mut spools, 7)??;
-    assert!(rt; spools.bytes() == 28 && spools.count(7) == 1);
-    let found = hold(&rt, rt.alloc(), &mut spools, 8)?;
-    assert!(rt; found == Err(SpoolFault::SpoolFull));
+/// Stops unless the bytes of all items and the number of one transaction's are these.
+fn measures<P: Spools>(rt: &impl Abort, spools: &P, xid: u32, bytes: u64, count: usize) {
+    assert!(rt; spools.bytes() == bytes && spools.count(xid) == count);
+}
+
+/// Holds the item in one transaction, and finds no place for it in another.
+fn hold_once<P: Spools>(rt: &impl Abort, spools: &mut P, item: &Item) -> Result<(), SpoolFault> {
+    hold(rt, spools, 7, item)?;
+    measures(rt, spools, 7, 28, 1);
+    assert!(rt; hold(rt, spools, 8, item) == Err(SpoolFault::SpoolFull));
     assert!(rt; !spools.is_open(8));
     Ok(())
 }
 
-/// Pushes two items for each of 10,000 subtransactions, and rolls back all but the first ten, the last one first.
-fn roll_back_many<P: Spools>(rt: &impl Abort, alloc: Global, spools: &mut P) -> Result<(), Fail> {
+fn hold_item_once<P: Spools>(rt: &impl Abort, alloc: Global, spools: &mut P) -> Result<(), Fail> {
     let item = item(alloc, T_1A)?;
-    open(rt, spools, 1)?;
+    Ok(hold_once(rt, spools, &item)?)
+}
+
+#[test]
+fn one_item_opens_its_transaction(rt: HostRuntime) -> Result<(), Fail> {
+    hold_item_once(&rt, rt.alloc(), &mut ByteSpools::new(rt.alloc(), 28))
+}
+
+/// Pushes the item twice for each of 10,000 subtransactions.
+fn push_many<P: Spools>(rt: &impl Abort, spools: &mut P, item: &Item) -> Result<(), SpoolFault> {
     for subxid in 2..10002u32 {
-        push(rt, spools, 1, subxid, &item)?;
-        push(rt, spools, 1, subxid, &item)?;
+        push(rt, spools, 1, subxid, item)?;
+        push(rt, spools, 1, subxid, item)?;
     }
-    assert!(rt; spools.bytes() == 560000 && spools.count(1) == 20000);
-    assert!(rt; spools.item(1, 19999).is_some());
+    Ok(())
+}
+
+/// Rolls back all of these but the first ten, the last one first.
+fn cut_many<P: Spools>(spools: &mut P) {
     for subxid in (12..10002u32).rev() {
         spools.cut(1, subxid);
     }
-    assert!(rt; spools.bytes() == 560 && spools.count(1) == 20);
-    push(rt, spools, 1, 12, &item)?;
-    assert!(rt; spools.bytes() == 588 && spools.count(1) == 21);
+}
+
+fn fill<P: Spools>(rt: &impl Abort, spools: &mut P, item: &Item) -> Result<(), SpoolFault> {
+    open(rt, spools, 1)?;
+    push_many(rt, spools, item)?;
+    measures(rt, spools, 1, 560000, 20000);
+    assert!(rt; spools.item(1, 19999).is_some());
     Ok(())
+}
+
+fn fill_and_cut<P: Spools>(rt: &impl Abort, spools: &mut P, item: &Item) -> Result<(), SpoolFault> {
+    fill(rt, spools, item)?;
+    cut_many(spools);
+    measures(rt, spools, 1, 560, 20);
+    push(rt, spools, 1, 12, item)?;
+    measures(rt, spools, 1, 588, 21);
+    Ok(())
+}
+
+fn roll_back_many<P: Spools>(rt: &impl Abort, alloc: Global, spools: &mut P) -> Result<(), Fail> {
+    let item = item(alloc, T_1A)?;
+    Ok(fill_and_cut(rt, spools, &item)?)
 }
 
 #[test]
