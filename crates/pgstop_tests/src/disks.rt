@@ -117,9 +117,24 @@ pub(crate) fn try_over(
         Ok(conn) => conn,
         Err(left) => return Ok(left),
     };
-    let conn = match adopt(alloc, conn)? {
-        Ok(store) => trial.run(alloc, store)?.into_connection(),
-        Err(conn) => conn,
+    let files = match adopt(alloc, conn)? {
+        Ok(store) => trial.run(alloc, store)?.stop(),
+        Err(conn) => stop(conn),
     };
-    left_on(alloc, stop(conn))
+    left_on(alloc, files)
+}
+
+/// Opens a store on two disks, tries this over it, and gives the disks back as a crash finds them.
+pub(crate) fn try_in_files(
+    alloc: Global,
+    files: Files<Memory>,
+    trial: &mut impl Trial,
+) -> Result<Files<Memory>, Fail> {
+    if !files.log.may_be_used() || !files.db.may_be_used() {
+        return Err(Fail::from("a disk can't be used"));
+    }
+    match Store::open_files(alloc, files, options()) {
+        Ok(store) => Ok(trial.run(alloc, store)?.stop()),
+        Err(_) => Err(Fail::from("the files can't be opened")),
+    }
 }

@@ -1,8 +1,10 @@
 //! Each number of calls that a disk passes on before it stops.
 
-use crate::disks::{Calls, Left, NEVER, nothing, try_over};
+use crate::disks::{Calls, Left, NEVER, nothing, try_in_files, try_over};
 use crate::recordings::{CARRIED, IN_BLOCKS, Recording, bytes_of};
 use crate::runs::{GoesOn, Stops};
+use sqlite::Files;
+use sqlite_disk::Memory;
 use std::alloc::Global;
 use std::test::Fail;
 
@@ -81,4 +83,29 @@ fn the_log_stops_while_rows_are_carried(rt: HostRuntime) -> Result<(), Fail> {
 #[test]
 fn the_database_file_stops_while_rows_are_carried(rt: HostRuntime) -> Result<(), Fail> {
     sweep(rt.alloc(), &CARRIED, false)
+}
+
+/// The files of a store that was stopped hold its last state when they are opened again.
+#[test]
+fn stopped_files_are_opened_again(rt: HostRuntime) -> Result<(), Fail> {
+    let alloc = rt.alloc();
+    let bytes = bytes_of(alloc, CARRIED.messages)?;
+    let new = Files {
+        log: Memory::new(alloc),
+        db: Memory::new(alloc),
+    };
+    let mut first = Stops {
+        bytes: bytes.as_slice(),
+    };
+    let files = try_in_files(alloc, new, &mut first)?;
+    let mut second = GoesOn {
+        bytes: bytes.as_slice(),
+        recording: &CARRIED,
+        state: None,
+    };
+    let _files = try_in_files(alloc, files, &mut second)?;
+    match second.state {
+        Some(state) if state.saturating_add(1) == CARRIED.states.len() => Ok(()),
+        _ => Err(Fail::from("it isn't the last state")),
+    }
 }

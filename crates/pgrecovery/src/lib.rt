@@ -1,0 +1,18 @@
+//! Crash recovery of a subscriber whose store is in two files: what `pgsub_core` says of following, joined with what `pgstore` says of
+//! opening.
+//!
+//! ```text
+//! follow_in_files(&mut subscriber, sessions, clock)  // whatever it returns
+//! let files = subscriber.into_store().stop();        // the files as a crash finds them; what they hold after it, the disk says
+//! let store = Store::open_files(alloc, files, ..)?;  // files with such a content
+//! let mut subscriber = Subscriber::new(alloc, store, spools, version, max_frame);
+//! ```
+//!
+//! The new subscriber holds the rows of the history up to its position, and nothing that was confirmed is lost.
+#![tactic(auto)]
+
+pub mod following;
+pub mod laws;
+
+pub use following::follow_in_files;
+pub use laws::crashes_lose_nothing_confirmed;
