@@ -26,12 +26,13 @@ pub use dumped::{DumpReader, dump};
 pub use find::{find_definition, find_row, rows_of};
 pub use opened::{FoundPosition, RowCheck};
 pub use put::{
-    add_row, delete_row, delete_rows, put_definition, put_position, put_row, update_row,
+    ROWS_AT_ONCE, add_row, add_rows, delete_row, delete_rows, put_definition, put_position,
+    put_row, update_row,
 };
 pub use remains::{
     Remains, check_remaining_rows, drop_remains, find_remains, read_remaining_definitions,
     read_remaining_position,
 };
-pub use rows::{StoredDefinition, StoredRow};
+pub use rows::{NewRow, StoredDefinition, StoredRow};
 pub use schema::{create_tables, put_first_position};
 pub use settled::see_committed;
