@@ -14,6 +14,8 @@ use Rattle.pgsub_core.specs.Pumping.{IsReadOut, Pumps, PumpsUntil, bytes_in}
 use Rattle.pgsub_core.specs.Pumping as pumping
 use Rattle.pgsub_core.specs.Subscribed.{Subscribed, disconnect}
 use Rattle.pgsub_core.specs.SubscriberValue.{SubscriberValue, seen}
+use Rattle.pgsub_core.specs.Crashing.{LeavesOldOr, FedOver, StandsAsFed}
+use Rattle.pgsub_core.proofs.Crashes.{leaves_as}
 use Rattle.pgsub_core.proofs.FollowSteps.{until_of}
 use Rattle.pgsub_core.proofs.Pumped.{pumps_session}
 use Rattle.pgsub_cli.specs.Fed.{FeedsFile}
@@ -136,3 +138,22 @@ module _ {C : Type 0} (holds : C → Tables → Type 0) (place : C → ℕ) (old
         by_fault (fault.Store k) failed refused = let other : fault.Store k ≢ fault.Read = λ e. absurd (cc) in until unread rest new (fault.Store k) is other (refused other)
         by_fault fault.Closed failed refused = let other : fault.Closed ≢ fault.Read = λ e. absurd (cc) in until unread rest new fault.Closed is other (refused other)
         by_fault fault.Memory failed refused = let other : fault.Memory ≢ fault.Read = λ e. absurd (cc) in until unread rest new fault.Memory is other (refused other)
+
+    -- one that memory stopped, of which this stands
+    pub file_stands : (unread rest : Option (List ℕ)) (new : SubscriberValue C) → unread ≡ remaining file → {A : Type 0} (r : Result A Fault)
+        → IfErr r (λ f. f ≢ fault.Read → StandsAsFed place (λ s. PumpsUntil holds place clock unread rest mid s fault.Memory) new)
+        → IfErr r (λ f. f ≢ fault.Read → StandsAsFed place (λ s. FeedsFile gives begins (λ _. ⊤) holds place file old s (Some fault.Memory)) new)
+    file_stands unread rest new is (Ok done) stands = tt
+    file_stands unread rest new is (Err f) stands = λ other.
+        let memory : fault.Memory ≢ fault.Read = λ e. absurd (cc) in
+        let s = stands other in
+        (s.0, s.1, until unread rest s.0 fault.Memory is memory s.2)
+
+    -- what a crash may leave of it
+    pub file_left : (unread rest : Option (List ℕ)) (new : SubscriberValue C) → unread ≡ remaining file → (reopens : C → C → Type 0) (serves : C → Type 0)
+        → LeavesOldOr place reopens serves (FedOver (λ s. PumpsUntil holds place clock unread rest mid s fault.Memory)) mid.applied.store new.applied.store
+        → LeavesOldOr place reopens serves (FedOver (λ s. FeedsFile gives begins (λ _. ⊤) holds place file old s (Some fault.Memory))) old.applied.store new.applied.store
+    file_left unread rest new is reopens serves leaves =
+        let memory : fault.Memory ≢ fault.Read = λ e. absurd (cc) in
+        subst (λ (c : C). LeavesOldOr place reopens serves (FedOver (λ s. FeedsFile gives begins (λ _. ⊤) holds place file old s (Some fault.Memory))) c new.applied.store) same
+        (leaves_as place reopens serves _ _ mid.applied.store new.applied.store leaves (λ other has. (has.0, has.1, until unread rest has.0 fault.Memory is memory has.2)))

@@ -7,5 +7,7 @@ pub mod ComparedSides
 pub mod ShownLines
 pub mod BothRead
 pub mod KeptLines
+mod LeftStores
+mod LeftWithin
 mod WithinLines
 pub mod Ended

@@ -30,7 +30,7 @@ writes_weaker takes failed lost P Q old new (Err (run.CannotRead side)) f none =
 writes_weaker takes failed lost P Q old new (Err run.NotAnLsn) f none = none
 
 module _ {R Q C D : Type 0} (reader : Q → R) (inner : D → C) (gives begins : R → List ℕ → Type 0) (failed : R → Type 0) (holds : C → Tables → Type 0) (place : C → ℕ) where
-  read_within : (file : Q) (bytes : List ℕ) (stopped : Option Fault) → AreRead (λ q. gives (reader q)) (λ q. begins (reader q)) (λ q. failed (reader q)) file bytes stopped → AreRead gives begins failed (reader file) bytes stopped
+  pub read_within : (file : Q) (bytes : List ℕ) (stopped : Option Fault) → AreRead (λ q. gives (reader q)) (λ q. begins (reader q)) (λ q. failed (reader q)) file bytes stopped → AreRead gives begins failed (reader file) bytes stopped
   read_within file bytes None h = h
   read_within file bytes (Some fault.Read) h = h
   read_within file bytes (Some (fault.Wire x)) h = h

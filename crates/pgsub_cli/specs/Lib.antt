@@ -8,6 +8,7 @@ pub mod Shown
 pub mod Runs
 pub mod Stores
 pub mod Storing
+pub mod StoreAfter
 pub mod Reports
 pub mod Compared
 pub mod FollowedLive

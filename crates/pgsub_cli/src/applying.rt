@@ -1,14 +1,18 @@
 //! Following sessions, and the lines of what is stored then.
 
-ghost use Rattle.std.specs.Prelude.{◌≡◌, OnOk, IfOk, IfErr, string_bytes};
+ghost use Rattle.std.specs.Prelude.{◌≡◌, Option, Some, OnOk, IfOk, IfErr, string_bytes};
 ghost use Rattle.pgapply.specs.Taken.{Stays};
 ghost use Rattle.pgapply.specs.Value.{Tables};
+ghost use Rattle.pgsub_core.specs.Crashing.{LeavesOldOr, FedOver, LeavesHistory};
 ghost use Rattle.pgsub_core.specs.Faults.{IsReadFault};
+ghost use Rattle.pgsub_core.specs.Following.{FeedsSessions};
 ghost use Rattle.pgsub_core.specs.Subscribed.{bytes_of};
 ghost use Rattle.pgsub_core.specs.SubscriberValue.{seen};
-ghost use Rattle.pgsub_cli.specs.Fed.{ResumesFed, ShowsFile, ShowsProgress};
+ghost use Rattle.pgsub_cli.specs.Fed.{FeedsFile, ResumesFed, ShowsFile, ShowsProgress};
 ghost use Rattle.pgsub_cli.specs.Followed.{Shows, ShowsFed};
+ghost use Rattle.pgsub_cli.specs.Limits.{clock};
 ghost use Rattle.pgsub_cli.specs.Runs.{PrintsApplied, PrintsBytes, PrintsResumed};
+ghost use Rattle.pgsub_cli.specs.StoreAfter.{StandsFed, LeavesFileHistory};
 
 use crate::dump::{dump_text, resume_text};
 use crate::files::Input;
@@ -37,6 +41,11 @@ fn stored_lines<P: Spools + Drop, C: ReplicaStore + Drop>(
     ensures served { C.serves subscriber.new.applied.store → C.serves subscriber.old.applied.store }
     ensures open { C.is_honest subscriber.new.applied.store →
         OnOk result (C.serves subscriber.new.applied.store) }
+    ensures honest { C.is_honest subscriber.new.applied.store →
+        C.is_honest subscriber.old.applied.store }
+    ensures crash { C.is_honest subscriber.new.applied.store → (other : C) →
+        C.reopens subscriber.new.applied.store other →
+        C.reopens subscriber.old.applied.store other }
 {
     let position = subscriber.position();
     let rows = subscriber.rows()?;
@@ -56,6 +65,22 @@ pub(crate) fn apply_sessions<P: Spools + Drop, C: ReplicaStore + Drop>(
         IfOk result (λ applied. ShowsFed C.holds C.place subscriber.old
         (bytes_of sessions.now) subscriber.new applied.stopped (string_bytes applied.lines)) }
     ensures fault { IfErr result IsReadFault }
+    ensures kept { C.serves subscriber.new.applied.store → (stopped : Option Fault)
+        × FeedsSessions C.holds C.place clock subscriber.old
+        (bytes_of sessions.now) subscriber.new stopped }
+    ensures stands { C.is_honest subscriber.new.applied.store →
+        C.serves subscriber.old.applied.store → StandsFed C.place
+        (FeedsSessions C.holds C.place clock subscriber.old (bytes_of sessions.now))
+        subscriber.new }
+    ensures left { C.is_honest subscriber.new.applied.store →
+        LeavesOldOr C.place C.reopens C.serves
+        (FedOver (λ s. FeedsSessions C.holds C.place clock subscriber.old
+        (bytes_of sessions.now) s (Some Fault.Memory))) subscriber.old.applied.store
+        subscriber.new.applied.store }
+    ensures crash { C.is_honest subscriber.new.applied.store →
+        C.serves subscriber.old.applied.store →
+        LeavesHistory C.holds C.place C.reopens subscriber.old
+        (bytes_of sessions.now) subscriber.new }
 {
     let stopped = follow(subscriber, sessions, CLOCK).err();
     let lines = stored_lines(alloc, subscriber)?;
@@ -72,7 +97,24 @@ pub(crate) fn apply_input<R: Input + Drop, P: Spools + Drop, C: ReplicaStore + D
         IfOk result (λ printed. ShowsFile R.gives R.begins R.failed C.holds C.place file
         subscriber.old subscriber.new printed.stopped (string_bytes printed.lines)) }
     ensures fault { IfErr result IsReadFault }
+    ensures kept { C.serves subscriber.new.applied.store → (stopped : Option Fault)
+        × FeedsFile R.gives R.begins R.failed C.holds C.place file subscriber.old
+        subscriber.new stopped }
+    ensures stands { C.is_honest subscriber.new.applied.store →
+        C.serves subscriber.old.applied.store → StandsFed C.place
+        (FeedsFile R.gives R.begins R.failed C.holds C.place file subscriber.old)
+        subscriber.new }
+    ensures left { C.is_honest subscriber.new.applied.store →
+        LeavesOldOr C.place C.reopens C.serves
+        (FedOver (λ s. FeedsFile R.gives R.begins R.failed C.holds C.place file subscriber.old s
+        (Some Fault.Memory))) subscriber.old.applied.store subscriber.new.applied.store }
+    ensures crash { C.is_honest subscriber.new.applied.store →
+        C.serves subscriber.old.applied.store →
+        LeavesFileHistory R.gives R.begins R.failed C.holds C.place C.reopens file
+        subscriber.old subscriber.new }
 {
+    // where it stands tells what a crash leaves at the start
+    let _start = subscriber.position();
     let stopped = file.feed_to(subscriber).err();
     Ok(Printed {
         lines: stored_lines(alloc, subscriber)?,

@@ -2,10 +2,12 @@
 //!
 //! That a read or a write failed is a fact that only a failure gives. So a function over any input and output is proved to
 //! return a fault of theirs only where it met one.
-ghost use Rattle.std.specs.Prelude.{◌≡◌, ◌≤◌, ◌<◌, ◌++◌, ℕ, List, None, Ok, length, IfSome, IfOk, OnOk, OnErr, ⊤};
+ghost use Rattle.std.specs.Prelude.{◌≡◌, ◌≤◌, ◌<◌, ◌++◌, ℕ, List, None, Some, Ok, length, IfSome, IfOk, OnOk, OnErr, ⊤};
 ghost use Rattle.std.specs.Io.KnownBytes.{Appends};
+ghost use Rattle.pgsub_core.specs.Crashing.{LeavesOldOr, FedOver};
 ghost use Rattle.pgsub_core.specs.Handled.{fault_in};
 ghost use Rattle.pgsub_cli.specs.Fed.{FeedsFile};
+ghost use Rattle.pgsub_cli.specs.StoreAfter.{StandsFed};
 
 use crate::limits::CLOCK;
 use pgapply::ReplicaStore;
@@ -35,14 +37,24 @@ pub trait Input {
         ensures failed { OnErr result (failed self) };
 
     /// Feeds all its bytes as they are read to a subscriber, as one session from a disconnection on. What comes before a read that
-    /// fails is fed, and so is what comes before the first fault.
+    /// fails is fed, and so is what comes before the first fault. Whatever a crash at the end may leave of the store could be left
+    /// before, or has what some front of the bytes leads to.
     fn feed_to<P: Spools + Drop, C: ReplicaStore + Drop>(
         self,
         subscriber: &mut Subscriber<P, C>,
     ) -> Result<(), Fault>
-        ensures { C.serves subscriber.new.applied.store →
+        ensures fed { C.serves subscriber.new.applied.store →
             FeedsFile gives begins failed C.holds C.place self subscriber.old subscriber.new
-            (fault_in result) };
+            (fault_in result) }
+        ensures served { C.serves subscriber.new.applied.store →
+            C.serves subscriber.old.applied.store }
+        ensures stands { C.is_honest subscriber.new.applied.store →
+            C.serves subscriber.old.applied.store → StandsFed C.place
+            (FeedsFile gives begins failed C.holds C.place self subscriber.old) subscriber.new }
+        ensures left { C.is_honest subscriber.new.applied.store →
+            LeavesOldOr C.place C.reopens C.serves
+            (FedOver (λ s. FeedsFile gives begins failed C.holds C.place self subscriber.old s
+            (Some Fault.Memory))) subscriber.old.applied.store subscriber.new.applied.store };
 }
 
 impl<R: Read + Drop> Input for R {

@@ -6,6 +6,7 @@ ghost use Rattle.pgsub_cli.specs.declared.fault.Ending.{Ending};
 ghost use Rattle.pgsub_cli.specs.declared.fault.RunFault.{RunFault};
 ghost use Rattle.pgsub_cli.specs.Reports.{CountsIncoming, IsCounted, ReaderBegins, ReaderGives, TellsProgress, bytes_text, nothing_of, progress_line, with_bytes, with_commit};
 ghost use Rattle.pgsub_cli.specs.Runs.{Tells, Writes, status_of};
+ghost use Rattle.pgsub_cli.specs.StoreAfter.{HoldsAfter, MayBeLeft, LosesNothing};
 ghost use Rattle.pgsub_cli.specs.Storing.{PrintsOver};
 
 use crate::files::Output;
@@ -283,6 +284,15 @@ fn run_reported<
         PrintsOver (ReaderGives R.remaining) (ReaderBegins R.remaining) (λ _. ⊤) C.holds C.place
         (Some (version, incoming)) store result.1 stopped lines) out.old out.new ended
         × Tells E.takes E.failed [] [] ended err.old err.new }
+    ensures kept { C.serves result.1 →
+        HoldsAfter (ReaderGives R.remaining) (ReaderBegins R.remaining) (λ _. ⊤) C.holds C.place
+        (Some (version, incoming)) store result.1 }
+    ensures left { C.is_honest result.1 →
+        MayBeLeft (ReaderGives R.remaining) (ReaderBegins R.remaining) (λ _. ⊤) C.holds C.place
+        C.reopens C.serves (Some (version, incoming)) store result.1 }
+    ensures crash { C.is_honest result.1 → C.serves store →
+        LosesNothing (ReaderGives R.remaining) (ReaderBegins R.remaining) (λ _. ⊤) C.holds C.place
+        C.reopens (Some (version, incoming)) store result.1 }
 {
     let input = Some((version, count_bytes(incoming, reporter)));
     let (status, told) = run_store(alloc, Reported::new(store, reporter), input, out, err);
@@ -290,7 +300,7 @@ fn run_reported<
 }
 
 /// Runs a task over an opened store, as `run_store` does, and tells a reporter meanwhile, where there is one. What is printed, what the
-/// store holds then, what standard error gets for a fault and the exit status are as without it.
+/// store holds then, what a crash may leave of it, what standard error gets for a fault and the exit status are as without it.
 pub fn run_opened<
     R: Read + Drop,
     C: ReplicaStore + Drop,
@@ -313,6 +323,15 @@ pub fn run_opened<
         PrintsOver (ReaderGives R.remaining) (ReaderBegins R.remaining) (λ _. ⊤) C.holds C.place
         input store result.1 stopped lines) out.old out.new ended
         × Tells E.takes E.failed [] [] ended err.old err.new }
+    ensures kept { C.serves result.1 →
+        HoldsAfter (ReaderGives R.remaining) (ReaderBegins R.remaining) (λ _. ⊤) C.holds C.place
+        input store result.1 }
+    ensures left { C.is_honest result.1 →
+        MayBeLeft (ReaderGives R.remaining) (ReaderBegins R.remaining) (λ _. ⊤) C.holds C.place
+        C.reopens C.serves input store result.1 }
+    ensures crash { C.is_honest result.1 → C.serves store →
+        LosesNothing (ReaderGives R.remaining) (ReaderBegins R.remaining) (λ _. ⊤) C.holds C.place
+        C.reopens input store result.1 }
 {
     match (input, reporter) {
         (Some((version, incoming)), Some(reporter)) => {

@@ -1,6 +1,7 @@
 //! Runs a task over a store that outlasts it, wherever that keeps what it holds.
 
-ghost use Rattle.std.specs.Prelude.{◌≡◌, ◌≤◌, [], Result, Err, IfOk, IfErr, string_bytes};
+ghost use Rattle.std.specs.Prelude.{◌≡◌, ◌≤◌, [], Option, Result, Err, IfOk, IfErr, string_bytes};
+ghost use Rattle.pgapply.specs.Taken.{Stays};
 ghost use Rattle.pgapply.specs.Value.{Tables};
 ghost use Rattle.pgsub_core.specs.Faults.{IsReadFault, fault_of_store};
 ghost use Rattle.pgsub_core.specs.SubscriberValue.{seen};
@@ -9,6 +10,7 @@ ghost use Rattle.pgsub_cli.specs.declared.fault.RunFault.{RunFault};
 ghost use Rattle.pgsub_cli.specs.declared.fault.RunFault.TheVariants.{Stream};
 ghost use Rattle.pgsub_cli.specs.Followed.{subscriber_over};
 ghost use Rattle.pgsub_cli.specs.Runs.{Tells, Writes, left_path, right_path, status_of};
+ghost use Rattle.pgsub_cli.specs.StoreAfter.{FeedsIncoming, StandsFed, LeavesFronts, LeavesIncomingHistory, HoldsAfter, MayBeLeft, LosesNothing};
 ghost use Rattle.pgsub_cli.specs.Storing.{ComesOf, ComesNot, PrintsHeld, PrintsOver, ShowsIncoming, status_of_unopened};
 ghost use Rattle.pgsub_core.specs.declared.fault.Fault.TheVariants.{Store};
 
@@ -65,6 +67,20 @@ fn feed_incoming<R: Input + Drop, P: Spools + Drop, C: ReplicaStore + Drop>(
         IfOk result (λ printed. ShowsIncoming R.gives R.begins R.failed C.holds C.place incoming
         subscriber.old subscriber.new printed.stopped (string_bytes printed.lines)) }
     ensures fault { IfErr result IsReadFault }
+    ensures kept { C.serves subscriber.new.applied.store → (stopped : Option Fault)
+        × FeedsIncoming R.gives R.begins R.failed C.holds C.place incoming subscriber.old
+        subscriber.new stopped }
+    ensures stands { C.is_honest subscriber.new.applied.store →
+        C.serves subscriber.old.applied.store → StandsFed C.place
+        (FeedsIncoming R.gives R.begins R.failed C.holds C.place incoming subscriber.old)
+        subscriber.new }
+    ensures left { C.is_honest subscriber.new.applied.store →
+        LeavesFronts R.gives R.begins R.failed C.holds C.place C.reopens C.serves incoming
+        subscriber.old subscriber.old.applied.store subscriber.new.applied.store }
+    ensures crash { C.is_honest subscriber.new.applied.store →
+        C.serves subscriber.old.applied.store →
+        LeavesIncomingHistory R.gives R.begins R.failed C.holds C.place C.reopens incoming
+        subscriber.old subscriber.new }
 {
     match incoming {
         Incoming::Sessions(sessions) => apply_sessions(alloc, subscriber, sessions.as_slice()),
@@ -102,6 +118,10 @@ fn held_lines<C: ReplicaStore>(alloc: Global, store: &mut C) -> Result<Printed, 
         (λ printed. PrintsHeld C.holds C.place store.old store.new printed.stopped
         (string_bytes printed.lines)) }
     ensures fault { IfErr result IsReadFault }
+    ensures stays { C.serves store.new → Stays C.holds store.old store.new }
+    ensures position { C.place store.new ≡ C.place store.old }
+    ensures crash { C.is_honest store.new → (other : C) → C.reopens store.new other →
+        C.reopens store.old other }
 {
     let position = store.position();
     let rows = match store.rows() {
@@ -127,6 +147,13 @@ fn apply_over<R: Input + Drop, C: ReplicaStore + Drop>(
         (λ printed. PrintsOver R.gives R.begins R.failed C.holds C.place input store result.1
         printed.stopped (string_bytes printed.lines)) }
     ensures fault { IfErr result.0 IsReadFault }
+    ensures kept { C.serves result.1 →
+        HoldsAfter R.gives R.begins R.failed C.holds C.place input store result.1 }
+    ensures left { C.is_honest result.1 →
+        MayBeLeft R.gives R.begins R.failed C.holds C.place C.reopens C.serves input store
+        result.1 }
+    ensures crash { C.is_honest result.1 → C.serves store →
+        LosesNothing R.gives R.begins R.failed C.holds C.place C.reopens input store result.1 }
 {
     fed_sessions_are_followed();
     let Some((version, incoming)) = input else {
@@ -169,6 +196,11 @@ pub fn tell_unopened<E: Output>(alloc: Global, fault: StoreFault, err: &mut E) -
 /// There is a way in which it ends, with this status: what is printed are the lines of where the bytes lead from what the store held,
 /// also where a fault stopped them, and that is what the store holds then. With nothing to apply nothing changes. Standard error gets
 /// the line of the fault.
+///
+/// Where memory runs out or the lines can't be written, too, the store holds what some front of the bytes leads to, while it serves
+/// (`kept`). Whatever a crash at the end may leave of it could be left before, or has what some front of the bytes leads to (`left`).
+/// Where they are sessions of a history, that is exactly the history's rows up to a position no lower than the store's, with every
+/// transaction that is confirmed (`crash`). That holds where the store has shut, too.
 pub fn run_store<R: Input + Drop, C: ReplicaStore + Drop, W: Output, E: Output>(
     alloc: Global,
     store: C,
@@ -182,6 +214,13 @@ pub fn run_store<R: Input + Drop, C: ReplicaStore + Drop, W: Output, E: Output>(
         (λ stopped lines. C.is_honest result.1 →
         PrintsOver R.gives R.begins R.failed C.holds C.place input store result.1 stopped lines)
         out.old out.new ended × Tells E.takes E.failed [] [] ended err.old err.new }
+    ensures kept { C.serves result.1 →
+        HoldsAfter R.gives R.begins R.failed C.holds C.place input store result.1 }
+    ensures left { C.is_honest result.1 →
+        MayBeLeft R.gives R.begins R.failed C.holds C.place C.reopens C.serves input store
+        result.1 }
+    ensures crash { C.is_honest result.1 → C.serves store →
+        LosesNothing R.gives R.begins R.failed C.holds C.place C.reopens input store result.1 }
 {
     let (printed, store) = apply_over(alloc, store, input);
     let ended = write_printed(printed, out);

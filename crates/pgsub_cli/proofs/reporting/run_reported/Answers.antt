@@ -1,4 +1,4 @@
-use Rattle.std.proofs.Common.{ℕ, List, Option, Some, subst, sym}
+use Rattle.std.proofs.Common.{◌≡◌, ℕ, List, Option, Some, refl, subst, sym}
 use Rattle.std.specs.Prelude.{⊤}
 use Rattle.pgorder.specs.declared.Version.{Version}
 use Rattle.pgsub_core.specs.declared.fault.Fault.{Fault}
@@ -7,7 +7,9 @@ use Rattle.pgsub_cli.specs.declared.storing.Incoming.{Incoming}
 use Rattle.pgsub_cli.specs.declared.reporting.Counted.{Counted}
 use Rattle.pgsub_cli.specs.declared.reporting.Reported.{Reported}
 use Rattle.pgsub_cli.specs.Reports.{ReaderBegins, ReaderGives}
+use Rattle.pgsub_cli.specs.StoreAfter.{HoldsAfter, MayBeLeft, LosesNothing}
 use Rattle.pgsub_cli.specs.Storing.{PrintsOver}
+use Rattle.pgsub_cli.proofs.LeftWithin.{holds_within, left_within, loses_within}
 use Rattle.pgsub_cli.proofs.WithinLines.{prints_within, writes_weaker}
 use Rattle.pgsub_cli.proofs.reporting.run_reported.Goals as goal
 
@@ -32,3 +34,52 @@ returns-clause-ends g c =
     (h (subst it.is_honest c.into_store.ensures honest)))) in
     let e = c.run_store-status.ensures.ends in
     (e.0, e.1, writes_weaker {W = g.row.W.Denot} g.W.Output.takes g.W.Output.failed IsReadFault told wanted c.args.out.now c.run_store-status.new.out e.0 shown e.2, e.3)
+
+pub returns-clause-kept : goal.returns-clause-kept
+returns-clause-kept g c serves =
+    let it = g.C.ReplicaStore in
+    let gives : g.row.R.Denot → List ℕ → Type 0 = ReaderGives g.R.Read.remaining in
+    let begins : g.row.R.Denot → List ℕ → Type 0 = ReaderBegins g.R.Read.remaining in
+    let failed : g.row.R.Denot → Type 0 = λ _. ⊤ in
+    let reader : Counted g.row.R.Denot g.row.K.Denot g.row.P.Denot → g.row.R.Denot = λ q. q.reader in
+    let inner : Reported g.row.C.Denot g.row.K.Denot g.row.P.Denot → g.row.C.Denot = λ s. s.store in
+    let input : Option (Version × Incoming g.row.R.Denot) = Some (c.args.version, c.args.incoming) in
+    let there = c.run_store-status.result.1 in
+    subst (λ s. HoldsAfter gives begins failed it.holds it.place input s c.into_store.result) c.new.ensures
+    (subst (λ s. HoldsAfter gives begins failed it.holds it.place input (inner c.new.result) s) (sym c.into_store.ensures)
+    (holds_within reader inner gives begins failed it.holds it.place c.args.version c.args.incoming c.count_bytes.result c.new.result there c.count_bytes.ensures
+    (c.run_store-status.ensures.kept (subst it.serves c.into_store.ensures serves))))
+
+pub returns-clause-left : goal.returns-clause-left
+returns-clause-left g c honest =
+    let it = g.C.ReplicaStore in
+    let gives : g.row.R.Denot → List ℕ → Type 0 = ReaderGives g.R.Read.remaining in
+    let begins : g.row.R.Denot → List ℕ → Type 0 = ReaderBegins g.R.Read.remaining in
+    let failed : g.row.R.Denot → Type 0 = λ _. ⊤ in
+    let reader : Counted g.row.R.Denot g.row.K.Denot g.row.P.Denot → g.row.R.Denot = λ q. q.reader in
+    let inner : Reported g.row.C.Denot g.row.K.Denot g.row.P.Denot → g.row.C.Denot = λ s. s.store in
+    let input : Option (Version × Incoming g.row.R.Denot) = Some (c.args.version, c.args.incoming) in
+    let there = c.run_store-status.result.1 in
+    let outer : g.row.C.Denot → Reported g.row.C.Denot g.row.K.Denot g.row.P.Denot = λ s. record { store = s; reporter = c.new.result.reporter } in
+    let back : (s : g.row.C.Denot) → inner (outer s) ≡ s = λ _. refl in
+    subst (λ s. MayBeLeft gives begins failed it.holds it.place it.reopens it.serves input s c.into_store.result) c.new.ensures
+    (subst (λ s. MayBeLeft gives begins failed it.holds it.place it.reopens it.serves input (inner c.new.result) s) (sym c.into_store.ensures)
+    (left_within reader inner gives begins failed it.holds it.place outer back it.reopens it.serves c.args.version c.args.incoming c.count_bytes.result c.new.result there c.count_bytes.ensures
+    (c.run_store-status.ensures.left (subst it.is_honest c.into_store.ensures honest))))
+
+pub returns-clause-crash : goal.returns-clause-crash
+returns-clause-crash g c honest serves =
+    let it = g.C.ReplicaStore in
+    let gives : g.row.R.Denot → List ℕ → Type 0 = ReaderGives g.R.Read.remaining in
+    let begins : g.row.R.Denot → List ℕ → Type 0 = ReaderBegins g.R.Read.remaining in
+    let failed : g.row.R.Denot → Type 0 = λ _. ⊤ in
+    let reader : Counted g.row.R.Denot g.row.K.Denot g.row.P.Denot → g.row.R.Denot = λ q. q.reader in
+    let inner : Reported g.row.C.Denot g.row.K.Denot g.row.P.Denot → g.row.C.Denot = λ s. s.store in
+    let input : Option (Version × Incoming g.row.R.Denot) = Some (c.args.version, c.args.incoming) in
+    let there = c.run_store-status.result.1 in
+    let outer : g.row.C.Denot → Reported g.row.C.Denot g.row.K.Denot g.row.P.Denot = λ s. record { store = s; reporter = c.new.result.reporter } in
+    let back : (s : g.row.C.Denot) → inner (outer s) ≡ s = λ _. refl in
+    subst (λ s. LosesNothing gives begins failed it.holds it.place it.reopens input s c.into_store.result) c.new.ensures
+    (subst (λ s. LosesNothing gives begins failed it.holds it.place it.reopens input (inner c.new.result) s) (sym c.into_store.ensures)
+    (loses_within reader inner gives begins failed it.holds it.place outer back it.reopens c.args.version c.args.incoming c.count_bytes.result c.new.result there c.count_bytes.ensures
+    (c.run_store-status.ensures.crash (subst it.is_honest c.into_store.ensures honest) (subst it.serves (sym c.new.ensures) serves))))
