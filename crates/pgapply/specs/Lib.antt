@@ -3,6 +3,7 @@ pub mod Apply
 pub mod Dump
 pub mod Stored
 pub mod Works
+pub mod Noted
 pub mod Codes
 pub mod Laws
 pub mod Taken

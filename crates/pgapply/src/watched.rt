@@ -1,7 +1,8 @@
 //! A store that notes which relations its commits change, as a cache beside it needs.
 
-ghost use Rattle.std.specs.Prelude.{◌≡◌, ◌++◌, [], map, OnOk};
-ghost use Rattle.pglogical.specs.declared.item.RelationDef.{RelationDef};
+ghost use Rattle.std.specs.Prelude.{◌≡◌, ◌<◌, ◌⊎◌, [], OnOk, OnErr, IfErr};
+ghost use Rattle.pgapply.specs.Noted.{noted};
+ghost use Rattle.pgapply.specs.Taken.{Folds, LeavesFold, Stays, RefusesWork};
 
 use crate::replica_store::ReplicaStore;
 use crate::rows::{DumpRow, StoreFault};
@@ -51,7 +52,7 @@ impl<C: ReplicaStore + Drop> Watched<C> {
     pub fn note(&mut self, work: &Work<'_>) -> Result<(), AllocError>
         ensures store { self.new.store ≡ self.old.store }
         ensures noted { OnOk result (self.new.changed.items
-            ≡ self.old.changed.items ++ map (λ (def : RelationDef). def.oid) work.now.definitions) }
+            ≡ noted self.old.changed.items work.now.definitions) }
     {
         for def in work.definitions() {
             self.changed.push(def.oid)?;
@@ -75,7 +76,27 @@ impl<C: ReplicaStore + Drop> ReplicaStore for Watched<C> {
         self.store.position()
     }
 
-    fn take(&mut self, end: Lsn, work: &Work<'_>) -> Result<(), StoreFault> {
+    /// Takes the changes of a commit as the store within does, and notes their relations first.
+    fn take(&mut self, end: Lsn, work: &Work<'_>) -> Result<(), StoreFault>
+        requires { C.place self.old.store < end }
+        ensures noted { OnOk result (self.new.changed.items
+            ≡ noted self.old.changed.items work.now.definitions) }
+        ensures taken { C.serves self.new.store → OnOk result
+            (Folds C.holds self.old.store self.new.store work.now.changes) }
+        ensures end { OnOk result (C.place self.new.store ≡ end) }
+        ensures unchanged { C.serves self.new.store → OnErr result
+            (Stays C.holds self.old.store self.new.store) }
+        ensures position { OnErr result (C.place self.new.store ≡ C.place self.old.store) }
+        ensures fault { C.serves self.new.store → IfErr result
+            (RefusesWork C.holds self.old.store work.now.changes) }
+        ensures served { C.serves self.new.store → C.serves self.old.store }
+        ensures open { C.is_honest self.new.store → OnOk result (C.serves self.new.store) }
+        ensures honest { C.is_honest self.new.store → C.is_honest self.old.store }
+        ensures crash { C.is_honest self.new.store → (other : C) →
+            C.reopens self.new.store other → C.reopens self.old.store other
+            ⊎ (C.serves self.old.store
+            × LeavesFold C.holds C.place self.old.store work.now.changes end other) }
+    {
         self.note(work)?;
         self.store.take(end, work)
     }

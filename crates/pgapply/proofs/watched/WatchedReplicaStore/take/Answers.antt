@@ -21,5 +21,5 @@ returns-clause-fault g c =
 pub returns-clause-crash : goal.returns-clause-crash
 returns-clause-crash g c honest other left =
     let it = g.C.ReplicaStore in
-    subst (λ s. it.reopens s other.store ⊎ (it.serves s × LeavesFold it.holds it.place s c.args.work.now.changes c.args.end other.store)) c.in_ok-note.ensures.store
-    (c.take.ensures.crash honest other.store left)
+    subst (λ s. it.reopens s other ⊎ (it.serves s × LeavesFold it.holds it.place s c.args.work.now.changes c.args.end other)) c.in_ok-note.ensures.store
+    (c.take.ensures.crash honest other left)
