@@ -1,10 +1,9 @@
 -- Several rows that come at once: one after the other they make the same.
-use Rattle.std.proofs.Common.{◌-◌, suc, get_or, length-drop, IfOk, Result, Err}
 use Rattle.pgapply.specs.Works.{IsNumbered}
-use Rattle.pgstore.proofs.Applying.{take_whole}
-use Rattle.std.proofs.Common.{◌≡◌, ◌<◌, ◌≤◌, ◌+◌, ℕ, List, [], ◌∷◌, ◌++◌, append-nil, length, take, drop, cond, Option, Some, Ok, IsTrue, refl, sym, ap, subst, ◌∙◌, inl, inr, arith}
+use Rattle.std.proofs.Common.{◌≡◌, ◌<◌, ◌≤◌, ◌-◌, suc, get_or, length-drop, IfOk, Result, Err, ℕ, List, [], ◌∷◌, ◌++◌, append-nil, length, take, drop, cond, Option, Some, Ok, IsTrue, refl, sym, ap, subst, ◌∙◌, inl, inr, arith}
 use Rattle.std.specs.Prelude.{slice_get, ◌==◌}
 use Rattle.std.specs.List.{AllByRecursion, AllZip}
+use Rattle.std.specs.FinMap as map
 use Rattle.std.specs.Cmp.{unsigned_Decides}
 use Rattle.std.proofs.lemmas.Bool.{cases_Bool}
 use Rattle.sqlite.specs.Store.{Ghosts}
@@ -18,17 +17,17 @@ use Rattle.pgtables.proofs.Inside.{goes_then}
 use Rattle.pgapply.specs.declared.op.Op.{Op}
 use Rattle.pgapply.specs.declared.op.Op.TheVariants.{Insert}
 use Rattle.pgapply.specs.declared.rows.StoreFault.{StoreFault}
-use Rattle.pgapply.specs.Value.{Tables}
-use Rattle.pgapply.specs.Apply.{Change, ◌>>=◌, apply, fold_changes}
+use Rattle.pgapply.specs.Value.{Rows, Tables}
+use Rattle.pgapply.specs.Apply.{Change, ◌>>=◌, apply, fold_changes, found_rows, rows_after}
 use Rattle.pgapply.specs.Stored.{IsFault}
 use Rattle.pgapply.specs.Works.{change_value, change_values, defined_by}
 use Rattle.pgapply.proofs.Working.{values_append}
-use Rattle.pgstore.specs.Spelled.{IsStored}
-use Rattle.pgstore.specs.Acts.{AreGiven, FoldsOn, Steps, RefusesToStep, RefusesToFold}
-use Rattle.pgstore.specs.Runs.{AddsAll, InsertsEach, IsUnder, RefusesAll, Stays, StepsAll}
+use Rattle.pgstore.specs.Spelled.{IsChanging, IsStored}
+use Rattle.pgstore.specs.Acts.{AreGiven, Changes, Finds, FoldsOn, MakesOf, Notes, Refuses, RefusesToFold, RefusesToGive}
+use Rattle.pgstore.specs.Runs.{AddsRun, InsertsEach, IsUnder, RefusesAll, StaysOpen, StepsAll}
 use Rattle.pgstore.proofs.Acting.{added_first}
 use Rattle.pgstore.proofs.Deciding.{fault_first, insert_goes}
-use Rattle.pgstore.proofs.Applying.{applied, found_given, was_given, given_then, fold_none, fold_append}
+use Rattle.pgstore.proofs.Applying.{applied, found_given, refused_first, refused_then, was_given, given_then, fold_none, fold_one, fold_append, take_whole}
 
 fold_first : (v next : Tables) (change : Change) (more : List Change) → apply v change ≡ Ok next → fold_changes v (change ∷ more) ≡ fold_changes next more
 unfolding fold_changes
@@ -64,35 +63,82 @@ module _ (definitions : List RelationDef) (given : ℕ → Option ℕ) (number :
         rest.3,
       )
 
-  pub run_steps : {S : Type 0} (g : Ghosts S) (old new : Held S) (entries : List (ℕ × Op)) → AllByRecursion (IsUnder number) entries → AddsAll g old new def entries → StepsAll g old new definitions given entries given
-  run_steps g old new entries under adds =
-      let makes = adds.3 in (
-        record { was_open = makes.was_open; is_open = makes.is_open; under_way = makes.under_way },
-        λ v h are.
-            let it = rows_come entries adds.0 under adds.1 v (tables_of g old) h are adds.2 in
-            (it.0, it.1, subst (IsStored it.0) (sym makes.made) it.2, it.3),
-      )
+module _ (definitions : List RelationDef) (number : ℕ) (def : RelationDef) (at : slice_get definitions number ≡ Some def) where
+  value_is : (e : ℕ × Op) → e.0 ≡ number → change_value definitions e ≡ record { definition = def; op = e.1 } ∷ []
+  value_is e under = ap (λ o. defined_by o e.1) (ap (slice_get definitions) under ∙ at)
 
-module _ {S : Type 0} (g : Ghosts S) (old mid new : Held S) (definitions : List RelationDef) (given after : ℕ → Option ℕ) (e : ℕ × Op) where
-  value_alone : change_values definitions (e ∷ []) ≡ change_value definitions e
-  value_alone = append-nil (change_value definitions e)
-
-  -- nothing has changed, and then one change comes
-  pub stays_then : Stays g old mid → stored.IfServing g new (Steps g mid new definitions given e after) → stored.Goes g mid new → stored.IfServing g new (StepsAll g old new definitions given (e ∷ []) after)
-  stays_then stays step goes clean still =
-      let one = step clean still in
-      let same = stays (omega (arith, goes.survives.clean)) one.0.was_open in (
-        record { was_open = same.was_open; is_open = one.0.is_open; under_way = one.0.under_way },
-        λ v h are.
-            let it = one.1 v (subst (IsStored v) (sym same.same) h) are in
-            (it.0, ap (fold_changes v) value_alone ∙ it.1, it.2, it.3),
-      )
-
-  pub stays_refuses : (fault : StoreFault) (more : List (ℕ × Op)) → Stays g old mid → HasCleanDisk (state g mid) → IsTrue (state g mid).is_open → RefusesToStep g mid definitions given e fault → RefusesAll g old definitions given (e ∷ more) fault
-  stays_refuses fault more stays clean still refuses v h are =
-      let same = stays clean still in
+  first_refused : (e : ℕ × Op) (more : List (ℕ × Op)) → e.0 ≡ number → (fault : StoreFault) (v : Tables) → IsFault fault (apply v (record { definition = def; op = e.1 })) → IsFault fault (fold_changes v (change_values definitions (e ∷ more)))
+  first_refused e more under fault v refused =
       subst (IsFault fault) (sym (fold_append (change_value definitions e) (change_values definitions more) v))
-      (fault_first fault (fold_changes v (change_value definitions e)) (λ next. fold_changes next (change_values definitions more)) (refuses v (subst (IsStored v) (sym same.same) h) are))
+      (fault_first fault (fold_changes v (change_value definitions e)) (λ next. fold_changes next (change_values definitions more))
+      (subst (IsFault fault) (sym (ap (fold_changes v) (value_is e under) ∙ fold_one v (record { definition = def; op = e.1 }))) refused))
+
+  -- its definition is refused
+  pub give_refuses : {S : Type 0} (g : Ghosts S) (old : Held S) (given : ℕ → Option ℕ) (e : ℕ × Op) (more : List (ℕ × Op)) (fault : StoreFault) → e.0 ≡ number → RefusesToGive g old def e.1 fault → RefusesAll g old definitions given (e ∷ more) fault
+  give_refuses g old given e more fault under refuses v h are = first_refused e more under fault v (refused_first v def e.1 fault (refuses v h))
+
+module _ (definitions : List RelationDef) (given after : ℕ → Option ℕ) (number : ℕ) (def : RelationDef) (at : slice_get definitions number ≡ Some def) (definition : IsDefinition def) (notes : Notes given def number after) where
+  noted : after def.oid ≡ Some number
+  noted = notes def.oid ∙ ap (λ b. cond b (Some number) (given def.oid)) ((unsigned_Decides def.oid def.oid).1 refl)
+
+  -- a change is made to the rows that it found under its definition
+  first_done : (v : Tables) (t : stored.Tables) (op : Op) (rows : Rows) (next : stored.Tables) → IsStored v t → AreGiven definitions given v
+      → found_rows (map.get v def.oid) def op ≡ Ok rows → MakesOf v def (rows_after def op rows) next
+      → (v' : Tables) × (apply v (record { definition = def; op = op }) ≡ Ok v') × IsStored v' next × AreGiven definitions after v'
+  first_done v t op rows next h are found made =
+      let one = applied v def op t h definition rows next found made in
+      (one.0, one.1, one.2, given_then definitions given number def v at are one.0 op after one.1 one.3 notes)
+
+  first_and_rows : (e : ℕ × Op) (entries : List (ℕ × Op)) (rows : List stored.Addition) → AllByRecursion (IsUnder number) (e ∷ entries) → InsertsEach def (e ∷ entries) rows → (v : Tables) (t mid : stored.Tables) → IsStored v t
+      → AreGiven definitions given v → (found : Rows) → found_rows (map.get v def.oid) def e.1 ≡ Ok found → IsChanging v def found mid → stored.AreMissing def.oid rows mid.rows
+      → (next : Tables) × (fold_changes v (change_values definitions (e ∷ entries)) ≡ Ok next) × IsStored next (stored.with_rows def.oid rows mid) × AreGiven definitions after next
+  first_and_rows e entries [] under each v t mid h are found is changing missing = absurd each
+  first_and_rows e entries (a ∷ rows) under each v t mid h are found is changing missing =
+      let row = each.0 in
+      let op = Insert row.cells in
+      let next = stored.with_row def.oid a.identity (stored.one_copy a) mid in
+      let made = added_first v def found mid changing row.cells a.identity a.body next row.new missing.0 refl in
+      let one = first_done v t op found next h are (ap (found_rows (map.get v def.oid) def) (sym row.is) ∙ is) (made.0, insert_goes def row.cells found row.passed row.checked ∙ made.1, made.2) in
+      let rest = rows_come definitions after number def at definition noted entries rows under.1 each.1 one.0 next one.2 one.3 missing.1 in
+      let change : change_value definitions e ≡ record { definition = def; op = op } ∷ [] = value_is definitions number def at e under.0 ∙ ap (λ op. record { definition = def; op = op } ∷ []) row.is in (
+        rest.0,
+        ap (λ changes. fold_changes v (changes ++ change_values definitions entries)) change ∙ fold_first v one.0 (record { definition = def; op = op }) (change_values definitions entries) one.1 ∙ rest.1,
+        rest.2,
+        rest.3,
+      )
+
+  module _ {S : Type 0} (g : Ghosts S) (old mid new : Held S) (e : ℕ × Op) (under : e.0 ≡ number) (finds : Finds g old mid given def e) where
+    rows_found : (v : Tables) → IsStored v (tables_of g old) → AreGiven definitions given v → (rows : Rows) × (found_rows (map.get v def.oid) def e.1 ≡ Ok rows) × IsChanging v def rows (tables_of g mid)
+    rows_found v h are = finds.1 v h (λ is. was_given definitions given number def v at are (is ∙ ap Some under))
+
+    -- the rows of a run that begins with a change whose rows were found
+    pub run_steps : (entries : List (ℕ × Op)) → AddsRun g mid new def number (e ∷ entries) → StepsAll g old new definitions given (e ∷ entries) after
+    run_steps entries run =
+        let adds = run.1 in
+        let makes = adds.3 in (
+          record { was_open = finds.0.was_open; is_open = makes.is_open; under_way = makes.under_way },
+          λ v h are.
+              let found = rows_found v h are in
+              let it = first_and_rows e entries adds.0 run.0 adds.1 v (tables_of g old) (tables_of g mid) h are found.0 found.1 found.2 adds.2 in
+              (it.0, it.1, subst (IsStored it.0) (sym makes.made) it.2, it.3),
+        )
+
+    -- the change alone, where nothing has changed since its rows were found
+    pub one_steps : (still : Held S) → StaysOpen g mid still → Changes g still new def (rows_after def e.1) → StepsAll g old new definitions given (e ∷ []) after
+    one_steps still stays changes = (
+      record { was_open = finds.0.was_open; is_open = changes.0.is_open; under_way = changes.0.under_way },
+      λ v h are.
+          let found = rows_found v h are in
+          let made = changes.1 v found.0 (subst (IsChanging v def found.0) (sym stays.same) found.2) in
+          let one = first_done v (tables_of g old) e.1 found.0 (tables_of g new) h are found.1 made in
+          (one.0, ap (fold_changes v) (append-nil (change_value definitions e) ∙ value_is definitions number def at e under) ∙ fold_one v (record { definition = def; op = e.1 }) ∙ one.1, one.2, one.3),
+    )
+
+    -- the change is refused
+    pub one_refuses : (still : Held S) (fault : StoreFault) (more : List (ℕ × Op)) → StaysOpen g mid still → Refuses g still def (rows_after def e.1) fault → RefusesAll g old definitions given (e ∷ more) fault
+    one_refuses still fault more stays refuses v h are =
+        let found = rows_found v h are in
+        first_refused definitions number def at e more under fault v (refused_then v def e.1 fault found.0 found.1 (refuses v found.0 (subst (IsChanging v def found.0) (sym stays.same) found.2)))
 
 module _ {S : Type 0} (g : Ghosts S) (a b c : Held S) (definitions : List RelationDef) (entries more : List (ℕ × Op)) (given after : ℕ → Option ℕ) where
   -- some changes more

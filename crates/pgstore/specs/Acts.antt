@@ -1,5 +1,5 @@
 -- What is done to the rows of one relation inside a transaction, in terms of the store's value.
-use Rattle.std.specs.Prelude.{◌≡◌, ◌⊎◌, ◌<◌, ◌≤◌, ◌+◌, ◌-◌, nat_lt, if◌then◌else◌, Bool, List, ℕ, length, true, false, IsTrue, slice_get, Option, Some, None, Result, Ok}
+use Rattle.std.specs.Prelude.{◌≡◌, ◌⊎◌, ◌<◌, ◌≤◌, ◌+◌, ◌-◌, nat_lt, if◌then◌else◌, cond, ◌==◌, List, ℕ, length, true, false, IsTrue, slice_get, Option, Some, None, Result, Ok}
 use Rattle.std.specs.FinMap as map
 use Rattle.sqlite.specs.Tree.{Trees}
 use Rattle.sqlite.specs.Store.{Ghosts}
@@ -15,10 +15,9 @@ use Rattle.pgtables.specs.Kept.{tables_of, tables_in, IsUnderWay}
 use Rattle.pgapply.specs.declared.rows.StoreFault.{StoreFault}
 use Rattle.pgapply.specs.declared.rows.StoreFault.TheVariants.{Clash, TooManyCopies}
 use Rattle.pgapply.specs.Value.{Row, Rows, Tables, identity_key, most_copies}
-use Rattle.pglogical.specs.Spelling.{IsDefinition}
 use Rattle.pgapply.specs.declared.op.Op.{Op}
-use Rattle.pgapply.specs.Works.{change_value, change_values}
-use Rattle.pgapply.specs.Apply.{with_row, without_row, found_rows, apply, fold_changes}
+use Rattle.pgapply.specs.Works.{change_values}
+use Rattle.pgapply.specs.Apply.{with_row, without_row, found_rows, fold_changes}
 use Rattle.pgapply.specs.Stored.{IsFault, IsOwnFault}
 use Rattle.pgstore.specs.Spelled.{IsChanging, IsStored, spelled_row}
 
@@ -117,16 +116,6 @@ Gives g old new def op =
 abbrev pub RefusesToGive : {S : Type 0} → Ghosts S → Held S → RelationDef → Op → StoreFault → Type 0
 RefusesToGive g old def op e = (v : Tables) → IsStored v (tables_of g old) → IsFault e (found_rows (map.get v def.oid) def op)
 
--- ---- one change
-
-abbrev pub AppliesOne : {S : Type 0} → Ghosts S → Held S → Held S → RelationDef → Bool → Op → Type 0
-AppliesOne g old new def given op =
-    GoesOpen g old new × ((v : Tables) → IsStored v (tables_of g old) → IsDefinition def → (given ≡ true → IsGiven v def)
-    → (next : Tables) × (apply v (record { definition = def; op = op }) ≡ Ok next) × IsStored next (tables_of g new) × IsGiven next def)
-
-abbrev pub RefusesOne : {S : Type 0} → Ghosts S → Held S → RelationDef → Bool → Op → StoreFault → Type 0
-RefusesOne g old def given op e = (v : Tables) → IsStored v (tables_of g old) → (given ≡ true → IsGiven v def) → IsFault e (apply v (record { definition = def; op = op }))
-
 -- ---- several changes
 
 -- the definition that was given last for each OID, by its number, still stands
@@ -142,14 +131,15 @@ Folds g old new definitions changes given =
     GoesOpen g old new × ((v : Tables) → IsStored v (tables_of g old)
     → (next : Tables) × (fold_changes v (change_values definitions changes) ≡ Ok next) × IsStored next (tables_of g new) × AreGiven definitions given next)
 
--- one change of several
-abbrev pub Steps : {S : Type 0} → Ghosts S → Held S → Held S → List RelationDef → (ℕ → Option ℕ) → ℕ × Op → (ℕ → Option ℕ) → Type 0
-Steps g old new definitions given entry next_given =
-    GoesOpen g old new × ((v : Tables) → IsStored v (tables_of g old) → AreGiven definitions given v
-    → (next : Tables) × (fold_changes v (change_value definitions entry) ≡ Ok next) × IsStored next (tables_of g new) × AreGiven definitions next_given next)
+-- this number is noted for the definition's OID
+abbrev pub Notes : (ℕ → Option ℕ) → RelationDef → ℕ → (ℕ → Option ℕ) → Type 0
+Notes given def number next_given = (oid : ℕ) → next_given oid ≡ cond (def.oid == oid) (Some number) (given oid)
 
-abbrev pub RefusesToStep : {S : Type 0} → Ghosts S → Held S → List RelationDef → (ℕ → Option ℕ) → ℕ × Op → StoreFault → Type 0
-RefusesToStep g old definitions given entry e = (v : Tables) → IsStored v (tables_of g old) → AreGiven definitions given v → IsFault e (fold_changes v (change_value definitions entry))
+-- the definition of a change is given, with the rows that the change finds, where it stood already if its number was noted
+abbrev pub Finds : {S : Type 0} → Ghosts S → Held S → Held S → (ℕ → Option ℕ) → RelationDef → ℕ × Op → Type 0
+Finds g old new given def entry =
+    GoesOpen g old new × ((v : Tables) → IsStored v (tables_of g old) → (given def.oid ≡ Some entry.0 → IsGiven v def)
+    → (rows : Rows) × (found_rows (map.get v def.oid) def entry.1 ≡ Ok rows) × IsChanging v def rows (tables_of g new))
 
 -- what a loop over the changes keeps
 pub record FoldsOn {S : Type 0} (g : Ghosts S) (old new : Held S) (definitions : List RelationDef) (changes : List (ℕ × Op)) (given : ℕ → Option ℕ) : Type 0 where

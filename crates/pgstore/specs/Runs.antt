@@ -1,6 +1,6 @@
 -- Several rows that come at once under one definition.
 use Rattle.std.specs.Prelude.{◌≡◌, ⊤, List, ℕ, IsTrue, Option, Ok}
-use Rattle.std.specs.List.{AllZip}
+use Rattle.std.specs.List.{AllByRecursion, AllZip}
 use Rattle.sqlite.specs.Store.{Ghosts}
 use Rattle.sqlite.specs.Held.{Held, state}
 use Rattle.pgtuple.specs.declared.cell.Cell.{Cell}
@@ -43,6 +43,10 @@ module _ {S : Type 0} (g : Ghosts S) (old new : Held S) where
   abbrev pub AddsAll : RelationDef → List (ℕ × Op) → Type 0
   AddsAll def entries =
       (rows : List stored.Addition) × InsertsEach def entries rows × stored.AreMissing def.oid rows (tables_of g old).rows × stored.Makes g (stored.with_rows def.oid rows) old new
+
+  -- the same, where all of them come under the definition of this number
+  abbrev pub AddsRun : RelationDef → ℕ → List (ℕ × Op) → Type 0
+  AddsRun def number entries = AllByRecursion (IsUnder number) entries × AddsAll def entries
 
   -- nothing has changed
   pub record StaysOpen : Type 0 where
