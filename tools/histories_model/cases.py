@@ -119,11 +119,14 @@ def same(rng, program, maker, history, left, words):
     """Two deliveries of one history lead to the same rows where their positions are equal."""
     version = left[0].version
     right, _ = delivery_of(rng, maker, history, version)
-    file = program.file("right.pgx", recording(rng, right.sessions))
+    text = recording(rng, right.sessions)
+    file = program.file("right.pgx", text)
     sides = [left[0], right]
     out, line, status = b"", b"", 1
     faults = [(name, side.fault) for name, side in zip(("left", "right"), sides) if side.fault]
-    if faults:
+    if len(text) > LONGEST:
+        line, status = stop_line("capture too long"), 3
+    elif faults:
         line = stop_line(f"{faults[0][0]}: {faults[0][1]}")
     elif left[0].position == right.position:
         out, status = f"same {lsn_text(right.position)}\n".encode(), 0

@@ -276,10 +276,11 @@ class Planted:
         return reader.follow([reader.joined(chunks) for chunks in sessions_of(content)])
 
     def run(self, *words):
+        recordings = words[-2:] if words[0] == "same" else words[-1:] if "--raw" not in words and words[0] != "dump" else ()
+        if any(len(self.files[name]) > LONGEST for name in recordings):
+            return 3, b"", b"pgsub: capture too long\n"
         if words[0] == "same":
             return self.same(words)
-        if "--raw" not in words and words[0] != "dump" and len(self.files[words[-1]]) > LONGEST:
-            return 3, b"", b"pgsub: capture too long\n"
         try:
             read = self.read(words, words[-1])
         except BadLine as bad:
