@@ -11,18 +11,17 @@ use Rattle.std.proofs.lemmas.Bool.{cases_Bool, eqb-true, not-false}
 use Rattle.std.proofs.lemmas.Cmp.{tied_itself}
 use Rattle.pgtuple.specs.declared.cell.Cell.{Cell}
 use Rattle.pgtuple.specs.Cells.{tuple_spelling}
-use Rattle.pgtuple.specs.Limits.{IsTuple, IsWireTuple}
+use Rattle.pgtuple.specs.Limits.{IsWireTuple}
 use Rattle.pgtuple.specs.Reading.{tuple_at}
 use Rattle.pgtuple.specs.Spelled.{spelled_cells, cells_read}
 use Rattle.pglogical.specs.declared.item.RelationDef.{RelationDef}
-use Rattle.pglogical.specs.Spelling.{IsDefinition}
 use Rattle.pgtables.specs.Kept as stored
 use Rattle.pgtables.specs.Opened.{ListsDefinitions}
 use Rattle.pgrel.specs.declared.fault.RelFault.{RelFault}
 use Rattle.pgrel.specs.Identity.{keyed, checked_insert, has_width, has_unchanged}
 use Rattle.pgapply.specs.Value.{Row, Rows, Table, Tables, IsRow, IsTable, identity_key, most_copies}
 use Rattle.pgapply.proofs.KeepsForm.{same_number, same_some, refused}
-use Rattle.pgstore.specs.Spelled.{IsStored, IsSpellable, spelled_definition, spelled_row, row_in}
+use Rattle.pgstore.specs.Spelled.{IsGivable, IsStored, IsSpellable, spelled_definition, spelled_row, row_in}
 use Rattle.pgstore.specs.Adopted.{Definitions, IsDefinitionOf, AreDefinitionsOf, IsRowOf, IsKnownRow, row_of}
 use Rattle.pgstore.proofs.SpelledRows.{same_key, key_parts}
 
@@ -112,12 +111,12 @@ module _ (t : stored.Tables) (found : List (ℕ × stored.Definition)) (known : 
           let row = (accepted oid place kept e).2 in
           (λ i. Some (record { body = row.spelled i; copies = kept.copies })) ∙ sym (ap (option_map spelled_row) (got_row t.rows oid place ∙ ap (option_map row_of) e))
 
-  row_fits : (oid : ℕ) (def : RelationDef) → finite.get known oid ≡ Some def → (place : List ℕ) (row : Row) → finite.get (own_rows t.rows oid) place ≡ Some row → IsRow def place row × IsTuple row.cells
+  row_fits : (oid : ℕ) (def : RelationDef) → finite.get known oid ≡ Some def → (place : List ℕ) (row : Row) → finite.get (own_rows t.rows oid) place ≡ Some row → IsRow def place row × IsWireTuple row.cells
   row_fits oid def is place row at =
       let there = mapped row_of (finite.get t.rows (oid ∷ place)) row (sym (got_row t.rows oid place) ∙ at) in
       let it = accepted oid place there.0 there.1 in
       let same : it.0 ≡ def = same_some (sym it.1 ∙ is) in
-      (subst (λ r. IsRow def place r) there.2 (subst (λ d. IsRow d place (row_of there.0)) same it.2.row), subst (λ (r : Row). IsTuple r.cells) there.2 it.2.tuple)
+      (subst (λ r. IsRow def place r) there.2 (subst (λ d. IsRow d place (row_of there.0)) same it.2.row), subst (λ (r : Row). IsWireTuple r.cells) there.2 it.2.tuple)
 
   table_there : (oid : ℕ) (table : Table) → finite.get the_value oid ≡ Some table → (def : RelationDef) × (finite.get known oid ≡ Some def) × (table_of t.rows oid def ≡ table)
   table_there oid table at = mapped (table_of t.rows oid) (finite.get known oid) table (sym (got_table known t.rows oid) ∙ at)
@@ -130,7 +129,7 @@ module _ (t : stored.Tables) (found : List (ℕ × stored.Definition)) (known : 
         subst (IsTable oid) it.2 (record { same_oid = (are.fit oid it.0 it.1).0; each = λ place row there. (row_fits oid it.0 it.1 place row there).0 });
     spellable = λ oid table at.
         let it = table_there oid table at in
-        subst IsSpellable it.2 (record { definition = (are.fit oid it.0 it.1).1; rows = λ place row there. (row_fits oid it.0 it.1 place row there).1 });
+        subst IsSpellable it.2 (record { definition = (are.fit oid it.0 it.1).1.definition; readable = (are.fit oid it.0 it.1).1.readable; rows = λ place row there. (row_fits oid it.0 it.1 place row there).1 });
   }
 
 -- ---- the definitions, one after another
@@ -148,7 +147,7 @@ known_then es known oid there def are none is = record {
   fit = λ q d at. elim (cases_Bool (eq_by_cmp nat_cmp q oid)) [
     | inl here ↦
         let same : def ≡ d = same_some (sym (inserted q ∙ ap (λ b. cond b (Some def) (finite.get known q)) here) ∙ at) in
-        subst (λ (d : RelationDef). (d.oid ≡ q) × IsDefinition d) same (is.same_oid ∙ sym (same_number q oid here), is.definition)
+        subst (λ (d : RelationDef). (d.oid ≡ q) × IsGivable d) same (is.same_oid ∙ sym (same_number q oid here), record { definition = is.definition; readable = is.readable })
     | inr other ↦ are.fit q d (sym (inserted q ∙ ap (λ b. cond b (Some def) (finite.get known q)) other) ∙ at)
   ];
 }
@@ -209,7 +208,7 @@ row_stands def place body copies cells len read fits begins whole checked some f
     let wide = refused (not (has_width def cells)) _ _ _ checked in
     let sent = refused (has_unchanged cells) _ _ _ wide.1 in
     record {
-      tuple = subst IsTuple (sym is) fits.tuple;
+      tuple = subst IsWireTuple (sym is) fits;
       spelled = spelled ∙ ap tuple_spelling (sym is);
       row = subst (λ cs. IsRow def place (record { cells = cs; copies = copies })) (sym is) (record {
         width = eqb-true (length cells) (length def.columns) (not-false _ wide.0);

@@ -12,7 +12,7 @@ use Rattle.std.specs.FinMap.Entries.{below_all, same_entries}
 use Rattle.sqlite.specs.Store.{Ghosts}
 use Rattle.sqlite.specs.Held.{Held, state}
 use Rattle.sqlite.specs.State.{HasCleanDisk}
-use Rattle.pgtuple.specs.Limits.{IsTuple}
+use Rattle.pgtuple.specs.Limits.{IsWireTuple}
 use Rattle.pglogical.specs.declared.item.RelationDef.{RelationDef}
 use Rattle.pgrel.specs.Identity.{keyed}
 use Rattle.pgtables.specs.Kept as stored
@@ -70,7 +70,7 @@ module _ (v : Tables) (def : RelationDef) (t : stored.Tables) (h : IsStored v t)
     same_width : length before.columns ≡ length table.definition.columns
     same_width = sym (length-map before.columns _) ∙ ap length same ∙ length-map table.definition.columns _
 
-    each_kept : (es : List (List ℕ × Row)) → AllByRecursion (λ (e : List ℕ × Row). IsRow table.definition e.0 e.1 × IsTuple e.1.cells) es → AreKeptRows before es (map (λ (e : List ℕ × Row). spelled_row e.1) es)
+    each_kept : (es : List (List ℕ × Row)) → AllByRecursion (λ (e : List ℕ × Row). IsRow table.definition e.0 e.1 × IsWireTuple e.1.cells) es → AreKeptRows before es (map (λ (e : List ℕ × Row). spelled_row e.1) es)
     each_kept [] all = tt
     each_kept (e ∷ es) all =
         let is = all.0.0 in (
@@ -81,7 +81,7 @@ module _ (v : Tables) (def : RelationDef) (t : stored.Tables) (h : IsStored v t)
     pub kept_rows : AreKept before def (finite.entries table.rows) t
     kept_rows kept l =
         subst (AreKeptRows before (finite.entries table.rows)) (sym (rows_listed kept l))
-        (each_kept (finite.entries table.rows) (each_entry nat_list_cmp_total (slice_cmp-IsAntisymmetric nat_cmp-IsAntisymmetric) (λ place row. IsRow table.definition place row × IsTuple row.cells) table.rows
+        (each_kept (finite.entries table.rows) (each_entry nat_list_cmp_total (slice_cmp-IsAntisymmetric nat_cmp-IsAntisymmetric) (λ place row. IsRow table.definition place row × IsWireTuple row.cells) table.rows
         (λ place row found. ((h.form def.oid table at).each place row found, (h.spellable def.oid table at).rows place row found))))
 
 -- ---- one row after the other

@@ -6,7 +6,7 @@ use Rattle.std.proofs.lemmas.Bool.{and_parts}
 use Rattle.std.proofs.lemmas.Bool.Decides.{nat_tests}
 use Rattle.pgtuple.specs.declared.cell.Cell.{Cell}
 use Rattle.pgtuple.specs.Cells.{tuple_spelling}
-use Rattle.pgtuple.specs.Limits.{IsTuple}
+use Rattle.pgtuple.specs.Limits.{IsWireTuple}
 use Rattle.pglogical.specs.declared.item.RelationDef.{RelationDef}
 use Rattle.pgrel.specs.Identity.{keyed}
 use Rattle.pgrel.specs.Carried.{carried}
@@ -94,14 +94,14 @@ module _ (v : Tables) (def : RelationDef) (rows : Rows) (t : stored.Tables) (h :
 
 -- a row as it is stored, and as it is carried
 pub carried_row_is : (before def : RelationDef) (row : Row) (kept : stored.Copies) (was next : List Cell) (place body : List ℕ) (copies : ℕ) → IsKeptRow before row kept → was ≡ row.cells → next ≡ carried before def was
-    → place ≡ identity_key def next → body ≡ tuple_spelling next → copies ≡ kept.copies → IsTuple next → IsCarriedRow def (moved before def row) place body copies
+    → place ≡ identity_key def next → body ≡ tuple_spelling next → copies ≡ kept.copies → IsWireTuple next → IsCarriedRow def (moved before def row) place body copies
 carried_row_is before def row kept was next place body copies k read is at spelled count tuple =
     let cells : next ≡ carried before def row.cells = is ∙ ap (carried before def) read in
     record {
       place_is = at ∙ ap (identity_key def) cells;
       body_is = spelled ∙ ap tuple_spelling cells;
       copies_is = count ∙ ap (λ (k : stored.Copies). k.copies) k.is;
-      tuple = subst IsTuple cells tuple;
+      tuple = subst IsWireTuple cells tuple;
       width = carried_width before.columns row.cells def.columns;
       sent = carried_whole before.columns row.cells def.columns k.sent;
       some = k.some;

@@ -10,7 +10,6 @@ use Rattle.sqlite.specs.Store.{Ghosts}
 use Rattle.sqlite.specs.Held.{Held, state}
 use Rattle.sqlite.specs.State.{HasCleanDisk}
 use Rattle.pglogical.specs.declared.item.RelationDef.{RelationDef}
-use Rattle.pglogical.specs.Spelling.{IsDefinition}
 use Rattle.pgtables.specs.Kept as stored
 use Rattle.pgtables.specs.Kept.{tables_of}
 use Rattle.pgtables.proofs.Inside.{goes_then}
@@ -22,7 +21,8 @@ use Rattle.pgapply.specs.Apply.{Change, ◌>>=◌, apply, fold_changes, found_ro
 use Rattle.pgapply.specs.Stored.{IsFault}
 use Rattle.pgapply.specs.Works.{change_value, change_values, defined_by}
 use Rattle.pgapply.proofs.Working.{values_append}
-use Rattle.pgstore.specs.Spelled.{IsChanging, IsStored}
+use Rattle.pglogical.specs.Spelling.{IsDefinition}
+use Rattle.pgstore.specs.Spelled.{IsGivable, IsReadable, IsChanging, IsStored}
 use Rattle.pgstore.specs.Acts.{AreGiven, Changes, Finds, FoldsOn, MakesOf, Notes, Refuses, RefusesToFold, RefusesToGive}
 use Rattle.pgstore.specs.Runs.{AddsRun, InsertsEach, IsUnder, RefusesAll, StaysOpen, StepsAll}
 use Rattle.pgstore.proofs.Acting.{added_first}
@@ -50,9 +50,11 @@ module _ (definitions : List RelationDef) (given : ℕ → Option ℕ) (number :
       let row = each.0 in
       let op = Insert row.cells in
       let after = stored.with_row def.oid a.identity (stored.one_copy a) t in
-      let found = found_given v def op t h definition (was_given definitions given number def v at are last) in
+      let stands = was_given definitions given number def v at are last in
+      let found = found_given v def op t h stands in
+      let givable : IsGivable def = record { definition = definition; readable = (h.spellable def.oid _ stands.1).readable } in
       let made = added_first v def found.0 t found.2 row.cells a.identity a.body after row.new missing.0 refl in
-      let one = applied v def op t h definition found.0 after found.1 (made.0, insert_goes def row.cells found.0 row.passed row.checked ∙ made.1, made.2) in
+      let one = applied v def op t h givable found.0 after found.1 (made.0, insert_goes def row.cells found.0 row.passed row.checked ∙ made.1, made.2) in
       let own = given_then definitions given number def v at are one.0 op given one.1 one.3 last_stays in
       let rest = rows_come entries rows under.1 each.1 one.0 after one.2 own missing.1 in
       let change : change_value definitions e ≡ record { definition = def; op = op } ∷ [] =
@@ -82,23 +84,23 @@ module _ (definitions : List RelationDef) (given after : ℕ → Option ℕ) (nu
   noted = notes def.oid ∙ ap (λ b. cond b (Some number) (given def.oid)) ((unsigned_Decides def.oid def.oid).1 refl)
 
   -- a change is made to the rows that it found under its definition
-  first_done : (v : Tables) (t : stored.Tables) (op : Op) (rows : Rows) (next : stored.Tables) → IsStored v t → AreGiven definitions given v
+  first_done : (v : Tables) (t : stored.Tables) (op : Op) (rows : Rows) (next : stored.Tables) → IsStored v t → IsReadable def → AreGiven definitions given v
       → found_rows (map.get v def.oid) def op ≡ Ok rows → MakesOf v def (rows_after def op rows) next
       → (v' : Tables) × (apply v (record { definition = def; op = op }) ≡ Ok v') × IsStored v' next × AreGiven definitions after v'
-  first_done v t op rows next h are found made =
-      let one = applied v def op t h definition rows next found made in
+  first_done v t op rows next h readable are found made =
+      let one = applied v def op t h (record { definition = definition; readable = readable }) rows next found made in
       (one.0, one.1, one.2, given_then definitions given number def v at are one.0 op after one.1 one.3 notes)
 
-  first_and_rows : (e : ℕ × Op) (entries : List (ℕ × Op)) (rows : List stored.Addition) → AllByRecursion (IsUnder number) (e ∷ entries) → InsertsEach def (e ∷ entries) rows → (v : Tables) (t mid : stored.Tables) → IsStored v t
+  first_and_rows : (e : ℕ × Op) (entries : List (ℕ × Op)) (rows : List stored.Addition) → AllByRecursion (IsUnder number) (e ∷ entries) → InsertsEach def (e ∷ entries) rows → (v : Tables) (t mid : stored.Tables) → IsStored v t → IsReadable def
       → AreGiven definitions given v → (found : Rows) → found_rows (map.get v def.oid) def e.1 ≡ Ok found → IsChanging v def found mid → stored.AreMissing def.oid rows mid.rows
       → (next : Tables) × (fold_changes v (change_values definitions (e ∷ entries)) ≡ Ok next) × IsStored next (stored.with_rows def.oid rows mid) × AreGiven definitions after next
-  first_and_rows e entries [] under each v t mid h are found is changing missing = absurd each
-  first_and_rows e entries (a ∷ rows) under each v t mid h are found is changing missing =
+  first_and_rows e entries [] under each v t mid h readable are found is changing missing = absurd each
+  first_and_rows e entries (a ∷ rows) under each v t mid h readable are found is changing missing =
       let row = each.0 in
       let op = Insert row.cells in
       let next = stored.with_row def.oid a.identity (stored.one_copy a) mid in
       let made = added_first v def found mid changing row.cells a.identity a.body next row.new missing.0 refl in
-      let one = first_done v t op found next h are (ap (found_rows (map.get v def.oid) def) (sym row.is) ∙ is) (made.0, insert_goes def row.cells found row.passed row.checked ∙ made.1, made.2) in
+      let one = first_done v t op found next h readable are (ap (found_rows (map.get v def.oid) def) (sym row.is) ∙ is) (made.0, insert_goes def row.cells found row.passed row.checked ∙ made.1, made.2) in
       let rest = rows_come definitions after number def at definition noted entries rows under.1 each.1 one.0 next one.2 one.3 missing.1 in
       let change : change_value definitions e ≡ record { definition = def; op = op } ∷ [] = value_is definitions number def at e under.0 ∙ ap (λ op. record { definition = def; op = op } ∷ []) row.is in (
         rest.0,
@@ -108,7 +110,7 @@ module _ (definitions : List RelationDef) (given after : ℕ → Option ℕ) (nu
       )
 
   module _ {S : Type 0} (g : Ghosts S) (old mid new : Held S) (e : ℕ × Op) (under : e.0 ≡ number) (finds : Finds g old mid given def e) where
-    rows_found : (v : Tables) → IsStored v (tables_of g old) → AreGiven definitions given v → (rows : Rows) × (found_rows (map.get v def.oid) def e.1 ≡ Ok rows) × IsChanging v def rows (tables_of g mid)
+    rows_found : (v : Tables) → IsStored v (tables_of g old) → AreGiven definitions given v → (rows : Rows) × (found_rows (map.get v def.oid) def e.1 ≡ Ok rows) × IsChanging v def rows (tables_of g mid) × IsReadable def
     rows_found v h are = finds.1 v h (λ is. was_given definitions given number def v at are (is ∙ ap Some under))
 
     -- the rows of a run that begins with a change whose rows were found
@@ -119,7 +121,7 @@ module _ (definitions : List RelationDef) (given after : ℕ → Option ℕ) (nu
           record { was_open = finds.0.was_open; is_open = makes.is_open; under_way = makes.under_way },
           λ v h are.
               let found = rows_found v h are in
-              let it = first_and_rows e entries adds.0 run.0 adds.1 v (tables_of g old) (tables_of g mid) h are found.0 found.1 found.2 adds.2 in
+              let it = first_and_rows e entries adds.0 run.0 adds.1 v (tables_of g old) (tables_of g mid) h found.3 are found.0 found.1 found.2 adds.2 in
               (it.0, it.1, subst (IsStored it.0) (sym makes.made) it.2, it.3),
         )
 
@@ -130,7 +132,7 @@ module _ (definitions : List RelationDef) (given after : ℕ → Option ℕ) (nu
       λ v h are.
           let found = rows_found v h are in
           let made = changes.1 v found.0 (subst (IsChanging v def found.0) (sym stays.same) found.2) in
-          let one = first_done v (tables_of g old) e.1 found.0 (tables_of g new) h are found.1 made in
+          let one = first_done v (tables_of g old) e.1 found.0 (tables_of g new) h found.3 are found.1 made in
           (one.0, ap (fold_changes v) (append-nil (change_value definitions e) ∙ value_is definitions number def at e under) ∙ fold_one v (record { definition = def; op = e.1 }) ∙ one.1, one.2, one.3),
     )
 

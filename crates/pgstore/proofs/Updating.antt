@@ -9,7 +9,7 @@ use Rattle.std.proofs.lemmas.Bool.{cases_Bool}
 use Rattle.std.proofs.lemmas.Bool.Decides.{nat_tests}
 use Rattle.pgtuple.specs.declared.cell.Cell.{Cell}
 use Rattle.pgtuple.specs.Cells.{tuple_spelling}
-use Rattle.pgtuple.specs.Limits.{IsTuple}
+use Rattle.pgtuple.specs.Limits.{IsWireTuple}
 use Rattle.pglogical.specs.declared.item.RelationDef.{RelationDef}
 use Rattle.pglogical.specs.declared.item.OldKind.{OldKind}
 use Rattle.pgrel.specs.Identity.{keyed, searched_identity}
@@ -30,7 +30,7 @@ cases_Option (Some x) = inr (x, refl)
 
 module _ (def : RelationDef) (prior : Option (OldKind × List Cell)) (row : List Cell) (rows : Rows) (searched : List Cell) (checked : searched_identity def prior (Some row) ≡ Ok searched) (place : List ℕ) (at : place ≡ tuple_spelling searched)
     (v : Tables) (t : stored.Tables) (h : IsChanging v def rows t) where
-  pub updated_whole : (next : stored.Tables) → StaysWhole def place row → IsTuple row → next ≡ stored.with_body def.oid place (tuple_spelling row) t → MakesOf v def (rows_after def (Update prior row) rows) next
+  pub updated_whole : (next : stored.Tables) → StaysWhole def place row → IsWireTuple row → next ≡ stored.with_body def.oid place (tuple_spelling row) t → MakesOf v def (rows_after def (Update prior row) rows) next
   updated_whole next stays tuple is = elim (cases_Option (map.get t.rows (def.oid ∷ place))) [
     | inl none ↦ updated_not def prior row rows searched checked place at v t h next none
         (is ∙ ap (λ was. record t { rows = stored.bodied (def.oid ∷ place) (tuple_spelling row) t.rows was }) none)

@@ -6,7 +6,7 @@ use Rattle.sqlite.specs.Store.{Ghosts}
 use Rattle.sqlite.specs.Held.{Held, state}
 use Rattle.pgtuple.specs.declared.cell.Cell.{Cell}
 use Rattle.pgtuple.specs.Cells.{tuple_spelling}
-use Rattle.pgtuple.specs.Limits.{IsTuple}
+use Rattle.pgtuple.specs.Limits.{IsWireTuple}
 use Rattle.pglogical.specs.declared.item.RelationDef.{RelationDef}
 use Rattle.pgrel.specs.Identity.{keyed, has_unchanged, resolved}
 use Rattle.pgtables.specs.Kept as stored
@@ -19,13 +19,13 @@ use Rattle.pgapply.specs.declared.op.Op.{Op}
 use Rattle.pgapply.specs.Works.{change_values}
 use Rattle.pgapply.specs.Apply.{with_row, without_row, found_rows, fold_changes}
 use Rattle.pgapply.specs.Stored.{IsFault, IsOwnFault}
-use Rattle.pgstore.specs.Spelled.{IsChanging, IsStored, spelled_row}
+use Rattle.pgstore.specs.Spelled.{IsChanging, IsReadable, IsStored, spelled_row}
 
 -- the cells of a row that is new, with its spellings
 pub record IsNewRow (def : RelationDef) (cells : List Cell) (place body : List ℕ) : Type 0 where
   pub place_is : place ≡ identity_key def cells
   pub body_is : body ≡ tuple_spelling cells
-  pub tuple : IsTuple cells
+  pub tuple : IsWireTuple cells
   pub width : length cells ≡ length def.columns
   pub sent : has_unchanged cells ≡ false
 
@@ -135,11 +135,11 @@ Folds g old new definitions changes given =
 abbrev pub Notes : (ℕ → Option ℕ) → RelationDef → ℕ → (ℕ → Option ℕ) → Type 0
 Notes given def number next_given = (oid : ℕ) → next_given oid ≡ cond (def.oid == oid) (Some number) (given oid)
 
--- the definition of a change is given, with the rows that the change finds, where it stood already if its number was noted
+-- where the definition of a noted number stands, the relation has the definition of the change then, and the rows that the change finds
 abbrev pub Finds : {S : Type 0} → Ghosts S → Held S → Held S → (ℕ → Option ℕ) → RelationDef → ℕ × Op → Type 0
 Finds g old new given def entry =
     GoesOpen g old new × ((v : Tables) → IsStored v (tables_of g old) → (given def.oid ≡ Some entry.0 → IsGiven v def)
-    → (rows : Rows) × (found_rows (map.get v def.oid) def entry.1 ≡ Ok rows) × IsChanging v def rows (tables_of g new))
+    → (rows : Rows) × (found_rows (map.get v def.oid) def entry.1 ≡ Ok rows) × IsChanging v def rows (tables_of g new) × IsReadable def)
 
 -- what a loop over the changes keeps
 pub record FoldsOn {S : Type 0} (g : Ghosts S) (old new : Held S) (definitions : List RelationDef) (changes : List (ℕ × Op)) (given : ℕ → Option ℕ) : Type 0 where

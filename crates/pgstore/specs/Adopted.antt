@@ -8,7 +8,7 @@ use Rattle.sqlite.specs.Tree.{Trees}
 use Rattle.sqlite.specs.Store.{Ghosts}
 use Rattle.sqlite.specs.Held.{Held, state}
 use Rattle.pgtuple.specs.Spelled.{spelled_cells}
-use Rattle.pgtuple.specs.Limits.{IsTuple}
+use Rattle.pgtuple.specs.Limits.{IsWireTuple}
 use Rattle.pgtuple.specs.Cells.{tuple_spelling}
 use Rattle.pglogical.specs.declared.item.RelationDef.{RelationDef}
 use Rattle.pglogical.specs.Spelling.{IsDefinition}
@@ -22,7 +22,7 @@ use Rattle.pgapply.specs.declared.rows.StoreFault.{StoreFault}
 use Rattle.pgapply.specs.declared.rows.StoreFault.TheVariants.{NotAStore}
 use Rattle.pgapply.specs.Value.{Row, IsRow, Tables}
 use Rattle.pgapply.specs.Stored.{Stored, IsOwnFault}
-use Rattle.pgstore.specs.Spelled.{IsStored, spelled_definition}
+use Rattle.pgstore.specs.Spelled.{IsGivable, IsReadable, IsStored, spelled_definition}
 use Rattle.pgstore.specs.StoreValue.{AreOf, IsValueOf, nothing_stored}
 
 -- why a connection isn't adopted
@@ -37,12 +37,13 @@ Definitions = map.FinMap nat_cmp RelationDef
 pub record IsDefinitionOf (oid : ℕ) (there : stored.Definition) (def : RelationDef) : Type 0 where
   pub same_oid : def.oid ≡ oid
   pub definition : IsDefinition def
+  pub readable : IsReadable def
   pub spelled : spelled_definition def ≡ there
 
 -- a definition for each of the stored ones, by its OID
 pub record AreDefinitionsOf (found : List (ℕ × stored.Definition)) (known : Definitions) : Type 0 where
   pub each : (oid : ℕ) → map.find nat_cmp oid found ≡ option_map spelled_definition (map.get known oid)
-  pub fit : (oid : ℕ) (def : RelationDef) → map.get known oid ≡ Some def → (def.oid ≡ oid) × IsDefinition def
+  pub fit : (oid : ℕ) (def : RelationDef) → map.get known oid ≡ Some def → (def.oid ≡ oid) × IsGivable def
 
 -- the row that is stored so
 abbrev pub row_of : stored.Copies → Row
@@ -50,7 +51,7 @@ row_of kept = record { cells = spelled_cells kept.body; copies = kept.copies }
 
 -- the bytes are a row of the relation at this identity
 pub record IsRowOf (def : RelationDef) (place : List ℕ) (kept : stored.Copies) : Type 0 where
-  pub tuple : IsTuple (spelled_cells kept.body)
+  pub tuple : IsWireTuple (spelled_cells kept.body)
   pub spelled : kept.body ≡ tuple_spelling (spelled_cells kept.body)
   pub row : IsRow def place (row_of kept)
 

@@ -6,7 +6,7 @@ use Rattle.sqlite.specs.Store.{Ghosts}
 use Rattle.sqlite.specs.Held.{Held, state}
 use Rattle.sqlite.specs.State.{HasCleanDisk}
 use Rattle.pgtuple.specs.Cells.{tuple_spelling}
-use Rattle.pgtuple.specs.Limits.{IsTuple}
+use Rattle.pgtuple.specs.Limits.{IsWireTuple}
 use Rattle.pglogical.specs.declared.item.Column.{Column}
 use Rattle.pglogical.specs.declared.item.RelationDef.{RelationDef}
 use Rattle.pglogical.specs.Spelling.{IsDefinition}
@@ -30,7 +30,7 @@ pub record IsCarriedRow (def : RelationDef) (row : Row) (place body : List ℕ) 
   pub place_is : place ≡ identity_key def row.cells
   pub body_is : body ≡ tuple_spelling row.cells
   pub copies_is : copies ≡ row.copies
-  pub tuple : IsTuple row.cells
+  pub tuple : IsWireTuple row.cells
   pub width : length row.cells ≡ length def.columns
   pub sent : has_unchanged row.cells ≡ false
   pub some : 1 ≤ row.copies
@@ -63,7 +63,7 @@ RefusesToJoin g old def place body copies e =
 -- a row as it is stored under its old definition
 pub record IsKeptRow (def : RelationDef) (row : Row) (kept : stored.Copies) : Type 0 where
   pub is : kept ≡ spelled_row row
-  pub tuple : IsTuple row.cells
+  pub tuple : IsWireTuple row.cells
   pub width : length row.cells ≡ length def.columns
   pub sent : has_unchanged row.cells ≡ false
   pub some : 1 ≤ row.copies

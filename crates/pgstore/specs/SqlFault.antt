@@ -1,11 +1,17 @@
--- What an error of SQL is told as.
+-- What an error of SQL is told as, and a fault of reading rows.
 use Rattle.std.specs.Prelude.{◌≡◌, ◌≢◌, ◌⊎◌}
 use Rattle.sqlite.specs.declared.error.Error.{Error}
 use Rattle.sqlite.specs.declared.error.Error.TheVariants.{SqliteFailure}
 use Rattle.sqlite.specs.declared.error.ErrorCode.TheVariants.{OutOfMemory}
+use Rattle.pgtables.specs.declared.fault.ReadFault.{ReadFault}
+use Rattle.pgtables.specs.declared.fault.ReadFault.TheVariants.{Sql, Malformed}
 use Rattle.pgapply.specs.declared.rows.StoreFault.{StoreFault}
-use Rattle.pgapply.specs.declared.rows.StoreFault.TheVariants.{Refused, Memory}
+use Rattle.pgapply.specs.declared.rows.StoreFault.TheVariants.{Refused, NotAStore, Memory}
 
 -- out of memory is told from each other cause
 abbrev pub IsFaultOf : Error → StoreFault → Type 0
 IsFaultOf error fault = ((error ≡ SqliteFailure OutOfMemory) × (fault ≡ Memory)) ⊎ ((error ≢ SqliteFailure OutOfMemory) × (fault ≡ Refused))
+
+abbrev pub IsReadFaultOf : ReadFault → StoreFault → Type 0
+IsReadFaultOf (Sql error) fault = IsFaultOf error fault
+IsReadFaultOf Malformed fault = fault ≡ NotAStore

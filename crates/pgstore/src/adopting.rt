@@ -2,13 +2,13 @@
 //!
 //! PostgreSQL documentation, Logical Replication Message Formats, Relation and TupleData; ALTER TABLE, REPLICA IDENTITY.
 
-ghost use Rattle.std.specs.Prelude.{◌≡◌, ◌≤◌, true, false, IsTrue, OnOk, OnErr, IfOk, IfErr, T};
+ghost use Rattle.std.specs.Prelude.{◌≡◌, ◌≤◌, true, false, IsTrue, IsUtf8, OnOk, OnErr, IfOk, IfErr, T};
 ghost use Rattle.std.specs.Ordering.{nat_cmp};
 ghost use Rattle.std.specs.FinMap.{is_sorted};
 ghost use Rattle.sqlite.specs.Held.{state};
 ghost use Rattle.sqlite.specs.State.{HasCleanDisk, Survives};
 ghost use Rattle.sqlite.specs.View.{doubt};
-ghost use Rattle.pglogical.specs.Spelling.{AreColumns, IsLetter, IsText, columns_spelling};
+ghost use Rattle.pglogical.specs.Spelling.{IsLetter, IsText};
 ghost use Rattle.pgtables.specs.Kept.{IfServing};
 ghost use Rattle.pgtables.specs.Remains.{schema_of};
 ghost use Rattle.pgstore.specs.Adopted.{AreDefinitionsOf, AreRead, Founds, IsDefinitionOf, IsRefusal, IsRowOf, is_whole};
@@ -17,23 +17,24 @@ ghost use Rattle.pgstore.specs.StoreValue.{LeavesAdopted};
 use crate::changing::MOST_COPIES;
 use crate::encoded::encode_identity;
 use crate::fault::Refusal;
+use crate::giving::read_columns;
 use crate::opening::sees_schema;
 use crate::remaking::remake_tables;
 use pgapply::StoreFault;
-use pglogical::{Column, DecodeFault, Reason, RelationDef, decode_columns};
+use pglogical::RelationDef;
 use pglsn::Lsn;
 use pgrel::{Book, check_insert, keyed};
 use pgtables::{
     FoundPosition, Remains, RowCheck, StoredDefinition, check_remaining_rows, find_remains,
     read_remaining_definitions, read_remaining_position,
 };
-use pgtuple::{Seq, Text, decode_ref};
+use pgtuple::{Text, decode_ref};
 use sqlite::{Alter, Connection, Error, ErrorCode};
 use std::alloc::Global;
 
 /// A stored name as a text. One with a zero byte was never received.
 fn read_name(alloc: Global, name: &str) -> Result<Text, Refusal>
-    ensures ok { IfOk result (λ text. (text ≡ name.now) × IsText text) }
+    ensures ok { IfOk result (λ text. (text ≡ name.now) × IsText text × IsUtf8 text) }
     ensures err { IfErr result IsRefusal }
 {
     if name.as_bytes().contains(&0) {
@@ -50,24 +51,6 @@ fn read_letter(stored: u32) -> Result<u8, Refusal>
     match u8::try_from(stored) {
         Ok(letter) if matches!(letter, b'd' | b'n' | b'f' | b'i') => Ok(letter),
         _ => Err(Refusal::new(StoreFault::NotAStore)),
-    }
-}
-
-/// The columns that stored bytes encode.
-fn read_columns(alloc: Global, bytes: &[u8]) -> Result<Seq<Column>, Refusal>
-    ensures ok { IfOk result (λ columns. AreColumns columns
-        × (columns_spelling columns ≡ bytes.now)) }
-    ensures err { IfErr result IsRefusal }
-{
-    match decode_columns(alloc, bytes) {
-        Ok(columns) => Ok(columns),
-        Err(
-            DecodeFault {
-                reason: Reason::Memory,
-                ..
-            },
-        ) => Err(Refusal::new(StoreFault::Memory)),
-        Err(_) => Err(Refusal::new(StoreFault::NotAStore)),
     }
 }
 

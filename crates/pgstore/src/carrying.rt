@@ -85,7 +85,7 @@ fn add_carried<S: Alter>(
     }
 }
 
-/// One row as it is under the new definition, under its new identity. A row that can't be read back is `Refused`.
+/// One row as it is under the new definition, under its new identity. One that no store writes is `NotAStore`.
 fn carry_row<S: Alter>(
     tx: &mut Transaction<'_, S>,
     alloc: Global,
@@ -106,7 +106,7 @@ fn carry_row<S: Alter>(
 {
     let was = read_tuple(kept.body())?;
     if was.width() != old.columns.len() {
-        return Err(Refusal::new(StoreFault::Refused));
+        return Err(Refusal::new(StoreFault::NotAStore));
     }
     let next = carrying.carry(alloc, &was)?;
     let row = next.borrowed();

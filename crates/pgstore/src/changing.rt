@@ -3,19 +3,14 @@
 //! PostgreSQL documentation, Logical Replication; ALTER TABLE, REPLICA IDENTITY.
 
 ghost use Rattle.std.specs.Prelude.{◌≡◌, false, true, List, length, OnOk, IfOk, IfErr, Ok};
-ghost use Rattle.std.specs.FinMap.{empty};
 ghost use Rattle.sqlite.specs.Held.{state};
 ghost use Rattle.sqlite.specs.State.{HasCleanDisk};
 ghost use Rattle.pgtuple.specs.declared.cell.Cell.{Cell};
 ghost use Rattle.pgtuple.specs.Cells.{tuple_spelling};
-ghost use Rattle.pgtuple.specs.Limits.{IsTuple};
-ghost use Rattle.pgrel.specs.Identity.{has_unchanged, resolved};
-ghost use Rattle.pgtables.specs.Kept.{Goes, InTransaction, Makes, tables_of, with_body};
+ghost use Rattle.pgtuple.specs.Limits.{IsWireTuple};
+ghost use Rattle.pgtables.specs.Kept.{Goes, InTransaction, Makes, with_body};
 ghost use Rattle.pgapply.specs.declared.op.Op.TheVariants as op;
-ghost use Rattle.pgapply.specs.Value.{Row, Rows, Tables};
-ghost use Rattle.pgapply.specs.Apply.{with_row, without_row, rows_after};
-ghost use Rattle.pgapply.specs.Stored.{IsFault};
-ghost use Rattle.pgstore.specs.Spelled.{IsChanging};
+ghost use Rattle.pgapply.specs.Apply.{with_row, rows_after};
 ghost use Rattle.pgapply.specs.Stored.{IsOwnFault};
 ghost use Rattle.pgstore.specs.Acts.{IsNewRow, Adds, Changes, Refuses, Moves, RefusesToMove, Replaces, RefusesToReplace, AddsCopy, RefusesCopy, StaysWhole, taken_row};
 
@@ -178,7 +173,7 @@ fn replace_row<S: Alter>(
 {
     let was = read_tuple(there.body())?;
     if was.width() != row.width() {
-        return Err(Refusal::new(StoreFault::Refused));
+        return Err(Refusal::new(StoreFault::NotAStore));
     }
     let next = resolve(alloc, row, &was)?;
     move_row(tx, alloc, def, place, there, &next.borrowed())
@@ -215,7 +210,7 @@ fn set_row<S: Alter>(
     ensures made { HasCleanDisk (state S.Store tx.new.conn.now) →
         OnOk result (Makes S.Store (with_body oid place.now (tuple_spelling row.now))
         tx.old.conn.now tx.new.conn.now) }
-    ensures tuple { IsTuple row.now }
+    ensures tuple { IsWireTuple row.now }
     ensures fault { IfErr result IsOwnFault }
     ensures goes { Goes S.Store tx.old.conn.now tx.new.conn.now }
 {

@@ -2,10 +2,10 @@
 //!
 //! PostgreSQL documentation, Logical Replication Message Formats, TupleData and Relation.
 
-ghost use Rattle.std.specs.Prelude.{◌≡◌, List, length, IsSome, ◌⊎◌, Ok, IfOk, IfErr};
+ghost use Rattle.std.specs.Prelude.{◌≡◌, List, length, IsSome, ◌⊎◌, Ok, IfOk, IsOk, IfErr};
 ghost use Rattle.pgtuple.specs.declared.cell.Cell.{Cell};
 ghost use Rattle.pgtuple.specs.Cells.{tuple_spelling};
-ghost use Rattle.pgtuple.specs.Limits.{IsTuple};
+ghost use Rattle.pgtuple.specs.Limits.{IsWireTuple};
 ghost use Rattle.pgrel.specs.Identity.{searched_identity};
 ghost use Rattle.pgapply.specs.Value.{identity_key};
 ghost use Rattle.pgapply.specs.Apply.{in_store};
@@ -43,11 +43,10 @@ impl<'a> Encoded<'a> {
 /// The bytes of a tuple, which is within a tuple's limits. A tuple over received bytes takes no memory.
 pub(crate) fn encode<'a>(alloc: Global, tuple: &TupleRef<'a>) -> Result<Encoded<'a>, Refusal>
     ensures ok { IfOk result (λ bytes. encoded_bytes bytes ≡ tuple_spelling tuple.now) }
-    ensures limits { IsTuple tuple.now }
+    ensures limits { IsWireTuple tuple.now }
     ensures err { IfErr result (λ fault. fault ≡ StoreFault.Memory) }
 {
-    // Its contract shows the limits.
-    let _width = tuple.width();
+    tuple.fits_wire();
     if let Some(bytes) = tuple.spelled() {
         return Ok(Encoded::Received(bytes));
     }
@@ -58,16 +57,21 @@ pub(crate) fn encode<'a>(alloc: Global, tuple: &TupleRef<'a>) -> Result<Encoded<
     }
 }
 
-/// The tuple of these bytes, which it borrows. Bytes that encode no tuple are `Refused`.
+/// The tuple of these bytes, which it borrows. Bytes that no store writes are `NotAStore`.
 pub(crate) fn read_tuple(bytes: &[u8]) -> Result<TupleRef<'_>, StoreFault>
-    ensures ok { IfOk result (λ tuple. (cells : List Cell) → IsTuple cells →
+    ensures ok { IfOk result (λ tuple. (cells : List Cell) → IsWireTuple cells →
         bytes.now ≡ tuple_spelling cells → tuple ≡ cells) }
-    ensures err { IfErr result (λ fault. fault ≡ StoreFault.Refused) }
+    ensures err { IfErr result (λ fault. fault ≡ StoreFault.NotAStore) }
+    ensures encoded { (cells : List Cell) → IsWireTuple cells → bytes.now ≡ tuple_spelling cells →
+        IsOk result }
 {
-    match decode_ref(bytes) {
-        Ok((tuple, _)) => Ok(tuple),
-        Err(_) => Err(StoreFault::Refused),
+    let Ok((tuple, len)) = decode_ref(bytes) else {
+        return Err(StoreFault::NotAStore);
+    };
+    if len != bytes.len() {
+        return Err(StoreFault::NotAStore);
     }
+    Ok(tuple)
 }
 
 /// The bytes of a row's identity.

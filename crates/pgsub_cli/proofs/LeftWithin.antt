@@ -4,15 +4,14 @@ use Rattle.pgorder.specs.declared.Version.{Version}
 use Rattle.pgapply.specs.Value.{Tables}
 use Rattle.pgsub_core.specs.declared.fault.Fault.{Fault}
 use Rattle.pgsub_core.specs.declared.fault.Fault.TheVariants as fault
-use Rattle.pgsub_core.specs.Applied.{Applied, IsKept}
-use Rattle.pgsub_core.specs.Crashing.{LeavesOldOr, FedOver, IsLeftSafely}
-use Rattle.pgsub_core.specs.Subscribed.{bytes_of}
+use Rattle.pgsub_core.specs.Applied.{IsKept}
+use Rattle.pgsub_core.specs.Crashing.{IsLeftSafely}
 use Rattle.pgsub_core.specs.SubscriberValue.{SubscriberValue}
 use Rattle.pgsub_cli.specs.declared.storing.Incoming.{Incoming}
 use Rattle.pgsub_cli.specs.declared.storing.Incoming.TheVariants.{Sessions, Raw}
 use Rattle.pgsub_cli.specs.Reports.{CountsIncoming}
 use Rattle.pgsub_cli.specs.Runs.{AreRead}
-use Rattle.pgsub_cli.specs.StoreAfter.{IsReadFrom, FeedsIncoming, StandsFed, LeavesIncomingHistory, LeavesFronts, HoldsAfter, MayBeLeft, LosesNothing}
+use Rattle.pgsub_cli.specs.StoreAfter.{FeedsIncoming, LeavesIncomingHistory, LeavesFronts, HoldsAfter, MayBeLeft, LosesNothing}
 use Rattle.pgsub_cli.proofs.WithinLines.{read_within}
 
 module _ {R Q C D : Type 0} (reader : Q → R) (inner : D → C) (gives begins : R → List ℕ → Type 0) (failed : R → Type 0) (holds : C → Tables → Type 0) (place : C → ℕ) where

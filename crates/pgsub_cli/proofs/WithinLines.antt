@@ -16,18 +16,18 @@ use Rattle.pgsub_cli.specs.Runs.{AreRead, Writes}
 use Rattle.pgsub_cli.specs.Storing.{PrintsKept, PrintsOver}
 
 -- other lines are written, where these are such lines
-pub writes_weaker : {W : Type 0} (takes : W → List ℕ → W → Type 0) (failed : W → Type 0) (lost : Fault → Type 0) (P Q : Option Fault → List ℕ → Type 0) (old new : W) (ended : Result Ending RunFault)
-    → ((stopped : Option Fault) (lines : List ℕ) → P stopped lines → Q stopped lines) → Writes takes failed lost P old new ended → Writes takes failed lost Q old new ended
-writes_weaker takes failed lost P Q old new (Ok Done) f (lines, p, t) = (lines, f None lines p, t)
-writes_weaker takes failed lost P Q old new (Ok Differs) f none = none
-writes_weaker takes failed lost P Q old new (Err (run.Stream x)) f (inl l) = inl l
-writes_weaker takes failed lost P Q old new (Err (run.Stream x)) f (inr (lines, p, t)) = inr (lines, f (Some x) lines p, t)
-writes_weaker takes failed lost P Q old new (Err run.CannotWrite) f h = h
-writes_weaker takes failed lost P Q old new (Err (run.OfSide side x)) f none = none
-writes_weaker takes failed lost P Q old new (Err (run.NotHexadecimal line)) f none = none
-writes_weaker takes failed lost P Q old new (Err run.TooLong) f none = none
-writes_weaker takes failed lost P Q old new (Err (run.CannotRead side)) f none = none
-writes_weaker takes failed lost P Q old new (Err run.NotAnLsn) f none = none
+pub writes_weaker : {W : Type 0} (takes : W → List ℕ → W → Type 0) (failed : W → Type 0) (lost more : Fault → Type 0) (P Q : Option Fault → List ℕ → Type 0) (old new : W) (ended : Result Ending RunFault)
+    → ((fault : Fault) → lost fault → more fault) → ((stopped : Option Fault) (lines : List ℕ) → P stopped lines → Q stopped lines) → Writes takes failed lost P old new ended → Writes takes failed more Q old new ended
+writes_weaker takes failed lost more P Q old new (Ok Done) means f (lines, p, t) = (lines, f None lines p, t)
+writes_weaker takes failed lost more P Q old new (Ok Differs) means f none = none
+writes_weaker takes failed lost more P Q old new (Err (run.Stream x)) means f (inl (l, same)) = inl (means x l, same)
+writes_weaker takes failed lost more P Q old new (Err (run.Stream x)) means f (inr (lines, p, t)) = inr (lines, f (Some x) lines p, t)
+writes_weaker takes failed lost more P Q old new (Err run.CannotWrite) means f h = h
+writes_weaker takes failed lost more P Q old new (Err (run.OfSide side x)) means f none = none
+writes_weaker takes failed lost more P Q old new (Err (run.NotHexadecimal line)) means f none = none
+writes_weaker takes failed lost more P Q old new (Err run.TooLong) means f none = none
+writes_weaker takes failed lost more P Q old new (Err (run.CannotRead side)) means f none = none
+writes_weaker takes failed lost more P Q old new (Err run.NotAnLsn) means f none = none
 
 module _ {R Q C D : Type 0} (reader : Q → R) (inner : D → C) (gives begins : R → List ℕ → Type 0) (failed : R → Type 0) (holds : C → Tables → Type 0) (place : C → ℕ) where
   pub read_within : (file : Q) (bytes : List ℕ) (stopped : Option Fault) → AreRead (λ q. gives (reader q)) (λ q. begins (reader q)) (λ q. failed (reader q)) file bytes stopped → AreRead gives begins failed (reader file) bytes stopped

@@ -37,7 +37,7 @@ fn stored_lines<P: Spools + Drop, C: ReplicaStore + Drop>(
         Stays C.holds subscriber.old.applied.store subscriber.new.applied.store }
     ensures same { (tables : Tables) → seen C.place subscriber.new tables
         ≡ seen C.place subscriber.old tables }
-    ensures fault { IfErr result IsReadFault }
+    ensures fault { C.is_honest subscriber.new.applied.store → IfErr result IsReadFault }
     ensures served { C.serves subscriber.new.applied.store → C.serves subscriber.old.applied.store }
     ensures open { C.is_honest subscriber.new.applied.store →
         OnOk result (C.serves subscriber.new.applied.store) }
@@ -64,7 +64,7 @@ pub(crate) fn apply_sessions<P: Spools + Drop, C: ReplicaStore + Drop>(
     ensures applied { C.is_honest subscriber.new.applied.store →
         IfOk result (λ applied. ShowsFed C.holds C.place subscriber.old
         (bytes_of sessions.now) subscriber.new applied.stopped (string_bytes applied.lines)) }
-    ensures fault { IfErr result IsReadFault }
+    ensures fault { C.is_honest subscriber.new.applied.store → IfErr result IsReadFault }
     ensures kept { C.serves subscriber.new.applied.store → (stopped : Option Fault)
         × FeedsSessions C.holds C.place clock subscriber.old
         (bytes_of sessions.now) subscriber.new stopped }
@@ -96,7 +96,7 @@ pub(crate) fn apply_input<R: Input + Drop, P: Spools + Drop, C: ReplicaStore + D
     ensures applied { C.is_honest subscriber.new.applied.store →
         IfOk result (λ printed. ShowsFile R.gives R.begins R.failed C.holds C.place file
         subscriber.old subscriber.new printed.stopped (string_bytes printed.lines)) }
-    ensures fault { IfErr result IsReadFault }
+    ensures fault { C.is_honest subscriber.new.applied.store → IfErr result IsReadFault }
     ensures kept { C.serves subscriber.new.applied.store → (stopped : Option Fault)
         × FeedsFile R.gives R.begins R.failed C.holds C.place file subscriber.old
         subscriber.new stopped }
@@ -135,7 +135,7 @@ fn progress_lines<P: Spools + Drop, C: ReplicaStore + Drop>(
         Stays C.holds subscriber.old.applied.store subscriber.new.applied.store }
     ensures same { (tables : Tables) → seen C.place subscriber.new tables
         ≡ seen C.place subscriber.old tables }
-    ensures fault { IfErr result IsReadFault }
+    ensures fault { C.is_honest subscriber.new.applied.store → IfErr result IsReadFault }
     ensures served { C.serves subscriber.new.applied.store → C.serves subscriber.old.applied.store }
     ensures open { C.is_honest subscriber.new.applied.store →
         OnOk result (C.serves subscriber.new.applied.store) }
@@ -156,7 +156,7 @@ fn resume_sessions<P: Spools + Drop, C: ReplicaStore + Drop>(
     ensures resumed { C.is_honest subscriber.new.applied.store →
         IfOk result (λ printed. ResumesFed C.holds C.place subscriber.old
         (bytes_of sessions.now) subscriber.new printed.stopped (string_bytes printed.lines)) }
-    ensures fault { IfErr result IsReadFault }
+    ensures fault { C.is_honest subscriber.new.applied.store → IfErr result IsReadFault }
 {
     let followed = follow(subscriber, sessions, CLOCK);
     Ok(Printed {

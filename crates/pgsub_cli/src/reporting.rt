@@ -279,7 +279,7 @@ fn run_reported<
 ) -> (u8, C)
     ensures status { result.0 ≤ 4 }
     ensures ends { (ended : Result Ending RunFault) × (result.0 ≡ status_of ended)
-        × Writes W.takes W.failed IsReadFault
+        × Writes W.takes W.failed (λ fault. C.is_honest result.1 → IsReadFault fault)
         (λ stopped lines. C.is_honest result.1 →
         PrintsOver (ReaderGives R.remaining) (ReaderBegins R.remaining) (λ _. ⊤) C.holds C.place
         (Some (version, incoming)) store result.1 stopped lines) out.old out.new ended
@@ -318,7 +318,7 @@ pub fn run_opened<
 ) -> (u8, C)
     ensures status { result.0 ≤ 4 }
     ensures ends { (ended : Result Ending RunFault) × (result.0 ≡ status_of ended)
-        × Writes W.takes W.failed IsReadFault
+        × Writes W.takes W.failed (λ fault. C.is_honest result.1 → IsReadFault fault)
         (λ stopped lines. C.is_honest result.1 →
         PrintsOver (ReaderGives R.remaining) (ReaderBegins R.remaining) (λ _. ⊤) C.holds C.place
         input store result.1 stopped lines) out.old out.new ended

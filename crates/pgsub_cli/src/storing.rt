@@ -66,7 +66,7 @@ fn feed_incoming<R: Input + Drop, P: Spools + Drop, C: ReplicaStore + Drop>(
     ensures applied { C.is_honest subscriber.new.applied.store →
         IfOk result (λ printed. ShowsIncoming R.gives R.begins R.failed C.holds C.place incoming
         subscriber.old subscriber.new printed.stopped (string_bytes printed.lines)) }
-    ensures fault { IfErr result IsReadFault }
+    ensures fault { C.is_honest subscriber.new.applied.store → IfErr result IsReadFault }
     ensures kept { C.serves subscriber.new.applied.store → (stopped : Option Fault)
         × FeedsIncoming R.gives R.begins R.failed C.holds C.place incoming subscriber.old
         subscriber.new stopped }
@@ -117,7 +117,7 @@ fn held_lines<C: ReplicaStore>(alloc: Global, store: &mut C) -> Result<Printed, 
     ensures held { C.is_honest store.new → IfOk result
         (λ printed. PrintsHeld C.holds C.place store.old store.new printed.stopped
         (string_bytes printed.lines)) }
-    ensures fault { IfErr result IsReadFault }
+    ensures fault { C.is_honest store.new → IfErr result IsReadFault }
     ensures stays { C.serves store.new → Stays C.holds store.old store.new }
     ensures position { C.place store.new ≡ C.place store.old }
     ensures crash { C.is_honest store.new → (other : C) → C.reopens store.new other →
@@ -146,7 +146,7 @@ fn apply_over<R: Input + Drop, C: ReplicaStore + Drop>(
     ensures applied { C.is_honest result.1 → IfOk result.0
         (λ printed. PrintsOver R.gives R.begins R.failed C.holds C.place input store result.1
         printed.stopped (string_bytes printed.lines)) }
-    ensures fault { IfErr result.0 IsReadFault }
+    ensures fault { C.is_honest result.1 → IfErr result.0 IsReadFault }
     ensures kept { C.serves result.1 →
         HoldsAfter R.gives R.begins R.failed C.holds C.place input store result.1 }
     ensures left { C.is_honest result.1 →
@@ -210,7 +210,7 @@ pub fn run_store<R: Input + Drop, C: ReplicaStore + Drop, W: Output, E: Output>(
 ) -> (u8, C)
     ensures status { result.0 ≤ 4 }
     ensures ends { (ended : Result Ending RunFault) × (result.0 ≡ status_of ended)
-        × Writes W.takes W.failed IsReadFault
+        × Writes W.takes W.failed (λ fault. C.is_honest result.1 → IsReadFault fault)
         (λ stopped lines. C.is_honest result.1 →
         PrintsOver R.gives R.begins R.failed C.holds C.place input store result.1 stopped lines)
         out.old out.new ended × Tells E.takes E.failed [] [] ended err.old err.new }

@@ -14,7 +14,7 @@ ghost use Rattle.pgsub_core.specs.Framing.{FramesGo, IsStopped, StopsAtBody, Sto
 ghost use Rattle.pglogical.specs.Spelling.{IsSpellableMessage, IsMessageFor};
 ghost use Rattle.pgorder.specs.States.{is_in_block};
 ghost use Rattle.pgorder.specs.Steps.{initial_order};
-ghost use Rattle.pgspool.specs.Labels.{items_of, held_of, cost, all_costs};
+ghost use Rattle.pgspool.specs.Labels.{items_of, held_of};
 ghost use Rattle.pgsub_core.specs.Stream.{Data, Keepalive, kind};
 ghost use Rattle.pgsub_core.specs.ApplyState.{pushed};
 ghost use Rattle.pgsub_core.specs.Taking.{take};
@@ -508,7 +508,8 @@ impl<P: Spools + Drop, C: ReplicaStore + Drop> Applier<P, C> {
         ensures unchanged { C.serves self.new.store → Stays C.holds self.old.store self.new.store }
         ensures kept { IsKept C.place self.old self.new }
         ensures beside { StaysBesideStore self.old self.new }
-        ensures fault { IfErr result IsReadFault }
+        ensures fault { C.is_honest self.new.store → IfErr result IsReadFault }
+        ensures serving_fault { C.serves self.new.store → IfErr result IsReadFault }
         ensures served { C.serves self.new.store → C.serves self.old.store }
         ensures open { C.is_honest self.new.store → OnOk result (C.serves self.new.store) }
         ensures honest { C.is_honest self.new.store → C.is_honest self.old.store }

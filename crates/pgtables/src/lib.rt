@@ -13,6 +13,7 @@
 #![tactic(auto)]
 
 pub mod dumped;
+pub mod fault;
 pub mod find;
 mod found;
 pub mod opened;
@@ -23,6 +24,7 @@ pub mod schema;
 pub mod settled;
 
 pub use dumped::{DumpReader, dump};
+pub use fault::ReadFault;
 pub use find::{find_definition, find_row, rows_of};
 pub use opened::{FoundPosition, RowCheck};
 pub use put::{

@@ -3,6 +3,8 @@ use Rattle.pgtables.specs.Kept as stored
 use Rattle.pgtables.specs.Kept.{tables_of}
 use Rattle.pgstore.proofs.Acting.{on_ok, if_err, then_open}
 use Rattle.pgstore.proofs.Joining.{joined_first, joined_again, joined_not, joined_clash}
+use Rattle.pgstore.proofs.Acting.{own_fault}
+use Rattle.pgstore.proofs.Formed.{own_of_read, read_refuses, row_fits}
 use Rattle.pgstore.proofs.carrying.add_carried.Goals as goal
 
 pub returns-then-clashes-clause-fault : goal.returns-then-clashes-clause-fault
@@ -37,3 +39,8 @@ returns-in-Some-clause-fault g c clean =
     let some = sym (c.in_ok-find_row.ensures.found (omega (arith, before))) ∙ c.in-Some.is in
     if_err c.join_copies.result c.join_copies.ensures.fault (λ e refuses row is v rows h.
     joined_not v c.args.def.now rows (tables_of g.S.Store c.args.tx.now.conn.now) h row c.args.place.now c.args.body.now c.args.copies is c.in-Some.there some e refuses)
+
+pub returns-in_err-find_row-clause-fault : goal.returns-in_err-find_row-clause-fault
+returns-in_err-find_row-clause-fault g c clean = read_refuses c.from_residual.result c.in_err-find_row.field-0.0 c.from_residual.ensures.1 (λ fault is row carried v rows h.
+    let fits = row_fits v c.args.def.now rows (tables_of g.S.Store c.args.tx.now.conn.now) h c.args.place.now in
+    own_fault fault _ (own_of_read _ fault (c.in_err-find_row.ensures.formed clean fits) is))

@@ -2,6 +2,8 @@ use Rattle.std.proofs.Common.{sym, ap, ◌∙◌, arith, ◌+◌}
 use Rattle.pgtables.specs.Kept as stored
 use Rattle.pgtables.specs.Kept.{tables_of}
 use Rattle.pgstore.proofs.Acting.{on_ok, if_err, then_open, added_again, added_not}
+use Rattle.pgstore.proofs.Acting.{own_fault}
+use Rattle.pgstore.proofs.Formed.{own_of_read, read_refuses, row_fits}
 use Rattle.pgstore.proofs.changing.add_again.Goals as goal
 
 pub returns-in-Some-clause-made : goal.returns-in-Some-clause-made
@@ -21,3 +23,8 @@ returns-in-Some-clause-fault g c clean =
     let some = sym (c.in_ok-find_row.ensures.found (omega (arith, before))) ∙ c.in-Some.is in
     if_err c.add_copy.result c.add_copy.ensures.fault (λ e refuses cells new v rows h.
     added_not v c.args.def.now rows (tables_of g.S.Store c.args.tx.now.conn.now) h cells c.args.place.now c.args.body.now c.in-Some.there e new some refuses)
+
+pub returns-in_err-find_row-clause-fault : goal.returns-in_err-find_row-clause-fault
+returns-in_err-find_row-clause-fault g c clean = read_refuses c.from_residual.result c.in_err-find_row.field-0.0 c.from_residual.ensures.1 (λ fault is cells new v rows h.
+    let fits = row_fits v c.args.def.now rows (tables_of g.S.Store c.args.tx.now.conn.now) h c.args.place.now in
+    own_fault fault _ (own_of_read _ fault (c.in_err-find_row.ensures.formed clean fits) is))

@@ -6,6 +6,9 @@ use Rattle.pgstore.specs.Spelled.{IsChanging}
 use Rattle.pgstore.specs.Carries.{AreKeptRows, emptied}
 use Rattle.pgstore.proofs.Acting.{on_ok, if_err}
 use Rattle.pgstore.proofs.CarriedOn.{carries_all}
+use Rattle.pgtables.specs.Kept.{tables_of}
+use Rattle.pgstore.proofs.Acting.{own_fault}
+use Rattle.pgstore.proofs.Formed.{all_fit, own_of_read, read_refuses}
 use Rattle.pgstore.proofs.giving.carry_table.Goals as goal
 
 pub returns-clause-made : goal.returns-clause-made
@@ -38,3 +41,8 @@ returns-clause-goes g c =
     let read : Goes g.S.Store c.args.tx.now.conn.now c.rows_of.new.tx.conn.now = record { keeps = c.rows_of.ensures.keeps; survives = c.rows_of.ensures.survives } in
     let emptied = goes_then g.S.Store c.args.tx.now.conn.now c.rows_of.new.tx.conn.now c.empty_table.new.tx.conn.now read c.empty_table.ensures.goes.keeps c.empty_table.ensures.goes.survives in
     goes_then g.S.Store c.args.tx.now.conn.now c.empty_table.new.tx.conn.now c.carry_rows.new.tx.conn.now emptied c.carry_rows.ensures.goes.keeps c.carry_rows.ensures.goes.survives
+
+pub returns-in_err-rows-clause-fault : goal.returns-in_err-rows-clause-fault
+returns-in_err-rows-clause-fault g c clean = read_refuses c.from_residual.result c.in_err-rows.field-0.0 c.from_residual.ensures.1 (λ fault is v entries h kept.
+    let fit = all_fit c.args.old.now c.args.def.now entries (tables_of g.S.Store c.args.tx.now.conn.now) kept in
+    own_fault fault _ (own_of_read _ fault (c.in_err-rows.ensures.formed clean fit) is))

@@ -4,6 +4,8 @@ use Rattle.pgstore.specs.Spelled.{IsChanging}
 use Rattle.pgstore.proofs.Acting.{on_ok, if_err}
 use Rattle.pgstore.proofs.Definitions.{found_shape, given}
 use Rattle.pgstore.proofs.Replacing.{emptied_finds, carried_finds, carried_refuses}
+use Rattle.std.proofs.lemmas.Result.{err_from_is_err_and}
+use Rattle.pgstore.proofs.Formed.{spelled_there}
 use Rattle.pgstore.proofs.giving.replace_definition.Goals as goal
 
 pub returns-then-has_shape-clause-made : goal.returns-then-has_shape-clause-made
@@ -38,3 +40,10 @@ pub returns-clause-fault : goal.returns-clause-fault
 returns-clause-fault g c clean = if_err c.carry_table.result (c.carry_table.ensures.fault clean) (λ e refuses v h at.
     carried_refuses v c.args.def.now (tables_of g.S.Store c.args.tx.now.conn.now) h c.args.stored.now at (λ old is e. sym c.if-has_shape.false ∙ c.has_shape.ensures old is e) c.args.op.now (sym c.is_truncate.ensures ∙ c.if-is_truncate.false)
     c.args.columns.now c.requires.columns c.in_ok-old.old c.in_ok-old.ensures.ok e (λ entries. refuses v entries))
+
+pub returns-in_err-old-clause-fault : goal.returns-in_err-old-clause-fault
+returns-in_err-old-clause-fault g c clean =
+    let p = err_from_is_err_and c.from_residual.result c.from_residual.ensures.1 in
+    rw (p.1, p.2) (λ v h at.
+    let old = spelled_there v (tables_of g.S.Store c.args.tx.now.conn.now) h c.args.def.now.oid c.args.stored.now at in
+    rw (c.in_err-old.ensures.memory old.0 old.1 old.2 old.3) tt)

@@ -1,7 +1,5 @@
-use Rattle.pgsub_core.specs.Crashing.{FedOver}
 use Rattle.pgsub_core.specs.Handled.{fault_in}
 use Rattle.pgsub_cli.specs.Fed.{FeedsFile}
-use Rattle.pgsub_cli.specs.StoreAfter.{StandsFed}
 use Rattle.pgsub_cli.proofs.AppliedLines.{lines_of_file}
 use Rattle.pgsub_cli.proofs.LeftStores.{file_fed_same, stands_same, fronts_same, safely_same, file_leaves}
 use Rattle.pgsub_cli.proofs.applying.apply_input.Goals as goal

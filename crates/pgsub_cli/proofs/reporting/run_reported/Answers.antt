@@ -33,7 +33,7 @@ returns-clause-ends g c =
     (prints_within reader within gives begins failed it.holds it.place c.args.version c.args.incoming c.count_bytes.result c.new.result there stopped lines c.count_bytes.ensures
     (h (subst it.is_honest c.into_store.ensures honest)))) in
     let e = c.run_store-status.ensures.ends in
-    (e.0, e.1, writes_weaker {W = g.row.W.Denot} g.W.Output.takes g.W.Output.failed IsReadFault told wanted c.args.out.now c.run_store-status.new.out e.0 shown e.2, e.3)
+    (e.0, e.1, writes_weaker {W = g.row.W.Denot} g.W.Output.takes g.W.Output.failed (λ fault. it.is_honest (within there) → IsReadFault fault) (λ fault. it.is_honest c.into_store.result → IsReadFault fault) told wanted c.args.out.now c.run_store-status.new.out e.0 (λ fault lost honest. lost (subst it.is_honest c.into_store.ensures honest)) shown e.2, e.3)
 
 pub returns-clause-kept : goal.returns-clause-kept
 returns-clause-kept g c serves =

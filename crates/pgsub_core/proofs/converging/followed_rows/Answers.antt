@@ -24,4 +24,4 @@ pub returns-clause-refused : goal.returns-clause-refused
 returns-clause-refused g c serves =
     fails_rows g.C.ReplicaStore.holds g.C.ReplicaStore.place c.args.now c.rows.result c.args.subscriber.now c.follow.new.subscriber c.rows.new.self (bytes_of c.args.sessions.now)
     (subst (λ (z : ℤ). FeedsSessions g.C.ReplicaStore.holds g.C.ReplicaStore.place z c.args.subscriber.now (bytes_of c.args.sessions.now) c.follow.new.subscriber None) (to_z-of_z w64 c.args.now c.ranges.now)
-    (c.in_ok-follow.ensures.fed (c.rows.ensures.served serves))) (c.rows.ensures.stays serves) c.rows.ensures.same c.rows.ensures.fault
+    (c.in_ok-follow.ensures.fed (c.rows.ensures.served serves))) (c.rows.ensures.stays serves) c.rows.ensures.same (c.rows.ensures.serving_fault serves)

@@ -28,3 +28,6 @@ returns-clause-unchanged g c =
 pub returns-clause-crash : goal.returns-clause-crash
 returns-clause-crash g c =
     subst (λ (s : StoreValue g.row.S.Denot). Survives (state g.S.Store s.conn) (state g.S.Store c.dump_rows-rows.new.conn) (λ _. ⊥)) c.self.view_is c.dump_rows-rows.ensures.crash
+
+pub returns-clause-formed : goal.returns-clause-formed
+returns-clause-formed g c clean = c.dump_rows-rows.ensures.formed clean c.self.invariant.stored
