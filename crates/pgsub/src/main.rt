@@ -1,10 +1,13 @@
 //! The program: follows a server, shows, applies and compares recorded sessions of one, and keeps in a file what they lead to.
 #![tactic(auto)]
 
+mod new_store;
+
 ghost use Rattle.std.specs.Prelude.{◌≡◌, ◌≢◌, ◌⊎◌};
 ghost use Rattle.clap.specs.Values.{kind_of};
 ghost use Rattle.clap.specs.declared.error.kind.ErrorKind.TheVariants as kind;
 
+use crate::new_store::make_file;
 use pgcommand::{CommandFault, Task, command_of};
 use pgfollow::{Clock, Link};
 use pgorder::Version;
@@ -144,6 +147,8 @@ fn run_over(rt: &HostRuntime, task: &Task, path: &str) -> u8 {
         Ok(input) => input,
         Err(fault) => return tell_stopped(rt.alloc(), task, fault, &mut err),
     };
+    // Where this fails, opening tells why.
+    let _ = make_file(rt, path);
     match Store::open_from(rt.alloc(), rt, path, Unknown) {
         Ok(store) => {
             let mut out = rt.stdout();
@@ -184,6 +189,8 @@ impl Clock for SystemClock<'_> {
 /// end the log goes into the store's own file.
 fn run_live(rt: &HostRuntime, version: Version, path: &str) -> u8 {
     let mut err = rt.stderr();
+    // Where this fails, opening tells why.
+    let _ = make_file(rt, path);
     match Store::open_from(rt.alloc(), rt, path, Unknown) {
         Ok(store) => {
             let mut link = Link::new(rt.stdin(), rt.stdout());
