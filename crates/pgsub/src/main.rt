@@ -147,8 +147,9 @@ fn run_over(rt: &HostRuntime, task: &Task, path: &str) -> u8 {
         Ok(input) => input,
         Err(fault) => return tell_stopped(rt.alloc(), task, fault, &mut err),
     };
-    // Where this fails, opening tells why.
-    let _ = make_file(rt, path);
+    if let Err(fault) = make_file(rt, path) {
+        return tell_unopened(rt.alloc(), fault, &mut err);
+    }
     match Store::open_from(rt.alloc(), rt, path, Unknown) {
         Ok(store) => {
             let mut out = rt.stdout();
@@ -189,8 +190,9 @@ impl Clock for SystemClock<'_> {
 /// end the log goes into the store's own file.
 fn run_live(rt: &HostRuntime, version: Version, path: &str) -> u8 {
     let mut err = rt.stderr();
-    // Where this fails, opening tells why.
-    let _ = make_file(rt, path);
+    if let Err(fault) = make_file(rt, path) {
+        return tell_unopened(rt.alloc(), fault, &mut err);
+    }
     match Store::open_from(rt.alloc(), rt, path, Unknown) {
         Ok(store) => {
             let mut link = Link::new(rt.stdin(), rt.stdout());

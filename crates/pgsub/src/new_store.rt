@@ -3,6 +3,7 @@
 //! The SQL library makes a file with pages of 4,096 bytes, and writes each page that a commit changes whole to the log. A commit of
 //! one row changes three, so smaller pages halve what it costs. It keeps the size of a file that is there.
 
+use pgstore::StoreFault;
 use std::alloc::AllocError;
 use std::fs::File;
 use std::io::Write;
@@ -37,12 +38,23 @@ fn write_new(rt: &HostRuntime, path: &str) -> io::Result<()> {
 
 /// Makes such a database at the path, if neither it nor its log is there. It comes whole or not at all, and never in the place of a
 /// file that another process makes. Where that can't be done the SQL library makes the file, or tells why it can't.
-pub(crate) fn make_file(rt: &HostRuntime, path: &str) -> Result<(), AllocError> {
+///
+/// # Errors
+///
+/// `NotAStore` where the file has a single byte, which the library would take for an empty one, as SQLite does; `Memory`.
+pub(crate) fn make_file(rt: &HostRuntime, path: &str) -> Result<(), StoreFault> {
     let part = beside(rt, path, ".pgsub-new")?;
     // What a run left that was killed here; the library opens no file that has two names.
     let _ = fs::remove_file(rt, part.as_str());
+    if let Ok(about) = fs::metadata(rt, path) {
+        return if about.len() == 1 {
+            Err(StoreFault::NotAStore)
+        } else {
+            Ok(())
+        };
+    }
     let log = beside(rt, path, "-wal")?;
-    if fs::metadata(rt, path).is_ok() || fs::metadata(rt, log.as_str()).is_ok() {
+    if fs::metadata(rt, log.as_str()).is_ok() {
         return Ok(());
     }
     if write_new(rt, part.as_str()).is_ok() {
