@@ -5,8 +5,9 @@
 
 use pgstore::StoreFault;
 use std::alloc::AllocError;
-use std::fs::File;
+use std::fs::OpenOptions;
 use std::io::Write;
+use std::os::unix::fs::OpenOptionsExt;
 use std::{fs, io};
 
 /// The first bytes of an empty database with pages of 1,024 bytes and a write-ahead log: its header, and that of a page without cells.
@@ -21,6 +22,9 @@ const HEADERS: &[u8] = b"SQLite format 3\0\
 /// The rest of the page.
 const REST: &[u8] = &[0; 916];
 
+/// The mode of the file, as the SQL library and SQLite make one: the group and others never write to it.
+const MODE: u32 = 0o644;
+
 /// The path with something behind it.
 fn beside(rt: &HostRuntime, path: &str, end: &str) -> Result<String, AllocError> {
     let mut name = String::from_str(rt.alloc(), path)?;
@@ -30,7 +34,11 @@ fn beside(rt: &HostRuntime, path: &str, end: &str) -> Result<String, AllocError>
 
 /// Writes such a database to a new file at the path, and to the disk.
 fn write_new(rt: &HostRuntime, path: &str) -> io::Result<()> {
-    let mut file = File::create_new(rt, path)?;
+    let mut file = OpenOptions::new()
+        .write(true)
+        .create_new(true)
+        .mode(MODE)
+        .open(rt, path)?;
     file.write_all(HEADERS)?;
     file.write_all(REST)?;
     file.sync_all()
