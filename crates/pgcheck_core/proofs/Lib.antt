@@ -1,4 +1,0 @@
-pub mod Checking
-pub mod Saying
-pub mod Totals
-pub mod UnderWay

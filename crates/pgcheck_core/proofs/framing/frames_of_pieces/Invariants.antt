@@ -1,7 +1,0 @@
-use Rattle.std.proofs.Common.{ℕ, List, take}
-use Rattle.std.specs.List.{flat_map}
-use Rattle.pgcheck_core.specs.Framed.{HasTaken}
-use Rattle.pgcheck_core.proofs.framing.frames_of_pieces.Given as goal
-
-abbrev pub invariant-loop-piece : goal.invariant-loop-piece
-invariant-loop-piece l = HasTaken 16777216 (flat_map (λ (piece : List ℕ). piece) (take l.piece-index l.pieces)) l.reader

@@ -1,5 +1,0 @@
-pub mod Counted
-pub mod Framed
-pub mod Said
-pub mod Sessions
-pub mod Texts

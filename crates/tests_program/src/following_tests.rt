@@ -1,0 +1,259 @@
+//! A server is followed over a store: what is written, what is stored, and how it ends.
+
+use crate::runs::File;
+use trial_stores::{Trial, on_memory_disks};
+use pgapply::ReplicaStore;
+use pgfollow::{Clock, Link};
+use pglsn::Lsn;
+use pgorder::Version;
+use pgsub_cli::following::run_follow;
+use std::alloc::{AllocError, Global};
+use std::io;
+use std::io::{ErrorKind, Write};
+use std::process::Abort;
+use std::test::Fail;
+
+/// A transaction that ends at 0/130 and stores a row, and a keepalive of 0/180 that asks for a reply.
+const SESSION: &[u8] =
+    b"\x64\x00\x00\x00\x32\x77\x00\x00\x00\x00\x00\x00\x00\x00\x00\x00\x00\x00\x00\x00\x00\x00\x00\x00\x00\x00\x00\x00\x00\x00\x42\x00\x00\x00\x00\x00\x00\x01\x00\x00\x00\x00\x00\x00\x00\x00\x00\x00\x00\x00\x0a\x64\x00\x00\x00\x45\x77\x00\x00\x00\x00\x00\x00\x00\x00\x00\x00\x00\x00\x00\x00\x00\x00\x00\x00\x00\x00\x00\x00\x00\x00\x52\x00\x00\x40\x00\x70\x75\x62\x6c\x69\x63\x00\x74\x00\x64\x00\x02\x01\x69\x64\x00\x00\x00\x00\x17\xff\xff\xff\xff\x00\x76\x00\x00\x00\x00\x19\xff\xff\xff\xff\x64\x00\x00\x00\x31\x77\x00\x00\x00\x00\x00\x00\x00\x00\x00\x00\x00\x00\x00\x00\x00\x00\x00\x00\x00\x00\x00\x00\x00\x00\x49\x00\x00\x40\x00\x4e\x00\x02\x74\x00\x00\x00\x01\x31\x74\x00\x00\x00\x01\x61\x64\x00\x00\x00\x37\x77\x00\x00\x00\x00\x00\x00\x00\x00\x00\x00\x00\x00\x00\x00\x00\x00\x00\x00\x00\x00\x00\x00\x00\x00\x43\x00\x00\x00\x00\x00\x00\x00\x01\x00\x00\x00\x00\x00\x00\x00\x01\x30\x00\x00\x00\x00\x00\x00\x00\x00\x64\x00\x00\x00\x16\x6b\x00\x00\x00\x00\x00\x00\x01\x80\x00\x00\x00\x00\x00\x00\x00\x00\x01";
+
+/// The next one of the server: a transaction that ends at 0/230 and stores another row, and a keepalive of 0/280.
+const NEXT_SESSION: &[u8] =
+    b"\x64\x00\x00\x00\x32\x77\x00\x00\x00\x00\x00\x00\x00\x00\x00\x00\x00\x00\x00\x00\x00\x00\x00\x00\x00\x00\x00\x00\x00\x00\x42\x00\x00\x00\x00\x00\x00\x02\x00\x00\x00\x00\x00\x00\x00\x00\x00\x00\x00\x00\x0b\x64\x00\x00\x00\x45\x77\x00\x00\x00\x00\x00\x00\x00\x00\x00\x00\x00\x00\x00\x00\x00\x00\x00\x00\x00\x00\x00\x00\x00\x00\x52\x00\x00\x40\x00\x70\x75\x62\x6c\x69\x63\x00\x74\x00\x64\x00\x02\x01\x69\x64\x00\x00\x00\x00\x17\xff\xff\xff\xff\x00\x76\x00\x00\x00\x00\x19\xff\xff\xff\xff\x64\x00\x00\x00\x31\x77\x00\x00\x00\x00\x00\x00\x00\x00\x00\x00\x00\x00\x00\x00\x00\x00\x00\x00\x00\x00\x00\x00\x00\x00\x49\x00\x00\x40\x00\x4e\x00\x02\x74\x00\x00\x00\x01\x32\x74\x00\x00\x00\x01\x61\x64\x00\x00\x00\x37\x77\x00\x00\x00\x00\x00\x00\x00\x00\x00\x00\x00\x00\x00\x00\x00\x00\x00\x00\x00\x00\x00\x00\x00\x00\x43\x00\x00\x00\x00\x00\x00\x00\x02\x00\x00\x00\x00\x00\x00\x00\x02\x30\x00\x00\x00\x00\x00\x00\x00\x00\x64\x00\x00\x00\x16\x6b\x00\x00\x00\x00\x00\x00\x02\x80\x00\x00\x00\x00\x00\x00\x00\x00\x01";
+
+/// CopyDone, with which a session ends.
+const COPY_DONE: &[u8] = b"c\0\0\0\x04";
+
+/// Takes at most so many bytes at a call, and none after so many.
+#[derive(Drop)]
+struct Writer {
+    taken: Vec<u8>,
+    at_once: usize,
+    most: usize,
+}
+
+impl Write for Writer {
+    fn write(&mut self, buf: &[u8]) -> io::Result<usize> {
+        let room = self.most.saturating_sub(self.taken.len());
+        let count = buf.len().min(self.at_once).min(room);
+        if count == 0 {
+            return Err(io::Error::from(ErrorKind::Other));
+        }
+        self.taken.extend_from_slice(&buf[..count])?;
+        Ok(count)
+    }
+
+    fn flush(&mut self) -> io::Result<()> {
+        Ok(())
+    }
+}
+
+/// A clock that stands still.
+#[derive(Drop)]
+struct Still;
+
+impl Clock for Still {
+    fn now(&mut self) -> i64 {
+        7
+    }
+}
+
+/// What following leaves.
+#[derive(Clone, Copy, Drop)]
+struct Expected<'t> {
+    /// What the statuses confirm, in order.
+    told: &'t [u64],
+    position: u64,
+    err: &'t str,
+    status: u8,
+}
+
+/// Appends the status of an LSN that is received, flushed and applied.
+fn push_status(told: &mut Vec<u8>, lsn: u64) -> Result<(), AllocError> {
+    told.extend_from_slice(b"\x64\x00\x00\x00\x26\x72")?;
+    for _ in 0..3 {
+        told.extend_from_slice(&lsn.to_be_bytes())?;
+    }
+    told.extend_from_slice(b"\x00\x00\x00\x00\x00\x00\x00\x07\x00")
+}
+
+/// The bytes of the statuses, of which the writer takes at most so many.
+fn told_bytes(alloc: Global, told: &[u64], most: usize) -> Result<Vec<u8>, AllocError> {
+    let mut bytes = Vec::new(alloc);
+    for lsn in told {
+        push_status(&mut bytes, *lsn)?;
+    }
+    bytes.truncate(most);
+    Ok(bytes)
+}
+
+/// Follows the bytes of a reader over an empty store, and writes to a writer that takes at most so many bytes.
+#[derive(Drop)]
+struct Follows<'t> {
+    reader: File<'t>,
+    most: usize,
+    expected: Expected<'t>,
+}
+
+impl Trial for Follows<'_> {
+    type Outcome = Result<(), Fail>;
+
+    fn run<C: ReplicaStore + Drop>(
+        &self,
+        rt: &(impl Abort + AllocGlobal),
+        store: C,
+    ) -> Result<(), Fail> {
+        let (alloc, expected) = (rt.alloc(), &self.expected);
+        let writer = Writer {
+            taken: Vec::new(alloc),
+            at_once: 7,
+            most: self.most,
+        };
+        let mut link = Link::new(self.reader, writer);
+        let mut err = Vec::new(alloc);
+        let (status, store) = run_follow(
+            alloc,
+            store,
+            Version::Two,
+            &mut link,
+            &mut Still,
+            &mut err,
+        );
+        let told = told_bytes(alloc, expected.told, self.most)?;
+        assert!(rt; link.writer().taken.as_slice() == told.as_slice());
+        assert!(rt; store.position() == Lsn(expected.position));
+        assert!(rt; err.as_slice() == expected.err.as_bytes(), "{err:?}");
+        assert!(rt; status == expected.status, "{status}");
+        Ok(())
+    }
+}
+
+fn check(
+    rt: &(impl Abort + AllocGlobal),
+    reader: File<'_>,
+    most: usize,
+    expected: &Expected<'_>,
+) -> Result<(), Fail> {
+    let expected = *expected;
+    on_memory_disks(
+        rt,
+        &Follows {
+            reader,
+            most,
+            expected,
+        },
+    )?
+}
+
+const AMPLE: usize = 100000;
+
+#[test]
+fn statuses_follow_what_is_stored(rt: HostRuntime) -> Result<(), Fail> {
+    let whole = Expected {
+        told: &[0, 0x180, 0x180],
+        position: 0x130,
+        err: "",
+        status: 0,
+    };
+    let parts = Expected {
+        told: &[0, 0x130, 0x180, 0x180],
+        position: 0x130,
+        err: "",
+        status: 0,
+    };
+    for (at_once, expected) in [(AMPLE, &whole), (250, &whole), (5, &parts), (1, &parts)] {
+        let reader = File {
+            rest: SESSION,
+            at_once,
+            error: None,
+        };
+        check(&rt, reader, AMPLE, expected)?;
+    }
+    Ok(())
+}
+
+#[test]
+fn the_next_session_follows_copy_done(rt: HostRuntime) -> Result<(), Fail> {
+    let mut sessions = Vec::new(rt.alloc());
+    sessions.extend_from_slice(SESSION)?;
+    sessions.extend_from_slice(COPY_DONE)?;
+    sessions.extend_from_slice(NEXT_SESSION)?;
+    for (at_once, told) in [
+        (AMPLE, [0, 0x180, 0x180, 0x280, 0x280].as_slice()),
+        (1, [0, 0x130, 0x180, 0x180, 0x230, 0x280, 0x280].as_slice()),
+    ] {
+        let reader = File {
+            rest: sessions.as_slice(),
+            at_once,
+            error: None,
+        };
+        let expected = Expected {
+            told,
+            position: 0x230,
+            err: "",
+            status: 0,
+        };
+        check(&rt, reader, AMPLE, &expected)?;
+    }
+    Ok(())
+}
+
+#[test]
+fn a_failed_read_ends_it(rt: HostRuntime) -> Result<(), Fail> {
+    for (count, told, position) in [
+        (0, [0].as_slice(), 0),
+        (226, [0].as_slice(), 0),
+        (227, [0, 0x130].as_slice(), 0x130),
+        (249, [0, 0x130].as_slice(), 0x130),
+        (250, [0, 0x130, 0x180, 0x180].as_slice(), 0x130),
+    ] {
+        let reader = File {
+            rest: SESSION.get(..count).unwrap_or(b""),
+            at_once: 1,
+            error: Some(ErrorKind::Other),
+        };
+        let expected = Expected {
+            told,
+            position,
+            err: "pgsub: read\n",
+            status: 3,
+        };
+        check(&rt, reader, AMPLE, &expected)?;
+    }
+    Ok(())
+}
+
+#[test]
+fn a_failed_write_ends_it(rt: HostRuntime) -> Result<(), Fail> {
+    for (most, position) in [(0, 0), (38, 0), (39, 0x130), (50, 0x130), (78, 0x130)] {
+        let reader = File {
+            rest: SESSION,
+            at_once: 5,
+            error: None,
+        };
+        let expected = Expected {
+            told: &[0, 0x130, 0x180],
+            position,
+            err: "pgsub: cannot write\n",
+            status: 3,
+        };
+        check(&rt, reader, most, &expected)?;
+    }
+    Ok(())
+}
+
+#[test]
+fn a_rejected_stream_confirms_no_more(rt: HostRuntime) -> Result<(), Fail> {
+    let reader = File {
+        rest: b"x",
+        at_once: AMPLE,
+        error: None,
+    };
+    let expected = Expected {
+        told: &[0],
+        position: 0,
+        err: "pgsub: wire 1 UnknownFrame 120\n",
+        status: 1,
+    };
+    check(&rt, reader, AMPLE, &expected)
+}

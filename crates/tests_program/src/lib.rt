@@ -1,0 +1,28 @@
+//! Tests of the program's commands and of its command line, and no code.
+//!
+//! A row is a recording, the bytes of a session or a command line. It is run over readers and writers in memory, and what it prints, what it
+//! tells on standard error and its exit status are compared whole.
+#![tactic(auto)]
+
+#[cfg(test)]
+mod applying_tests;
+#[cfg(test)]
+mod cases;
+#[cfg(test)]
+mod commands;
+#[cfg(test)]
+mod comparing_tests;
+#[cfg(test)]
+mod fault_tests;
+#[cfg(test)]
+mod following_tests;
+#[cfg(test)]
+mod reporting_tests;
+#[cfg(test)]
+mod runs;
+#[cfg(test)]
+mod showing_tests;
+#[cfg(test)]
+mod storing_tests;
+#[cfg(test)]
+mod tests;

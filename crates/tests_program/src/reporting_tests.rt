@@ -1,0 +1,104 @@
+//! What is told of a long run, and that nothing else is another one.
+
+use trial_stores::{Trial, on_memory_disks};
+use pgapply::ReplicaStore;
+use pglsn::Lsn;
+use pgorder::Version;
+use pgsub_cli::reporting::{Progress, Reporter, run_opened};
+use pgsub_cli::storing::Incoming;
+use std::cell::{Cell, RefCell};
+use std::io;
+use std::process::Abort;
+use std::test::Fail;
+use std::time::{Clock, Duration};
+
+/// A clock that goes on by 600 milliseconds whenever it is read.
+#[derive(Drop)]
+struct Ticking {
+    millis: Cell<u64>,
+}
+
+impl Clock for Ticking {
+    fn monotonic(&self) -> io::Result<Duration> {
+        let now = self.millis.get();
+        self.millis.set(now.wrapping_add(600));
+        Ok(Duration::from_millis(now))
+    }
+
+    fn since_1970(&self) -> io::Result<Duration> {
+        self.monotonic()
+    }
+}
+
+fn new_clock() -> Ticking {
+    Ticking {
+        millis: Cell::new(0),
+    }
+}
+
+#[test]
+fn a_line_says_how_far_it_is(rt: HostRuntime) -> Result<(), Fail> {
+    let mut progress = Progress {
+        read: 4096,
+        total: Some(10000),
+        commits: 2,
+        changes: 30,
+        position: Lsn(0x130),
+        rate: 25,
+    };
+    let line = format!(in rt.alloc(); "{progress}")?;
+    let expected =
+        "pgsub: 4096 of 10000 bytes read, 2 commits, 30 changes, position 0/130, 25 changes/s\n";
+    assert_eq!(rt; line.as_str(), expected);
+    progress.total = None;
+    let line = format!(in rt.alloc(); "{progress}")?;
+    let expected = "pgsub: 4096 bytes read, 2 commits, 30 changes, position 0/130, 25 changes/s\n";
+    assert_eq!(rt; line.as_str(), expected);
+    Ok(())
+}
+
+#[test]
+fn a_line_comes_once_a_second_at_most(rt: HostRuntime) -> Result<(), Fail> {
+    let mut lines = Vec::new(rt.alloc());
+    let mut reporter = Reporter::new(rt.alloc(), new_clock(), &mut lines, Some(9))?;
+    reporter.note_commit(Lsn(0x130), 3);
+    reporter.note_bytes(5);
+    reporter.note_bytes(1);
+    reporter.note_commit(Lsn(0x230), 9);
+    drop(reporter);
+    let expected =
+        b"pgsub: 5 of 9 bytes read, 1 commits, 3 changes, position 0/130, 2 changes/s\npgsub: 6 of 9 bytes read, 2 commits, 12 changes, position 0/230, 5 changes/s\n";
+    assert!(rt; lines.as_slice() == expected.as_slice(), "{lines:?}");
+    Ok(())
+}
+
+/// A run of which is told how far it is.
+struct IsTold;
+
+impl Trial for IsTold {
+    type Outcome = Result<(), Fail>;
+
+    fn run<C: ReplicaStore + Drop>(
+        &self,
+        rt: &(impl Abort + AllocGlobal),
+        store: C,
+    ) -> Result<(), Fail> {
+        let alloc = rt.alloc();
+        let reporter = RefCell::new(Reporter::new(alloc, new_clock(), Vec::new(alloc), None)?);
+        let (mut out, mut err) = (Vec::new(alloc), Vec::new(alloc));
+        let input = Some((Version::Two, Incoming::Raw(b"x".as_slice())));
+        let (status, _) = run_opened(alloc, store, input, Some(&reporter), &mut out, &mut err);
+        assert_eq!(rt; out.as_slice(), b"position 0/0\n".as_slice());
+        assert_eq!(rt;
+            err.as_slice(),
+            b"pgsub: wire 1 UnknownFrame 120\n".as_slice()
+        );
+        assert_eq!(rt; status, 1);
+        Ok(())
+    }
+}
+
+#[test]
+fn a_run_that_is_told_ends_as_another(rt: HostRuntime) -> Result<(), Fail> {
+    on_memory_disks(&rt, &IsTold)?
+}

@@ -1,0 +1,82 @@
+//! What is applied to a store, and how a store that isn't opened is told.
+
+use trial_stores::{Trial, on_memory_disks};
+use pgapply::{ReplicaStore, StoreFault};
+use pgcommand::Task;
+use pgorder::Version;
+use pgsub_cli::fault::RunFault;
+use pgsub_cli::storing::{Incoming, read_input, run_store, tell_stopped, tell_unopened};
+use pgsub_core::Side;
+use std::process::Abort;
+use std::test::Fail;
+
+/// The bytes of a file, which are no frames.
+struct FeedsBytes;
+
+impl Trial for FeedsBytes {
+    type Outcome = Result<(), Fail>;
+
+    fn run<C: ReplicaStore + Drop>(
+        &self,
+        rt: &(impl Abort + AllocGlobal),
+        store: C,
+    ) -> Result<(), Fail> {
+        let alloc = rt.alloc();
+        let file = Some(b"x".as_slice());
+        let Ok(Incoming::Raw(bytes)) = read_input(alloc, true, file) else {
+            return Err(Fail::from("the file isn't taken as bytes"));
+        };
+        let input = Some((Version::Two, Incoming::Raw(bytes)));
+        let (mut out, mut err) = (Vec::new(alloc), Vec::new(alloc));
+        let (status, _) = run_store(alloc, store, input, &mut out, &mut err);
+        assert_eq!(rt; out.as_slice(), b"position 0/0\n".as_slice());
+        assert_eq!(rt;
+            err.as_slice(),
+            b"pgsub: wire 1 UnknownFrame 120\n".as_slice()
+        );
+        assert_eq!(rt; status, 1);
+        Ok(())
+    }
+}
+
+#[test]
+fn the_bytes_of_a_file_are_fed_to_a_store(rt: HostRuntime) -> Result<(), Fail> {
+    on_memory_disks(&rt, &FeedsBytes)?
+}
+
+#[test]
+fn what_cannot_be_read_is_no_input(rt: HostRuntime) -> Result<(), Fail> {
+    let none: Option<&[u8]> = None;
+    for raw in [false, true] {
+        let Err(fault) = read_input(rt.alloc(), raw, none) else {
+            return Err(Fail::from("a file that isn't there"));
+        };
+        assert_eq!(rt; fault, RunFault::CannotRead(Side::Left));
+    }
+    let Err(fault) = read_input(rt.alloc(), false, Some(b"x".as_slice())) else {
+        return Err(Fail::from("a recording that isn't one"));
+    };
+    assert_eq!(rt; fault, RunFault::NotHexadecimal(1));
+    Ok(())
+}
+
+#[test]
+fn a_store_that_is_not_opened_is_told(rt: HostRuntime) -> Result<(), Fail> {
+    let alloc = rt.alloc();
+    for (fault, line, status) in [
+        (StoreFault::Refused, "pgsub: store 8 Refused\n", 3),
+        (StoreFault::NotAStore, "pgsub: store 10 NotAStore\n", 3),
+        (StoreFault::Memory, "pgsub: memory\n", 1),
+    ] {
+        let mut err = Vec::new(alloc);
+        assert_eq!(rt; tell_unopened(alloc, fault, &mut err), status);
+        assert_eq!(rt; err.as_slice(), line.as_bytes());
+    }
+    let store = String::from_str(alloc, "copy.db")?;
+    let task = Task::Dump { store };
+    let mut err = Vec::new(alloc);
+    let fault = RunFault::CannotRead(Side::Left);
+    assert_eq!(rt; tell_stopped(alloc, &task, fault, &mut err), 3);
+    assert_eq!(rt; err.as_slice(), b"pgsub: cannot read copy.db\n".as_slice());
+    Ok(())
+}

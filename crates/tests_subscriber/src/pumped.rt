@@ -1,0 +1,172 @@
+//! A session that a reader gives.
+
+use crate::row::Step::{At, Rows};
+use crate::row::{AMPLE, Row, T_1_A};
+use crate::steps::{MAX_FRAME, NOW, bytes_of, take_steps};
+use trial_stores::{Trial, in_memory};
+use pgapply::ReplicaStore;
+use pglsn::Lsn;
+use pgorder::{OrderFault, Version};
+use pgspool::{ByteSpools, ListSpools, Spools};
+use pgsub_core::{Fault, Source, Subscriber, pump};
+use std::io;
+use std::io::{ErrorKind, Read};
+use std::process::Abort;
+use std::test::Fail;
+
+/// Gives at most so many bytes a call, and after the last one an error or the end.
+#[derive(Clone, Copy, Drop)]
+struct Reader<'t> {
+    rest: &'t [u8],
+    at_once: usize,
+    fails: bool,
+}
+
+impl<'t> Read for Reader<'t> {
+    fn read(&mut self, buf: &mut [u8]) -> io::Result<usize> {
+        if self.rest.is_empty() && self.fails {
+            return Err(io::Error::from(ErrorKind::Other));
+        }
+        let count = buf.len().min(self.at_once);
+        self.rest.read(&mut buf[..count])
+    }
+}
+
+/// What the transaction of the reader leaves.
+static STORED: Row = Row {
+    shows: "a session of a reader",
+    limit: AMPLE,
+    steps: &[At(0x130, 0x130, 0x130), Rows(&[T_1_A])],
+};
+
+/// Pumps the first bytes from a reader that then fails, and feeds the others.
+fn pump_and_feed<P: Spools + Drop, C: ReplicaStore + Drop>(
+    rt: &(impl Abort + AllocGlobal),
+    subscriber: &mut Subscriber<P, C>,
+    front: &[u8],
+    rest: &[u8],
+) -> Result<(), Fail> {
+    let mut source = Source::new(Reader {
+        rest: front,
+        at_once: 5,
+        fails: true,
+    });
+    assert!(rt; !source.failed());
+    assert!(rt; pump(&mut source, subscriber, NOW) == Err(Fault::Read));
+    assert!(rt; source.failed());
+    let position = if rest.is_empty() { 0x130 } else { 0 };
+    assert!(rt;
+        subscriber.position() == Lsn(position),
+        "after {} bytes",
+        front.len()
+    );
+    assert!(rt; subscriber.feed(rest, NOW).is_ok());
+    take_steps(rt, subscriber, &STORED, 1)
+}
+
+/// Pumps the bytes of a reader that gives so many a call.
+fn pump_all<P: Spools + Drop, C: ReplicaStore + Drop>(
+    rt: &impl Abort,
+    subscriber: &mut Subscriber<P, C>,
+    rest: &[u8],
+    at_once: usize,
+) -> Result<(), Fault> {
+    let mut source = Source::new(Reader {
+        rest,
+        at_once,
+        fails: false,
+    });
+    assert!(rt; !source.failed());
+    let pumped = pump(&mut source, subscriber, NOW);
+    assert!(rt; !source.failed());
+    pumped
+}
+
+/// Pumps the first bytes over a new store, and feeds the others.
+fn fail_after<P: Spools + Drop, C: ReplicaStore + Drop>(
+    rt: &(impl Abort + AllocGlobal),
+    store: C,
+    spools: P,
+    bytes: &[u8],
+    count: usize,
+) -> Result<(), Fail> {
+    let (front, rest) = bytes.split_at(count.min(bytes.len()));
+    let mut subscriber = Subscriber::new(rt.alloc(), store, spools, Version::Two, MAX_FRAME);
+    pump_and_feed(rt, &mut subscriber, front, rest)
+}
+
+/// A reader that fails after so many of the bytes.
+#[derive(Drop)]
+struct FailsAfter<'t> {
+    bytes: &'t [u8],
+    count: usize,
+    is_encoded: bool,
+}
+
+impl Trial for FailsAfter<'_> {
+    type Outcome = Result<(), Fail>;
+
+    fn run<C: ReplicaStore + Drop>(
+        &self,
+        rt: &(impl Abort + AllocGlobal),
+        store: C,
+    ) -> Result<(), Fail> {
+        if self.is_encoded {
+            let spools = ByteSpools::new(rt.alloc(), AMPLE);
+            fail_after(rt, store, spools, self.bytes, self.count)
+        } else {
+            let spools = ListSpools::new(rt.alloc(), AMPLE);
+            fail_after(rt, store, spools, self.bytes, self.count)
+        }
+    }
+}
+
+#[test]
+fn a_reader_that_fails_after_each_byte(rt: HostRuntime) -> Result<(), Fail> {
+    let bytes = bytes_of(rt.alloc(), "t1")?;
+    let bytes = bytes.as_slice();
+    assert!(rt; bytes.len() == 227);
+    for count in 0..=bytes.len() {
+        for is_encoded in [true, false] {
+            in_memory(
+                &rt,
+                &FailsAfter {
+                    bytes,
+                    count,
+                    is_encoded,
+                },
+            )??;
+        }
+    }
+    Ok(())
+}
+
+/// Pumps readers over a new store: one of a transaction, a byte at each call, and one of a Commit in a session of its own.
+struct ReadsToTheEnd;
+
+impl Trial for ReadsToTheEnd {
+    type Outcome = Result<(), Fail>;
+
+    fn run<C: ReplicaStore + Drop>(
+        &self,
+        rt: &(impl Abort + AllocGlobal),
+        store: C,
+    ) -> Result<(), Fail> {
+        let alloc = rt.alloc();
+        let spools = ListSpools::new(alloc, AMPLE);
+        let mut subscriber = Subscriber::new(alloc, store, spools, Version::Two, MAX_FRAME);
+        let bytes = bytes_of(alloc, "t1")?;
+        assert!(rt; pump_all(rt, &mut subscriber, bytes.as_slice(), 1).is_ok());
+        take_steps(rt, &mut subscriber, &STORED, 1)?;
+        subscriber.disconnect();
+        let bytes = bytes_of(alloc, "commit:130")?;
+        let pumped = pump_all(rt, &mut subscriber, bytes.as_slice(), 4096);
+        assert!(rt; pumped == Err(Fault::Order(OrderFault::CommitWithoutBegin)));
+        take_steps(rt, &mut subscriber, &STORED, 1)
+    }
+}
+
+#[test]
+fn a_reader_is_read_to_its_end(rt: HostRuntime) -> Result<(), Fail> {
+    in_memory(&rt, &ReadsToTheEnd)?
+}

@@ -1,0 +1,153 @@
+//! Subscribers of which one request for memory is refused: `tools/refused_memory/run.sh tests_subscriber` refuses each in turn.
+
+use crate::blocks::{IN_BLOCKS, IN_PAIRS};
+use crate::row::{AMPLE, Stored, T_1_E, T_1_L, T_2_M};
+use crate::steps::{BadSession, MAX_FRAME, NOW, are_rows, sessions_of};
+use pgapply::{DumpRow, ReplicaStore, StoreFault};
+use pglsn::Lsn;
+use pgorder::Version;
+use pgspool::{ByteSpools, ListSpools, Spools};
+use pgsub_core::{Fault, Session, Subscriber, follow};
+use std::alloc::Global;
+use std::process::Abort;
+use std::test::Fail;
+use trial_stores::{Trial, in_memory, on_memory_disks};
+
+/// A session in chunks, asked for once more where memory was refused.
+fn sessions_in_the_end(alloc: Global, session: &'static str) -> Result<Vec<Session>, BadSession> {
+    match sessions_of(alloc, &[session], 51) {
+        Err(BadSession::Memory) => sessions_of(alloc, &[session], 51),
+        answer => answer,
+    }
+}
+
+/// All rows, asked for once more where memory was refused.
+fn rows_in_the_end<P: Spools + Drop, C: ReplicaStore + Drop>(
+    subscriber: &mut Subscriber<P, C>,
+) -> Result<Vec<DumpRow>, Fault> {
+    match subscriber.rows() {
+        Err(Fault::Memory) => subscriber.rows(),
+        answer => answer,
+    }
+}
+
+/// The rows that both sessions leave at the end LSN of each commit.
+fn rows_at(position: Lsn) -> Option<&'static [Stored]> {
+    match position.0 {
+        0 => Some(&[]),
+        0x330 => Some(&[T_1_E]),
+        0x430 => Some(&[T_1_L, T_2_M]),
+        _ => None,
+    }
+}
+
+/// Whether the rows are those of the commit at the position.
+fn has_rows_of_a_commit<P: Spools + Drop, C: ReplicaStore + Drop>(
+    subscriber: &mut Subscriber<P, C>,
+) -> Result<bool, Fault> {
+    let Some(wanted) = rows_at(subscriber.position()) else {
+        return Ok(false);
+    };
+    let rows = rows_in_the_end(subscriber)?;
+    Ok(are_rows(rows.as_slice(), wanted))
+}
+
+/// Follows a session to its end, once more where memory was refused; then the rows in between are those of a commit. Where a store on
+/// disks has shut, the position is still that of a commit.
+fn follow_in_the_end<P: Spools + Drop, C: ReplicaStore + Drop>(
+    rt: &impl Abort,
+    subscriber: &mut Subscriber<P, C>,
+    sessions: &[Session],
+) -> Result<(), Fault> {
+    let followed = follow(subscriber, sessions, NOW);
+    assert!(rt; rows_at(subscriber.position()).is_some());
+    if followed != Err(Fault::Memory) {
+        return followed;
+    }
+    assert!(rt; has_rows_of_a_commit(subscriber)?);
+    follow(subscriber, sessions, NOW)
+}
+
+/// Whether a session is taken whole over a new store, where one request for memory may be refused.
+fn takes_all<P: Spools + Drop, C: ReplicaStore + Drop>(
+    rt: &(impl Abort + AllocGlobal),
+    store: C,
+    spools: P,
+    sessions: &[Session],
+) -> Result<bool, Fault> {
+    let mut subscriber = Subscriber::new(rt.alloc(), store, spools, Version::Two, MAX_FRAME);
+    follow_in_the_end(rt, &mut subscriber, sessions)?;
+    Ok(subscriber.position() == Lsn(0x430) && has_rows_of_a_commit(&mut subscriber)?)
+}
+
+/// Takes a session whole with spools of either kind.
+#[derive(Drop)]
+struct TakesAll<'a> {
+    as_bytes: bool,
+    sessions: &'a [Session],
+}
+
+impl Trial for TakesAll<'_> {
+    type Outcome = Result<bool, Fault>;
+
+    fn run<C: ReplicaStore + Drop>(
+        &self,
+        rt: &(impl Abort + AllocGlobal),
+        store: C,
+    ) -> Result<bool, Fault> {
+        if self.as_bytes {
+            takes_all(rt, store, ByteSpools::new(rt.alloc(), AMPLE), self.sessions)
+        } else {
+            takes_all(rt, store, ListSpools::new(rt.alloc(), AMPLE), self.sessions)
+        }
+    }
+}
+
+/// Whether all is taken over a store in memory, which is asked for once more where memory was refused.
+fn takes_all_in_memory(
+    rt: &(impl Abort + AllocGlobal),
+    trial: &TakesAll<'_>,
+) -> Result<bool, Fail> {
+    match in_memory(rt, trial) {
+        Ok(taken) => Ok(taken?),
+        Err(_) => Ok(in_memory(rt, trial)??),
+    }
+}
+
+/// The same over disks in memory. Where a disk can't grow, the store may shut with `Refused`, and all is taken anew by other spools.
+fn takes_all_on_disks(
+    rt: &(impl Abort + AllocGlobal),
+    trial: &TakesAll<'_>,
+) -> Result<bool, Fail> {
+    if let Ok(taken) = on_memory_disks(rt, trial) {
+        if taken != Err(Fault::Store(StoreFault::Refused)) {
+            return Ok(taken?);
+        }
+    }
+    Ok(on_memory_disks(rt, trial)??)
+}
+
+// The only answer beside those that would have come is Memory, and nothing is lost.
+#[test]
+fn refused_memory_changes_nothing(rt: HostRuntime) -> Result<(), Fail> {
+    for session in [IN_PAIRS, IN_BLOCKS] {
+        let sessions = sessions_in_the_end(rt.alloc(), session)?;
+        for as_bytes in [true, false] {
+            let sessions = sessions.as_slice();
+            assert!(rt; takes_all_in_memory(&rt, &TakesAll { as_bytes, sessions })?);
+        }
+    }
+    Ok(())
+}
+
+#[test]
+fn on_disks_refused_memory_changes_nothing(rt: HostRuntime) -> Result<(), Fail> {
+    for session in [IN_PAIRS, IN_BLOCKS] {
+        let sessions = sessions_in_the_end(rt.alloc(), session)?;
+        for as_bytes in [true, false] {
+            let sessions = sessions.as_slice();
+            assert!(rt; takes_all_on_disks(&rt, &TakesAll { as_bytes, sessions })?);
+        }
+    }
+    Ok(())
+}

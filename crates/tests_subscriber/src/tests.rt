@@ -1,0 +1,125 @@
+//! The worked rows by each form of spools over each form of store.
+
+use crate::blocks::BLOCKS;
+use crate::row::Row;
+use crate::states::{STATES, VERSION_1};
+use crate::steps::{Way, check};
+use trial_stores::{Trial, in_memory, on_memory_disks};
+use crate::transactions::{BAD_CHANGES, TRANSACTIONS};
+use pgapply::ReplicaStore;
+use pgorder::Version;
+use std::process::Abort;
+use std::test::Fail;
+
+/// Encoded items, a byte at a time.
+const ENCODED_IN_BYTES: Way = Way {
+    version: Version::Two,
+    is_encoded: true,
+    chunk_len: 1,
+};
+
+/// Encoded items, in chunks of the length of a frame.
+const ENCODED_IN_CHUNKS: Way = Way {
+    version: Version::Two,
+    is_encoded: true,
+    chunk_len: 51,
+};
+
+/// Encoded items, all bytes at once.
+const ENCODED_AT_ONCE: Way = Way {
+    version: Version::Two,
+    is_encoded: true,
+    chunk_len: 1048576,
+};
+
+/// Decoded items, a byte at a time.
+const DECODED_IN_BYTES: Way = Way {
+    version: Version::Two,
+    is_encoded: false,
+    chunk_len: 1,
+};
+
+/// Decoded items, all bytes at once.
+const DECODED_AT_ONCE: Way = Way {
+    version: Version::Two,
+    is_encoded: false,
+    chunk_len: 1048576,
+};
+
+/// All bytes at once in version 1.
+const IN_VERSION_1: Way = Way {
+    version: Version::One,
+    is_encoded: true,
+    chunk_len: 1048576,
+};
+
+/// Takes the steps of a row.
+#[derive(Drop)]
+struct TakesRow {
+    row: Row,
+    way: Way,
+}
+
+impl Trial for TakesRow {
+    type Outcome = Result<(), Fail>;
+
+    fn run<C: ReplicaStore + Drop>(
+        &self,
+        rt: &(impl Abort + AllocGlobal),
+        store: C,
+    ) -> Result<(), Fail> {
+        check(rt, store, &self.row, self.way)
+    }
+}
+
+/// Takes rows over stores in memory.
+fn check_in_memory(rt: &(impl Abort + AllocGlobal), rows: &[Row], way: Way) -> Result<(), Fail> {
+    for row in rows {
+        in_memory(rt, &TakesRow { row: *row, way })??;
+    }
+    Ok(())
+}
+
+/// Takes rows over B-trees on disks in memory.
+fn check_on_disks(rt: &(impl Abort + AllocGlobal), rows: &[Row], way: Way) -> Result<(), Fail> {
+    for row in rows {
+        on_memory_disks(rt, &TakesRow { row: *row, way })??;
+    }
+    Ok(())
+}
+
+#[test]
+fn transactions_in_memory(rt: HostRuntime) -> Result<(), Fail> {
+    for way in [ENCODED_IN_BYTES, DECODED_AT_ONCE, IN_VERSION_1] {
+        check_in_memory(&rt, TRANSACTIONS, way)?;
+        check_in_memory(&rt, BAD_CHANGES, way)?;
+    }
+    Ok(())
+}
+
+#[test]
+fn blocks_in_memory(rt: HostRuntime) -> Result<(), Fail> {
+    for way in [ENCODED_IN_CHUNKS, ENCODED_AT_ONCE, DECODED_IN_BYTES] {
+        check_in_memory(&rt, BLOCKS, way)?;
+        check_in_memory(&rt, STATES, way)?;
+    }
+    Ok(())
+}
+
+#[test]
+fn version_1_has_no_blocks(rt: HostRuntime) -> Result<(), Fail> {
+    check_in_memory(&rt, VERSION_1, IN_VERSION_1)
+}
+
+#[test]
+fn transactions_on_disks(rt: HostRuntime) -> Result<(), Fail> {
+    check_on_disks(&rt, TRANSACTIONS, ENCODED_IN_CHUNKS)?;
+    check_on_disks(&rt, BAD_CHANGES, DECODED_AT_ONCE)
+}
+
+#[test]
+fn blocks_on_disks(rt: HostRuntime) -> Result<(), Fail> {
+    check_on_disks(&rt, BLOCKS, ENCODED_IN_BYTES)?;
+    check_on_disks(&rt, BLOCKS, DECODED_AT_ONCE)?;
+    check_on_disks(&rt, STATES, DECODED_IN_BYTES)
+}

@@ -1,0 +1,164 @@
+//! The tables as others read and write them. What each statement does is proved, and `tests_store` runs them all.
+
+ghost use Rattle.std.specs.Prelude.{◌≡◌, false};
+ghost use Rattle.sqlite.specs.Held.{state};
+ghost use Rattle.pgtables.specs.Schema.{no_schema};
+ghost use Rattle.pgtables.specs.Kept.{IfServing};
+
+use pgtables::{
+    Remains, create_tables, delete_row, find_remains, put_position, put_row, update_row,
+};
+use sqlite::{Alter, Connection, Error};
+use std::test::Fail;
+
+/// All tables of a store.
+pub(crate) const ALL: Remains = Remains {
+    has_definitions: true,
+    has_rows: true,
+    has_position: true,
+};
+
+const NONE: Remains = Remains {
+    has_definitions: false,
+    has_rows: false,
+    has_position: false,
+};
+
+/// A schema as SQL text, and whether it is that of a store.
+type Made = (&'static str, bool);
+
+const REL: &str =
+    "CREATE TABLE rel (oid INTEGER PRIMARY KEY NOT NULL, nsp TEXT NOT NULL, name TEXT NOT NULL, letter INTEGER NOT NULL, cols BLOB NOT NULL) STRICT;";
+
+const SCHEMAS: &[Made] = &[
+    (
+        "CREATE TABLE held (oid INTEGER NOT NULL, ident BLOB NOT NULL, body BLOB NOT NULL, copies INTEGER NOT NULL, PRIMARY KEY (oid, ident)) STRICT; CREATE TABLE pos (id INTEGER PRIMARY KEY NOT NULL CHECK (id = 0), lsn BLOB NOT NULL) STRICT",
+        true,
+    ),
+    // Without a table, and with one more.
+    (
+        "CREATE TABLE held (oid INTEGER NOT NULL, ident BLOB NOT NULL, body BLOB NOT NULL, copies INTEGER NOT NULL, PRIMARY KEY (oid, ident)) STRICT",
+        false,
+    ),
+    (
+        "CREATE TABLE held (oid INTEGER NOT NULL, ident BLOB NOT NULL, body BLOB NOT NULL, copies INTEGER NOT NULL, PRIMARY KEY (oid, ident)) STRICT; CREATE TABLE pos (id INTEGER PRIMARY KEY NOT NULL CHECK (id = 0), lsn BLOB NOT NULL) STRICT; CREATE TABLE more (id INTEGER PRIMARY KEY)",
+        false,
+    ),
+    // A column that may be null, one of another type, a wider identity, no STRICT, and another test of the position.
+    (
+        "CREATE TABLE held (oid INTEGER NOT NULL, ident BLOB NOT NULL, body BLOB, copies INTEGER NOT NULL, PRIMARY KEY (oid, ident)) STRICT; CREATE TABLE pos (id INTEGER PRIMARY KEY NOT NULL CHECK (id = 0), lsn BLOB NOT NULL) STRICT",
+        false,
+    ),
+    (
+        "CREATE TABLE held (oid INTEGER NOT NULL, ident BLOB NOT NULL, body TEXT NOT NULL, copies INTEGER NOT NULL, PRIMARY KEY (oid, ident)) STRICT; CREATE TABLE pos (id INTEGER PRIMARY KEY NOT NULL CHECK (id = 0), lsn BLOB NOT NULL) STRICT",
+        false,
+    ),
+    (
+        "CREATE TABLE held (oid INTEGER NOT NULL, ident BLOB NOT NULL, body BLOB NOT NULL, copies INTEGER NOT NULL, PRIMARY KEY (oid, ident, body)) STRICT; CREATE TABLE pos (id INTEGER PRIMARY KEY NOT NULL CHECK (id = 0), lsn BLOB NOT NULL) STRICT",
+        false,
+    ),
+    (
+        "CREATE TABLE held (oid INTEGER NOT NULL, ident BLOB NOT NULL, body BLOB NOT NULL, copies INTEGER NOT NULL, PRIMARY KEY (oid, ident)); CREATE TABLE pos (id INTEGER PRIMARY KEY NOT NULL CHECK (id = 0), lsn BLOB NOT NULL) STRICT",
+        false,
+    ),
+    (
+        "CREATE TABLE held (oid INTEGER NOT NULL, ident BLOB NOT NULL, body BLOB NOT NULL, copies INTEGER NOT NULL, PRIMARY KEY (oid, ident)) STRICT; CREATE TABLE pos (id INTEGER PRIMARY KEY NOT NULL CHECK (id = 1), lsn BLOB NOT NULL) STRICT",
+        false,
+    ),
+    // An index, and a trigger's kin: a view.
+    (
+        "CREATE TABLE held (oid INTEGER NOT NULL, ident BLOB NOT NULL, body BLOB NOT NULL, copies INTEGER NOT NULL, PRIMARY KEY (oid, ident)) STRICT; CREATE TABLE pos (id INTEGER PRIMARY KEY NOT NULL CHECK (id = 0), lsn BLOB NOT NULL) STRICT; CREATE INDEX by_body ON held (body)",
+        false,
+    ),
+];
+
+fn make_schema<S: Alter>(conn: &mut Connection<S>, more: &str) -> Result<bool, Error> {
+    conn.execute_batch(REL)?;
+    conn.execute_batch(more)?;
+    Ok(find_remains(conn) == Some(ALL))
+}
+
+#[test]
+fn schemas_are_told_apart(rt: HostRuntime) -> Result<(), Fail> {
+    for (more, is_ours) in SCHEMAS {
+        let mut conn = Connection::open_in_memory(rt.alloc())?;
+        assert!(rt; find_remains(&conn) == Some(NONE));
+        assert!(rt; make_schema(&mut conn, more)? == *is_ours, "{more}");
+    }
+    Ok(())
+}
+
+fn make<S: Alter>(conn: &mut Connection<S>) -> Result<(), Error>
+    requires settled { (state S.Store conn.old).in_transaction ≡ false }
+    requires bare { IfServing S.Store conn.old ((state S.Store conn.old).now.schema ≡ no_schema) }
+{
+    let mut tx = conn.transaction();
+    create_tables(&mut tx)?;
+    put_position(&mut tx, &[0, 0, 0, 0, 0, 0, 1, 0x30])?;
+    tx.commit()
+}
+
+/// Whether the stored position has these bytes.
+fn is_at<S: Alter>(conn: &mut Connection<S>, position: &[u8]) -> Result<bool, Error> {
+    let stored: Vec<u8> = conn
+        .query_row("SELECT lsn FROM pos WHERE id = 0", &[])?
+        .get(0)?;
+    Ok(stored.as_slice() == position)
+}
+
+#[test]
+fn what_is_made_is_told(rt: HostRuntime) -> Result<(), Fail> {
+    let mut conn = Connection::open_in_memory(rt.alloc())?;
+    make(&mut conn)?;
+    assert!(rt; find_remains(&conn) == Some(ALL));
+    assert!(rt; is_at(&mut conn, &[0, 0, 0, 0, 0, 0, 1, 0x30])?);
+    Ok(())
+}
+
+// Two relations have a row of one identity. For each update and delete: whether a row was there.
+fn change_rows<S: Alter>(conn: &mut Connection<S>) -> Result<[bool; 4], Error>
+    requires settled { (state S.Store conn.old).in_transaction ≡ false }
+    requires bare { IfServing S.Store conn.old ((state S.Store conn.old).now.schema ≡ no_schema) }
+{
+    let mut tx = conn.transaction();
+    create_tables(&mut tx)?;
+    put_row(&mut tx, 7, b"key", b"first", 3)?;
+    put_row(&mut tx, 8, b"key", b"other", 1)?;
+    put_row(&mut tx, 8, b"gone", b"body", 1)?;
+    let updated = update_row(&mut tx, 7, b"key", b"second")?;
+    let missing = update_row(&mut tx, 7, b"another", b"third")?;
+    let deleted = delete_row(&mut tx, 8, b"gone")?;
+    let gone = delete_row(&mut tx, 8, b"gone")?;
+    tx.commit()?;
+    Ok([updated, missing, deleted, gone])
+}
+
+/// Whether relation 7 has this row so many times.
+fn has_copies<S: Alter>(conn: &mut Connection<S>, body: &[u8], copies: i64) -> Result<bool, Error> {
+    let row = conn.query_row("SELECT body, copies FROM held WHERE oid = 7", &[])?;
+    let (stored, count): (Vec<u8>, i64) = (row.get(0)?, row.get(1)?);
+    Ok(stored.as_slice() == body && count == copies)
+}
+
+/// Whether relation 8 has this row.
+fn has_other<S: Alter>(conn: &mut Connection<S>, body: &[u8]) -> Result<bool, Error> {
+    let stored: Vec<u8> = conn
+        .query_row("SELECT body FROM held WHERE oid = 8", &[])?
+        .get(0)?;
+    Ok(stored.as_slice() == body)
+}
+
+/// How many rows there are.
+fn count_rows<S: Alter>(conn: &mut Connection<S>) -> Result<i64, Error> {
+    conn.query_row("SELECT count(*) FROM held", &[])?.get(0)
+}
+
+#[test]
+fn a_row_that_is_there_gets_a_body(rt: HostRuntime) -> Result<(), Fail> {
+    let mut conn = Connection::open_in_memory(rt.alloc())?;
+    assert!(rt; change_rows(&mut conn)? == [true, false, true, false]);
+    assert!(rt; has_copies(&mut conn, b"second", 3)?);
+    assert!(rt; has_other(&mut conn, b"other")?);
+    assert!(rt; count_rows(&mut conn)? == 2);
+    Ok(())
+}

@@ -1,0 +1,61 @@
+//! New SQL stores, over which tests of several crates run their trials.
+//!
+//! Only these functions name the stores' types: what dropping a store does is proved here once, and a trial once, over any store.
+#![tactic(auto)]
+
+use pgapply::{ReplicaStore, StoreFault};
+use pgstore::Store;
+use std::process::Abort;
+
+/// What is done with a new store.
+pub trait Trial {
+    /// What comes of it.
+    type Outcome;
+
+    fn run<C: ReplicaStore + Drop>(
+        &self,
+        rt: &(impl Abort + AllocGlobal),
+        store: C,
+    ) -> Self::Outcome;
+}
+
+/// What is done with two new stores.
+pub trait PairTrial {
+    /// What comes of it.
+    type Outcome;
+
+    fn run<C: ReplicaStore + Drop>(
+        &self,
+        rt: &(impl Abort + AllocGlobal),
+        left: C,
+        right: C,
+    ) -> Self::Outcome;
+}
+
+/// Runs a trial over a store in memory.
+pub fn in_memory<T: Trial>(
+    rt: &(impl Abort + AllocGlobal),
+    trial: &T,
+) -> Result<T::Outcome, StoreFault> {
+    let store = Store::in_memory(rt.alloc())?;
+    Ok(trial.run(rt, store))
+}
+
+/// Runs a trial over two stores in memory.
+pub fn two_in_memory<T: PairTrial>(
+    rt: &(impl Abort + AllocGlobal),
+    trial: &T,
+) -> Result<T::Outcome, StoreFault> {
+    let left = Store::in_memory(rt.alloc())?;
+    let right = Store::in_memory(rt.alloc())?;
+    Ok(trial.run(rt, left, right))
+}
+
+/// Runs a trial over a store on disks in memory.
+pub fn on_memory_disks<T: Trial>(
+    rt: &(impl Abort + AllocGlobal),
+    trial: &T,
+) -> Result<T::Outcome, StoreFault> {
+    let store = Store::on_memory_disks(rt.alloc())?;
+    Ok(trial.run(rt, store))
+}
