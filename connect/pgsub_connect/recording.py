@@ -1,14 +1,23 @@
 """Recordings (`.pgx`): the bytes of sessions in hexadecimal, a frame per line, and the recorder, which only records."""
 
+from __future__ import annotations
+
 import dataclasses
+import os
 import select
 import struct
 import time
+from typing import TYPE_CHECKING
 
-from .filtering import COPY_DONE
-from .libpq import COPY_BOTH, Connection
-from .server import settle
-from .texts import PROGRAM, Stopped, counted, identifier, lsn_text, parse_lsn, replication_literal, warn
+from . import log
+from .errors import Stopped
+from .filtering import COPY_DONE, header
+from .postgres import COPY_BOTH, Connection
+from .server import identify, log_end, settle
+from .texts import counted, identifier, lsn_text, replication_literal
+
+if TYPE_CHECKING:
+    from .cli import Options
 
 LONGEST = 64 << 20
 EPOCH = 946684800
@@ -17,37 +26,65 @@ EPOCH = 946684800
 class Recording:
     """A file to which sessions are added. What would make it longer than allowed is left out, with all that follows."""
 
-    def __init__(self, path, append, limit):
+    def __init__(self, path: str, append: bool, limit: int, mode: int = 0o600) -> None:
+        flags = os.O_WRONLY | os.O_CREAT | os.O_CLOEXEC | (os.O_APPEND if append else os.O_TRUNC)
         # (the file is open as long as the program runs)
-        self.out = open(path, "a" if append else "w", encoding="ascii")  # noqa: SIM115
+        self.out = open(os.open(path, flags, mode), "a" if append else "w", encoding="ascii")  # noqa: SIM115
+        self.path = path
         self.written = self.out.tell() if self.out.seekable() else 0
         self.limit = limit
         self.full = False
 
-    def write_line(self, line):
+    def write_line(self, line: str) -> None:
         if self.written + len(line) + 1 > self.limit and not self.full:
-            warn(f"the recording ends here: {self.limit} bytes are not to be passed (--bytes)")
+            log.warning(f"the recording ends here: {self.limit} bytes are not to be passed (--bytes)")
             self.full = True
         if not self.full:
             self.out.write(line + "\n")
             self.written += len(line) + 1
 
-    def write_frame(self, frame):
+    def write_frame(self, frame: bytes) -> None:
         self.write_line(frame.hex())
 
-    def begin_session(self, connection, options, start):
+    def write_payload(self, payload: bytes) -> None:
+        self.write_line(header(payload).hex() + payload.hex())
+
+    def begin_session(self, connection: Connection, options: Options, start: int) -> None:
         if self.written:
             self.write_line("--")
         words = [word for word in ("streaming", "binary", "messages") if getattr(options, word, False)]
         names = ", ".join(options.publication)
-        self.write_line(f"# recorded by {PROGRAM} at {time.strftime('%Y-%m-%d %H:%M:%S UTC', time.gmtime())}")
-        self.write_line(
-            f"# PostgreSQL {connection.parameter('server_version')}, slot {options.slot}, publication {names}"
-        )
+        self.write_line(f"# recorded by {log.PROGRAM} at {time.strftime('%Y-%m-%d %H:%M:%S UTC', time.gmtime())}")
+        self.write_line(f"# PostgreSQL {connection.parameter('server_version')}, slot {options.slot}, publication {names}")
         self.write_line(f"# protocol version {options.proto}{''.join(f', {it}' for it in words)}, from {lsn_text(start)}")
 
-    def flush(self):
+    def flush(self) -> None:
         self.out.flush()
+
+
+class Aside:
+    """A recording beside a follower: where it can't be written any more, it ends, and following goes on."""
+
+    def __init__(self, recording: Recording) -> None:
+        self.recording: Recording | None = recording
+
+    def attempt(self, call: str, *words: object) -> None:
+        if not self.recording:
+            return
+        try:
+            getattr(self.recording, call)(*words)
+        except OSError as error:
+            log.warning(f"{self.recording.path}: {error.strerror}: the recording ends here")
+            self.recording = None
+
+    def write_payload(self, payload: bytes) -> None:
+        self.attempt("write_payload", payload)
+
+    def begin_session(self, connection: Connection, options: Options, start: int) -> None:
+        self.attempt("begin_session", connection, options, start)
+
+    def flush(self) -> None:
+        self.attempt("flush")
 
 
 @dataclasses.dataclass
@@ -63,7 +100,7 @@ class Progress:
     reached: int = 0
     asks: bool = False
 
-    def note(self, payload):
+    def note(self, payload: bytes) -> None:
         """Notes a payload: XLogData (`w`) or a keepalive (`k`)."""
         self.payloads += 1
         if payload[:1] == b"k":
@@ -81,28 +118,30 @@ class Progress:
 class Recorder:
     """Records one session without a filter, and keeps the server content meanwhile."""
 
-    def __init__(self, pq, options, recording):
-        self.pq, self.options, self.recording = pq, options, recording
+    connection: Connection
+
+    def __init__(self, options: Options, recording: Recording) -> None:
+        self.options, self.recording = options, recording
+        self.until = options.until if isinstance(options.until, int) else None
         self.progress = Progress()
         self.stop_asked = False
+        self.last_status = 0.0
 
-    def check_stop(self):
+    def check_stop(self) -> None:
         if self.stop_asked:
             raise Stopped
 
-    def run(self):
+    def run(self) -> None:
         options = self.options
-        self.connection = connection = Connection(
-            self.pq, options.dsn, replication=True, name=options.slot, check=self.check_stop
-        )
+        self.connection = connection = Connection(options.dsn, replication=True, name=options.slot, check=self.check_stop)
         try:
             settle(connection)
             if options.create == "temporary":
                 connection.run(f"CREATE_REPLICATION_SLOT {identifier(options.slot)} TEMPORARY LOGICAL pgoutput NOEXPORT_SNAPSHOT")
-                warn("recording from now on: make changes now")
+                log.info("recording from now on: make changes now")
             if options.until == "now":
-                options.until = parse_lsn(connection.value("SELECT pg_catalog.pg_current_wal_insert_lsn()"))
-            connection.run(self.command(), wanted=(COPY_BOTH,))
+                self.until = log_end(connection, identify(connection).is_standby)
+            connection.run(self.command(), wanted=COPY_BOTH)
             self.recording.begin_session(connection, options, options.start)
             self.record()
             if options.confirm:
@@ -112,17 +151,17 @@ class Recorder:
             self.recording.flush()
             done = self.progress
             said = f"{counted(done.payloads, 'frame')}, {counted(done.commits, 'commit')}"
-            warn(f"{said}, the last up to {lsn_text(done.commit_end)}")
+            log.info(f"{said}, the last up to {lsn_text(done.commit_end)}")
             connection.close()
 
-    def command(self):
+    def command(self) -> str:
         options = self.options
         names = ", ".join(identifier(name) for name in options.publication)
         words = [f"proto_version '{options.proto}'", f"publication_names {replication_literal(names)}"]
         words += [f"{word} 'true'" for word in ("streaming", "binary", "messages") if getattr(options, word)]
         return f"START_REPLICATION SLOT {identifier(options.slot)} LOGICAL {lsn_text(options.start)} ({', '.join(words)})"
 
-    def send_status(self):
+    def send_status(self) -> None:
         """Tells the server that it is heard. Only the second number, what is flushed, lets it forget its log."""
         confirmed = min(self.options.confirm, self.progress.commit_end)
         clock = int((time.time() - EPOCH) * 1000000)
@@ -131,15 +170,15 @@ class Recorder:
         self.last_status = time.monotonic()
         self.progress.asks = False
 
-    def is_enough(self):
+    def is_enough(self) -> bool:
         options, progress = self.options, self.progress
         if self.stop_asked or self.recording.full:
             return True
         if options.transactions is not None and progress.commits >= options.transactions:
             return True
-        return options.until is not None and progress.reached >= options.until
+        return self.until is not None and progress.reached >= self.until
 
-    def take_ready(self):
+    def take_ready(self) -> bool:
         """Records what has come. Returns false once the session is over or enough is recorded."""
         while not self.is_enough():
             payload = self.connection.next_payload()
@@ -148,13 +187,13 @@ class Recorder:
                 return False
             if not payload:
                 return True
-            self.recording.write_frame(b"d" + struct.pack(">i", len(payload) + 4) + payload)
+            self.recording.write_payload(payload)
             self.progress.note(payload)
             if self.progress.asks:
                 self.send_status()
         return False
 
-    def record(self):
+    def record(self) -> None:
         socket = self.connection.socket()
         self.last_status = time.monotonic()
         deadline = self.last_status + self.options.seconds if self.options.seconds is not None else None
@@ -168,5 +207,5 @@ class Recorder:
                 self.recording.flush()
             if deadline is not None:
                 wait = min(wait, deadline - now)
-            if select.select([socket], [], [], min(max(wait, 0.01), 1.0))[0]:
-                self.connection.consume()
+            select.select([socket], [], [], min(max(wait, 0.01), 0.5))
+            self.connection.consume()

@@ -8,29 +8,31 @@ one opens the store.
 |---|---|
 | `phase` | `new`: nothing yet; `copying`: rows are being copied; `copied`: all rows are in `STORE.copying`, and the slot is made next; `following` |
 | `system`, `database`, `slot` | whose changes the store holds |
+| `timeline` | the server's timeline in the last session; 0 where it isn't known |
 | `confirmed` | at least what was ever sent as flushed because of a keepalive, and at most what the store had confirmed |
 | `position` | the store's position was at least this |
+| `found` | what may have made the copy wrong, and the LSN at which it was found first; until somebody accepts it |
+| `skipped` | the final LSN of the commit that was skipped last |
 """
+
+from __future__ import annotations
 
 import dataclasses
 import fcntl
 import json
 import os
 import time
+from typing import Any
 
-from .texts import lsn_text, warn
+from . import log
+from .errors import FileError, Passing, Unfit
+from .postgres import Check, never
+from .texts import lsn_text
 
 SIZE = 512
 PATIENCE = 60
+TEXT = json.JSONEncoder(separators=(",", ":"))
 NEW, COPYING, COPIED, FOLLOWING = "new", "copying", "copied", "following"
-
-
-class Unfit(Exception):
-    """The store and the slot don't fit together: going on could lose changes."""
-
-
-class FileError(Exception):
-    """A file beside the store can't be used."""
 
 
 @dataclasses.dataclass
@@ -41,23 +43,26 @@ class Known:
     system: str = ""
     database: str = ""
     slot: str = ""
+    timeline: int = 0
     confirmed: int = 0
     position: int = 0
+    found: dict[str, str] = dataclasses.field(default_factory=dict)
+    skipped: str = ""
 
 
 class Checkpoint:
     """The file, open and locked."""
 
-    def __init__(self, store):
+    def __init__(self, store: str, mode: int = 0o600, check: Check = never) -> None:
         self.path = store + ".connector"
         try:
-            self.file = os.open(self.path, os.O_RDWR | os.O_CREAT, 0o666)
+            self.file = os.open(self.path, os.O_RDWR | os.O_CREAT | os.O_CLOEXEC, mode)
         except OSError as error:
             raise FileError(f"{self.path}: {error.strerror}") from None
-        self.lock()
+        self.lock(check)
         self.known = self.read()
 
-    def lock(self):
+    def lock(self, check: Check) -> None:
         until = time.monotonic() + PATIENCE
         told = False
         while True:
@@ -66,13 +71,14 @@ class Checkpoint:
                 return
             except BlockingIOError:
                 if time.monotonic() >= until:
-                    raise FileError(f"{self.path}: another process follows into this store") from None
+                    raise Passing(f"{self.path}: another process follows into this store") from None
             if not told:
-                warn(f"another connector or its filter still has the store: waiting up to {PATIENCE} seconds")
+                log.info(f"another connector or its filter still has the store: waiting up to {PATIENCE} seconds")
                 told = True
+            check()
             time.sleep(0.2)
 
-    def read(self):
+    def read(self) -> Known:
         line = os.pread(self.file, SIZE, 0).strip()
         if not line:
             return Known()
@@ -81,10 +87,10 @@ class Checkpoint:
         except (ValueError, TypeError):
             raise FileError(f"{self.path}: not a checkpoint of this program") from None
 
-    def write(self, durably, **fields):
+    def write(self, durably: bool, **fields: Any) -> None:
         """Changes fields. Where `durably`, the disk has them before this returns."""
         self.known = dataclasses.replace(self.known, **fields)
-        line = json.dumps(dataclasses.asdict(self.known)).encode()
+        line = TEXT.encode(vars(self.known)).encode()
         if len(line) >= SIZE:
             raise FileError(f"{self.path}: names too long for a checkpoint")
         try:
@@ -92,9 +98,17 @@ class Checkpoint:
             if durably:
                 os.fdatasync(self.file)
         except OSError as error:
-            raise FileError(f"{self.path}: {error.strerror}") from None
+            raise Passing(f"{self.path}: {error.strerror}") from None
 
-    def note(self, confirmed, position):
+    def begin_anew(self) -> None:
+        """Forgets what is known, as where the store is made anew."""
+        self.known = Known()
+
+    def forget_server(self) -> None:
+        """Forgets whose changes the store holds, and how far it was."""
+        self.known = Known(found=self.known.found, skipped=self.known.skipped)
+
+    def note(self, confirmed: int, position: int) -> None:
         """Notes what is about to be confirmed to the server, before it is.
 
         What lies above the store's position is known from a keepalive alone, and the next start can't see it in the store.
@@ -105,8 +119,21 @@ class Checkpoint:
         if (confirmed, position) != (known.confirmed, known.position):
             self.write(confirmed > position and confirmed > known.confirmed, confirmed=confirmed, position=position)
 
+    def note_found(self, kind: str, lsn: int) -> bool:
+        """Notes durably that something was found. Returns whether nothing of this kind was known yet."""
+        if kind in self.known.found:
+            return False
+        self.write(True, found={**self.known.found, kind: lsn_text(lsn)})
+        return True
 
-def check_gap(known, position, slot_at):
+    def accept(self, kinds: list[str]) -> None:
+        """Forgets what was found of these kinds."""
+        left = {kind: lsn for kind, lsn in self.known.found.items() if kind not in kinds and "all" not in kinds}
+        if left != self.known.found:
+            self.write(True, found=left)
+
+
+def check_gap(known: Known, position: int, slot_at: int) -> None:
     """Checks that no commit with changes lies between the store's position and what the slot sends next.
 
     Of a store without this file nobody knows from which server its rows are; that one's positions may be beyond this one's.

@@ -1,0 +1,6 @@
+"""`python3 -m pgsub_connect`."""
+
+from .cli import run
+
+if __name__ == "__main__":
+    run()

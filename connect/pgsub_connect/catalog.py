@@ -1,0 +1,265 @@
+"""What a server has of the publications that are followed: their options, tables and partitions, at one moment."""
+
+from __future__ import annotations
+
+import dataclasses
+from typing import NamedTuple
+
+from .postgres import QUICK, Connection
+from .texts import literal, parse_lsn
+
+ACTIONS = ("insert", "update", "delete", "truncate")
+
+
+class Column(NamedTuple):
+    """A published column. `number` is its attribute number, 0 where a Relation message is all that is known of it."""
+
+    name: str
+    type_oid: int
+    modifier: int
+    key: bool
+    number: int = 0
+
+
+@dataclasses.dataclass(frozen=True)
+class Shape:
+    """What a Relation message says of a table beside its name."""
+
+    identity: str
+    columns: tuple[Column, ...]
+
+
+@dataclasses.dataclass(frozen=True)
+class Publication:
+    """A publication's options. `whole`: it is for all tables."""
+
+    oid: int
+    whole: bool
+    actions: tuple[str, ...]
+    via_root: bool
+    generated: bool
+
+
+class Part(NamedTuple):
+    """Which rows and columns a publication has of a table. `whole`: with every table, or every one of the schema."""
+
+    row_filter: str | None
+    listed: tuple[int, ...] | None
+    whole: bool
+
+
+@dataclasses.dataclass(frozen=True)
+class Table:
+    """A published table. `untouched`: nobody has renamed it or moved it since it was made; `unwritten`: nor written it anew."""
+
+    oid: int
+    namespace: str
+    name: str
+    kind: str
+    shape: Shape
+    parts: dict[str, Part]
+    untouched: bool = dataclasses.field(default=False, compare=False)
+    unwritten: bool = dataclasses.field(default=False, compare=False)
+
+    def text(self) -> str:
+        return f"{self.namespace}.{self.name} ({self.oid})"
+
+
+@dataclasses.dataclass(frozen=True)
+class Partition:
+    """A partition or a partitioned table; `parent` is 0 of one that is in no other. `made`: it was made there, and not attached."""
+
+    oid: int
+    parent: int
+    name: str
+    leaf: bool
+    made: bool = dataclasses.field(default=False, compare=False)
+
+
+@dataclasses.dataclass(frozen=True)
+class Catalog:
+    """All of it, of the publications with these names. `lsn`: nothing that was committed above it is in there; `highest`: the
+    greatest OID of any relation."""
+
+    names: tuple[str, ...]
+    lsn: int
+    highest: int
+    publications: dict[str, Publication]
+    tables: dict[int, Table]
+    partitions: dict[int, Partition]
+    # by the OIDs of types that published columns have in them: `name`, the labels of enumerations, by OID, and what composite
+    # types consist of, by `#` and the number of the part
+    types: dict[int, dict[str, str]]
+
+
+def read_catalog(connection: Connection, names: list[str]) -> Catalog:
+    """Reads it, with a number of queries that doesn't depend on that of the tables."""
+    connection.run("SET jit = off")
+    publications = read_publications(connection, names)
+    tables = read_tables(connection, list(publications))
+    partitions = read_partitions(connection, list(publications))
+    types = read_types(connection, list(tables))
+    highest = int(connection.text("SELECT max(oid) FROM pg_catalog.pg_class"))
+    end = connection.text(
+        "SELECT CASE WHEN pg_catalog.pg_is_in_recovery() THEN pg_catalog.pg_last_wal_replay_lsn()"
+        " ELSE pg_catalog.pg_current_wal_insert_lsn() END"
+    )
+    return Catalog(tuple(names), parse_lsn(end), highest, publications, tables, partitions, types)
+
+
+def listed_names(names: list[str]) -> str:
+    return ", ".join(literal(name) for name in names) or "NULL"
+
+
+def listed_oids(oids: list[int]) -> str:
+    return ", ".join(str(oid) for oid in oids) or "NULL"
+
+
+def number(text: str | None) -> int:
+    return int(text or 0)
+
+
+def read_publications(connection: Connection, names: list[str]) -> dict[str, Publication]:
+    version = connection.version()
+    via_root = "p.pubviaroot" if version >= 130000 else "false"
+    generated = "p.pubgencols = 's'" if version >= 180000 else "false"
+    rows = connection.rows(
+        f"SELECT p.pubname, p.oid, p.puballtables, p.pubinsert, p.pubupdate, p.pubdelete, p.pubtruncate, {via_root}, {generated}"
+        f" FROM pg_catalog.pg_publication p WHERE p.pubname IN ({listed_names(names)}) ORDER BY 1",
+        QUICK,
+    )
+    return {
+        name or "": Publication(
+            number(oid), whole == "t", tuple(word for word, it in zip(ACTIONS, more) if it == "t"), more[4] == "t", more[5] == "t"
+        )
+        for name, oid, whole, *more in rows
+    }
+
+
+def is_whole(connection: Connection, relation: str) -> str:
+    """Whether a publication `p` has a relation because it has all, or all of a schema."""
+    if connection.version() < 150000:
+        return "p.puballtables"
+    schemas = f"pg_catalog.pg_publication_namespace s WHERE s.pnpubid = p.oid AND s.pnnspid = {relation}.relnamespace"
+    return f"(p.puballtables OR EXISTS (SELECT FROM {schemas}))"
+
+
+# Whether nothing has changed the row type `y` of a relation since it was made: a column of the same transaction and command is
+# still there. A renamed or moved table, and one that was attached as a partition, has no such column.
+UNTOUCHED = (
+    "EXISTS (SELECT FROM pg_catalog.pg_attribute b WHERE b.attrelid = y.typrelid AND b.attnum > 0"
+    " AND b.xmin = y.xmin AND b.cmin = y.cmin)"
+)
+# Whether nothing has written a relation `c` anew, as TRUNCATE, SET LOGGED and others do.
+UNWRITTEN = "COALESCE(pg_catalog.pg_relation_filenode(c.oid) = c.oid, true)"
+
+
+def read_tables(connection: Connection, names: list[str]) -> dict[int, Table]:
+    """The published tables. Row filters and column lists came with PostgreSQL 15."""
+    fine = connection.version() >= 150000
+    row_filter = "pg_catalog.pg_get_expr(g.qual, g.relid)" if fine else "NULL"
+    listed = "pg_catalog.array_to_string(r.prattrs::pg_catalog.int2[], ',')" if fine else "NULL"
+    sent = "pg_catalog.array_to_string(g.attrs::pg_catalog.int2[], ',')" if fine else "NULL"
+    rows = connection.rows(
+        f"SELECT p.pubname, c.oid, n.nspname, c.relname, c.relkind, c.relreplident, {row_filter}, {listed}, {sent},"
+        f" {is_whole(connection, 'c')}, {UNTOUCHED}, {UNWRITTEN} FROM pg_catalog.pg_publication p"
+        " CROSS JOIN LATERAL pg_catalog.pg_get_publication_tables(p.pubname::pg_catalog.text) g"
+        " JOIN pg_catalog.pg_class c ON c.oid = g.relid JOIN pg_catalog.pg_namespace n ON n.oid = c.relnamespace"
+        " LEFT JOIN pg_catalog.pg_type y ON y.oid = c.reltype"
+        " LEFT JOIN pg_catalog.pg_publication_rel r ON r.prpubid = p.oid AND r.prrelid = c.oid"
+        f" WHERE p.pubname IN ({listed_names(names)}) ORDER BY c.oid, p.pubname",
+        QUICK,
+    )
+    columns = read_columns(connection, sorted({number(row[1]) for row in rows}))
+    tables: dict[int, Table] = {}
+    for publication, relid, namespace, name, kind, identity, where, own, attributes, whole, untouched, unwritten in rows:
+        oid = number(relid)
+        part = Part(where, numbers(own), whole == "t")
+        if oid in tables:
+            tables[oid].parts[publication or ""] = part
+            continue
+        shape = Shape(identity or "", sent_columns(connection, columns.get(oid, []), numbers(attributes)))
+        tables[oid] = Table(
+            oid, namespace or "", name or "", kind or "", shape, {publication or "": part}, untouched == "t", unwritten == "t"
+        )
+    return tables
+
+
+def numbers(text: str | None) -> tuple[int, ...] | None:
+    return tuple(sorted(int(it) for it in text.split(","))) if text else None
+
+
+def sent_columns(
+    connection: Connection, columns: list[tuple[Column, bool]], listed: tuple[int, ...] | None
+) -> tuple[Column, ...]:
+    """The columns that are sent. Generated ones are from PostgreSQL 18 on, where the server lists them."""
+    generated = connection.version() >= 180000 and listed is not None
+    return tuple(it for it, computed in columns if (listed is None or it.number in listed) and (generated or not computed))
+
+
+def read_columns(connection: Connection, oids: list[int]) -> dict[int, list[tuple[Column, bool]]]:
+    """All columns of tables, and whether each is generated. A key column is one of the replica identity's index, or any one
+    under REPLICA IDENTITY FULL."""
+    rows = connection.rows(
+        "SELECT a.attrelid, a.attname, a.atttypid, a.atttypmod, a.attnum, a.attgenerated <> '',"
+        " c.relreplident = 'f' OR EXISTS (SELECT FROM pg_catalog.pg_index i"
+        "  WHERE i.indrelid = a.attrelid AND i.indisunique AND i.indisvalid AND i.indimmediate AND i.indpred IS NULL"
+        "  AND CASE c.relreplident WHEN 'd' THEN i.indisprimary WHEN 'i' THEN i.indisreplident ELSE false END"
+        "   AND a.attnum = ANY ((i.indkey::pg_catalog.int2[])[0:i.indnkeyatts - 1]))"
+        " FROM pg_catalog.pg_attribute a JOIN pg_catalog.pg_class c ON c.oid = a.attrelid"
+        f" WHERE a.attrelid IN ({listed_oids(oids)}) AND a.attnum > 0 AND NOT a.attisdropped ORDER BY a.attrelid, a.attnum",
+        QUICK,
+    )
+    columns: dict[int, list[tuple[Column, bool]]] = {}
+    for oid, name, type_oid, modifier, place, computed, key in rows:
+        column = Column(name or "", number(type_oid), number(modifier), key == "t", number(place))
+        columns.setdefault(number(oid), []).append((column, computed == "t"))
+    return columns
+
+
+def read_partitions(connection: Connection, names: list[str]) -> dict[int, Partition]:
+    """The partitioned tables of the publications and all that is below them, whichever name it is published under.
+
+    (pg_partition_tree would wait for locks.)
+    """
+    rows = connection.rows(
+        "WITH RECURSIVE t (oid, parent) AS ("
+        " SELECT root.oid, i.inhparent FROM pg_catalog.pg_publication p JOIN pg_catalog.pg_class root ON root.relkind = 'p'"
+        f"  AND ({is_whole(connection, 'root')} OR EXISTS (SELECT FROM pg_catalog.pg_publication_rel r"
+        "   WHERE r.prpubid = p.oid AND r.prrelid = root.oid))"
+        f" LEFT JOIN pg_catalog.pg_inherits i ON i.inhrelid = root.oid WHERE p.pubname IN ({listed_names(names)})"
+        " UNION SELECT i.inhrelid, i.inhparent FROM t JOIN pg_catalog.pg_inherits i ON i.inhparent = t.oid)"
+        f" SELECT c.oid, t.parent, n.nspname || '.' || c.relname, c.relkind <> 'p', i.xmin = y.xmin AND {UNTOUCHED} AND {UNWRITTEN}"
+        " FROM t JOIN pg_catalog.pg_class c ON c.oid = t.oid JOIN pg_catalog.pg_namespace n ON n.oid = c.relnamespace"
+        " LEFT JOIN pg_catalog.pg_inherits i ON i.inhrelid = t.oid JOIN pg_catalog.pg_type y ON y.oid = c.reltype ORDER BY 1",
+        QUICK,
+    )
+    return {
+        number(oid): Partition(number(oid), number(parent), name or "", leaf == "t", made == "t")
+        for oid, parent, name, leaf, made in rows
+    }
+
+
+def read_types(connection: Connection, oids: list[int]) -> dict[int, dict[str, str]]:
+    """What the text of a value depends on beside the value: the labels of enumerations by their OID, and the types of the parts
+    of composite types by their number. Both of all types that columns have in them: in arrays, domains, ranges, composites."""
+    rows = connection.rows(
+        "WITH RECURSIVE t (oid) AS ("
+        f" SELECT a.atttypid FROM pg_catalog.pg_attribute a WHERE a.attrelid IN ({listed_oids(oids)}) AND a.attnum > 0"
+        " UNION SELECT u.oid FROM t JOIN pg_catalog.pg_type y ON y.oid = t.oid, LATERAL ("
+        "  SELECT y.typelem AS oid UNION ALL SELECT y.typbasetype"
+        "  UNION ALL SELECT r.rngsubtype FROM pg_catalog.pg_range r WHERE r.rngtypid = y.oid"
+        "  UNION ALL SELECT a.atttypid FROM pg_catalog.pg_attribute a"
+        "   WHERE a.attrelid = y.typrelid AND a.attnum > 0 AND NOT a.attisdropped) u WHERE u.oid <> 0)"
+        " SELECT y.oid, 'name', y.oid::pg_catalog.regtype::pg_catalog.text FROM t JOIN pg_catalog.pg_type y ON y.oid = t.oid"
+        "  WHERE y.typtype IN ('c', 'e')"
+        " UNION ALL SELECT e.enumtypid, e.oid::pg_catalog.text, e.enumlabel FROM t JOIN pg_catalog.pg_enum e ON e.enumtypid = t.oid"
+        " UNION ALL SELECT y.oid, '#' || a.attnum, a.atttypid::pg_catalog.text || ' ' || a.atttypmod FROM t"
+        "  JOIN pg_catalog.pg_type y ON y.oid = t.oid"
+        "  JOIN pg_catalog.pg_attribute a ON a.attrelid = y.typrelid AND a.attnum > 0 AND NOT a.attisdropped ORDER BY 1, 2",
+        QUICK,
+    )
+    types: dict[int, dict[str, str]] = {}
+    for oid, part, text in rows:
+        types.setdefault(number(oid), {})[part or ""] = text or ""
+    return types

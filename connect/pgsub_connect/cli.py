@@ -1,0 +1,485 @@
+"""The command line, and what it starts."""
+
+from __future__ import annotations
+
+import argparse
+import dataclasses
+import os
+import shutil
+import signal
+import subprocess
+import sys
+import traceback
+from collections.abc import Callable, Sequence
+from typing import Any, Protocol
+
+from . import VERSION, checking, dropping, log
+from . import checkpoint as known_of
+from .checkpoint import Checkpoint
+from .copying import Copier, create_slot, maker_of
+from .errors import FileError, FilterFault, Passing, ServerError, Stopped, Unfit, UsageError
+from .filtering import Filter, FilterEnded
+from .following import Follower
+from .limits import default_buffered
+from .postgres import Check, parameters
+from .progress import Progress, Reporter
+from .recording import LONGEST, Aside, Recorder, Recording
+from .remembered import Remembered, print_names
+from .snapshots import Snapshots
+from .texts import parse_lsn
+
+ABOUT = """\
+Follows a PostgreSQL server: carries the change stream of a slot to `pgsub follow`, and the program's statuses back.
+
+  pgsub-connect follow --dsn 'dbname=shop' --create --table stock --store copy.db     makes publication, slot and copy, and follows
+  pgsub-connect follow --dsn 'dbname=shop' --store copy.db                            goes on with a store that is there
+  pgsub-connect record --dsn 'dbname=shop' --slot s --publication p --record shop.pgx --until now     only records
+"""
+MORE = """\
+It logs in by libpq, with its environment (PGHOST, PGPASSWORD, ..), ~/.pgpass, services and TLS. A connection that is lost is made
+again after 1, 2, 4 .. 60 seconds, and a filter that was killed is started again. SIGTERM and SIGINT end it once the filter has
+ended. docs/OPERATING.md says what the server needs, and what to do when it stops.
+
+The server needs wal_level = logical. The user needs the attribute REPLICATION, the right to read the published tables, and
+for --create the right to create a publication (of all tables: to be a superuser). A slot keeps the server's log until it is
+confirmed or dropped: SELECT pg_drop_replication_slot('NAME').
+
+exit status: 0 ended as asked; 1 the filter rejected the stream; 2 usage error; 3 a file can't be used; 4 the server rejected
+a command for good; 5 the store and the slot don't fit together, or the copy may be wrong; 6 a bug; 7 something is in the way
+only for now, such as a server that isn't there: start it again
+"""
+TOP = os.path.dirname(os.path.dirname(os.path.dirname(os.path.realpath(__file__))))
+REJECTED, USAGE, FILE, SERVER, UNFIT, BUG, PASSING = 1, 2, 3, 4, 5, 6, 7
+KINDS = ("history", "slot", "names", "publication", "values", "gap", "all")
+# The longest frame that PostgreSQL can send, with its length.
+LONGEST_FRAME = 2147483643
+
+
+@dataclasses.dataclass
+class Options:
+    """The words of the command line."""
+
+    command: str = "follow"
+    store: str = ""
+    dsn: str = ""
+    dsn_file: str | None = None
+    slot: str = "pgsub"
+    publication: list[str] = dataclasses.field(default_factory=list)
+    proto: int = 2
+    heartbeat: float = 10.0
+    silence: float = 60.0
+    create: str | None = None
+    table: list[str] = dataclasses.field(default_factory=list)
+    all_tables: bool = False
+    keyless: str = "refuse"
+    failover: bool = False
+    no_copy: bool = False
+    accept: list[str] = dataclasses.field(default_factory=list)
+    strict: bool = False
+    skip: int = 0
+    status_file: str | None = None
+    metrics_file: str | None = None
+    snapshot: str | None = None
+    snapshot_every: float = 0.0
+    pgsub: str = ""
+    max_buffered: int = 0
+    max_frame: int = 0
+    mode: int = 0o600
+    record: str | None = None
+    append: bool = False
+    bytes: int = LONGEST
+    start: int = 0
+    seconds: float | None = None
+    transactions: int | None = None
+    until: int | str | None = None
+    confirm: int = 0
+    streaming: bool = False
+    binary: bool = False
+    messages: bool = False
+    json: bool = False
+    yes: bool = False
+
+    def accepts(self, kind: str) -> bool:
+        """Whether what may be wrong in this way was said to be taken as it is."""
+        kinds = {"gap", "slot"} if kind in ("gap", "slot") else {kind}
+        return bool(kinds & set(self.accept)) or "all" in self.accept
+
+
+class Worker(Protocol):
+    """What ends when it is asked to."""
+
+    stop_asked: bool
+
+
+def lsn(text: str) -> int:
+    try:
+        return parse_lsn(text)
+    except ValueError as error:
+        raise argparse.ArgumentTypeError(str(error)) from None
+
+
+def lsn_or_now(text: str) -> int | str:
+    return text if text == "now" else lsn(text)
+
+
+def mode(text: str) -> int:
+    try:
+        number = int(text, 8)
+    except ValueError:
+        number = -1
+    if not 0o600 <= number <= 0o777 or number & 0o600 != 0o600:
+        raise argparse.ArgumentTypeError(f"{text!r} is no mode that the owner can read and write, as 640")
+    return number
+
+
+def within(least: int, most: int) -> Callable[[str], int]:
+    def number(text: str) -> int:
+        if not text.isdigit() or not least <= int(text) <= most:
+            raise argparse.ArgumentTypeError(f"{text!r} is no number from {least} to {most}")
+        return int(text)
+
+    return number
+
+
+def add_server(parser: argparse.ArgumentParser) -> None:
+    """Options on the server and the slot."""
+    add = parser.add_argument
+    add("--dsn", default="", help="connection string or URI of libpq (default: its environment)")
+    add("--dsn-file", metavar="FILE", help="a file whose first line is the connection string, for one with a password")
+    add("--slot", default="pgsub", help="replication slot (default: pgsub)")
+    add("--publication", action="append", default=[],
+        help="publication, may be repeated (default: those that the store has followed, else pgsub)")
+    add("--proto", type=int, choices=(1, 2), default=2, help="protocol version (default: 2, and 1 where the server has no other)")
+    add("--heartbeat", type=float, default=10.0, metavar="N",
+        help="seconds between statuses (default: 10, and at most a third of wal_sender_timeout)")
+    add("--mode", type=mode, default=0o600, metavar="OCTAL", help="mode of the files that are made (default: 600)")
+
+
+def add_following(parser: argparse.ArgumentParser) -> None:
+    """Options on a store."""
+    add = parser.add_argument_group("the store").add_argument
+    add("--store", metavar="FILE", default="", help="keep the copies in this store")
+    add("--pgsub", default="", metavar="PROGRAM", help="the program `pgsub` (default: the one installed beside this one)")
+    add("--max-buffered", type=within(1, (1 << 63) - 1), default=0, metavar="BYTES",
+        help="the most that may be buffered of open transactions (default: half of the memory, at most 1 GiB)")
+    add("--max-frame", type=within(1 << 10, LONGEST_FRAME), default=0, metavar="BYTES",
+        help="the longest message that is accepted (default: what may be buffered, at most 1 GiB)")
+    add("--until", type=lsn_or_now, metavar="LSN|now", help="stop once all that was committed up to this LSN, or up to now, is stored")
+    add("--silence", type=float, default=60.0, metavar="N", help="give a server up that says nothing for N seconds (default: 60)")
+    add("--strict", action="store_true", help="end with status 5 where something was found that may have made the copy wrong")
+    add("--accept", action="append", default=[], choices=KINDS, help="take what was found of this kind as it is, may be repeated")
+    add("--accept-gap", dest="accept", action="append_const", const="gap",
+        help="go on although changes between the store and the slot may be missing")
+    add("--skip", type=lsn, default=0, metavar="LSN", help="pass over the changes of the commit with this final LSN")
+    add("--create", nargs="?", const="permanent", choices=("permanent", "temporary"),
+        help="where the store isn't there yet: make publication and slot, and copy the rows that are there (temporary: only to record)")
+    add_copying(parser)
+    add = parser.add_argument_group("watching").add_argument
+    add("--status-file", metavar="FILE", help="replace this file each second by a JSON object that says how it goes")
+    add("--metrics-file", metavar="FILE", help="replace this file each second by the same as Prometheus' text format")
+    add("--snapshot", metavar="FILE",
+        help="copy the store to this file for readers, which can't open the store itself: at SIGUSR1, and as --snapshot-every says")
+    add("--snapshot-every", type=float, default=0.0, metavar="N", help="replace the snapshot each N seconds (default: at SIGUSR1 alone)")
+
+
+def add_copying(parser: argparse.ArgumentParser) -> None:
+    """Options on what --create makes."""
+    add = parser.add_argument_group("the initial copy").add_argument
+    add("--table", action="append", default=[], help="with --create: a table to publish, may be repeated (default: those that are there)")
+    add("--all-tables", action="store_true", help="with --create: publish all tables, also those that are made later")
+    add("--keyless", choices=("refuse", "leave-out", "inserts"), default="refuse",
+        help="what becomes of tables without a usable replica identity (default: refuse; inserts: only their Inserts are published)")
+    add("--failover", action="store_true", help="with --create: a slot that is synchronized to standbys (PostgreSQL 17)")
+    add("--no-copy", action="store_true", help="begin a new store where the slot is, without the rows from before")
+
+
+def add_checking(parser: argparse.ArgumentParser) -> None:
+    add = parser.add_argument
+    add("--store", metavar="FILE", default="", help="where it is there, what following into it needs; else what a new one does")
+    add("--json", action="store_true", help="print a JSON array")
+
+
+def add_dropping(parser: argparse.ArgumentParser) -> None:
+    add = parser.add_argument
+    add("--store", metavar="FILE", required=True, help="the store whose slot, publications and files go")
+    add("--yes", action="store_true", help="don't ask; what somebody else may have made or may use stays")
+
+
+def add_recording(parser: argparse.ArgumentParser) -> None:
+    """Options on a recording."""
+    add = parser.add_argument_group("recording").add_argument
+    add("--record", metavar="FILE", help="record the sessions in a .pgx file (without --store: one session, without confirming it)")
+    add("--append", action="store_true", help="add to the recording, after a line `--` (with --store always)")
+    add("--bytes", type=within(1, 1 << 62), default=LONGEST, metavar="N",
+        help=f"stop before the recording is longer than N bytes (default: {LONGEST}, which is pgsub's limit)")
+    add = parser.add_argument_group("recording without --store").add_argument
+    add("--start", type=lsn, default=0, metavar="LSN", help="where to start (default: where the slot is)")
+    add("--seconds", type=float, metavar="N", help="stop after N seconds")
+    add("--transactions", type=int, metavar="N", help="stop after N commits")
+    add("--confirm", type=lsn, default=0, metavar="LSN",
+        help="confirm what was recorded up to this LSN, so that the server may forget it (default: nothing)")
+    add("--streaming", action="store_true", help="stream large transactions while they run (--proto 2)")
+    add("--binary", action="store_true", help="ask for values in binary format")
+    add("--messages", action="store_true", help="ask for the messages of pg_logical_emit_message")
+
+
+def add_names(parser: argparse.ArgumentParser) -> None:
+    parser.add_argument("--store", metavar="FILE", required=True, help="the store, which may be in use")
+
+
+# Each subcommand: what adds its options.
+COMMANDS: dict[str, tuple[str, Sequence[Callable[[argparse.ArgumentParser], None]]]] = {
+    "follow": ("follow into a store", (add_server, add_following, add_recording)),
+    "record": ("only record", (add_server, add_following, add_recording)),
+    "check": ("tell what following needs of the server, and change nothing", (add_server, add_copying, add_checking)),
+    "drop": ("drop slot, publications and files", (add_server, add_dropping)),
+    "names": ("tell which OID each name of a table has now, and which ones had it before", (add_names,)),
+}
+
+
+def arguments(words: Sequence[str]) -> Options:
+    """Reads the command line. Without a subcommand it is `follow` where a store is named, and else `record`."""
+    parser = argparse.ArgumentParser(
+        prog=log.PROGRAM, description=ABOUT, epilog=MORE, formatter_class=argparse.RawDescriptionHelpFormatter
+    )
+    parser.add_argument("--version", action=TellVersion, nargs=0, help="show the version, and the commit of a checkout")
+    commands = parser.add_subparsers(dest="command", metavar="COMMAND", required=True)
+    parsers = {}
+    for name, (about, adds) in COMMANDS.items():
+        parsers[name] = commands.add_parser(name, help=about, description=about)
+        for add in adds:
+            add(parsers[name])
+    if words and words[0] not in (*COMMANDS, "-h", "--help", "--version"):
+        has_store = any(word == "--store" or word.startswith("--store=") for word in words)
+        words = ["follow" if has_store else "record", *words]
+    found = vars(parser.parse_args(words))
+    options = Options(**{field.name: found[field.name] for field in dataclasses.fields(Options) if field.name in found})
+    check(parsers[options.command], options)
+    return options
+
+
+def check(parser: argparse.ArgumentParser, options: Options) -> None:
+    """Rejects words that don't go together."""
+    for given, needed in (
+        ("table", "create"), ("all_tables", "create"), ("failover", "create"), ("append", "record"), ("snapshot", "store"),
+        ("snapshot_every", "snapshot"), ("skip", "store"), ("strict", "store"),
+    ):
+        if options.command != "check" and getattr(options, given) and not getattr(options, needed):
+            parser.error(f"--{given.replace('_', '-')} needs --{needed}")
+    if options.command == "follow" and not options.store:
+        parser.error("--store is needed")
+    if options.command == "record" and not options.record:
+        parser.error("--store or --record is needed")
+    if options.streaming and options.proto != 2:
+        parser.error("--streaming needs --proto 2")
+    if options.table and options.all_tables:
+        parser.error("--table and --all-tables exclude each other")
+    if options.all_tables and options.keyless != "refuse":
+        parser.error("of a publication for all tables no table can be left out: --keyless needs a list")
+    if options.command == "record":
+        options.store = ""
+    if options.store:
+        if options.create == "temporary":
+            parser.error("--create temporary is for recording without --store")
+        for name in ("start", "seconds", "transactions", "confirm", "binary", "messages", "streaming"):
+            if getattr(options, name):
+                parser.error(f"--{name} is for recording without --store")
+        options.streaming = options.proto == 2
+
+
+def settle_options(options: Options) -> None:
+    """Fills in what stands elsewhere: the connection string of a file, the program, the limits."""
+    if options.dsn_file:
+        with open(options.dsn_file, encoding="utf-8") as file:
+            options.dsn = file.readline().strip()
+    elif "password" in parameters(options.dsn):
+        log.warning("the password on the command line can be read by every account: use ~/.pgpass, PGPASSWORD or --dsn-file")
+    remembered = Remembered(options.store).publications() if os.path.exists(options.store) else []
+    options.publication = options.publication or remembered or ["pgsub"]
+    options.pgsub = options.pgsub or program()
+    options.max_buffered = options.max_buffered or default_buffered()
+    options.max_frame = options.max_frame or min(options.max_buffered, LONGEST_FRAME)
+
+
+def program() -> str:
+    """The program `pgsub`: the one beside this one, that of a checkout, or the one in PATH. It is never built."""
+    beside = os.path.join(os.path.dirname(os.path.realpath(sys.argv[0])), "pgsub")
+    checkout = os.path.join(TOP, "crates", "pgsub", "out", "pgsub")
+    for path in (checkout,) if os.path.isdir(os.path.join(TOP, "crates")) else (beside,):
+        if os.access(path, os.X_OK) and os.path.isfile(path):
+            return path
+    return shutil.which("pgsub") or checkout
+
+
+class TellVersion(argparse.Action):
+    """`--version`."""
+
+    def __call__(self, *_: object) -> None:
+        print(version())
+        raise SystemExit(0)
+
+
+def version() -> str:
+    """The version, and the commit where this is a checkout."""
+    try:
+        done = subprocess.run(["git", "-C", TOP, "describe", "--always", "--dirty"], capture_output=True, check=True, timeout=5)
+        return f"{log.PROGRAM} {VERSION} ({done.stdout.decode().strip()})"
+    except (OSError, subprocess.SubprocessError):
+        return f"{log.PROGRAM} {VERSION}"
+
+
+def stop_by_signals(*workers: Worker) -> None:
+    """Lets a first signal ask for the end, and a second one end at once."""
+
+    def ask(number: int, _: object) -> None:
+        for worker in workers:
+            if worker.stop_asked:
+                os._exit(128 + number)
+            worker.stop_asked = True
+
+    for number in (signal.SIGINT, signal.SIGTERM):
+        signal.signal(number, ask)
+
+
+def snapshot_by_signal(snapshots: Snapshots) -> None:
+    def ask(*_: object) -> None:
+        snapshots.asked = True
+
+    signal.signal(signal.SIGUSR1, ask)
+
+
+def make_filter(options: Options, checkpoint: Checkpoint, path: str) -> Filter:
+    words = [options.pgsub, "follow", "--store", path]
+    words += ["--max-buffered", str(options.max_buffered), "--max-frame", str(options.max_frame)]
+    return Filter(words, (checkpoint.file,), options.proto, options.mode)
+
+
+class Start:
+    """Asked to end before there is anything else to ask."""
+
+    stop_asked = False
+
+    def check(self) -> None:
+        if self.stop_asked:
+            raise Stopped
+
+
+def follow(options: Options) -> None:
+    start = Start()
+    stop_by_signals(start)
+    checkpoint = Checkpoint(options.store, options.mode, start.check)
+    progress = Progress()
+    recording = Aside(Recording(options.record, True, options.bytes, options.mode)) if options.record else None
+    remembered = Remembered(options.store)
+    copier = Copier(options, checkpoint, make_filter(options, checkpoint, options.store + ".copying"), progress, remembered)
+    child = make_filter(options, checkpoint, options.store)
+    snapshots = Snapshots(options.store, options.snapshot, options.snapshot_every, options.mode)
+    follower = Follower(options, checkpoint, child, progress, recording, snapshots, remembered)
+    snapshot_by_signal(snapshots)
+    stop_by_signals(copier, follower)
+    copier.stop_asked = follower.stop_asked = start.stop_asked
+    reporter = Reporter(options, progress, options.status_file) if options.status_file else None
+    if reporter:
+        reporter.start()
+    try:
+        if not os.path.exists(options.store):
+            begin(options, checkpoint, copier, remembered, follower.check_stop)
+        follower.run()
+        progress.state = "stopped"
+    except Stopped:
+        progress.state = "stopped"
+    except Exception as error:
+        progress.state, progress.last_error = "failed", str(error)
+        raise
+    finally:
+        child.kill()
+        if recording:
+            recording.flush()
+        if reporter:
+            reporter.finish()
+
+
+def begin(options: Options, checkpoint: Checkpoint, copier: Copier, remembered: Remembered, check: Check) -> None:
+    """What a start does where there is no store."""
+    known = checkpoint.known
+    if options.create and not options.no_copy:
+        return copier.run()
+    if known.phase == known_of.FOLLOWING and not options.accepts("gap"):
+        raise Unfit(f"{options.store} is gone, and the slot {known.slot} went on: remove {checkpoint.path} to begin anew")
+    if not options.create and not options.no_copy:
+        raise Unfit(f"there is no store {options.store}: --create makes it, with publication and slot; see --help")
+    made = create_slot(options, check) if options.create else {}
+    remembered.remove()
+    remembered.note_made(made)
+
+
+def record(options: Options) -> None:
+    assert options.record
+    recorder = Recorder(options, Recording(options.record, options.append, options.bytes, options.mode))
+    stop_by_signals(recorder)
+    maker = maker_of(options, recorder.check_stop)
+    try:
+        if options.create == "temporary":
+            maker.make()
+        elif options.create:
+            create_slot(options, recorder.check_stop)
+        recorder.run()
+    finally:
+        maker.take_back()
+
+
+def stoppable(call: Callable[[Options, Check], int]) -> Callable[[Options], int]:
+    """A subcommand that a signal ends."""
+
+    def run(options: Options) -> int:
+        start = Start()
+        stop_by_signals(start)
+        return call(options, start.check)
+
+    return run
+
+
+RUNS: dict[str, Callable[[Options], Any]] = {
+    "follow": follow, "record": record, "check": stoppable(checking.run), "drop": stoppable(dropping.run),
+    "names": lambda options: print_names(options.store),
+}
+
+
+def main(words: Sequence[str]) -> int:
+    options = arguments(words)
+    try:
+        settle_options(options)
+        return int(RUNS[options.command](options) or 0)
+    except Stopped:
+        return 0
+    except FilterEnded as ended:
+        log.error(f"stopped: {ended}")
+        return status_of(ended)
+    except ServerError as error:
+        log.error(str(error))
+        return SERVER if error.is_lasting() else PASSING
+    except (Unfit, FileError, FilterFault, Passing, UsageError) as error:
+        log.error(str(error))
+        return STATUSES[type(error)]
+    except OSError as error:
+        log.error(f"{error.filename or 'a file'}: {error.strerror}")
+        return PASSING if error.errno in PASSING_ERRORS else FILE
+    except Exception:  # noqa: BLE001
+        traceback.print_exc()
+        return BUG
+
+
+def status_of(ended: FilterEnded) -> int:
+    """The status with which the connector ends because of its filter."""
+    if not ended.is_rejection():
+        return PASSING
+    return ended.status if ended.status in (USAGE, FILE) else REJECTED
+
+
+STATUSES: dict[type[Exception], int] = {Unfit: UNFIT, FileError: FILE, FilterFault: FILE, Passing: PASSING, UsageError: USAGE}
+# No space, no memory.
+PASSING_ERRORS = (28, 12, 122)
+
+
+def run() -> None:
+    sys.exit(main(sys.argv[1:]))

@@ -1,0 +1,183 @@
+"""What has changed between two readings of a server's publications, and between two Relation messages, in plain words.
+
+Each difference has the kind of fault that it may be in the copy:
+
+| Kind | What may be wrong |
+|---|---|
+| `names` | a name is another table's now: rows of both are shown under it |
+| `publication` | rows are missing, or stay, because the publication has other tables, partitions or rows |
+| `values` | values in rows that were there before were changed by a command that isn't in the stream |
+"""
+
+from __future__ import annotations
+
+from collections.abc import Iterator
+from typing import NamedTuple
+
+from .catalog import Catalog, Part, Publication, Shape, Table
+
+NAMES, PUBLICATION, VALUES = "names", "publication", "values"
+KINDS = (NAMES, PUBLICATION, VALUES)
+# How many columns, labels and the like a text names.
+NAMED = 20
+
+
+class Difference(NamedTuple):
+    """One of them. A kind of "" says that nothing can be wrong because of it."""
+
+    kind: str
+    text: str
+
+
+def differences(before: Catalog, now: Catalog) -> Iterator[Difference]:
+    """All of them but those of names."""
+    for name in sorted(before.publications.keys() | now.publications.keys()):
+        old, new = before.publications.get(name), now.publications.get(name)
+        if old is None:
+            since = "was gone, and is there again" if name in before.names else "is followed"
+            yield Difference(PUBLICATION, f"publication {name} {since}: changes from before aren't sent")
+        elif new is None:
+            yield Difference(PUBLICATION, f"publication {name} {'is gone' if name in now.names else 'is not followed any more'}")
+        else:
+            yield from publication_differences(name, old, new)
+    for oid in sorted(before.tables.keys() | now.tables.keys()):
+        yield from table_differences(oid, before, now)
+    yield from partition_differences(before, now)
+    for oid in sorted(before.types.keys() & now.types.keys()):
+        yield from type_differences(oid, before.types[oid], now.types[oid])
+
+
+def publication_differences(name: str, before: Publication, now: Publication) -> Iterator[Difference]:
+    if before.oid != now.oid:
+        yield Difference(PUBLICATION, f"publication {name} was dropped and made anew: changes in between aren't sent")
+    for word in before.actions:
+        if word not in now.actions:
+            yield Difference(PUBLICATION, f"publication {name} has no {word}s any more")
+    for word in now.actions:
+        if word not in before.actions:
+            yield Difference(PUBLICATION, f"publication {name} has {word}s only from now on")
+    if before.via_root != now.via_root:
+        names = "the root's name" if now.via_root else "their own names"
+        yield Difference(PUBLICATION, f"publication {name} has rows of partitions under {names} now: the older rows stay as they were")
+    if before.generated != now.generated:
+        yield Difference(PUBLICATION, f"publication {name} has generated columns {'only from now on' if now.generated else 'no more'}")
+
+
+def table_differences(oid: int, before: Catalog, now: Catalog) -> Iterator[Difference]:
+    old, new = before.tables.get(oid), now.tables.get(oid)
+    if old is None and new is not None:
+        if oid in before.partitions:
+            yield Difference(PUBLICATION, f"partition {new.text()} is sent under its own name now: the rows that it had don't change")
+        elif is_complete(new, before, now):
+            yield Difference("", f"table {new.text()} is new, and followed from its first row on")
+        else:
+            yield Difference(PUBLICATION, f"table {new.text()} joined: the rows that it had before are missing")
+    elif new is None and old is not None:
+        if oid in now.partitions and root_of(oid, now):
+            yield Difference(PUBLICATION, f"partition {old.text()} is sent under another name now: the rows that it had don't change")
+        else:
+            yield Difference(PUBLICATION, gone_text(old.text()))
+    elif old is not None and new is not None:
+        for name in sorted(old.parts.keys() & new.parts.keys()):
+            yield from part_differences(f"table {new.text()}", old.parts[name], new.parts[name])
+        yield from shape_differences(new.text(), old.shape, new.shape)
+
+
+def gone_text(table: str) -> str:
+    return f"table {table} was dropped, or left the publication: the rows that it had stay"
+
+
+def is_complete(table: Table, before: Catalog, now: Catalog) -> bool:
+    """Whether a table that joined was published from its first row on.
+
+    It was made after `before` was read, nobody has written it anew, as where it became a logged one, and it is in a publication
+    of all tables, or in one of its schema without having been moved there. Or it was made as a partition of what was published.
+    """
+    if is_made_in(table.oid, before, now):
+        return True
+    if table.oid <= before.highest or not table.unwritten:
+        return False
+    for name, part in table.parts.items():
+        old = before.publications.get(name)
+        if part.whole and old == now.publications[name] and (old.whole or table.untouched):
+            return True
+    return False
+
+
+def is_made_in(oid: int, before: Catalog, now: Catalog) -> bool:
+    """Whether a partition was made as one below a partitioned table that was known."""
+    partition = now.partitions.get(oid)
+    while partition is not None:
+        if not partition.made:
+            return False
+        if partition.parent in before.partitions:
+            return True
+        partition = now.partitions.get(partition.parent)
+    return False
+
+
+def part_differences(table: str, old: Part, new: Part) -> Iterator[Difference]:
+    if old.row_filter != new.row_filter:
+        yield Difference(PUBLICATION, f"{table} has the row filter {new.row_filter or 'none'} now, and before {old.row_filter or 'none'}")
+    if old.listed != new.listed:
+        yield Difference(PUBLICATION, f"{table} has another column list: rows that were there have nulls in the columns that joined")
+
+
+def shape_differences(table: str, old: Shape, new: Shape) -> Iterator[Difference]:
+    """What of another definition may have changed values in rows that were there. Columns that only went have not."""
+    was = {it.name: it for it in old.columns}
+    for column in new.columns:
+        same = was.get(column.name)
+        if same is not None and column.number and same.number and column.number != same.number:
+            yield Difference(VALUES, f"column {column.name} of {table} was dropped and made anew: its values may be the old ones")
+        elif same is not None and (same.type_oid, same.modifier) != (column.type_oid, column.modifier):
+            yield Difference(VALUES, f"column {column.name} of {table} has another type: its values may be written in another way")
+        elif same is None:
+            yield Difference(VALUES, f"column {column.name} of {table} was added or renamed: rows that were there have nulls in it")
+    kept = {it.name for it in new.columns}
+    if [it.name for it in old.columns if it.name in kept] != [it.name for it in new.columns if it.name in was]:
+        yield Difference(VALUES, f"columns of {table} have changed their names among each other, or were made anew")
+    if (old.identity, keys_of(old)) != (new.identity, keys_of(new)):
+        key = "all columns" if new.identity == "f" else ", ".join(keys_of(new)[:NAMED]) or "no column"
+        yield Difference(VALUES, f"table {table} has another replica identity: {key}")
+
+
+def keys_of(shape: Shape) -> list[str]:
+    return [it.name for it in shape.columns if it.key and shape.identity in "di"]
+
+
+def partition_differences(before: Catalog, now: Catalog) -> Iterator[Difference]:
+    """Those of partitions whose rows are published under another name. Any other is a published table itself."""
+    for oid in sorted(before.partitions.keys() | now.partitions.keys()):
+        was, root = root_of(oid, before), root_of(oid, now)
+        if was != root and was in now.tables:
+            partition = f"partition {before.partitions[oid].name} ({oid}) of {now.tables[was].text()}"
+            yield Difference(PUBLICATION, f"{partition} was detached or dropped: its rows stay")
+        if was != root and root in before.tables:
+            partition = f"partition {now.partitions[oid].name} ({oid}) of {now.tables[root].text()}"
+            if is_made_in(oid, before, now):
+                yield Difference("", f"{partition} is new, and followed from its first row on")
+            else:
+                yield Difference(PUBLICATION, f"{partition} was attached: the rows that it had before are missing")
+
+
+def root_of(oid: int, catalog: Catalog) -> int:
+    """The topmost published table that has a partition's rows, 0 where there is none, or where it is one with partitions itself."""
+    partition = catalog.partitions.get(oid)
+    if partition is None or not partition.leaf:
+        return 0
+    root = 0
+    while partition is not None:
+        root = partition.parent if partition.parent in catalog.tables else root
+        partition = catalog.partitions.get(partition.parent)
+    return root
+
+
+def type_differences(oid: int, old: dict[str, str], new: dict[str, str]) -> Iterator[Difference]:
+    """Labels that were renamed, and parts of composite types. A label that was added changes no value."""
+    name = f"type {new.get('name', '')} ({oid})"
+    renamed = sorted(f"{old[it]} became {new[it]}" for it in old.keys() & new.keys() if it.isdigit() and old[it] != new[it])
+    if renamed:
+        yield Difference(VALUES, f"{name}: {', '.join(renamed[:NAMED])}: values that were there have the old labels")
+    if {it: old[it] for it in old if it[0] == "#"} != {it: new[it] for it in new if it[0] == "#"}:
+        yield Difference(VALUES, f"{name} consists of other parts: values that were there have the old ones")

@@ -1,0 +1,223 @@
+"""`pgsub-connect drop`: takes away a follower that isn't wanted any more: its slot, its publications and its files."""
+
+from __future__ import annotations
+
+import contextlib
+import fcntl
+import glob
+import json
+import os
+import sys
+import time
+from collections.abc import Callable, Iterator
+from typing import TYPE_CHECKING, Any
+
+from . import checkpoint as known_of
+from . import log
+from .checkpoint import Known
+from .errors import FileError, Passing, Unfit
+from .making import inserts_of, oid_of
+from .postgres import Check, Connection, never
+from .server import settle
+from .texts import identifier, literal
+
+if TYPE_CHECKING:
+    from .cli import Options
+
+# What the names of a store's files add to its own, the checkpoint last: as long as it is there, a start tells what is missing.
+SUFFIXES = (
+    ".copying", ".copying-wal", ".copying-shm", ".copying.pgsub-new", ".filter", ".pgsub-new", "-wal", "-shm", "", ".tables", ".connector",
+)
+# How long a slot that was just left by its connection is waited for.
+PATIENCE = 5.0
+
+
+def read_known(path: str) -> Known:
+    """What the checkpoint has, or nothing where it isn't there."""
+    try:
+        with open(path, encoding="utf-8") as file:
+            line = file.read(known_of.SIZE).strip()
+        return Known(**json.loads(line)) if line else Known()
+    except FileNotFoundError:
+        return Known()
+    except OSError as error:
+        raise FileError(f"{path}: {error.strerror}") from None
+    except (ValueError, TypeError):
+        raise FileError(f"{path}: not a checkpoint of this program") from None
+
+
+def read_remembered(path: str) -> dict[str, Any]:
+    """What is remembered beside the store; nothing where that can't be read, since it is only asked for names."""
+    with contextlib.suppress(OSError, ValueError), open(path, encoding="utf-8") as file:
+        found = json.load(file)
+        return found if isinstance(found, dict) else {}
+    return {}
+
+
+def made_publications(remembered: dict[str, Any]) -> dict[str, int]:
+    """The publications that the connector made, with their OIDs."""
+    made = remembered.get("made")
+    return {str(name): int(oid) for name, oid in made.items()} if isinstance(made, dict) else {}
+
+
+@contextlib.contextmanager
+def locked(path: str) -> Iterator[None]:
+    """Holds the checkpoint's lock, so that no connector begins meanwhile. Raises where one is at work."""
+    try:
+        file = os.open(path, os.O_RDWR | os.O_CLOEXEC)
+    except FileNotFoundError:
+        yield
+        return
+    except OSError as error:
+        raise FileError(f"{path}: {error.strerror}") from None
+    try:
+        try:
+            fcntl.flock(file, fcntl.LOCK_EX | fcntl.LOCK_NB)
+        except BlockingIOError:
+            raise Passing(f"{path}: a connector or its filter is at work on this store: end it first") from None
+        yield
+    finally:
+        os.close(file)
+
+
+def files_of(store: str) -> list[str]:
+    """The files of a store that are there, the checkpoint last."""
+    named = [store + suffix for suffix in SUFFIXES]
+    others = [
+        path for path in glob.glob(glob.escape(store) + ".*")
+        if path.startswith((store + ".copying", store + ".filter", store + ".tables", store + ".connector")) and path not in named
+    ]
+    return [path for path in (*sorted(others), *named) if os.path.lexists(path)]
+
+
+Ask = Callable[[str], bool]
+
+
+def ask_terminal(question: str) -> bool:
+    """Asks on the terminal. Nobody there is a no."""
+    if not sys.stdin.isatty():
+        raise Unfit("drop asks on the terminal, and there is none: say --yes to drop without asking")
+    try:
+        return input(f"{question} [y/N] ").strip().lower() in ("y", "yes")
+    except EOFError:
+        return False
+
+
+class Dropper:
+    """Drops what belongs to one store."""
+
+    def __init__(self, options: Options, ask: Ask, check: Check = never) -> None:
+        self.options, self.ask, self.check = options, ask, check
+        self.store = options.store
+        self.known = read_known(self.store + ".connector")
+        self.remembered = read_remembered(self.store + ".tables")
+        self.slot = self.known.slot or options.slot
+
+    def run(self) -> None:
+        """Slot first, since the server's disk fills because of it; files last, since they say what else there is."""
+        if self.known.slot and self.options.slot not in ("pgsub", self.known.slot):
+            raise Unfit(f"the store follows the slot {self.known.slot}, and not {self.options.slot}")
+        with locked(self.store + ".connector"):
+            connection = Connection(self.options.dsn, name=f"{self.slot} drop", check=self.check)
+            try:
+                settle(connection)
+                self.check_server(connection)
+                done = self.drop_slot(connection)
+                self.drop_publications(connection)
+            finally:
+                connection.close()
+            if done:
+                self.drop_files()
+
+    def check_server(self, connection: Connection) -> None:
+        """Rejects a server that isn't the one that the store follows."""
+        known = self.known
+        if not known.system:
+            return
+        system, database = connection.rows(
+            "SELECT s.system_identifier, pg_catalog.current_database() FROM pg_catalog.pg_control_system() s"
+        )[0]
+        if (system, database) != (known.system, known.database):
+            raise Unfit(
+                f"the store follows the database {known.database} of the server {known.system}, and this is {database} of {system}"
+            )
+
+    def drop_slot(self, connection: Connection) -> bool:
+        """Drops the slot. Returns whether it is gone."""
+        query = (
+            "SELECT s.active, s.plugin = 'pgoutput' AND s.database = pg_catalog.current_database()"
+            f" FROM pg_catalog.pg_replication_slots s WHERE s.slot_name = {literal(self.slot)}"
+        )
+        rows = connection.rows(query)
+        if not rows:
+            log.info(f"the server has no slot {self.slot}")
+            return True
+        until = time.monotonic() + PATIENCE
+        while rows and rows[0][0] == "t" and time.monotonic() < until:
+            self.check()
+            time.sleep(0.2)
+            rows = connection.rows(query)
+        if rows and rows[0][0] == "t":
+            raise Passing(f"the slot {self.slot} is active: end the connector that follows it first")
+        if rows and rows[0][1] != "t":
+            raise Unfit(f"the slot {self.slot} is not one of pgoutput in this database")
+        if not self.ask(f"drop the slot {self.slot} of {connection.parameter('server_version')}, with all that it hasn't sent?"):
+            log.info("the slot stays, and so do the files")
+            return False
+        connection.rows(f"SELECT pg_catalog.pg_drop_replication_slot({literal(self.slot)})")
+        log.info(f"dropped the slot {self.slot}")
+        return True
+
+    def candidates(self, connection: Connection) -> list[tuple[str, bool]]:
+        """The publications to ask for, and whether it is known that the connector made them."""
+        made = made_publications(self.remembered)
+        known = self.remembered.get("followed")
+        followed = [str(it) for it in known] if isinstance(known, list) else []
+        names = list(dict.fromkeys([*made, *self.options.publication, *followed]))
+        names += [inserts_of(name) for name in list(names) if inserts_of(name) not in names]
+        found = []
+        for name in names:
+            oid = oid_of(connection, name)
+            if oid:
+                found.append((name, made.get(name) == oid))
+        return found
+
+    def drop_publications(self, connection: Connection) -> None:
+        """Asks for each publication. Those that it isn't known to have made are dropped by a word on the terminal alone."""
+        others = other_slots(connection, self.slot)
+        for name, is_ours in self.candidates(connection):
+            more = f"; other slots may use it: {', '.join(others)}" if others else ""
+            if not is_ours and self.options.yes:
+                log.info(f"the publication {name} stays: it isn't known to be made by this connector{more}")
+            elif others and self.options.yes:
+                log.info(f"the publication {name} stays{more}")
+            elif self.ask(f"drop the publication {name}{'' if is_ours else ', which somebody else may have made'}{more}?"):
+                connection.run(f"BEGIN; SET LOCAL synchronous_commit = local; DROP PUBLICATION {identifier(name)}; COMMIT")
+                log.info(f"dropped the publication {name}")
+
+    def drop_files(self) -> None:
+        files = files_of(self.store)
+        if not files or not self.ask(f"remove {', '.join(files)}?"):
+            return
+        for path in files:
+            try:
+                with contextlib.suppress(FileNotFoundError):
+                    os.unlink(path)
+            except OSError as error:
+                raise FileError(f"{path}: {error.strerror}") from None
+        log.info(f"removed {', '.join(files)}")
+
+
+def other_slots(connection: Connection, slot: str) -> list[str]:
+    """Other slots of this database by which a publication may be followed."""
+    rows = connection.rows(
+        "SELECT s.slot_name FROM pg_catalog.pg_replication_slots s WHERE s.plugin = 'pgoutput'"
+        f" AND s.database = pg_catalog.current_database() AND s.slot_name <> {literal(slot)} ORDER BY 1"
+    )
+    return [row[0] or "" for row in rows]
+
+
+def run(options: Options, check: Check = never) -> int:
+    """Drops it all; the exit status."""
+    Dropper(options, (lambda question: True) if options.yes else ask_terminal, check).run()
+    return 0

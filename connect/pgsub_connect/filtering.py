@@ -1,0 +1,262 @@
+"""The filter `pgsub follow` as a child: frames go to its standard input, statuses come from its standard output."""
+
+from __future__ import annotations
+
+import collections
+import contextlib
+import fcntl
+import os
+import select
+import signal
+import struct
+import subprocess
+from collections.abc import Sequence
+
+from . import log
+from .errors import FilterFault
+from .postgres import Check, never
+
+# A status: CopyData, 34 bytes of payload that begin with `r`, and written, flushed, applied, clock and ask in them.
+STATUS = 39
+STATUS_HEAD = b"d\x00\x00\x00\x26r"
+COPY_DONE = b"c\x00\x00\x00\x04"
+# How many bytes wait for the filter before no more are read from the server.
+ROOM = 1 << 20
+PIECE = 1 << 16
+# The size that the pipe to the filter is asked to have.
+PIPE = 1 << 20
+# The statuses with which a filter ends by itself.
+REJECTED, USAGE, NO_STORE, SPOOL_FULL, FRAME_TOO_LARGE, UNOPENED, REFUSED, MEMORY, BROKEN = 1, 2, 3, 10, 11, 12, 13, 14, 15
+PASSING = (UNOPENED, REFUSED, MEMORY, BROKEN)
+# What a filter needs of the environment: not the passwords of a server.
+KEPT = ("PATH", "LANG", "LC_ALL", "LC_MESSAGES", "TMPDIR", "TZ", "HOME")
+
+
+class FilterEnded(Exception):
+    """The filter ended: with a status above 0 by a fault, below 0 by a signal."""
+
+    def __init__(self, status: int, said: str) -> None:
+        ended = f"the filter ended with status {status}" if status >= 0 else f"signal {-status} ended the filter"
+        super().__init__(f"{ended}: {said}" if said else ended)
+        self.status = status
+        self.said = said
+
+    def is_rejection(self) -> bool:
+        """Whether the same would come of another try. A disk that is full, or too little memory, may pass."""
+        return self.status > 0 and self.status not in PASSING
+
+    def is_of_commit(self) -> bool:
+        """Whether what was rejected is a commit, and not a single message."""
+        return self.status == REJECTED and self.said.startswith(("pgsub: store ", "pgsub: relation "))
+
+    def is_full(self) -> bool:
+        """Whether too much of open transactions was buffered."""
+        return self.status == SPOOL_FULL
+
+    def is_unopened(self) -> bool:
+        """Whether the store couldn't be opened, as where another process has it open."""
+        return self.status == UNOPENED
+
+
+def flushed(payload: bytes) -> int:
+    """The LSN up to which a status confirms."""
+    return int.from_bytes(payload[9:17], "big")
+
+
+def without_received(payload: bytes) -> bytes:
+    """A status that claims no more to be received than is confirmed: what holds after a disconnection."""
+    return payload[:1] + payload[9:17] + payload[9:]
+
+
+def asking(payload: bytes) -> bytes:
+    """A status that asks the server for an answer."""
+    return payload[:-1] + b"\x01"
+
+
+pack_header = struct.Struct(">ci").pack
+
+
+def header(payload: bytes) -> bytes:
+    """The five bytes before the payload of a CopyData."""
+    return pack_header(b"d", len(payload) + 4)
+
+
+class Filter:
+    """A running filter, or one that is to be started."""
+
+    child: subprocess.Popen[bytes]
+
+    def __init__(self, words: list[str], kept_open: Sequence[int], proto: int = 2, mode: int = 0o600) -> None:
+        self.words = words
+        self.proto = proto
+        self.kept_open = kept_open
+        self.mode = mode
+        self.runs = False
+        self.status = b""
+
+    def is_running(self) -> bool:
+        return self.runs
+
+    def launch(self) -> None:
+        """Starts the filter. Its first status comes once it has opened its store."""
+        try:
+            # (a session of its own: an interrupt at the terminal is for the connector, which ends the filter in its own time)
+            self.child = subprocess.Popen(
+                [*self.words, "--proto", str(self.proto)], stdin=subprocess.PIPE, stdout=subprocess.PIPE, stderr=subprocess.PIPE,
+                start_new_session=True, pass_fds=self.kept_open, umask=0o777 & ~self.mode,
+                env={name: value for name, value in os.environ.items() if name in KEPT},
+            )
+        except OSError as error:
+            raise FilterFault(f"{self.words[0]}: {error.strerror}") from None
+        assert self.child.stdin and self.child.stdout and self.child.stderr
+        self.down, self.up, self.err = (it.fileno() for it in (self.child.stdin, self.child.stdout, self.child.stderr))
+        for it in (self.down, self.up, self.err):
+            os.set_blocking(it, False)
+        with contextlib.suppress(OSError):
+            fcntl.fcntl(self.down, fcntl.F_SETPIPE_SZ, PIPE)
+        self.pending: collections.deque[bytearray] = collections.deque()
+        self.waiting = self.written = 0
+        self.partial, self.line, self.said = bytearray(), b"", ""
+        self.status, self.in_session, self.takes, self.speaks = b"", False, True, True
+        self.runs = True
+
+    def start(self, check: Check = never) -> int:
+        """Starts the filter, waits for its first status, and returns the LSN up to which its store confirms.
+
+        What `check` raises meanwhile ends the filter: one that opens its store has nothing to lose.
+        """
+        self.launch()
+        try:
+            while not self.status:
+                check()
+                self.serve(0.5)
+        except BaseException:
+            self.kill()
+            raise
+        return flushed(self.status)
+
+    def confirmed(self) -> int:
+        return flushed(self.status)
+
+    def push(self, piece: bytes) -> None:
+        """Gives the filter bytes of the session. A frame may come in several pieces, one right after the other."""
+        pending = self.pending
+        if pending and len(pending[-1]) < PIECE:
+            pending[-1] += piece
+        else:
+            pending.append(bytearray(piece))
+        self.waiting += len(piece)
+        self.in_session = True
+
+    def push_all(self, pieces: list[bytes]) -> None:
+        """Gives the filter many short pieces, and empties the list."""
+        if pieces:
+            self.push(b"".join(pieces))
+            pieces.clear()
+
+    def end_session(self) -> None:
+        """Puts CopyDone in the place of a connection that is gone."""
+        if self.runs and self.takes and self.in_session:
+            self.push(COPY_DONE)
+            self.in_session = False
+            self.status = without_received(self.status)
+
+    def room(self) -> int:
+        """How many bytes may be pushed before others are to be written; a last frame may be longer."""
+        return ROOM - self.waiting
+
+    def has_room(self) -> bool:
+        return self.waiting < ROOM
+
+    def finish(self) -> None:
+        """Ends the filter's input. What it hasn't read is dropped: a frame that ends early is no fault."""
+        if self.takes:
+            self.takes = False
+            self.pending.clear()
+            self.waiting = self.written = 0
+            if self.child.stdin:
+                self.child.stdin.close()
+
+    def serve(
+        self, timeout: float, reads: Sequence[int] = (), writes: Sequence[int] = ()
+    ) -> tuple[list[int], list[int], list[bytes]]:
+        """Waits until something is ready, moves bytes both ways, and returns what of `reads` and `writes` is ready and the
+        filter's new statuses."""
+        takes = [self.down] if self.waiting and self.takes else []
+        tells = [self.up, self.err] if self.speaks else [self.up]
+        readable, writable, _ = select.select([*tells, *reads], [*takes, *writes], [], timeout)
+        if self.takes and self.down in writable:
+            self.write()
+        if self.err in readable:
+            self.read_err()
+        statuses = self.read_statuses() if self.up in readable else []
+        return readable, writable, statuses
+
+    def write(self) -> None:
+        """Writes what waits, as far as the pipe takes it."""
+        pending = self.pending
+        try:
+            while pending:
+                with memoryview(pending[0]) as first:
+                    done = os.write(self.down, first[self.written :])
+                self.waiting -= done
+                self.written += done
+                if self.written == len(pending[0]):
+                    pending.popleft()
+                    self.written = 0
+        except BlockingIOError:
+            pass
+        except BrokenPipeError:
+            self.finish()
+
+    def read_err(self) -> None:
+        """Passes on what the filter says, and keeps its last line."""
+        try:
+            piece = os.read(self.err, PIECE)
+        except BlockingIOError:
+            return
+        self.speaks = bool(piece)
+        self.line += piece
+        *lines, self.line = self.line.split(b"\n")
+        for line in lines:
+            self.said = line.decode(errors="replace")
+            log.info(f"filter: {self.said}")
+
+    def read_statuses(self) -> list[bytes]:
+        try:
+            piece = os.read(self.up, PIECE)
+        except BlockingIOError:
+            return []
+        if not piece:
+            raise self.ended()
+        self.partial += piece
+        statuses = []
+        while len(self.partial) >= STATUS:
+            if self.partial[: len(STATUS_HEAD)] != STATUS_HEAD:
+                self.kill()
+                raise FilterFault("the filter wrote what isn't a status")
+            self.status = bytes(self.partial[5:STATUS])
+            del self.partial[:STATUS]
+            statuses.append(self.status)
+        return statuses
+
+    def ended(self) -> FilterEnded:
+        """Waits for the end, and makes the exception that says how it ended."""
+        self.finish()
+        status = self.child.wait()
+        while self.speaks and select.select([self.err], [], [], 0)[0]:
+            self.read_err()
+        self.close()
+        return FilterEnded(status, self.said)
+
+    def kill(self) -> None:
+        if self.runs:
+            self.child.send_signal(signal.SIGKILL)
+            self.child.wait()
+            self.close()
+
+    def close(self) -> None:
+        for it in (self.child.stdin, self.child.stdout, self.child.stderr):
+            if it:
+                it.close()
+        self.runs = False

@@ -1,0 +1,514 @@
+"""Follows a server: sessions one after the other, with the filter kept alive between them."""
+
+from __future__ import annotations
+
+import contextlib
+import itertools
+import time
+from typing import TYPE_CHECKING
+
+from . import checkpoint as known_of
+from . import log
+from .checkpoint import Checkpoint, check_gap
+from .errors import Passing, ServerError, Stopped, Unfit
+from .filtering import PIECE, Filter, FilterEnded, asking, flushed, pack_header
+from .noting import Noting
+from .postgres import COPY_BOTH, Connection
+from .progress import Progress
+from .recording import Aside
+from .remembered import Remembered
+from .server import Server, identify, left_at, log_end, sender_timeout, settle, slot_position
+from .skipping import Skipping
+from .snapshots import Snapshots
+from .texts import counted, identifier, lsn_text, replication_literal
+from .watching import Watch
+
+if TYPE_CHECKING:
+    from .cli import Options
+
+LONGEST_DELAY = 60.0
+# After how many seconds each a store that can't be opened is tried again, the last one again and again.
+OPENED_AFTER = (1, 2, 4, 8, 15, 30)
+# An error that the server doesn't expect of itself. PostgreSQL 15 has one (`could not map filenode .. to relation OID`) where it
+# streams a transaction beside a TRUNCATE, at each try. The same transaction comes well once it is whole, or not at all.
+INTERNAL = "XX000"
+# How often a position that a keepalive alone has moved is passed on, in seconds. Each time costs a sync of the checkpoint.
+QUIET = 1.0
+# The first version of the server that has version 2 of the protocol, and the first that aborts transactions in version 1 too.
+STREAMS, ABORTS_IN_VERSION_1 = 140000, 180000
+
+
+class Follower:
+    """Follows into one store."""
+
+    connection: Connection | None
+
+    def __init__(
+        self, options: Options, checkpoint: Checkpoint, child: Filter, progress: Progress, recording: Aside | None,
+        snapshots: Snapshots, remembered: Remembered,
+    ) -> None:
+        self.options = options
+        self.checkpoint, self.filter, self.progress, self.recording = checkpoint, child, progress, recording
+        self.snapshots = snapshots
+        self.stop_asked = False
+        self.connection = None
+        self.was_connected = False
+        self.proto, self.streams = options.proto, options.proto >= 2
+        self.delay = 0.0
+        self.heartbeat = options.heartbeat
+        self.noting = Noting(progress, remembered)
+        self.watch = Watch(options, checkpoint, progress, remembered)
+        self.skipping = Skipping(options.skip, checkpoint, progress, remembered)
+        # the greatest end of a commit that was passed on and is confirmed
+        self.position = 0
+        self.last_sent = self.last_moved = 0.0
+        # a status that moves a position by a keepalive alone, and waits for its time
+        self.held: bytes | None = None
+        self.until = options.until if isinstance(options.until, int) else None
+
+    def run(self) -> None:
+        """Follows until a signal asks for the end. Raises where going on makes no sense."""
+        self.watch.begin()
+        while not self.stop_asked:
+            try:
+                self.start_filter()
+                self.session()
+            except Stopped:
+                break
+            except FilterEnded as ended:
+                self.note_end(ended)
+            except ServerError as error:
+                self.note_error(error)
+            finally:
+                self.disconnect()
+            self.wait()
+        self.finish_filter()
+        self.snapshots.wait()
+
+    def check_stop(self) -> None:
+        self.progress.beat()
+        if self.stop_asked:
+            raise Stopped
+
+    def note_error(self, error: ServerError) -> None:
+        """Notes what the server said. Raises where the same would come of another try, or where it was never reached."""
+        if error.is_lasting():
+            raise error
+        if not (self.was_connected or error.sqlstate):
+            raise Passing(str(error))
+        log.warning(f"{error}")
+        self.progress.last_error = str(error)
+        if error.sqlstate == INTERNAL:
+            self.stop_streaming("the server can't stream a large transaction")
+
+    def note_end(self, ended: FilterEnded) -> None:
+        """Notes why the filter ended. Raises where the same would come of another try."""
+        if not (ended.is_full() and self.stop_streaming("open transactions were too much at a time")):
+            if ended.is_rejection():
+                self.tell_rejected(ended)
+                raise ended
+            log.warning(f"{ended}: it is started again")
+        self.progress.last_error = str(ended)
+        self.progress.restarts += 1
+
+    def tell_rejected(self, ended: FilterEnded) -> None:
+        """Tells which commit the filter has rejected: the first one above its store's position."""
+        if not ended.is_of_commit():
+            return
+        with contextlib.suppress(FilterEnded, Stopped):
+            position = self.filter.start(self.check_stop)
+            self.filter.finish()
+            if text := self.noting.rejected_text(position):
+                log.error(text)
+            while True:
+                self.filter.serve(1.0)
+
+    def stop_streaming(self, why: str) -> bool:
+        """Asks for whole transactions from now on. Returns false where they come so already."""
+        if not self.streams:
+            return False
+        log.warning(f"{why}: they come whole from now on")
+        self.streams = False
+        return True
+
+    def holds_for_snapshot(self) -> bool:
+        """Copies the store for readers, where that is due, once all commits that were passed on are stored.
+
+        Until then nothing more is passed on: returns whether so. The filter has nothing to write meanwhile, and what it has buffered
+        of open transactions isn't in the store.
+        """
+        if self.stop_asked or not self.snapshots.is_due(self.position):
+            return False
+        if self.filter.is_running():
+            self.forget_confirmed(self.filter.confirmed())
+            if self.noting.ends or self.filter.waiting:
+                return True
+        state, self.progress.state = self.progress.state, "copying the store"
+        self.snapshots.take(self.position, self.tick)
+        self.progress.state = state
+        return False
+
+    def tick(self) -> None:
+        """Keeps server and status file content while something takes long."""
+        self.progress.beat()
+        if self.connection and self.filter.is_running() and time.monotonic() - self.last_sent >= self.heartbeat:
+            self.release()
+            self.send(self.filter.status)
+
+    def start_filter(self) -> None:
+        if self.filter.is_running():
+            return
+        self.progress.state = "opening the store"
+        self.position = self.open_store()
+        self.noting.begin_store()
+        self.held = None
+        self.progress.note_confirmed(self.position, self.position)
+
+    def open_store(self) -> int:
+        """Starts the filter. A store that somebody else has open, to dump it say, is waited for."""
+        for tried in itertools.count():
+            try:
+                return self.filter.start(self.check_stop)
+            except FilterEnded as ended:
+                if not ended.is_unopened():
+                    raise
+            delay = OPENED_AFTER[min(tried, len(OPENED_AFTER) - 1)]
+            log.warning(f"the store can't be opened now: it is tried again in {counted(delay, 'second')}")
+            self.sleep(delay)
+        raise AssertionError
+
+    def sleep(self, seconds: float) -> None:
+        until = time.monotonic() + seconds
+        while (left := until - time.monotonic()) > 0:
+            self.check_stop()
+            time.sleep(min(left, 0.2))
+
+    def wait(self) -> None:
+        """Waits before the next session, each time longer, and serves the filter meanwhile."""
+        self.delay = min(2 * self.delay, LONGEST_DELAY) if self.delay else 1.0
+        if not self.stop_asked:
+            self.progress.state = "waiting to connect again"
+        until = time.monotonic() + self.delay
+        while not self.stop_asked and (left := until - time.monotonic()) > 0:
+            self.progress.beat()
+            self.holds_for_snapshot()
+            if not self.filter.is_running():
+                time.sleep(min(left, 0.2))
+                continue
+            try:
+                self.note_statuses(self.filter.serve(min(left, 0.5))[2])
+            except FilterEnded as ended:
+                self.note_end(ended)
+
+    def connect(self) -> Connection:
+        """Connects, checks that the store and the slot fit together, and starts the session."""
+        options = self.options
+        self.progress.state = "connecting"
+        connection = Connection(options.dsn, replication=True, name=options.slot, check=self.check_stop)
+        self.connection = connection
+        settle(connection)
+        self.tell_plain_text(connection)
+        server = identify(connection)
+        self.progress.note_server(connection.version(), server.timeline)
+        self.choose_protocol(connection.version())
+        at = self.filter.confirmed()
+        self.check_server(server, at)
+        slot_at = slot_position(connection, options.slot)
+        if slot_at is None:
+            if server.is_standby:
+                raise ServerError(f"the server is a standby without the slot {options.slot}")
+            raise Unfit(f"the server has no slot {options.slot}")
+        self.check_timeline(connection, server)
+        self.fit(slot_at, server)
+        if not self.watch.compare(connection, self.position):
+            self.noting.wants_look = True
+        self.skipping.begin_session(self.filter.confirmed())
+        self.noting.begin_session()
+        if options.until == "now" and self.until is None:
+            self.until = log_end(connection, server.is_standby)
+        timeout = sender_timeout(connection)
+        self.heartbeat = min(options.heartbeat, timeout / 3) if timeout else options.heartbeat
+        connection.run(self.command(self.filter.confirmed()), wanted=COPY_BOTH)
+        self.check_slot()
+        self.was_connected = True
+        self.progress.sessions += 1
+        log.info(f"following slot {options.slot} from {lsn_text(max(at, slot_at))}")
+        if self.recording:
+            self.recording.begin_session(connection, options, at)
+        return connection
+
+    def tell_plain_text(self, connection: Connection) -> None:
+        """Warns once of a connection that others on the way can read."""
+        if not self.was_connected and not connection.is_encrypted() and not connection.is_local():
+            log.warning("the connection isn't encrypted: sslmode=verify-full makes it so, and checks the server's name")
+
+    def choose_protocol(self, version: int) -> None:
+        """Chooses the version of the protocol, and has the filter read it.
+
+        Servers from 18 on abort a transaction that they know to be rolled back even where they stream none. In version 2 that message
+        is legal and has no effect, so version 1 of them is version 2 without streaming.
+        """
+        if version < STREAMS and self.proto == 2:
+            log.info("the server has version 1 of the protocol alone: large transactions come whole")
+            self.proto, self.streams = 1, False
+        if version >= ABORTS_IN_VERSION_1 and self.proto == 1:
+            self.proto = 2
+        if self.proto > self.filter.proto:
+            self.finish_filter()
+            self.filter.proto = self.proto
+            self.start_filter()
+
+    def check_server(self, server: Server, at: int) -> None:
+        """Checks that this is the server whose changes the store has, and that it has all of them."""
+        known, options = self.checkpoint.known, self.options
+        if known.system and (server.system, server.database, options.slot) != (known.system, known.database, known.slot):
+            raise Unfit(
+                f"the store follows slot {known.slot} of database {known.database} of the server {known.system}, "
+                f"and not slot {options.slot} of {server.database} of {server.system}"
+            )
+        if server.log_end >= at:
+            return
+        ends = f"log ends at {lsn_text(server.log_end)}, before the store at {lsn_text(at)}"
+        if server.is_standby:
+            raise ServerError(f"the server is a standby whose {ends}")
+        raise Unfit(f"the server's {ends}: it lost changes")
+
+    def check_timeline(self, connection: Connection, server: Server) -> None:
+        """Checks that what the store has is in the server's history too, where its timeline isn't that of the last session.
+
+        A server that was promoted or put back has a timeline of its own. It left the old one at an LSN; what the store has above
+        that is of commits that the server hasn't.
+        """
+        known = self.checkpoint.known
+        if not known.timeline or server.timeline == known.timeline or self.options.accepts("history"):
+            return
+        left = left_at(connection, server.timeline, known.timeline) if server.timeline > known.timeline else None
+        if left is None or self.position > left:
+            at = "never" if left is None else f"at {lsn_text(left)}"
+            text = (
+                f"the store is at {lsn_text(self.position)} of the timeline {known.timeline}, which the server's timeline"
+                f" {server.timeline} left {at}: the store has changes that the server hasn't"
+            )
+            self.watch.note("history", self.position, text)
+            raise Unfit(f"{text}. Copy anew, or take it as it is by --accept history")
+        log.warning(f"the server went on from the timeline {known.timeline} to {server.timeline} at {lsn_text(left)}")
+        # What a keepalive confirmed above that LSN is of the other history.
+        self.checkpoint.write(True, timeline=server.timeline, confirmed=min(known.confirmed, max(left, self.position)))
+        if self.filter.confirmed() > left:
+            self.finish_filter()
+            raise ServerError("the filter is started anew on the server's new timeline")
+
+    def check_slot(self) -> None:
+        """Checks the slot again once it is ours: what somebody confirmed since it was looked at would be passed over."""
+        connection = Connection(self.options.dsn, name=f"{self.options.slot} check", check=self.check_stop)
+        try:
+            settle(connection)
+            slot_at = slot_position(connection, self.options.slot)
+        finally:
+            connection.close()
+        if slot_at is None:
+            raise ServerError("another server answered")
+        try:
+            check_gap(self.checkpoint.known, self.position, slot_at)
+        except Unfit as error:
+            self.watch.note("slot", slot_at, str(error))
+            raise
+
+    def fit(self, slot_at: int, server: Server) -> None:
+        """Rejects a gap between store and slot, unless it was said to be wanted; notes whose changes the store has."""
+        known, position = self.checkpoint.known, self.position
+        if self.options.accepts("gap") or (known.phase == known_of.NEW and self.options.no_copy and position == 0):
+            log.warning(f"whatever changed before {lsn_text(slot_at)} and isn't in the store stays missing")
+            self.options.accept = [it for it in self.options.accept if it not in ("gap", "slot", "all")]
+            self.checkpoint.forget_server()
+            self.checkpoint.write(False, confirmed=max(slot_at, position), position=position)
+        else:
+            check_gap(known, position, slot_at)
+        self.checkpoint.write(
+            True, phase=known_of.FOLLOWING, system=server.system, timeline=server.timeline, database=server.database,
+            slot=self.options.slot, position=max(position, self.checkpoint.known.position),
+        )
+
+    def command(self, at: int) -> str:
+        options = self.options
+        names = ", ".join(identifier(name) for name in options.publication)
+        words = [f"proto_version '{self.proto}'", f"publication_names {replication_literal(names)}"]
+        if self.streams and not self.skipping.is_pending:
+            words.append("streaming 'on'")
+        return f"START_REPLICATION SLOT {identifier(options.slot)} LOGICAL {lsn_text(at)} ({', '.join(words)})"
+
+    def session(self) -> None:
+        """One session, from its start to its end on either side."""
+        connection = self.connect()
+        self.progress.state = "following"
+        self.last_sent = 0.0
+        self.held = None
+        began = heard = time.monotonic()
+        more: bool | None = True
+        socket = connection.socket()
+        while not self.is_over():
+            self.progress.beat()
+            room = not self.holds_for_snapshot() and self.filter.has_room()
+            if more and room:
+                more = self.take_payloads(connection)
+                room = self.filter.has_room()
+            self.noting.show()
+            self.noting.wants_look = self.watch.tend(self.noting.wants_look, self.serve_server, self.position)
+            if more is None:
+                log.warning("the server ended the session")
+                return
+            wait = 0.0 if more and room else self.heartbeat - (time.monotonic() - self.last_sent)
+            if self.held:
+                wait = min(wait, QUIET)
+            readable, writable, statuses = self.filter.serve(
+                max(0.0, min(wait, 1.0)), [socket] if room else [], [socket] if connection.unsent else []
+            )
+            self.forward(statuses)
+            # (what TLS has read already doesn't wake select)
+            if room and not more:
+                connection.consume()
+                more = True
+            if socket in writable:
+                connection.flush()
+            now = time.monotonic()
+            heard = now if socket in readable or not room else heard
+            self.keep_alive(now - heard)
+            if self.delay and now - began > 2 * self.heartbeat:
+                self.delay = 0.0
+        self.end_session_by_ourselves()
+
+    def is_over(self) -> bool:
+        """Whether the end was asked for, or what was asked for is stored."""
+        if self.until is not None and self.filter.confirmed() >= self.until:
+            self.stop_asked = True
+        return self.stop_asked
+
+    def keep_alive(self, silent: float) -> None:
+        """Repeats the last status at each heartbeat. A server that has been silent is asked for an answer, and given up."""
+        limit = self.options.silence
+        if silent > limit:
+            raise ServerError(f"the server said nothing for {limit:.0f} seconds")
+        if time.monotonic() - self.last_sent >= min(self.heartbeat, limit / 4):
+            self.release()
+            self.send(asking(self.filter.status) if silent > limit / 2 else self.filter.status)
+
+    def serve_server(self) -> None:
+        """Keeps the server content while another connection is waited for."""
+        self.check_stop()
+        self.tick()
+
+    def take_payloads(self, connection: Connection) -> bool | None:
+        """Passes on what has come. Returns false where there is no more yet, true where the room is full, None after the end."""
+        take, note, child, recording = connection.next_payload, self.noting.note, self.filter, self.recording
+        passes = self.skipping.passes if self.skipping.is_pending else None
+        frames: list[bytes] = []
+        room = child.room()
+        try:
+            while room > 0:
+                payload = take()
+                if not payload:
+                    return False if payload is not None else None
+                if recording:
+                    recording.write_payload(payload)
+                if passes and not passes(payload):
+                    continue
+                size = len(payload)
+                room -= size
+                frames += (pack_header(b"d", size + 4), payload)
+                if size >= PIECE:
+                    # (a long one isn't copied together with others)
+                    child.push_all(frames[:-1])
+                    child.push(payload)
+                    frames.clear()
+                note(payload)
+            return True
+        finally:
+            child.push_all(frames)
+
+    def note_statuses(self, statuses: list[bytes]) -> None:
+        """Notes the last status, before it is sent."""
+        if not statuses:
+            return
+        confirmed = flushed(statuses[-1])
+        self.forget_confirmed(confirmed)
+        self.checkpoint.note(confirmed, self.position)
+        self.progress.note_confirmed(confirmed, self.position)
+
+    def forget_confirmed(self, confirmed: int) -> None:
+        """Forgets the ends of commits that are stored."""
+        self.position = self.noting.confirm(confirmed, self.position)
+
+    def forward(self, statuses: list[bytes]) -> None:
+        """Passes on the last of new statuses, which confirms what those before it do.
+
+        One that only a keepalive has moved may wait for a second, since noting it costs a sync.
+        """
+        now = time.monotonic()
+        for status in statuses[-1:]:
+            lsn = flushed(status)
+            has_commit = bool(self.noting.ends) and self.noting.ends[0] <= lsn
+            if lsn <= self.checkpoint.known.confirmed or has_commit or self.noting.asked or now - self.last_moved >= QUIET:
+                self.pass_on(status)
+            else:
+                self.held = status
+        if self.held and now - self.last_moved >= QUIET:
+            self.release()
+
+    def pass_on(self, status: bytes) -> None:
+        if flushed(status) > self.checkpoint.known.confirmed:
+            self.last_moved = time.monotonic()
+        self.held = None
+        if self.noting.asked is not None and flushed(status) >= self.noting.asked:
+            self.noting.asked = None
+        self.note_statuses([status])
+        self.send(status)
+
+    def release(self) -> None:
+        """Passes on the status that waits."""
+        if self.held:
+            self.pass_on(self.held)
+
+    def send(self, status: bytes) -> None:
+        assert self.connection
+        self.last_sent = time.monotonic()
+        self.connection.send(status)
+
+    def end_session_by_ourselves(self) -> None:
+        """Ends the filter's input, sends what it still confirms, and ends the session."""
+        self.progress.state = "stopping"
+        self.filter.finish()
+        try:
+            while True:
+                self.progress.beat()
+                for status in self.filter.serve(1.0)[2][-1:]:
+                    self.pass_on(status)
+                if time.monotonic() - self.last_sent >= self.heartbeat:
+                    self.release()
+                    self.send(self.filter.status)
+        except FilterEnded as ended:
+            self.release()
+            if ended.is_rejection():
+                raise
+        if self.connection:
+            self.connection.end_copy()
+
+    def finish_filter(self) -> None:
+        """Ends the filter where no session is open."""
+        if not self.filter.is_running():
+            return
+        self.filter.finish()
+        try:
+            while True:
+                self.progress.beat()
+                self.note_statuses(self.filter.serve(1.0)[2])
+        except FilterEnded as ended:
+            if ended.is_rejection():
+                raise
+
+    def disconnect(self) -> None:
+        self.held = None
+        self.watch.finish()
+        if self.connection:
+            self.connection.close()
+            self.connection = None
+        self.filter.end_session()

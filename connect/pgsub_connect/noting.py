@@ -1,0 +1,255 @@
+"""What is noted of the payloads that are passed on: counts, the ends of commits, and of the transactions that are under way which
+tables their changes touch and how these are described.
+
+What is done for a change is little: it is counted for its table, and nothing of it is kept. PROTOCOL.md has the layouts; the letter
+is byte 25 of an XLogData, and in a block the xid of who made a change or sent a Relation follows it.
+"""
+
+from __future__ import annotations
+
+import collections
+import struct
+from collections.abc import Sequence
+
+from .catalog import Column, Shape
+from .progress import Progress
+from .remembered import Relation, Remembered
+from .texts import counted, lsn_text
+
+BEGIN, COMMIT, RELATION, TRUNCATE = b"BCRT"
+START, STOP, STREAM_COMMIT, ABORT = b"SEcA"
+CHANGES = b"IUD"
+# Where the OID of a change ends, outside of a block and in one.
+OUTSIDE, INSIDE = 30, 34
+# How many tables a text names.
+NAMED = 5
+
+
+# A commit that was passed on: the message that has its xid and final LSN (Begin or Stream Commit), how many changes it has by letter
+# and OID as they came, and whether some of them may have been rolled back.
+Passed = tuple[bytes, dict[bytes, int], bool]
+
+
+class Streamed:
+    """A transaction that comes in blocks: its changes, its Relation messages with who sent each, and its bytes so far."""
+
+    def __init__(self) -> None:
+        self.counts: dict[bytes, int] = {}
+        self.relations: list[tuple[bytes, bytes]] = []
+        self.size = 0
+        self.about = False
+
+    def add(self, counts: dict[bytes, int]) -> None:
+        """Adds the changes of a block, whoever made them."""
+        for key, count in counts.items():
+            key = key[:1] + key[5:]
+            self.counts[key] = self.counts.get(key, 0) + count
+
+    def abort(self, subxid: bytes) -> None:
+        """Drops what a subtransaction described. What it changed can't be told from the rest."""
+        self.relations = [it for it in self.relations if it[0] != subxid]
+        self.about = True
+
+
+class Noting:
+    """Notes payloads. `wants_look`: a table came that isn't among those that are remembered."""
+
+    def __init__(self, progress: Progress, remembered: Remembered) -> None:
+        self.progress, self.remembered = progress, remembered
+        self.changes = self.commits = 0
+        self.wants_look = False
+        self.strangers: set[int] = set()
+        # the last Relation message of each table that was compared with what is remembered, as it came
+        self.compared: dict[int, bytes] = {}
+        self.begin_store()
+
+    def begin_store(self) -> None:
+        """A filter was started: it has what its store has."""
+        # the ends of commits that were passed on and aren't confirmed yet, and what they were
+        self.ends: collections.deque[int] = collections.deque()
+        self.passed: collections.deque[Passed] = collections.deque()
+        self.begin_session()
+
+    def begin_session(self) -> None:
+        """Forgets the transactions of a session that has ended."""
+        self.open: dict[int, Streamed] = {}
+        self.described: dict[int, list[bytes]] = {}
+        # the end of a keepalive that asks for a status
+        self.asked: int | None = None
+        self.last = self.begun = b""
+        # how many bytes have come, and how many of them before the transaction or block that is under way
+        self.total = self.began = 0
+        self.leave()
+
+    def leave(self) -> None:
+        """Between transactions. What comes here is out of order, which the filter tells."""
+        self.current: Streamed | None = None
+        self.counts: dict[bytes, int] = {}
+        self.relations: list[tuple[bytes, bytes]] = []
+        self.end = OUTSIDE
+
+    def note(self, payload: bytes) -> None:
+        """Notes a payload that was passed on."""
+        self.last = payload
+        self.total += len(payload)
+        counts, key = self.counts, payload[25 : self.end]
+        if key in counts:
+            counts[key] += 1
+        elif key:
+            letter = key[0]
+            if letter in CHANGES:
+                counts[key] = 1
+            elif letter == BEGIN:
+                self.begun, self.began, self.counts = payload, self.total, {}
+            elif letter == COMMIT:
+                self.changes += sum(counts.values())
+                self.commit((self.begun, counts, False), self.relations, payload[35:43])
+                self.begun, self.counts = b"", {}
+            else:
+                self.note_other(letter, payload)
+        elif payload[-1] == 1:
+            self.asked = number(payload[1:9])
+
+    def note_other(self, letter: int, payload: bytes) -> None:
+        if letter == RELATION:
+            self.relations.append((payload[26:30], payload[self.end - 4 :]))
+        elif letter == TRUNCATE:
+            head, oids = payload[25 : self.end - 4], payload[self.end + 1 :]
+            for at in range(0, len(oids) - 3, 4):
+                key = head + oids[at : at + 4]
+                self.counts[key] = self.counts.get(key, 0) + 1
+        elif letter in (START, STOP, STREAM_COMMIT, ABORT):
+            self.note_block(letter, payload)
+
+    def note_block(self, letter: int, payload: bytes) -> None:
+        xid = number(payload[26:30])
+        if letter == START:
+            self.current = self.open.setdefault(xid, Streamed())
+            self.relations, self.counts, self.end = self.current.relations, {}, INSIDE
+            self.began = self.total
+        elif letter == STOP:
+            self.changes += sum(self.counts.values())
+            if self.current:
+                self.current.size += self.total - self.began
+                self.current.add(self.counts)
+            self.leave()
+        elif letter == STREAM_COMMIT:
+            it = self.open.pop(xid, None) or Streamed()
+            self.commit((payload, it.counts, it.about), it.relations, payload[39:47])
+        elif payload[26:30] == payload[30:34]:
+            self.open.pop(xid, None)
+        elif xid in self.open:
+            self.open[xid].abort(payload[30:34])
+
+    def commit(self, passed: Passed, relations: list[tuple[bytes, bytes]], end: bytes) -> None:
+        self.ends.append(int.from_bytes(end, "big"))
+        self.passed.append(passed)
+        self.commits += 1
+        if relations or self.described:
+            self.describe(passed, relations)
+
+    def describe(self, passed: Passed, relations: list[tuple[bytes, bytes]]) -> None:
+        """Compares the Relation messages of tables that a commit changes with what is remembered.
+
+        One of a partition comes with that of the table under whose name its rows are sent, and no change ever has it.
+        """
+        oids = [number(body[:4]) for _, body in relations]
+        for oid, (_, body) in zip(oids, relations):
+            if not self.remembered.is_partition(oid):
+                self.described.setdefault(oid, []).append(body)
+            if not self.remembered.is_known(oid) and oid not in self.strangers:
+                self.strangers.add(oid)
+                self.wants_look = True
+        for oid in {number(key[-4:]): None for key in passed[1]}:
+            if oid in self.described:
+                self.compare(oid, self.described.pop(oid), final_lsn(passed[0]))
+        for oid in oids:
+            del self.described.get(oid, [])[:-1]
+        relations.clear()
+
+    def compare(self, oid: int, bodies: Sequence[bytes], lsn: int) -> None:
+        """Compares the Relation messages of a table in one commit, one after the other."""
+        last = self.remembered.last_sent(oid)
+        for body in bodies:
+            if self.compared.get(oid) == body and last >= 0:
+                self.remembered.note_again(oid, lsn)
+            elif (relation := relation_of(body)) is not None:
+                self.compared[oid] = body
+                self.remembered.note(relation, lsn, last)
+
+    def show(self) -> None:
+        """Tells the progress what came, and how far the transaction that isn't complete has come. Called after each lot of payloads."""
+        last = self.last
+        if last:
+            self.progress.sent_to = last[9:17] if last[0] == 0x77 else last[1:9]
+        self.progress.passed_changes = self.changes + sum(self.counts.values())
+        self.progress.passed_commits = self.commits
+
+    def confirm(self, confirmed: int, position: int) -> int:
+        """Forgets commits that are confirmed. Returns the store's position by them, at least `position`."""
+        ends, passed = self.ends, self.passed
+        while ends and ends[0] <= confirmed:
+            position = max(position, ends.popleft())
+            passed.popleft()
+        return position
+
+    def rejected_text(self, position: int) -> str:
+        """What is said of the first commit above a store's position, which its filter has rejected; "" where there is none."""
+        for end, (message, counts, about) in zip(self.ends, self.passed):
+            if end > position:
+                lsn, most = lsn_text(final_lsn(message)), "at most " if about else ""
+                return (
+                    f"rejected: transaction {xid_of(message)}, final LSN {lsn}, {most}{changes_text(counts, self.remembered)}:"
+                    f" --skip {lsn} passes over it"
+                )
+        return ""
+
+    def largest(self) -> tuple[int, int]:
+        """The xid of the largest transaction that isn't complete, and how many bytes of it were passed on."""
+        sizes = {xid: it.size + (self.total - self.began if it is self.current else 0) for xid, it in self.open.items()}
+        if self.begun:
+            sizes[xid_of(self.begun)] = self.total - self.began
+        return max(sizes.items(), key=lambda it: it[1], default=(0, 0))
+
+
+def number(text: bytes) -> int:
+    return int.from_bytes(text, "big")
+
+
+def xid_of(message: bytes) -> int:
+    """The xid in a Begin or Stream Commit."""
+    return number(message[42:46] if message[25:26] == b"B" else message[26:30])
+
+
+def final_lsn(message: bytes) -> int:
+    """The final LSN in a Begin or Stream Commit: that of the commit's own record."""
+    return number(message[26:34] if message[25:26] == b"B" else message[31:39])
+
+
+def changes_text(counts: dict[bytes, int], remembered: Remembered) -> str:
+    """`3 changes of public.t (16385), 1 change of ..`, the tables with the most changes first."""
+    tables: collections.Counter[int] = collections.Counter()
+    for key, count in counts.items():
+        tables[number(key[-4:])] += count
+    parts = [f"{counted(count, 'change')} of {remembered.text_of(oid)}" for oid, count in tables.most_common(NAMED)]
+    if len(tables) > NAMED:
+        parts.append(f"and of {counted(len(tables) - NAMED, 'table')} more")
+    return ", ".join(parts) or "no changes"
+
+
+def relation_of(body: bytes) -> Relation | None:
+    """A Relation message from its OID on; None where it is none, which the filter tells."""
+    try:
+        namespace, name, rest = body[4:].split(b"\0", 2)
+        identity, count = struct.unpack_from(">cH", rest)
+        columns, rest = [], rest[3:]
+        for _ in range(count):
+            key = rest[0] == 1
+            column, rest = rest[1:].split(b"\0", 1)
+            type_oid, modifier = struct.unpack_from(">Ii", rest)
+            columns.append(Column(column.decode(), type_oid, modifier, key))
+            rest = rest[8:]
+        shape = Shape(identity.decode(), tuple(columns))
+        return Relation(number(body[:4]), namespace.decode() or "pg_catalog", name.decode(), shape)
+    except (ValueError, IndexError, struct.error):
+        return None

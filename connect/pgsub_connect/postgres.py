@@ -1,0 +1,394 @@
+"""Connections to a server by libpq (psycopg.pq): its passwords, TLS, ~/.pgpass, services and environment."""
+
+from __future__ import annotations
+
+import contextlib
+import ctypes
+import ipaddress
+import os
+import re
+import select
+import socket
+import threading
+import time
+from collections.abc import Callable, Iterator
+
+import psycopg
+from psycopg import pq
+from psycopg.conninfo import conninfo_to_dict, make_conninfo
+
+from . import log
+from .errors import ServerError
+
+# After how many seconds each, at most, a host is given up, and a command that takes no time at the server.
+CONNECT_LIMIT = 10.0
+QUICK = 60.0
+# How long a wait may go on before it looks whether the end was asked for, in seconds.
+TICK = 0.5
+DONE = (pq.ExecStatus.EMPTY_QUERY, pq.ExecStatus.COMMAND_OK, pq.ExecStatus.TUPLES_OK)
+ROWS = (pq.ExecStatus.TUPLES_OK,)
+COPY_OUT = (pq.ExecStatus.COPY_OUT,)
+COPY_BOTH = (pq.ExecStatus.COPY_BOTH,)
+COPIES = (pq.ExecStatus.COPY_OUT, pq.ExecStatus.COPY_BOTH)
+# libpq's PQERRORS_DEFAULT and PQERRORS_VERBOSE, and what a verbose error adds: a code, and a last line with a place in its source.
+DEFAULT, VERBOSE = 1, 2
+CODE, PLACE_IN_SOURCE = re.compile(r":  ([0-9A-Z]{5}): "), re.compile(r"\n[^\n]*\.c:\d+$", re.M)
+# What a DSN goes before. A lost peer is noticed within about a minute.
+DEFAULTS = {"keepalives_idle": "30", "keepalives_interval": "10", "keepalives_count": "3", "tcp_user_timeout": "60000"}
+
+Check = Callable[[], None]
+
+
+def never() -> None:
+    """Asks for no end."""
+
+
+def parameters(dsn: str) -> dict[str, str]:
+    """What a connection string or URI says. A database's name alone is one too, as libpq has it."""
+    if dsn and "=" not in dsn and not dsn.startswith(("postgresql://", "postgres://")):
+        return {"dbname": dsn}
+    try:
+        return {name: str(value) for name, value in conninfo_to_dict(dsn).items()}
+    except psycopg.ProgrammingError:
+        # (libpq's own text may have a part of a password in it)
+        raise ServerError("the connection string is not one of libpq's", "22023") from None
+
+
+def hosts_of(settings: dict[str, str]) -> list[dict[str, str]]:
+    """The settings of one attempt for each host, in libpq's order."""
+    hosts, addresses, ports = (
+        (settings.get(name) or os.environ.get(variable) or "").split(",")
+        for name, variable in (("host", "PGHOST"), ("hostaddr", "PGHOSTADDR"), ("port", "PGPORT"))
+    )
+    count = max(len(hosts), len(addresses))
+    if count == 1 or settings.get("target_session_attrs") == "prefer-standby":
+        return [settings]
+    if len(ports) not in (1, count) or {len(hosts), len(addresses)} - {1, count}:
+        raise ServerError("the connection string has other numbers of hosts and ports", "22023")
+    attempts = []
+    for it in range(count):
+        own = {"host": hosts[it % len(hosts)], "hostaddr": addresses[it % len(addresses)], "port": ports[it % len(ports)]}
+        attempt = {**settings, **own}
+        # A restarted primary is waited for, rather than one of its standbys followed.
+        attempt.setdefault("target_session_attrs", os.environ.get("PGTARGETSESSIONATTRS", "read-write"))
+        attempts.append(attempt)
+    return attempts
+
+
+def is_resolved(settings: dict[str, str]) -> bool:
+    """Whether no name has to be looked up for these settings."""
+    host = settings.get("host") or os.environ.get("PGHOST", "")
+    if settings.get("hostaddr") or os.environ.get("PGHOSTADDR") or not host or host.startswith(("/", "@")):
+        return True
+    with contextlib.suppress(ValueError):
+        ipaddress.ip_address(host)
+        return True
+    return bool(settings.get("service") or os.environ.get("PGSERVICE"))
+
+
+def addresses_of(settings: dict[str, str], check: Check) -> list[dict[str, str]]:
+    """The settings with each address of their host. The look-up is left to a thread, since nothing can interrupt it."""
+    if is_resolved(settings):
+        return [settings]
+    host, found, failed = settings.get("host") or os.environ["PGHOST"], list[str](), list[OSError]()
+
+    def look_up() -> None:
+        try:
+            answers = socket.getaddrinfo(host, None, type=socket.SOCK_STREAM)
+            found.extend(dict.fromkeys(str(answer[4][0]) for answer in answers))
+        except OSError as error:
+            failed.append(error)
+
+    thread = threading.Thread(target=look_up, daemon=True)
+    thread.start()
+    until = time.monotonic() + CONNECT_LIMIT
+    while thread.is_alive() and time.monotonic() < until:
+        thread.join(TICK / 2)
+        check()
+    if not found:
+        why = failed[0].strerror if failed else f"no answer within {CONNECT_LIMIT:.0f} seconds"
+        raise ServerError(f"the host {host} can't be looked up: {why}")
+    return [{**settings, "hostaddr": address} for address in found]
+
+
+class Connection:
+    """A connection to a server, for replication where asked.
+
+    What `dsn` says of these goes before: a limit of 10 seconds to connect to a host, and a lost peer is noticed within about a
+    minute. `check` is called at least each half second while something is waited for; what it raises ends the wait and cancels the
+    command.
+    """
+
+    def __init__(
+        self, dsn: str, *, replication: bool = False, name: str = "pgsub", quiet: bool = False, check: Check = never
+    ) -> None:
+        self.check = check
+        self.unsent = False
+        settings = {**DEFAULTS, "application_name": name, **parameters(dsn), "client_encoding": "UTF8"}
+        if replication:
+            settings["replication"] = "database"
+        try:
+            self.limit = min(max(float(settings.pop("connect_timeout", CONNECT_LIMIT)), 2.0), 3600.0)
+        except ValueError:
+            raise ServerError("connect_timeout is no number", "22023") from None
+        self.raw = self.connected(settings)
+        self.raw.notice_handler = None if quiet else tell_notice
+        self.number = self.raw.socket
+
+    def connected(self, settings: dict[str, str]) -> pq.abc.PGconn:
+        """Connects to the first host that can be reached. The error is that of all of them."""
+        errors = []
+        for attempt in hosts_of(settings):
+            try:
+                for resolved in addresses_of(attempt, self.check):
+                    try:
+                        return self.connect_to(resolved)
+                    except ServerError as error:
+                        errors.append(error)
+            except ServerError as error:
+                errors.append(error)
+        if len(errors) == 1:
+            raise errors[0]
+        raise ServerError("\n".join(dict.fromkeys(map(str, errors))), "28" if all(it.is_lasting() for it in errors) else "")
+
+    def connect_to(self, settings: dict[str, str]) -> pq.abc.PGconn:
+        """Connects to one address without blocking."""
+        raw = pq.PGconn.connect_start(make_conninfo(**{name: it for name, it in settings.items() if it}).encode())
+        set_verbosity(raw, VERBOSE)
+        until = time.monotonic() + self.limit
+        try:
+            while raw.status != pq.ConnStatus.BAD and (polled := raw.connect_poll()) not in (
+                pq.PollingStatus.OK, pq.PollingStatus.FAILED
+            ):
+                self.check()
+                if time.monotonic() > until:
+                    raise ServerError(f"{where(settings)}: no answer within {self.limit:.0f} seconds")
+                reads = polled == pq.PollingStatus.READING
+                select.select([raw.socket] if reads else [], [] if reads else [raw.socket], [], TICK)
+            if raw.status != pq.ConnStatus.OK:
+                raise connection_error(raw, where(settings))
+            set_verbosity(raw, DEFAULT)
+            raw.nonblocking = 1
+        except BaseException:
+            raw.finish()
+            raise
+        return raw
+
+    def error(self) -> str:
+        return self.raw.error_message.decode(errors="replace").strip()
+
+    def wait(self, until: float = float("inf")) -> None:
+        """Waits until something has come, and reads it. A signal is heard meanwhile."""
+        try:
+            while not select.select([self.number], [self.number] if self.unsent else [], [], TICK)[0]:
+                self.check()
+                if self.unsent:
+                    self.flush()
+                if time.monotonic() > until:
+                    raise ServerError(f"the server didn't answer within {QUICK:.0f} seconds")
+                # (what TLS has read already doesn't wake select)
+                self.consume()
+                if not self.raw.is_busy():
+                    return
+        except BaseException:
+            self.cancel()
+            raise
+        self.consume()
+
+    def cancel(self) -> None:
+        """Asks the server to end the command that runs, which it else goes on with after the connection is closed."""
+        with contextlib.suppress(psycopg.Error):
+            handle = self.raw.get_cancel()
+            # (libpq's own call has no limit)
+            thread = threading.Thread(target=cancel_by, args=(handle,), daemon=True)
+            thread.start()
+            thread.join(2)
+
+    def next_result(self, until: float = float("inf")) -> pq.abc.PGresult | None:
+        """The next result of the command that runs, None after the last."""
+        while self.raw.is_busy():
+            self.wait(until)
+        return self.raw.get_result()
+
+    def last_result(self, until: float = float("inf")) -> pq.abc.PGresult | None:
+        """The last result of the command that runs, or the one with which it begins to copy."""
+        last = None
+        while result := self.next_result(until):
+            last = result
+            if last.status in COPIES:
+                break
+        return last
+
+    def execute(self, command: str, wanted: tuple[pq.ExecStatus, ...], limit: float = float("inf")) -> pq.abc.PGresult:
+        """Runs a command and returns its result. `limit`: after how many seconds without one the connection is given up."""
+        try:
+            self.raw.send_query(command.encode())
+            self.flush()
+            result = self.last_result(time.monotonic() + limit)
+        except psycopg.OperationalError as error:
+            raise ServerError(str(error)) from None
+        if result is None or result.status not in wanted:
+            raise self.error_of(result)
+        return result
+
+    def error_of(self, result: pq.abc.PGresult | None) -> ServerError:
+        if result is None:
+            return ServerError(self.error())
+        said = result.error_message.decode(errors="replace").strip()
+        sqlstate = result.error_field(pq.DiagnosticField.SQLSTATE)
+        return ServerError(said or self.error(), sqlstate.decode() if sqlstate else "")
+
+    def run(self, command: str, wanted: tuple[pq.ExecStatus, ...] = DONE) -> None:
+        self.execute(command, wanted)
+
+    def rows(self, command: str, limit: float = float("inf")) -> list[list[str | None]]:
+        """Runs a query, and returns its rows as lists of texts, None for null."""
+        result = self.execute(command, ROWS, limit)
+        width = range(result.nfields)
+        values = [[result.get_value(row, it) for it in width] for row in range(result.ntuples)]
+        return [[None if it is None else it.decode() for it in row] for row in values]
+
+    def value(self, command: str, limit: float = float("inf")) -> str | None:
+        """The first value of a query's first row, None where there is no row."""
+        rows = self.rows(command, limit)
+        return rows[0][0] if rows else None
+
+    def text(self, command: str) -> str:
+        """The first value of a query's first row, which is there."""
+        return self.value(command) or ""
+
+    def parameter(self, name: str) -> str:
+        value = self.raw.parameter_status(name.encode())
+        return value.decode() if value else "unknown"
+
+    def version(self) -> int:
+        """The server's version as a number: 150018 is 15.18."""
+        return self.raw.server_version
+
+    def socket(self) -> int:
+        return self.number
+
+    def is_encrypted(self) -> bool:
+        return bool(self.raw.ssl_in_use)
+
+    def is_local(self) -> bool:
+        """Whether the server is reached by a socket of this machine."""
+        return self.raw.host.startswith((b"/", b"@")) or self.raw.host in (b"localhost", b"127.0.0.1", b"::1")
+
+    def used_password(self) -> bool:
+        return bool(self.raw.used_password)
+
+    def copied_rows(self, command: str) -> Iterator[bytes]:
+        """Yields the lines of a COPY TO STDOUT, as they come."""
+        self.execute(command, COPY_OUT)
+        while (line := self.next_payload()) is not None:
+            if line:
+                yield line
+            else:
+                self.wait()
+        self.last_result()
+
+    def copied_blocks(self, command: str, size: int) -> Iterator[list[bytes]]:
+        """Yields the lines of a COPY TO STDOUT in blocks of about so many bytes, and the last ones in a smaller block."""
+        self.execute(command, COPY_OUT)
+        take, lines, left = self.raw.get_copy_data, list[bytes](), size
+        while True:
+            try:
+                length, payload = take(1)
+            except psycopg.OperationalError as error:
+                raise ServerError(str(error)) from None
+            if length == 0:
+                self.wait()
+            elif length < 0:
+                break
+            else:
+                whole = payload.obj
+                lines.append(whole if isinstance(whole, bytes) else bytes(payload))
+                left -= length
+                if left <= 0:
+                    yield lines
+                    lines, left = [], size
+        result = self.last_result()
+        if result is not None and result.error_message:
+            raise self.error_of(result)
+        if lines:
+            yield lines
+
+    def consume(self) -> None:
+        """Reads what has come on the socket."""
+        try:
+            self.raw.consume_input()
+        except psycopg.OperationalError as error:
+            raise ServerError(str(error)) from None
+
+    def next_payload(self) -> bytes | None:
+        """Returns the payload of the next CopyData, b"" where none is there yet, and None after the last."""
+        try:
+            length, payload = self.raw.get_copy_data(1)
+        except psycopg.OperationalError as error:
+            raise ServerError(str(error)) from None
+        if length > 0:
+            whole = payload.obj
+            return whole if isinstance(whole, bytes) else bytes(payload)
+        if length == 0:
+            return b""
+        result = self.next_result()
+        if result is not None and result.error_message:
+            raise self.error_of(result)
+        return None
+
+    def send(self, payload: bytes) -> None:
+        """Sends a CopyData without waiting; `unsent` tells that some of it waits for the socket."""
+        try:
+            self.raw.put_copy_data(payload)
+        except psycopg.OperationalError as error:
+            raise ServerError(str(error)) from None
+        self.flush()
+
+    def flush(self) -> None:
+        try:
+            self.unsent = self.raw.flush() > 0
+        except psycopg.OperationalError as error:
+            raise ServerError(str(error)) from None
+
+    def end_copy(self) -> None:
+        """Tells the server that nothing more is sent, within a second. Whether it hears it doesn't matter."""
+        with contextlib.suppress(psycopg.OperationalError, ServerError):
+            self.raw.put_copy_end()
+            self.flush()
+            if self.unsent:
+                select.select([], [self.number], [], 1.0)
+                self.flush()
+
+    def close(self) -> None:
+        self.raw.finish()
+
+
+def set_verbosity(raw: pq.abc.PGconn, verbosity: int) -> None:
+    """Sets how much libpq's errors say, by the one call of libpq that psycopg lacks."""
+    pointer = getattr(raw, "pgconn_ptr", None)
+    with contextlib.suppress(OSError, AttributeError):
+        ctypes.CDLL("libpq.so.5").PQsetErrorVerbosity(ctypes.c_void_p(pointer), ctypes.c_int(verbosity))
+
+
+def connection_error(raw: pq.abc.PGconn, host: str) -> ServerError:
+    """The error of a connection that wasn't made. A verbose one has the SQLSTATE, which libpq gives in no other way."""
+    said = raw.error_message.decode(errors="replace").strip()
+    found = CODE.search(said)
+    text = CODE.sub(":  ", PLACE_IN_SOURCE.sub("", said)) or f"{host}: can't connect"
+    return ServerError(text, found[1] if found else "28P01" if raw.needs_password else "")
+
+
+def where(settings: dict[str, str]) -> str:
+    host = settings.get("host") or settings.get("hostaddr") or os.environ.get("PGHOST") or "the server"
+    return f"{host}:{settings['port']}" if settings.get("port") else host
+
+
+def cancel_by(handle: pq.abc.PGcancel) -> None:
+    with contextlib.suppress(psycopg.Error):
+        handle.cancel()
+
+
+def tell_notice(result: pq.abc.PGresult) -> None:
+    """Passes on a notice or warning of the server."""
+    log.info(f"server: {result.error_message.decode(errors='replace').strip()}")

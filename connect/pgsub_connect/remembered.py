@@ -1,0 +1,424 @@
+"""What is remembered of the publications that are followed, in a file beside the store, and what was found by it.
+
+The file is `STORE.tables`, one object of JSON. It is replaced as a whole: written to a new file, which gets the name once the disk
+has it. So a reader (`pgsub-connect names`) may look at it at any time.
+
+| Field | Means |
+|---|---|
+| `format` | 1 |
+| `made` | the publications that were made for this store, with their OIDs |
+| `lsn`, `highest` | when the server was looked at last: nothing that was committed above that LSN was seen, nor an OID above that one |
+| `followed`, `publications` | the names that are followed, and the options of those that were there |
+| `tables`, `partitions`, `types` | what the server had then, changed by what Relation messages said since |
+| `sent` | by OID: the last Relation message of a change, and the LSN of its commit |
+| `names` | which OID each name has, since when, and which OIDs had it before |
+| `found` | by kind: the LSN at which the first was found, the texts, and how many more there were |
+| `left` | OIDs of tables that were there once and aren't published any more |
+| `told` | texts that a Relation message up to an LSN may give again, since the look at the server gave them already |
+"""
+
+from __future__ import annotations
+
+import contextlib
+import dataclasses
+import json
+import os
+from typing import Any
+
+from .catalog import Catalog, Column, Part, Partition, Publication, Shape, Table
+from .differences import NAMES, PUBLICATION, differences, gone_text, shape_differences
+from .errors import FileError, Passing
+from .texts import lsn_text, parse_lsn
+
+FORMAT = 1
+NEW = ".new"
+# How many texts of one kind are kept.
+MOST = 100
+
+
+@dataclasses.dataclass(frozen=True)
+class Relation:
+    """A Relation message."""
+
+    oid: int
+    namespace: str
+    name: str
+    shape: Shape
+
+    def text(self) -> str:
+        return f"{self.namespace}.{self.name} ({self.oid})"
+
+
+@dataclasses.dataclass(frozen=True)
+class Sent:
+    """The last Relation message of an OID: its commit's LSN, and what it said; None where only the copy's rows are known."""
+
+    lsn: int
+    shape: Shape | None
+
+
+@dataclasses.dataclass
+class Name:
+    """Which OID a name has, None where its table has another name now; since when; and which ones had it before."""
+
+    oid: int | None
+    since: int
+    before: list[int]
+
+
+@dataclasses.dataclass
+class Found:
+    """What was found of one kind."""
+
+    lsn: int
+    texts: list[str]
+    more: int = 0
+
+
+class Remembered:
+    """The file. `is_urgent`: it says what has to be on the disk before anything more is confirmed; `is_changed`: anything new."""
+
+    def __init__(self, store: str) -> None:
+        self.path = store + ".tables"
+        self.forget()
+        with contextlib.suppress(FileNotFoundError):
+            self.read()
+
+    def forget(self) -> None:
+        self.catalog: Catalog | None = None
+        # the publications that --create has made, and their OIDs
+        self.made: dict[str, int] = {}
+        self.sent: dict[int, Sent] = {}
+        self.names: dict[tuple[str, str], Name] = {}
+        # the name that an OID has
+        self.held: dict[int, tuple[str, str]] = {}
+        self.found: dict[str, Found] = {}
+        self.told: dict[str, int] = {}
+        self.left: set[int] = set()
+        self.news: list[str] = []
+        self.is_urgent = self.is_changed = False
+
+    def publications(self) -> list[str]:
+        """The names of those that are followed."""
+        return list(self.catalog.names) if self.catalog else []
+
+    def is_known(self, oid: int) -> bool:
+        """Whether a Relation message of this OID is no news."""
+        return self.catalog is not None and (oid in self.catalog.tables or oid in self.catalog.partitions or oid in self.sent)
+
+    def is_partition(self, oid: int) -> bool:
+        """Whether this is a partition whose rows are sent under another name."""
+        return self.catalog is not None and oid in self.catalog.partitions and oid not in self.catalog.tables
+
+    def last_sent(self, oid: int) -> int:
+        """The LSN of the commit with the last Relation message of this OID, -1 where none has come."""
+        return self.sent[oid].lsn if oid in self.sent else -1
+
+    def text_of(self, oid: int) -> str:
+        """A table's name and OID."""
+        if self.catalog and oid in self.catalog.tables:
+            return self.catalog.tables[oid].text()
+        key = self.held.get(oid) or next((key for key, name in self.names.items() if oid in name.before), None)
+        return f"{'.'.join(key)} ({oid})" if key else f"table {oid}"
+
+    def begin_copy(self, catalog: Catalog, point: int) -> None:
+        """Remembers what a server had at the LSN as of which its rows are copied."""
+        self.begin(dataclasses.replace(catalog, lsn=point), point)
+
+    def begin(self, catalog: Catalog, copied: int | None = None) -> None:
+        """Remembers what a server has, and nothing else. `copied`: as of which LSN all rows of it are in the store."""
+        made = self.made
+        self.forget()
+        self.catalog, self.made = catalog, made
+        for oid, table in catalog.tables.items():
+            if copied is not None:
+                self.sent[oid] = Sent(copied, table.shape)
+            self.rename(table.namespace, table.name, oid, catalog.lsn)
+        self.is_urgent = self.is_changed = True
+
+    def note_made(self, made: dict[str, int]) -> None:
+        """Notes publications that were made for this store, with their OIDs."""
+        self.made = {**self.made, **made}
+        self.is_urgent = self.is_changed = True
+
+    def look(self, now: Catalog) -> list[str]:
+        """Compares what a server has with what is remembered, and remembers it. Returns what makes nothing wrong, but is new."""
+        before = self.catalog
+        assert before is not None
+        harmless = []
+        for kind, text in differences(before, now):
+            if kind:
+                self.find(kind, now.lsn, text)
+                self.told[text] = now.lsn
+            else:
+                harmless.append(text)
+        self.left = (self.left | before.tables.keys()) - now.tables.keys()
+        for oid in self.sent.keys() - now.tables.keys() - now.partitions.keys() - self.left:
+            self.find(PUBLICATION, now.lsn, gone_text(self.text_of(oid)))
+            self.left.add(oid)
+        self.release_names(now)
+        for oid, table in now.tables.items():
+            text = self.rename(table.namespace, table.name, oid, now.lsn)
+            if text:
+                self.find(NAMES, now.lsn, text)
+                self.told[text] = now.lsn
+        # (without these two the next look only sees less harmless news)
+        if dataclasses.replace(before, lsn=now.lsn, highest=now.highest) != now:
+            self.is_urgent = True
+        self.is_changed = True
+        self.catalog = now
+        return harmless
+
+    def release_names(self, now: Catalog) -> None:
+        """Takes names from tables that have another one now, so that it doesn't matter in which order they are looked at."""
+        for oid, key in list(self.held.items()):
+            table = now.tables.get(oid)
+            if table and (table.namespace, table.name) != key:
+                self.release(key)
+
+    def release(self, key: tuple[str, str]) -> None:
+        name = self.names[key]
+        if name.oid is not None:
+            self.held.pop(name.oid, None)
+            name.before.append(name.oid)
+            name.oid = None
+
+    def rename(self, namespace: str, table: str, oid: int, lsn: int) -> str:
+        """Notes that an OID has a name. Returns what is to be said where another one had it."""
+        key = (namespace, table)
+        if self.held.get(oid) == key:
+            return ""
+        for it in (self.held.get(oid), key if key in self.names else None):
+            if it:
+                self.release(it)
+        name = self.names.setdefault(key, Name(oid, lsn, []))
+        name.before = [it for it in name.before if it != oid]
+        name.oid, name.since, self.held[oid] = oid, lsn, key
+        self.is_urgent = self.is_changed = True
+        return names_text(key, oid, name.before[-1]) if name.before else ""
+
+    def rename_earlier(self, namespace: str, table: str, oid: int, lsn: int) -> str:
+        """Notes the name that a table had which was gone when the server was looked at."""
+        name = self.names.get((namespace, table))
+        if name is None or name.oid is None:
+            return self.rename(namespace, table, oid, lsn)
+        if name.oid == oid or oid in name.before:
+            return ""
+        name.before.append(oid)
+        self.is_urgent = self.is_changed = True
+        return names_text((namespace, table), name.oid, oid)
+
+    def note(self, relation: Relation, lsn: int, last: int) -> None:
+        """Takes a Relation message of a change into account. `last`: up to which commit those of this OID are known."""
+        oid, sent, catalog = relation.oid, self.sent.get(relation.oid), self.catalog
+        if catalog is None or lsn <= last:
+            return
+        table = catalog.tables.get(oid)
+        # What led to what was there at the last look is told by that. Before, each message is one step after the other.
+        before = table.shape if table is not None and lsn > catalog.lsn else sent.shape if sent else None
+        if before is not None:
+            for kind, text in shape_differences(relation.text(), before, relation.shape):
+                self.find(kind, lsn, text)
+        if lsn > catalog.lsn or oid not in self.held:
+            rename = self.rename if lsn > catalog.lsn else self.rename_earlier
+            text = rename(relation.namespace, relation.name, oid, lsn)
+            if text:
+                self.find(NAMES, lsn, text)
+        self.sent[oid] = Sent(lsn, relation.shape)
+        self.is_changed = True
+        self.is_urgent = self.is_urgent or sent is None or sent.shape != relation.shape
+        if table is not None and lsn > catalog.lsn:
+            numbers = {it.name: it.number for it in table.shape.columns}
+            columns = tuple(it._replace(number=numbers.get(it.name, 0)) for it in relation.shape.columns)
+            catalog.tables[oid] = dataclasses.replace(
+                table, namespace=relation.namespace, name=relation.name, shape=Shape(relation.shape.identity, columns)
+            )
+
+    def note_again(self, oid: int, lsn: int) -> None:
+        """A Relation message has come again as it was."""
+        if lsn > self.sent[oid].lsn:
+            self.sent[oid] = dataclasses.replace(self.sent[oid], lsn=lsn)
+            self.is_changed = True
+
+    def find(self, kind: str, lsn: int, text: str) -> bool:
+        """Notes what was found. Returns false where it was known."""
+        if self.told.get(text, -1) >= lsn:
+            return False
+        found = self.found.setdefault(kind, Found(lsn, []))
+        if text in found.texts:
+            return False
+        if len(found.texts) < MOST:
+            found.texts.append(text)
+        else:
+            found.more += 1
+        self.news.append(f"{kind} at {lsn_text(lsn)}: {text}")
+        self.is_urgent = self.is_changed = True
+        return True
+
+    def take_news(self) -> list[str]:
+        """What was found since the last call."""
+        news, self.news = self.news, []
+        return news
+
+    def forget_told(self, position: int) -> None:
+        """Forgets which texts a Relation message may give again, once those messages are in the store."""
+        self.told = {text: lsn for text, lsn in self.told.items() if lsn > position}
+
+    def accept(self, kinds: list[str]) -> None:
+        """Forgets what was found of these kinds."""
+        for kind in [it for it in self.found if it in kinds or "all" in kinds]:
+            del self.found[kind]
+            self.is_urgent = self.is_changed = True
+
+    def read(self) -> None:
+        try:
+            with open(self.path, encoding="utf-8") as file:
+                text = file.read()
+        except FileNotFoundError:
+            raise
+        except (OSError, UnicodeDecodeError) as error:
+            raise FileError(f"{self.path}: {getattr(error, 'strerror', None) or 'not a file of tables of this program'}") from None
+        try:
+            self.restore(json.loads(text))
+        except (ValueError, TypeError, KeyError, AttributeError):
+            raise FileError(
+                f"{self.path}: not a file of tables of this program, or a torn one. Remove it, and what the server has then is"
+                " remembered; what it changed before isn't found"
+            ) from None
+
+    def restore(self, said: dict[str, Any]) -> None:
+        if said["format"] != FORMAT:
+            raise FileError(f"{self.path}: of a later version of this program (format {said['format']})")
+        self.catalog = catalog_of(said)
+        self.sent = {
+            int(oid): Sent(parse_lsn(lsn), shape_of(*shape) if shape else None) for oid, (lsn, shape) in said["sent"].items()
+        }
+        self.names = {
+            (schema, table): Name(oid, parse_lsn(since), [int(it) for it in before])
+            for schema, table, oid, since, before in said["names"]
+        }
+        self.held = {it.oid: key for key, it in self.names.items() if it.oid is not None}
+        self.found = {kind: Found(parse_lsn(lsn), list(texts), int(more)) for kind, (lsn, texts, more) in said["found"].items()}
+        self.told = {text: parse_lsn(lsn) for text, lsn in said["told"].items()}
+        self.left = {int(oid) for oid in said["left"]}
+        self.made = {str(name): int(oid) for name, oid in said["made"].items()}
+
+    def written(self) -> dict[str, Any]:
+        assert self.catalog is not None
+        return {
+            "format": FORMAT,
+            "made": self.made,
+            **catalog_written(self.catalog),
+            "sent": {oid: [lsn_text(it.lsn), it.shape and [it.shape.identity, it.shape.columns]] for oid, it in self.sent.items()},
+            "names": [[*key, it.oid, lsn_text(it.since), it.before] for key, it in sorted(self.names.items())],
+            "found": {kind: [lsn_text(it.lsn), it.texts, it.more] for kind, it in self.found.items()},
+            "left": sorted(self.left),
+            "told": {text: lsn_text(lsn) for text, lsn in self.told.items()},
+        }
+
+    def save(self) -> None:
+        """Replaces the file. The disk has it before this returns."""
+        if self.catalog is None:
+            self.is_urgent = self.is_changed = False
+            return
+        text = json.dumps(self.written(), ensure_ascii=False, separators=(",", ":")) + "\n"
+        replace_file(self.path, text.encode())
+        self.is_urgent = self.is_changed = False
+
+    def remove(self) -> None:
+        """Forgets all, as where the store is made anew."""
+        self.forget()
+        try:
+            with contextlib.suppress(FileNotFoundError):
+                os.unlink(self.path)
+        except OSError as error:
+            raise FileError(f"{self.path}: {error.strerror}") from None
+
+    def lines(self) -> list[dict[str, Any]]:
+        """What `pgsub-connect names` prints."""
+        return [
+            {"schema": schema, "table": table, "oid": it.oid, "since": lsn_text(it.since), "before": it.before}
+            for (schema, table), it in sorted(self.names.items())
+        ]
+
+
+def print_names(store: str) -> None:
+    """Prints which OID each name has now and which ones had it before, a JSON object per line."""
+    remembered = Remembered(store)
+    if remembered.catalog is None:
+        raise FileError(f"{remembered.path}: there is no such file yet: the next session makes it")
+    for line in remembered.lines():
+        print(json.dumps(line, ensure_ascii=False))
+
+
+def names_text(key: tuple[str, str], oid: int, before: int) -> str:
+    return f"{'.'.join(key)} is table {oid} now, and was {before} before: rows of both have this name here"
+
+
+def replace_file(path: str, content: bytes) -> None:
+    """Replaces a file that only its owner may read, durably: whoever reads it finds the old or the new one as a whole."""
+    new = path + NEW
+    try:
+        with contextlib.suppress(FileNotFoundError):
+            os.unlink(new)
+        number = os.open(new, os.O_WRONLY | os.O_CREAT | os.O_EXCL | os.O_CLOEXEC, 0o600)
+        with open(number, "wb") as file:
+            file.write(content)
+            file.flush()
+            os.fsync(number)
+        os.replace(new, path)
+        folder = os.open(os.path.dirname(os.path.abspath(path)), os.O_RDONLY | os.O_DIRECTORY)
+        try:
+            os.fsync(folder)
+        finally:
+            os.close(folder)
+    except OSError as error:
+        with contextlib.suppress(OSError):
+            os.unlink(new)
+        raise Passing(f"{path}: {error.strerror}") from None
+
+
+def catalog_written(catalog: Catalog) -> dict[str, Any]:
+    return {
+        "followed": catalog.names,
+        "lsn": lsn_text(catalog.lsn),
+        "highest": catalog.highest,
+        "publications": {name: dataclasses.asdict(it) for name, it in catalog.publications.items()},
+        "tables": [
+            {
+                "oid": it.oid, "schema": it.namespace, "name": it.name, "kind": it.kind, "identity": it.shape.identity,
+                "columns": it.shape.columns, "parts": it.parts,
+            }
+            for it in catalog.tables.values()
+        ],
+        "partitions": [[it.oid, it.parent, it.name, it.leaf] for it in catalog.partitions.values()],
+        "types": catalog.types,
+    }
+
+
+def catalog_of(said: dict[str, Any]) -> Catalog:
+    publications = {
+        name: Publication(int(it["oid"]), bool(it["whole"]), tuple(it["actions"]), bool(it["via_root"]), bool(it["generated"]))
+        for name, it in said["publications"].items()
+    }
+    tables = {it["oid"]: table_of(it) for it in said["tables"]}
+    partitions = {oid: Partition(int(oid), int(parent), str(name), bool(leaf)) for oid, parent, name, leaf in said["partitions"]}
+    types = {int(oid): {str(part): str(text) for part, text in it.items()} for oid, it in said["types"].items()}
+    names = tuple(str(it) for it in said["followed"])
+    return Catalog(names, parse_lsn(said["lsn"]), int(said["highest"]), publications, tables, partitions, types)
+
+
+def table_of(said: dict[str, Any]) -> Table:
+    parts = {
+        name: Part(row_filter, None if listed is None else tuple(listed), bool(whole))
+        for name, (row_filter, listed, whole) in said["parts"].items()
+    }
+    shape = shape_of(said["identity"], said["columns"])
+    return Table(int(said["oid"]), str(said["schema"]), str(said["name"]), str(said["kind"]), shape, parts)
+
+
+def shape_of(identity: str, columns: list[Any]) -> Shape:
+    return Shape(
+        str(identity),
+        tuple(Column(str(name), int(oid), int(modifier), bool(key), int(number)) for name, oid, modifier, key, number in columns),
+    )

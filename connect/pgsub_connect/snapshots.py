@@ -1,0 +1,198 @@
+"""Copies of the store for readers: the store itself is open in the filter alone, as long as that runs."""
+
+from __future__ import annotations
+
+import contextlib
+import json
+import os
+import sqlite3
+import threading
+import time
+import urllib.parse
+from collections.abc import Callable
+
+from . import log
+from .texts import lsn_text
+
+LOG = "-wal"
+CHUNK = 1 << 22
+# How often a request is looked for, in seconds.
+LOOK = 0.5
+
+
+class Snapshots:
+    """Copies a store to another file: each so many seconds, when a signal asks for it, and when a request does.
+
+    A request is the file `STORE.request`, a JSON object whose `into` names a file in the store's own folder. It goes when the copy
+    is there, or gets the field `error`.
+    """
+
+    def __init__(self, store: str, path: str | None, every: float, mode: int = 0o600) -> None:
+        self.store, self.path, self.every, self.mode = store, path, every, mode
+        self.request = store + ".request"
+        self.asked = False
+        self.next = self.looked = time.monotonic()
+        self.last: int | None = None
+        self.wanted: str | None = None
+        self.finishing: threading.Thread | None = None
+
+    def is_due(self, position: int) -> bool:
+        """Whether to copy a store that is at this position: where it was asked for, or it is time and the last copy is older."""
+        if self.finishing and self.finishing.is_alive():
+            return False
+        now = time.monotonic()
+        if self.wanted is None and now - self.looked >= LOOK:
+            self.looked = now
+            self.wanted = self.read_request()
+        if self.wanted is not None:
+            return True
+        if not self.path:
+            return False
+        return self.asked or (self.every > 0 and position != self.last and now >= self.next)
+
+    def read_request(self) -> str | None:
+        """The file that a request names, None where there is none. One of somebody else isn't heard."""
+        try:
+            with open(self.request, encoding="utf-8") as file:
+                owner = os.fstat(file.fileno()).st_uid
+                asked = json.load(file)
+        except (OSError, ValueError):
+            return None
+        into = asked.get("into") if isinstance(asked, dict) and "error" not in asked else None
+        if not isinstance(into, str) or owner not in (os.getuid(), 0):
+            return None
+        into = os.path.abspath(into)
+        if os.path.dirname(into) != os.path.dirname(os.path.abspath(self.store)) or os.path.exists(into):
+            self.answer(into, "the copy has to be a new file in the store's folder")
+            return None
+        return into
+
+    def answer(self, into: str, error: str | None) -> None:
+        """Tells whoever waits for a request."""
+        with contextlib.suppress(OSError):
+            if error is None:
+                os.unlink(self.request)
+            else:
+                with open(self.request, "w", encoding="utf-8") as file:
+                    json.dump({"into": into, "error": error}, file)
+
+    def take(self, position: int, tick: Callable[[], None]) -> None:
+        """Copies the files of a store at rest, and has a thread make one file of them. `tick` is called between parts."""
+        into, self.wanted = self.wanted, None
+        path = into or self.path
+        assert path
+        if into is None:
+            self.asked = False
+            self.next = time.monotonic() + self.every
+            self.last = position
+        new = path + ".new"
+        try:
+            for suffix in (LOG, ""):
+                remove(new + suffix)
+                copy(self.store + suffix, new + suffix, self.mode, tick)
+        except OSError as error:
+            self.fail(path, into, f"{error.strerror}")
+            return
+        self.finishing = threading.Thread(target=self.finish, args=(path, into, position), daemon=True)
+        self.finishing.start()
+
+    def finish(self, path: str, into: str | None, position: int) -> None:
+        """Puts the log into the copied file, which gets its name once it is whole. What was there stays until then."""
+        new = path + ".new"
+        try:
+            fold(new)
+            found = position_in(new)
+            if found is None or found < position:
+                raise OSError(0, f"the copy isn't at {lsn_text(position)}")
+            for left in (path + LOG, path + "-shm"):
+                # (a log of the file that goes would be taken for one of the file that comes)
+                remove(left)
+            os.replace(new, path)
+            sync_folder(path)
+        except (OSError, sqlite3.Error) as error:
+            self.fail(path, into, getattr(error, "strerror", None) or str(error))
+            return
+        log.info(f"{path}: the rows at {lsn_text(found)}")
+        if into is not None:
+            self.answer(into, None)
+
+    def fail(self, path: str, into: str | None, why: str) -> None:
+        for left in (path + ".new", path + ".new" + LOG, path + ".new-shm"):
+            with contextlib.suppress(OSError):
+                remove(left)
+        log.warning(f"{path}: {why}")
+        self.last = None
+        if into is not None:
+            self.answer(into, why)
+
+    def wait(self) -> None:
+        """Waits for a copy that is being made."""
+        if self.finishing:
+            self.finishing.join()
+
+
+def remove(path: str) -> None:
+    with contextlib.suppress(FileNotFoundError):
+        os.unlink(path)
+
+
+def copy(source: str, target: str, mode: int, tick: Callable[[], None]) -> None:
+    """Copies a file, by reference where the file system can. One that isn't there has no copy."""
+    try:
+        read = os.open(source, os.O_RDONLY | os.O_CLOEXEC)
+    except FileNotFoundError:
+        if source.endswith(LOG):
+            return
+        raise
+    write = os.open(target, os.O_WRONLY | os.O_CREAT | os.O_EXCL | os.O_CLOEXEC, mode)
+    try:
+        while copied(read, write):
+            tick()
+    finally:
+        os.close(read)
+        os.close(write)
+
+
+def copied(read: int, write: int) -> int:
+    """Copies the next part. Returns how many bytes."""
+    try:
+        return os.copy_file_range(read, write, CHUNK)
+    except OSError:
+        # (not between these file systems)
+        piece = os.read(read, CHUNK)
+        view = memoryview(piece)
+        while view:
+            view = view[os.write(write, view) :]
+        return len(piece)
+
+
+def fold(path: str) -> None:
+    """Puts a copied log into its file, which then needs none: whoever may read the file can open it."""
+    with contextlib.closing(sqlite3.connect(path, isolation_level=None)) as store:
+        store.execute("PRAGMA synchronous = FULL")
+        store.execute("PRAGMA journal_mode = DELETE")
+    file = os.open(path, os.O_RDONLY)
+    try:
+        os.fsync(file)
+    finally:
+        os.close(file)
+
+
+def sync_folder(path: str) -> None:
+    """Makes the name of a file outlast a power cut."""
+    folder = os.open(os.path.dirname(os.path.abspath(path)), os.O_RDONLY)
+    try:
+        os.fsync(folder)
+    finally:
+        os.close(folder)
+
+
+def position_in(path: str) -> int | None:
+    """The position of a store in one file; None where it has none."""
+    name = f"file:{urllib.parse.quote(os.fsencode(path))}?mode=ro&immutable=1"
+    try:
+        with contextlib.closing(sqlite3.connect(name, uri=True)) as store:
+            row = store.execute("SELECT lsn FROM pos").fetchone()
+    except sqlite3.DatabaseError:
+        return None
+    return int.from_bytes(row[0], "big") if row else None

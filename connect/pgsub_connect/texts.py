@@ -1,0 +1,34 @@
+"""LSNs and SQL names."""
+
+from __future__ import annotations
+
+
+def parse_lsn(text: str) -> int:
+    """The LSN that a text as `16/B374D848` is. A ValueError says that it is none."""
+    high, _, low = text.partition("/")
+    if not (1 <= len(high) <= 8 and 1 <= len(low) <= 8 and all(it in "0123456789abcdefABCDEF" for it in high + low)):
+        raise ValueError(f"{text!r} is not an LSN, as 16/B374D848")
+    return (int(high, 16) << 32) + int(low, 16)
+
+
+def lsn_text(lsn: int) -> str:
+    return f"{lsn >> 32:X}/{lsn & 0xFFFFFFFF:X}"
+
+
+def literal(text: str) -> str:
+    """A string constant of SQL, whatever standard_conforming_strings says."""
+    quoted = text.replace("'", "''")
+    return " E'" + quoted.replace("\\", "\\\\") + "'" if "\\" in text else "'" + quoted + "'"
+
+
+def replication_literal(text: str) -> str:
+    """A string constant of a replication command, in which a backslash is a character as any other."""
+    return "'" + text.replace("'", "''") + "'"
+
+
+def identifier(text: str) -> str:
+    return '"' + text.replace('"', '""') + '"'
+
+
+def counted(number: int, thing: str) -> str:
+    return f"{number} {thing}" if number == 1 else f"{number} {thing}s"

@@ -1,0 +1,147 @@
+"""Watches for what may make the copy wrong without a word: keeps what was found until somebody accepts it, and tells it."""
+
+from __future__ import annotations
+
+import time
+from typing import TYPE_CHECKING
+
+from . import log
+from .catalog import ACTIONS, Catalog, read_catalog
+from .checkpoint import Checkpoint
+from .errors import Passing, ServerError, Unfit
+from .postgres import Check, Connection
+from .progress import Progress
+from .remembered import Remembered
+from .server import settle
+
+if TYPE_CHECKING:
+    from .cli import Options
+
+# After how many seconds the file is written where nothing in it is urgent, the publications are looked at again, and that is tried
+# again where it failed.
+LATER, LOOK, AGAIN = 60.0, 1.0, 10.0
+# For how many milliseconds a look waits for a lock. From 16 on the server opens each table for it.
+PATIENCE = 500
+LOCK_TIMEOUT = "55P03"
+
+
+class Watch:
+    """What was found, and the looks at the server's publications."""
+
+    def __init__(self, options: Options, checkpoint: Checkpoint, progress: Progress, remembered: Remembered) -> None:
+        self.options, self.checkpoint, self.progress, self.remembered = options, checkpoint, progress, remembered
+        self.next_look = self.next_save = 0.0
+        self.is_told = False
+
+    def begin(self) -> None:
+        """Accepts what is to be accepted, and tells what else was found up to now."""
+        self.checkpoint.accept(self.options.accept)
+        self.remembered.accept(self.options.accept)
+        if self.remembered.is_urgent:
+            self.remembered.save()
+        self.note_kinds()
+        for kind, lsn in self.checkpoint.known.found.items():
+            for text in self.texts_of(kind):
+                log.warning(f"found: {kind} at {lsn}: {text}")
+        self.show()
+
+    def note_kinds(self) -> None:
+        """Has the checkpoint keep what was found, too: a file of tables may be removed."""
+        for kind, found in self.remembered.found.items():
+            self.checkpoint.note_found(kind, found.lsn)
+
+    def texts_of(self, kind: str) -> list[str]:
+        found = self.remembered.found.get(kind)
+        if found is None:
+            return ["see the log of the run that found it"]
+        return [*found.texts, *([f"and {found.more} more"] if found.more else [])]
+
+    def show(self) -> None:
+        """Tells the progress what was found, and ends the following where it is to be strict."""
+        self.progress.found = {kind: "; ".join(self.texts_of(kind)) for kind in self.checkpoint.known.found}
+        if self.progress.found and self.options.strict:
+            texts = "\n".join(f"{kind}: {text}" for kind, text in self.progress.found.items())
+            raise Unfit(f"the copy may be wrong (copy anew, or take it as it is by --accept KIND)\n{texts}")
+
+    def compare(self, connection: Connection, position: int) -> bool:
+        """Compares what the server has with what is remembered. Returns false where a lock of somebody else is in the way."""
+        remembered = self.remembered
+        try:
+            connection.run(f"SET lock_timeout = {PATIENCE}")
+            now = read_catalog(connection, self.options.publication)
+            connection.run("SET lock_timeout = 0")
+        except ServerError as error:
+            if error.sqlstate != LOCK_TIMEOUT:
+                raise
+            connection.run("SET lock_timeout = 0")
+            self.next_look = time.monotonic() + AGAIN
+            log.warning(f"the publications can't be looked at now: {error}")
+            return False
+        self.tell_actions(now)
+        if remembered.catalog is None:
+            remembered.begin(now)
+            log.info(f"{remembered.path} remembers the publications as they are now: what was changed before isn't found")
+        else:
+            remembered.forget_told(position)
+            for text in remembered.look(now):
+                log.info(text)
+        self.keep()
+        return True
+
+    def tell_actions(self, now: Catalog) -> None:
+        """Tells once in a run which publications leave out changes: the copy lacks them from the beginning, so it is no finding."""
+        for name, publication in now.publications.items() if not self.is_told else ():
+            missing = [f"{word}s" for word in ACTIONS if word not in publication.actions]
+            if missing and name not in self.remembered.made:
+                log.warning(f"publication {name} has no {' and no '.join(missing)}: these changes are missing in the copy")
+        self.is_told = True
+
+    def look_again(self, check: Check, position: int) -> bool:
+        """Compares on a connection of its own. Returns whether that was possible."""
+        try:
+            connection = Connection(self.options.dsn, name=f"{self.options.slot} tables", check=check)
+            try:
+                settle(connection)
+                return self.compare(connection, position)
+            finally:
+                connection.close()
+        except ServerError as error:
+            log.warning(f"the publications can't be looked at now: {error}")
+            return False
+
+    def keep(self) -> None:
+        """Puts what was found on the disk, before anything more is confirmed, and tells it."""
+        if not self.remembered.is_urgent:
+            return
+        self.remembered.save()
+        self.note_kinds()
+        for line in self.remembered.take_news():
+            log.warning(f"found: {line}")
+        self.show()
+
+    def note(self, kind: str, lsn: int, text: str) -> None:
+        """Keeps what the caller has found, and ends the following with."""
+        self.remembered.find(kind, lsn, text)
+        self.remembered.take_news()
+        self.remembered.save()
+        self.checkpoint.note_found(kind, lsn)
+
+    def tend(self, wants_look: bool, check: Check, position: int) -> bool:
+        """Called after each lot of payloads, before anything of them is confirmed. Returns whether a look is still wanted."""
+        self.keep()
+        now = time.monotonic()
+        if wants_look and now >= self.next_look:
+            wants_look = not self.look_again(check, position)
+            self.next_look = now + (AGAIN if wants_look else LOOK)
+        if self.remembered.is_changed and now >= self.next_save:
+            self.next_save = now + LATER
+            self.remembered.save()
+        return wants_look
+
+    def finish(self) -> None:
+        """Writes what isn't urgent, at the end of a session."""
+        if self.remembered.is_changed:
+            try:
+                self.remembered.save()
+            except Passing as error:
+                log.warning(str(error))

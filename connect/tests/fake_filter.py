@@ -1,0 +1,95 @@
+#!/usr/bin/python3
+"""A filter in the place of `pgsub follow`: it stores nothing but its position, and says what the tests ask it to.
+
+usage: fake_filter follow --store FILE [--proto N] ..
+
+The file holds the position as text. FAKE_FILTER in its first line's place: a file FILE.says may hold one of these words:
+  `status N TEXT`    ends at the first frame, with this status and this line on standard error
+  `bytes HEX`        writes these bytes in place of its first status
+  `slow SECONDS`     waits so long before its first status
+"""
+
+from __future__ import annotations
+
+import os
+import struct
+import sys
+import time
+from collections.abc import Iterator
+
+BEGIN, COMMIT, STREAM_COMMIT = ord("B"), ord("C"), ord("c")
+
+
+def frames() -> Iterator[tuple[bytes, bytes]]:
+    """The frames of standard input: the tag and the payload of each."""
+    source = sys.stdin.buffer
+    while len(head := source.read(5)) == 5:
+        payload = source.read(length := int.from_bytes(head[1:], "big") - 4)
+        if len(payload) == length:
+            yield head[:1], payload
+
+
+class Fake:
+    """What is stored, and what is confirmed."""
+
+    def __init__(self, store: str) -> None:
+        self.store, self.position = store, 0
+        if os.path.exists(store):
+            with open(store, encoding="ascii") as file:
+                self.position = int(file.read() or 0)
+        self.confirmed, self.inside, self.received = self.position, False, 0
+
+    def status(self) -> None:
+        values = struct.pack(">cQQQqB", b"r", self.received, self.confirmed, self.confirmed, 0, 0)
+        os.write(1, struct.pack(">ci", b"d", len(values) + 4) + values)
+
+    def keep(self, end: int) -> None:
+        self.position = max(self.position, end)
+        self.confirmed = max(self.confirmed, end)
+        with open(self.store, "w", encoding="ascii") as file:
+            file.write(str(self.position))
+
+    def take(self, payload: bytes) -> None:
+        """Takes a payload, and says a status where the confirmed position has moved or one is asked for."""
+        before = self.confirmed
+        if payload[:1] == b"k":
+            if not self.inside:
+                self.confirmed = max(self.confirmed, int.from_bytes(payload[1:9], "big"))
+        elif payload[25] == BEGIN:
+            self.inside = True
+        elif payload[25] in (COMMIT, STREAM_COMMIT):
+            at = 35 if payload[25] == COMMIT else 39
+            self.keep(int.from_bytes(payload[at : at + 8], "big"))
+            self.inside = False
+        if self.confirmed > before or payload[:1] == b"k" and payload[17] == 1:
+            self.status()
+
+
+def said(store: str) -> list[str]:
+    if not os.path.exists(store + ".says"):
+        return []
+    with open(store + ".says", encoding="ascii") as file:
+        return file.read().split(" ", 2)
+
+
+def main(words: list[str]) -> int:
+    store = words[words.index("--store") + 1]
+    says = said(store)
+    fake = Fake(store)
+    if says[:1] == ["slow"]:
+        time.sleep(float(says[1]))
+    if says[:1] == ["bytes"]:
+        os.write(1, bytes.fromhex(says[1]))
+    else:
+        fake.status()
+    for tag, payload in frames():
+        if says[:1] == ["status"]:
+            print(says[2], file=sys.stderr, flush=True)
+            return int(says[1])
+        if tag == b"d":
+            fake.take(payload)
+    return 0
+
+
+if __name__ == "__main__":
+    sys.exit(main(sys.argv[1:]))

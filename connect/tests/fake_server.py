@@ -1,0 +1,128 @@
+"""A server in the place of one that is there: it answers queries by what stands in them, and keeps what it was told."""
+
+from __future__ import annotations
+
+import os
+import tempfile
+import unittest
+from collections.abc import Callable, Iterator
+from typing import cast
+from unittest import mock
+
+from pgsub_connect.errors import ServerError
+from pgsub_connect.postgres import Connection
+
+Row = list[str | None]
+Answer = list[Row] | ServerError | Callable[[str], list[Row]]
+
+
+class FakeServer:
+    """Answers are looked up in the order in which they were given, the last first."""
+
+    def __init__(self, version: int = 150018) -> None:
+        self.server_version = version
+        self.answers: list[tuple[str, Answer]] = []
+        self.commands: list[str] = []
+        self.lines: list[bytes] = []
+        self.opened = self.closed = 0
+
+    def answer(self, part: str, answer: Answer) -> None:
+        self.answers.insert(0, (part, answer))
+
+    def rows_for(self, command: str) -> list[Row]:
+        self.commands.append(command)
+        for part, answer in self.answers:
+            if part in command:
+                if isinstance(answer, ServerError):
+                    raise answer
+                return answer(command) if callable(answer) else answer
+        return []
+
+    def connect(self, dsn: str, **_: object) -> Connection:
+        """Takes the place of the class Connection."""
+        self.opened += 1
+        return cast(Connection, FakeConnection(self))
+
+    def told(self, part: str) -> list[str]:
+        """What it was told with this in it."""
+        return [command for command in self.commands if part in command]
+
+    def index(self, part: str) -> int:
+        """When it was told this first."""
+        return next(index for index, command in enumerate(self.commands) if part in command)
+
+
+class FakeConnection:
+    """A connection to it. Its socket is that of a pipe in which nothing comes."""
+
+    def __init__(self, server: FakeServer) -> None:
+        self.server = server
+        self.check: Callable[[], None] = lambda: None
+        self.ends = os.pipe()
+
+    def rows(self, command: str, limit: float = 0) -> list[Row]:
+        return self.server.rows_for(command)
+
+    def value(self, command: str, limit: float = 0) -> str | None:
+        rows = self.server.rows_for(command)
+        return rows[0][0] if rows else None
+
+    def text(self, command: str) -> str:
+        return self.value(command) or ""
+
+    def run(self, command: str, wanted: object = None) -> None:
+        self.server.rows_for(command)
+
+    def copied_blocks(self, command: str, size: int) -> Iterator[list[bytes]]:
+        self.server.rows_for(command)
+        block: list[bytes] = []
+        for line in self.server.lines:
+            block.append(line)
+            if sum(map(len, block)) >= size:
+                yield block
+                block = []
+        if block:
+            yield block
+
+    def version(self) -> int:
+        return self.server.server_version
+
+    def parameter(self, name: str) -> str:
+        return "15.18"
+
+    def socket(self) -> int:
+        return self.ends[0]
+
+    def consume(self) -> None:
+        raise ServerError("lost")
+
+    def is_encrypted(self) -> bool:
+        return False
+
+    def is_local(self) -> bool:
+        return True
+
+    def close(self) -> None:
+        self.server.closed += 1
+        for end in self.ends:
+            os.close(end)
+
+
+def connection_to(server: FakeServer) -> Connection:
+    return server.connect("")
+
+
+class Quiet(unittest.TestCase):
+    """A test that keeps the lines on standard error."""
+
+    def make_folder(self) -> str:
+        """A folder that goes with the test, in memory where that is possible: tests sync many files."""
+        folder = tempfile.TemporaryDirectory(dir="/dev/shm" if os.access("/dev/shm", os.W_OK) else None)
+        self.addCleanup(folder.cleanup)
+        return folder.name
+
+    def setUp(self) -> None:
+        self.said: list[str] = []
+        patch = mock.patch("pgsub_connect.log.line", self.said.append)
+        patch.start()
+        self.addCleanup(patch.stop)

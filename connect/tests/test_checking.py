@@ -1,0 +1,234 @@
+"""What `check` says of a server, from facts as a server gives them."""
+
+from __future__ import annotations
+
+import contextlib
+import dataclasses
+import io
+import json
+import unittest
+from unittest import mock
+
+from pgsub_connect import checking, facts
+from pgsub_connect.checking import ERROR, OK, WARNING, Purpose, Result, results
+from pgsub_connect.cli import Options
+from pgsub_connect.errors import ServerError, UsageError
+from pgsub_connect.facts import Facts, Publication, Role, Slot, TableFacts, server_facts, slot_facts, source_wanted
+from pgsub_connect.making import Wanted
+from tests.fake_server import FakeServer, connection_to
+
+SETTINGS = {
+    "wal_level": "logical", "max_replication_slots": "10", "max_wal_senders": "10", "max_slot_wal_keep_size": "1000",
+    "wal_sender_timeout": "60000", "max_locks_per_transaction": "64", "max_connections": "100", "max_prepared_transactions": "0",
+    "server_encoding": "UTF8",
+}
+
+
+def well() -> Facts:
+    """A server that lacks nothing."""
+    return Facts(
+        version=150018, settings=dict(SETTINGS), database="shop", role=Role("f", False, True, True),
+        publications=[Publication("pgsub")], tables=[TableFacts("public.stock")], relations=2,
+    )
+
+
+def changed(**fields: object) -> Facts:
+    return dataclasses.replace(well(), **fields)
+
+
+def with_setting(**settings: str) -> Facts:
+    return changed(settings={**SETTINGS, **settings})
+
+
+class Judging(unittest.TestCase):
+    def found(self, facts_: Facts, purpose: Purpose, name: str) -> list[Result]:
+        return [it for it in results(facts_, purpose) if it.name == name]
+
+    def expect(self, level: str, name: str, part: str, facts_: Facts, **purpose: object) -> None:
+        found = self.found(facts_, Purpose(**purpose), name)  # type: ignore[arg-type]
+        self.assertTrue(any(it.level == level and part in it.text for it in found), (level, name, part, found))
+
+    def test_nothing_missing(self) -> None:
+        self.assertEqual([it for it in results(well(), Purpose()) if it.level != OK], [])
+
+    def test_versions(self) -> None:
+        self.expect(ERROR, "version", "9.6: logical replication needs 10", changed(version=90006))
+        self.expect(ERROR, "version", "the initial copy needs 12", changed(version=110022))
+        self.expect(OK, "version", "11.22", changed(version=110022), copies=False)
+        self.expect(OK, "version", "large transactions come whole", changed(version=130023))
+        self.expect(OK, "version", "PostgreSQL 18.6", changed(version=180006))
+
+    def test_failover(self) -> None:
+        self.expect(ERROR, "failover", "need 17", well(), failover=True)
+        self.expect(OK, "failover", "", changed(version=170000), failover=True)
+        self.expect(WARNING, "failover", "isn't handed on", changed(version=170000, slot=Slot()), failover=True, has_store=True)
+
+    def test_server(self) -> None:
+        self.expect(ERROR, "wal_level", "replica: it has to be logical", with_setting(wal_level="replica"))
+        self.expect(ERROR, "replication_slots", "1 of max_replication_slots = 10 free, 2 needed", changed(slots=9))
+        self.expect(OK, "replication_slots", "1 of", changed(slots=9), copies=False)
+        self.expect(OK, "replication_slots", "0 of", changed(slots=10, slot=Slot()), has_store=True)
+        self.expect(ERROR, "wal_senders", "0 of max_wal_senders = 10 free", changed(senders=10))
+        self.expect(OK, "wal_senders", "0 of", changed(senders=10, slot=Slot(is_active=True)), has_store=True)
+        self.expect(ERROR, "replication_connection", "no pg_hba.conf entry", changed(replication_error="no pg_hba.conf entry"))
+        self.expect(WARNING, "max_slot_wal_keep_size", "no limit", with_setting(max_slot_wal_keep_size="-1"))
+        self.expect(WARNING, "idle_replication_slot_timeout", "off for 3600 s", with_setting(idle_replication_slot_timeout="3600"))
+        self.expect(OK, "idle_replication_slot_timeout", "no limit", with_setting(idle_replication_slot_timeout="0"))
+        self.expect(WARNING, "wal_sender_timeout", "1000 ms", with_setting(wal_sender_timeout="1000"))
+        self.expect(OK, "wal_sender_timeout", "no limit", with_setting(wal_sender_timeout="0"))
+        self.expect(WARNING, "encoding", "SQL_ASCII", with_setting(server_encoding="SQL_ASCII"))
+        self.expect(ERROR, "standby", "needs 16", changed(is_standby=True))
+        self.expect(WARNING, "standby", "a copy waits", changed(is_standby=True, version=170000))
+        self.expect(WARNING, "prepared_transactions", "the prepared transaction x", changed(prepared=["the prepared transaction x"]))
+        self.expect(OK, "prepared_transactions", "", changed(prepared=["x"]), has_store=True)
+
+    def test_locks(self) -> None:
+        for relations, level in ((3200, OK), (3300, WARNING), (6400, WARNING), (6500, ERROR)):
+            self.expect(level, "locks", f"{relations} locks, the server has room for about 6400", changed(relations=relations))
+        self.expect(OK, "locks", "", changed(relations=6500), has_store=True)
+
+    def test_tls(self) -> None:
+        self.expect(OK, "tls", "this machine", well())
+        self.expect(WARNING, "tls", "verify-full", changed(is_local=False))
+        self.expect(OK, "tls", "in use", changed(is_local=False, is_encrypted=True))
+
+    def test_role(self) -> None:
+        self.expect(ERROR, "role", "ALTER ROLE f REPLICATION", changed(role=Role("f")))
+
+    def test_making(self) -> None:
+        missing = [Publication("pgsub", is_there=False)]
+        self.expect(OK, "publication", "can be made with 1 table: pgsub", changed(publications=missing))
+        self.expect(ERROR, "publication", "the store follows it", changed(publications=missing), has_store=True)
+        self.expect(ERROR, "publication", "at a standby", changed(publications=missing, is_standby=True))
+        self.expect(ERROR, "publication", "made by a superuser", changed(publications=missing), all_tables=True)
+        self.expect(ERROR, "publication", "CREATE on the database shop", changed(publications=missing, role=Role("f", False, True)))
+        foreign = [TableFacts("public.stock", owns=False)]
+        self.expect(ERROR, "publication", "doesn't own all tables that are to be in it: public.stock",
+            changed(publications=missing, tables=foreign))
+        self.expect(OK, "publication", "", changed(publications=missing, tables=foreign, role=Role("p", True, True, True)))
+
+    def test_publications(self) -> None:
+        self.expect(ERROR, "publication", "no table, or none that f can see: nosuch", changed(unknown=["nosuch"]))
+        self.expect(WARNING, "publication", "pgsub leaves out: update", changed(publications=[Publication("pgsub", leaves_out=["update"])]))
+        self.expect(OK, "publication", "", changed(publications=[Publication("pgsub_inserts", leaves_out=["update"])]))
+        self.expect(WARNING, "publication", "no table", changed(tables=[]))
+
+    def test_identities(self) -> None:
+        self.expect(OK, "identity", "1 table", well())
+        self.expect(ERROR, "identity", "public.audit", changed(publications=[Publication("p", keyless=["public.audit"])]))
+        to_come = changed(publications=[Publication("p", is_there=False, keyless=["public.audit"])])
+        self.expect(ERROR, "identity", "--keyless leave-out", to_come)
+        self.expect(WARNING, "identity", "not published or for Inserts", to_come, keyless="inserts")
+        self.expect(WARNING, "identity", "public.p", changed(publications=[Publication("p", mixed=["public.p"])]))
+
+    def test_reading(self) -> None:
+        for table, part in (
+            (TableFacts("t", reads=False, reads_columns=False), "lacks SELECT on: t"),
+            (TableFacts("t", reads=False), "needs SELECT on all of it: t"),
+            (TableFacts("t", reaches_schema=False), "lacks USAGE on the schemas of: t"),
+        ):
+            self.expect(ERROR, "select", part, changed(tables=[table]))
+            self.assertEqual(self.found(changed(tables=[table]), Purpose(has_store=True), "select"), [])
+        self.expect(ERROR, "row_security", "BYPASSRLS", changed(tables=[TableFacts("t", hides_rows=True)]))
+
+    def test_slot(self) -> None:
+        def slot(**fields: object) -> Facts:
+            return changed(slot=Slot(**fields))  # type: ignore[arg-type]
+
+        self.expect(OK, "slot", "can be made", well())
+        self.expect(ERROR, "slot", "isn't there, and the store follows it", well(), has_store=True)
+        self.expect(ERROR, "slot", "is there already, and no store", slot())
+        self.expect(OK, "slot", "pgsub", slot(), copies=False)
+        self.expect(ERROR, "slot", "is not one of pgoutput", slot(plugin="test_decoding"), has_store=True)
+        self.expect(ERROR, "slot", "is not one of pgoutput", slot(is_here=False), has_store=True)
+        self.expect(ERROR, "slot", "two-phase", slot(is_two_phase=True), has_store=True)
+        self.expect(ERROR, "slot", "lost", slot(wal_status="lost"), has_store=True)
+        self.expect(ERROR, "slot", "idle_timeout", slot(why_invalid="idle_timeout"), has_store=True)
+        self.expect(WARNING, "slot", "about to be lost", slot(wal_status="unreserved"), has_store=True)
+        self.expect(OK, "slot", "7 bytes of log before it is lost", slot(wal_status="extended", safe_wal_size="7"), has_store=True)
+
+
+class Asking(unittest.TestCase):
+    """What is asked of which version."""
+
+    def server(self, version: int) -> FakeServer:
+        server = FakeServer(version)
+        server.answer("pg_settings", [["wal_level", "replica"]])
+        server.answer("pg_is_in_recovery", [["f", "shop", "3", "2"]])
+        server.answer("pg_roles", [["f", "f", "t", "f"]])
+        return server
+
+    def test_server(self) -> None:
+        found = server_facts(connection_to(self.server(150018)), "pgsub")
+        self.assertEqual((found.slots, found.senders, found.database, found.is_standby, found.slot), (3, 2, "shop", False, None))
+        self.assertEqual((found.role, found.settings), (Role("f", False, True, False), {"wal_level": "replica"}))
+
+    def test_columns_of_slots(self) -> None:
+        for version, columns in (
+            (120000, "s.active, NULL, NULL, NULL, NULL, NULL"),
+            (130000, "s.active, NULL, s.wal_status, s.safe_wal_size, NULL, NULL"),
+            (150000, "s.active, s.two_phase, s.wal_status, s.safe_wal_size, NULL, NULL"),
+            (180000, "s.active, s.two_phase, s.wal_status, s.safe_wal_size, s.failover, s.invalidation_reason"),
+        ):
+            server = FakeServer(version)
+            server.answer("pg_replication_slots", [["pgoutput", "t", "t", "f", "reserved", "9", "t", None]])
+            self.assertEqual(slot_facts(connection_to(server), "s"), Slot("pgoutput", True, True, False, "reserved", "9", True, ""))
+            self.assertIn(columns, server.commands[0])
+
+    def test_names_in_what_create_publication_takes(self) -> None:
+        server = FakeServer()
+        server.answer("to_regclass", lambda command: [["5"]] if "nosuch" not in command else [[None]])
+        wanted = Wanted(["p"], ["stock", 'ONLY "Odd s"."T""x" (a, b) WHERE (a > 1)', "nosuch", "(", "s.t *"])
+        source, unknown = source_wanted(connection_to(server), wanted)
+        self.assertEqual(unknown, ["nosuch", "("])
+        self.assertIn('to_regclass(\'"Odd s"."T""x"\')', server.commands[1])
+        self.assertIn("to_regclass('s.t')", server.commands[3])
+        self.assertEqual(source.count("SELECT 5::pg_catalog.oid AS relid"), 3)
+
+    def test_what_a_copy_requires(self) -> None:
+        with self.assertRaisesRegex(ServerError, "wal_level: replica") as raised:
+            checking.require(connection_to(self.server(150018)), Options(), copies=True)
+        self.assertTrue(raised.exception.is_lasting())
+        with self.assertRaisesRegex(UsageError, "--failover needs PostgreSQL 17, and this is 15.18"):
+            checking.require(connection_to(self.server(150018)), Options(failover=True), copies=True)
+
+
+class Printing(unittest.TestCase):
+    def printed(self, found: Facts, **options: object) -> tuple[int, str]:
+        out = io.StringIO()
+        with mock.patch.object(checking, "all_facts", lambda *_: found), contextlib.redirect_stdout(out):
+            status = checking.run(Options(publication=["pgsub"], **options))  # type: ignore[arg-type]
+        return status, out.getvalue()
+
+    def test_lines(self) -> None:
+        status, text = self.printed(well())
+        self.assertEqual((status, text.splitlines()[1]), (0, "ok wal_level: logical"))
+        status, text = self.printed(with_setting(wal_level="minimal"))
+        self.assertEqual(status, 4)
+        self.assertIn("error wal_level: minimal: ", text)
+
+    def test_json(self) -> None:
+        status, text = self.printed(well(), json=True)
+        self.assertEqual((status, json.loads(text)[1]), (0, {"level": "ok", "name": "wal_level", "text": "logical"}))
+
+    def test_warnings_are_no_error(self) -> None:
+        self.assertEqual(self.printed(with_setting(max_slot_wal_keep_size="-1"))[0], 0)
+
+
+class Connecting(unittest.TestCase):
+    def test_the_connection_for_replication_is_tried(self) -> None:
+        server = Asking().server(150018)
+
+        def connect(dsn: str, *, replication: bool = False, **_: object) -> object:
+            if replication:
+                raise ServerError("no pg_hba.conf entry for replication connection")
+            return server.connect(dsn)
+
+        with mock.patch.object(facts, "Connection", connect):
+            found = facts.all_facts("", "pgsub", Wanted(["pgsub"]), lambda: None)
+        self.assertIn("pg_hba.conf", found.replication_error)
+        self.assertEqual(server.opened, server.closed)
+
+
+if __name__ == "__main__":
+    unittest.main()

@@ -1,0 +1,466 @@
+"""The initial copy: what the filter gets and the server is told, what ends it, and when it begins anew."""
+
+from __future__ import annotations
+
+import os
+import unittest
+from collections.abc import Callable, Sequence
+from typing import cast
+from unittest import mock
+
+from pgsub_connect import checkpoint as known_of
+from pgsub_connect import copying, making, waiting
+from pgsub_connect.catalog import Catalog
+from pgsub_connect.checkpoint import Checkpoint
+from pgsub_connect.cli import Options
+from pgsub_connect.copying import CHANGED, Copier, Tries, create_slot
+from pgsub_connect.errors import Passing, ServerError, Stopped, Unfit, UsageError
+from pgsub_connect.filtering import Filter, FilterEnded
+from pgsub_connect.messages import InsertHeads, begin, commit, frame, inserts, relation
+from pgsub_connect.progress import Progress
+from pgsub_connect.publishing import Column, Table
+from pgsub_connect.remembered import Remembered
+from tests.fake_server import FakeServer, Quiet, Row
+
+POINT = 0x1000028
+STOCK = Table(16385, "public", "stock", "r", "d", None, None, [Column("id", 23, -1, True, 1), Column("n", 23, -1, False, 2)])
+
+
+class FakeFilter:
+    """A filter that confirms the end of the last transaction, and keeps what it was sent."""
+
+    def __init__(self, path: str) -> None:
+        self.path, self.sent = path, b""
+        self.ended = self.runs = False
+        self.readable: list[int] = []
+        self.fails: list[Exception] = []
+
+    def start(self, check: Callable[[], None]) -> int:
+        check()
+        with open(self.path, "ab"):
+            self.ended, self.runs = False, True
+        if self.fails:
+            raise self.fails.pop(0)
+        return 0
+
+    def confirmed(self) -> int:
+        return int.from_bytes(self.sent[-16:-8], "big")
+
+    def push(self, piece: bytes) -> None:
+        self.sent += piece
+
+    def has_room(self) -> bool:
+        return True
+
+    def finish(self) -> None:
+        self.ended = True
+
+    def serve(self, timeout: float, reads: Sequence[int] = ()) -> tuple[list[int], list[int], list[bytes]]:
+        if self.ended:
+            raise FilterEnded(0, "")
+        return self.readable, [], []
+
+    def kill(self) -> None:
+        self.runs = False
+
+
+class Copying(Quiet):
+    """A copier of a fake server to a fake filter."""
+
+    def setUp(self) -> None:
+        super().setUp()
+        self.folder = self.make_folder()
+        self.store = os.path.join(self.folder, "copy.db")
+        self.server = server = FakeServer()
+        self.slots: list[Row] = []
+        for part, rows in (
+            ("IDENTIFY_SYSTEM", [["77", "1", "0/1000000", "shop"]]), ("pg_is_in_recovery", [["f"]]),
+            ("pg_settings", [["wal_level", "logical"], ["max_replication_slots", "10"]]), ("pg_roles", [["f", "f", "t", "t"]]),
+            ("SELECT p.pubname FROM", [["pgsub"]]), ("CREATE_REPLICATION_SLOT", [["s", "0/1000028", "snap'1", "pgoutput"]]),
+            ("pg_relation_filenode", [["16385", "1"]]), ("sum(l.reltuples)", [["3"]]),
+        ):
+            server.answer(part, cast(list[Row], rows))
+        made = 'CREATE PUBLICATION "pgsub"'
+        server.answer("SELECT p.oid FROM pg_catalog.pg_publication p", lambda _: [["777"]] if server.told(made) else [])
+        server.answer("SELECT pg_catalog.pg_is_in_recovery(), pg_catalog.current_database()", [["f", "shop", "0", "0"]])
+        self.names: list[Row] = [["16385", "public", "stock"]]
+        self.columns: list[Row] = [["16385", "1", "id", "23", "-1"], ["16385", "2", "n", "23", "-1"], ["16385", "3", "x", "25", "-1"]]
+        server.answer("SELECT c.oid, n.nspname, c.relname FROM pg_catalog.pg_class c JOIN", self.names)
+        server.answer("FROM pg_catalog.pg_attribute a WHERE a.attrelid IN", self.columns)
+        server.answer("s.confirmed_flush_lsn - '0/0'", lambda _: self.slots)
+        server.answer("pg_copy_logical_replication_slot", self.slot_copied)
+        server.lines = [b"1\t5\n", b"2\t\\N\n"]
+        self.tables = [STOCK]
+        for module in (copying, making, waiting):
+            self.patch(module, "Connection", server.connect)
+        self.patch(copying, "published_tables", lambda *_: list(self.tables))
+        self.patch(making, "publishable_tables", lambda _: ['"public"."stock"'])
+        self.patch(Copier, "sleep", lambda copier, seconds: self.slept.append(seconds))
+        self.slept: list[float] = []
+        self.patch(copying, "read_catalog", lambda _, names: Catalog(tuple(names), 0, 0, {}, {}, {}, {}))
+
+    def made(self) -> dict[str, int]:
+        """The publications that are remembered as made, in the file."""
+        return Remembered(self.store).made
+
+    def patch(self, where: object, name: str, by: object) -> None:
+        patch = mock.patch.object(where, name, by)
+        patch.start()
+        self.addCleanup(patch.stop)
+
+    def slot_copied(self, _: str) -> list[Row]:
+        self.slots = [["pgoutput", "t", "f", str(POINT)]]
+        return [["pgsub", "0/1000028"]]
+
+    def copier(self, **options: object) -> Copier:
+        self.checkpoint = Checkpoint(self.store)
+        self.addCleanup(os.close, self.checkpoint.file)
+        self.filter = FakeFilter(self.store + ".copying")
+        self.progress = Progress()
+        chosen = Options(store=self.store, publication=["pgsub"], create="permanent", **options)  # type: ignore[arg-type]
+        self.remembered = Remembered(self.store)
+        return Copier(chosen, self.checkpoint, cast(Filter, self.filter), self.progress, self.remembered)
+
+
+class Sent(Copying):
+    def test_transactions(self) -> None:
+        self.copier().run()
+        rows = inserts(self.server.lines, InsertHeads(STOCK, 1))
+        self.assertEqual(
+            self.filter.sent.hex(" "),
+            b"".join((
+                frame(1, begin(1)), frame(1, relation(STOCK)), rows, frame(1, commit(1, 2)), frame(2, begin(2)), frame(2, commit(2, POINT)),
+            )).hex(" "),
+        )
+        self.assertEqual((self.progress.copied_rows, self.progress.copy_total_rows, self.progress.copying), (2, 3, None))
+        self.assertEqual(self.checkpoint.known.phase, known_of.COPIED)
+        self.assertEqual(self.checkpoint.known.position, POINT)
+        self.assertTrue(os.path.exists(self.store))
+        self.assertEqual(self.server.opened, self.server.closed)
+
+    def test_parts(self) -> None:
+        """A part ends with the block that fills it, and each part is a transaction."""
+        self.patch(copying, "PART", 200)
+        self.patch(copying, "BLOCK", 1)
+        self.server.lines = [b"%d\t0\n" % number for number in range(5)]
+        self.copier().run()
+        wanted, lines = [frame(1, begin(1)), frame(1, relation(STOCK))], self.server.lines
+        for lsn, some in ((1, lines[:4]), (2, lines[4:])):
+            wanted += [frame(2, begin(2))] if lsn == 2 else []
+            wanted += [inserts(some, InsertHeads(STOCK, lsn)), frame(lsn, commit(lsn, lsn + 1))]
+        wanted += [frame(3, begin(3)), frame(3, commit(3, POINT))]
+        self.assertEqual(self.filter.sent.hex(" "), b"".join(wanted).hex(" "))
+
+    def test_an_empty_table(self) -> None:
+        self.server.lines = []
+        self.copier().run()
+        self.assertTrue(self.filter.sent.startswith(frame(1, begin(1)) + frame(1, relation(STOCK)) + frame(1, commit(1, 2))))
+
+    def test_no_table(self) -> None:
+        self.tables = []
+        self.copier().run()
+        self.assertEqual(self.filter.sent, frame(1, begin(1)) + frame(1, commit(1, POINT)))
+        self.assertEqual(self.server.told("LOCK TABLE"), [])
+
+    def test_mode(self) -> None:
+        os.umask(os.umask(0o022))
+        self.copier(mode=0o640).run()
+        self.assertEqual(os.stat(self.store).st_mode & 0o777, 0o640)
+
+
+class Order(Copying):
+    def test_checks_publication_slot_locks_rows_lasting_slot(self) -> None:
+        self.copier().run()
+        parts = [
+            "pg_settings", "CREATE PUBLICATION", "COMMIT", "BEGIN ISOLATION LEVEL REPEATABLE READ READ ONLY", "CREATE_REPLICATION_SLOT",
+            "SET TRANSACTION SNAPSHOT 'snap''1'", "LOCK TABLE", "COPY (SELECT", "pg_copy_logical_replication_slot",
+        ]
+        order = [self.server.index(part) for part in parts]
+        self.assertEqual(order, sorted(order))
+        self.assertEqual(self.made(), {"pgsub": 777})
+        self.assertEqual(self.server.told("DROP"), [])
+
+    def test_locks_come_first_where_tables_changed(self) -> None:
+        left = [[STOCK], [], [STOCK], [STOCK]]
+        self.patch(copying, "published_tables", lambda *_: left.pop(0))
+        self.copier().run()
+        self.assertEqual(self.slept, [1.0])
+        commands = [it for it in self.server.commands if it.startswith(("LOCK", "CREATE_REPL", "SET lock_timeout"))]
+        words = ["SET", "CREATE_REPLICATION_SLOT", "LOCK", "LOCK", "SET", "CREATE_REPLICATION_SLOT"]
+        self.assertEqual([it.split()[0] for it in commands[:6]], words)
+        self.assertEqual([it for it in commands[:6] if it.startswith("SET")], ["SET lock_timeout = 0", "SET lock_timeout = 2000"])
+
+    def test_what_is_gone_before_the_first_row(self) -> None:
+        for sqlstate in ("42P01", "42703", "42704"):
+            left = [ServerError("gone", sqlstate)]
+
+            def lock(_: str, left: list[ServerError] = left) -> list[Row]:
+                if left:
+                    raise left.pop()
+                return []
+
+            with self.subTest(sqlstate):
+                self.setUp()
+                self.server.answer("LOCK TABLE", lock)
+                self.copier().run()
+                self.assertIn(f"warning: {CHANGED}: the copy begins anew", self.said)
+
+    def test_what_is_gone_in_the_midst_of_rows_is_lasting(self) -> None:
+        self.server.answer("COPY (", ServerError("gone", "42P01"))
+        with self.assertRaisesRegex(ServerError, "gone"):
+            self.copier().run()
+
+    def test_names_are_compared_under_the_locks(self) -> None:
+        """As where tables changed their names between the snapshot and the locks. It takes no lock to see that."""
+        left: list[list[Row]] = [[["16385", "public", "stock_old"]]]
+        self.server.answer("SELECT c.oid, n.nspname, c.relname FROM", lambda _: left.pop() if left else self.names)
+        self.copier().run()
+        self.assertIn(f"warning: {CHANGED}: the copy begins anew", self.said)
+        locks, names = self.server.index("LOCK TABLE"), self.server.index("SELECT c.oid, n.nspname, c.relname FROM")
+        self.assertEqual((self.server.commands[names - 1], locks < names), ("SET lock_timeout = 2000", True))
+
+    def test_columns_are_compared_under_the_locks(self) -> None:
+        """As where two columns changed their names."""
+        left: list[list[Row]] = [[["16385", "2", "id", "23", "-1"], ["16385", "1", "n", "23", "-1"]]]
+        self.server.answer("FROM pg_catalog.pg_attribute a WHERE a.attrelid IN", lambda _: left.pop() if left else self.columns)
+        self.copier().run()
+        self.assertIn(f"warning: {CHANGED}: the copy begins anew", self.said)
+
+    def test_failover(self) -> None:
+        self.server.server_version = 170000
+        self.copier(failover=True).run()
+        self.assertEqual(self.server.told("ALTER_REPLICATION_SLOT"), ['ALTER_REPLICATION_SLOT "pgsub" (FAILOVER true)'])
+        self.assertLess(self.server.index("pg_copy_logical"), self.server.index("ALTER_REPLICATION_SLOT"))
+
+    def test_failover_that_is_set_already(self) -> None:
+        self.server.server_version = 170000
+        self.server.answer("SELECT s.failover", [["t"]])
+        self.copier(failover=True).run()
+        self.assertEqual(self.server.told("ALTER_REPLICATION_SLOT"), [])
+
+    def test_failover_before_17_makes_nothing(self) -> None:
+        with self.assertRaises(UsageError):
+            self.copier(failover=True).run()
+        self.assertEqual(self.server.told("CREATE PUBLICATION") + self.server.told("CREATE_REPLICATION_SLOT"), [])
+
+    def test_nothing_is_made_without_the_right_to_read(self) -> None:
+        self.server.answer("has_any_column_privilege", [["public.stock", "f", "t", "t", "f", "t"]])
+        with self.assertRaisesRegex(ServerError, "needs SELECT on all of it: public.stock"):
+            self.copier().run()
+        self.assertEqual(self.server.told("COMMIT") + self.server.told("CREATE_REPLICATION_SLOT"), [])
+
+    def test_nothing_is_made_without_wal_level(self) -> None:
+        self.server.answer("pg_settings", [["wal_level", "replica"], ["max_replication_slots", "10"]])
+        with self.assertRaisesRegex(ServerError, "wal_level"):
+            self.copier().run()
+        self.assertEqual(self.server.told("CREATE PUBLICATION") + self.server.told("CREATE_REPLICATION_SLOT"), [])
+
+
+class Ends(Copying):
+    """What ends the copy, and what becomes of the publication that was made for it."""
+
+    def failing(self, error: Exception, kind: type[Exception], part: str = "COPY (", attempts: int = 1) -> Exception:
+        def fail(_: str) -> list[Row]:
+            raise error
+
+        self.server.answer(part, fail)
+        with self.assertRaises(kind) as raised:
+            self.copier().run()
+        self.assertEqual(len(self.server.told(part)), attempts)
+        self.assertEqual(len(self.server.told('DROP PUBLICATION "pgsub"')), 1)
+        self.assertEqual(self.server.opened, self.server.closed)
+        return raised.exception
+
+    def test_lasting(self) -> None:
+        self.failing(ServerError("denied", "42501"), ServerError)
+
+    def test_five_attempts_of_one_cause(self) -> None:
+        error = self.failing(ServerError("bad bytes", "22021"), ServerError, attempts=5)
+        self.assertTrue(cast(ServerError, error).is_lasting())
+        self.assertEqual(self.slept, [1.0, 2.0, 4.0, 8.0])
+
+    def test_locks(self) -> None:
+        self.assertIn("max_locks_per_transaction", str(self.failing(ServerError("out of shared memory", "53200"), ServerError, attempts=5)))
+
+    def test_ten_attempts_of_a_passing_cause(self) -> None:
+        for sqlstate in ("", "57P01", "53300"):
+            with self.subTest(sqlstate):
+                self.setUp()
+                self.failing(ServerError("lost", sqlstate), Passing, attempts=10)
+
+    def test_signal(self) -> None:
+        self.failing(Stopped(), Stopped)
+
+    def test_signal_while_the_slot_waits(self) -> None:
+        self.failing(Stopped(), Stopped, "CREATE_REPLICATION_SLOT")
+
+    def test_a_bug(self) -> None:
+        self.failing(ZeroDivisionError(), ZeroDivisionError)
+
+    def test_a_server_that_was_never_there(self) -> None:
+        def connect(*_: object, **__: object) -> object:
+            raise ServerError("no route")
+
+        self.patch(copying, "Connection", connect)
+        with self.assertRaises(Passing):
+            self.copier().run()
+
+    def test_a_complete_copy_keeps_its_publication(self) -> None:
+        """From here on the slot may be there, so the next start may need it."""
+        def fail(_: str) -> list[Row]:
+            raise Stopped
+
+        self.server.answer("pg_copy_logical_replication_slot", fail)
+        with self.assertRaises(Stopped):
+            self.copier().run()
+        self.assertEqual((self.server.told("DROP"), self.made()), ([], {"pgsub": 777}))
+
+    def test_a_slot_that_is_rejected(self) -> None:
+        """The slot isn't there, so the publication isn't needed."""
+        self.failing(ServerError("all replication slots are in use", "53400"), ServerError, "pg_copy_logical_replication_slot", attempts=5)
+
+    def test_a_snapshot_that_is_gone(self) -> None:
+        self.failing(ServerError("invalid snapshot identifier", "22023"), Passing, "SET TRANSACTION SNAPSHOT", attempts=10)
+
+    def test_a_filter_that_rejects(self) -> None:
+        copier = self.copier()
+        self.filter.fails = [FilterEnded(1, "order 1 X")]
+        with self.assertRaises(FilterEnded):
+            copier.run()
+        self.assertEqual(len(self.server.told('DROP PUBLICATION "pgsub"')), 1)
+
+    def test_a_filter_that_was_killed(self) -> None:
+        copier = self.copier()
+        self.filter.fails = [FilterEnded(-9, "")] * 3
+        copier.run()
+        self.assertEqual(self.slept, [1.0, 2.0, 4.0])
+
+    def test_a_filter_that_was_killed_at_each_attempt(self) -> None:
+        copier = self.copier()
+        self.filter.fails = [FilterEnded(-9, "")] * 10
+        with self.assertRaises(Passing):
+            copier.run()
+
+    def test_the_replication_connection_is_lost(self) -> None:
+        copier = self.copier()
+        self.patch(FakeFilter, "serve", lambda _, timeout, reads=(): (list(reads), [], []))
+        with self.assertRaises(Passing):
+            copier.run()
+        self.assertEqual(len(self.server.told("SET TRANSACTION SNAPSHOT")), 10)
+        self.assertEqual(self.progress.copied_rows, 0)
+
+    def test_a_slot_that_is_there(self) -> None:
+        self.slots = [["pgoutput", "t", "f", "5"]]
+        with self.assertRaisesRegex(Unfit, "the slot pgsub is there already"):
+            self.copier().run()
+        self.assertEqual(self.server.told("CREATE PUBLICATION") + self.server.told("CREATE_REPLICATION_SLOT"), [])
+
+    def test_the_log_of_a_store_that_is_gone(self) -> None:
+        with open(self.store + "-wal", "wb"):
+            pass
+        with self.assertRaisesRegex(Unfit, "is the log of a store that is gone"):
+            self.copier().run()
+
+    def test_a_copy_that_was_complete(self) -> None:
+        """Cut off between the slot and the renaming."""
+        copier = self.copier(failover=True)
+        self.slots = [["pgoutput", "t", "f", str(POINT)]]
+        self.checkpoint.write(True, phase=known_of.COPIED, system="77", slot="pgsub", confirmed=POINT, position=POINT)
+        self.patch(FakeFilter, "start", lambda *_: POINT)
+        with open(self.store + ".copying", "wb"):
+            pass
+        self.remembered.begin(Catalog(("pgsub", "pgsub_inserts"), 0, 0, {}, {}, {}, {}))
+        copier.run()
+        self.assertTrue(os.path.exists(self.store))
+        self.assertEqual(len(self.server.told("ALTER_REPLICATION_SLOT")), 1)
+        self.assertEqual(copier.options.publication, ["pgsub", "pgsub_inserts"])
+
+
+class Counting(unittest.TestCase):
+    def test_causes_are_counted_apart(self) -> None:
+        tries = Tries()
+        for _ in range(4):
+            tries.note("22021", ServerError("a", "22021"))
+            tries.note("XX001", ServerError("b", "XX001"))
+        for _ in range(9):
+            tries.note("", ServerError("c"))
+        with self.assertRaises(ServerError):
+            tries.note("XX001", ServerError("b", "XX001"))
+        with self.assertRaises(Passing):
+            tries.note("", ServerError("c"))
+
+
+class Slots(Copying):
+    """A slot without rows."""
+
+    def options(self, **options: object) -> Options:
+        return Options(store=self.store, publication=["pgsub"], create="permanent", no_copy=True, **options)  # type: ignore[arg-type]
+
+    def test_made(self) -> None:
+        create_slot(self.options(), lambda: None)
+        self.assertLess(self.server.index("CREATE PUBLICATION"), self.server.index("CREATE_REPLICATION_SLOT"))
+        self.assertIn('CREATE_REPLICATION_SLOT "pgsub" LOGICAL pgoutput NOEXPORT_SNAPSHOT', self.server.commands)
+
+    def test_rejected(self) -> None:
+        self.server.answer("CREATE_REPLICATION_SLOT", ServerError("all replication slots are in use", "53400"))
+        with self.assertRaises(ServerError):
+            create_slot(self.options(), lambda: None)
+        self.assertEqual(len(self.server.told('DROP PUBLICATION "pgsub"')), 1)
+
+    def test_a_slot_that_is_older_than_its_publication(self) -> None:
+        self.slots = [["pgoutput", "t", "f", "5"]]
+        with self.assertRaisesRegex(Unfit, "older than the publication pgsub"):
+            create_slot(self.options(), lambda: None)
+        self.assertEqual(self.server.told("CREATE PUBLICATION") + self.server.told("CREATE_REPLICATION_SLOT"), [])
+
+    def test_both_are_there(self) -> None:
+        self.slots = [["pgoutput", "t", "f", "5"]]
+        self.server.answer("SELECT FROM pg_catalog.pg_publication", [[]])
+        self.server.answer("SELECT p.oid FROM pg_catalog.pg_publication p", [["777"]])
+        create_slot(self.options(), lambda: None)
+        self.assertEqual(self.server.told("CREATE PUBLICATION") + self.server.told("CREATE_REPLICATION_SLOT"), [])
+
+
+class Waiting(Quiet):
+    """What a slot waits for."""
+
+    def setUp(self) -> None:
+        super().setUp()
+        self.server = FakeServer()
+        self.server.answer("pg_stat_activity", [["5", "app", "shop", "70"], ["6", "x", "y", None]])
+        self.server.answer("pg_prepared_xacts", [["gid'1", "app", "other", "700"]])
+        patch = mock.patch.object(waiting, "Connection", self.server.connect)
+        patch.start()
+        self.addCleanup(patch.stop)
+
+    def test_it_is_told_after_ten_seconds_and_each_minute(self) -> None:
+        clock = [100.0]
+        with mock.patch("time.monotonic", lambda: clock[0]):
+            waits = waiting.Waiting("", "pgsub", lambda: None)
+            for now, lines in ((109.9, 0), (110.0, 1), (169.0, 1), (170.1, 2), (200.0, 2)):
+                clock[0] = now
+                waits.check()
+                self.assertEqual(len(self.said), lines, now)
+        self.assertEqual(
+            self.said[0],
+            "the slot waits for the transaction of process 5 (app, database shop) for 70 s; the transaction of process 6"
+            " (x, database y); the prepared transaction gid'1 (app, database other) for 700 s",
+        )
+        self.assertEqual(self.server.opened, self.server.closed)
+
+    def test_a_standby(self) -> None:
+        self.server.answer("pg_is_in_recovery", [["t"]])
+        with mock.patch.object(waiting, "FIRST", 0):
+            waiting.Waiting("", "pgsub", lambda: None).check()
+        self.assertIn("pg_log_standby_snapshot()", self.said[0])
+
+    def test_a_signal_is_heard(self) -> None:
+        def stop() -> None:
+            raise Stopped
+
+        with self.assertRaises(Stopped):
+            waiting.Waiting("", "pgsub", stop).check()
+
+
+if __name__ == "__main__":
+    unittest.main()

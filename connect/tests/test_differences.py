@@ -1,0 +1,134 @@
+"""What is said of two readings of a server's publications."""
+
+from __future__ import annotations
+
+import dataclasses
+import unittest
+
+from pgsub_connect.catalog import Catalog, Part, Partition
+from pgsub_connect.differences import NAMES, PUBLICATION, VALUES, Difference, differences, shape_differences
+
+from .vectors import ID, NAME, PGSUB, a_catalog, a_shape, a_table
+
+T, U = a_table(1, "t"), a_table(2, "u")
+ALL_TABLES = dataclasses.replace(PGSUB, whole=True)
+VIA_ROOT = dataclasses.replace(PGSUB, via_root=True)
+WHOLE = Part(None, None, True)
+ROOT = a_table(10, "root", kind="p")
+TREE = (Partition(10, 0, "public.root", False), Partition(11, 10, "public.p1", True))
+NEW = Partition(12, 10, "public.p2", True)
+MADE = dataclasses.replace(NEW, made=True)
+SUB = Partition(13, 10, "public.sub", False, made=True)
+MOOD = {"name": "public.mood", "501": "sad", "502": "ok"}
+PAIR = {"name": "public.pair", "#1": "23 -1", "#2": "25 -1"}
+COLUMNS = [ID, NAME]
+
+# what it is, what was there, what is there, the kinds of what is said, a word of the first text
+Case = tuple[str, Catalog, Catalog, list[str], str]
+CASES: list[Case] = [
+    ("nothing", a_catalog(T), a_catalog(T, lsn=200, highest=2000), [], ""),
+    ("a table renamed", a_catalog(T), a_catalog(a_table(1, "renamed")), [], ""),
+    ("a table joins", a_catalog(T), a_catalog(T, U), [PUBLICATION], "public.u (2) joined"),
+    ("a table goes", a_catalog(T, U), a_catalog(T), [PUBLICATION], "public.u (2) was dropped"),
+    ("a publication goes", a_catalog(T), a_catalog(publication=None), [PUBLICATION] * 2, "publication pgsub is gone"),
+    ("a publication isn't followed any more", a_catalog(), a_catalog(publication=None, names=[]), [PUBLICATION], "not followed"),
+    ("a publication comes back", a_catalog(publication=None), a_catalog(), [PUBLICATION], "was gone"),
+    ("a publication is added", a_catalog(publication=None, names=[]), a_catalog(), [PUBLICATION], "is followed"),
+    ("a publication is made anew", a_catalog(), a_catalog(publication=dataclasses.replace(PGSUB, oid=901)), [PUBLICATION], "made anew"),
+    ("deletes stop", a_catalog(), a_catalog(publication=dataclasses.replace(PGSUB, actions=("insert", "update"))),
+     [PUBLICATION] * 2, "no deletes"),
+    ("updates begin", a_catalog(publication=dataclasses.replace(PGSUB, actions=("insert", "delete", "truncate"))), a_catalog(),
+     [PUBLICATION], "updates only from now on"),
+    ("generated columns", a_catalog(), a_catalog(publication=dataclasses.replace(PGSUB, generated=True)), [PUBLICATION], "generated"),
+    ("a row filter", a_catalog(T), a_catalog(a_table(1, "t", part=Part("(id > 3)", None, False))), [PUBLICATION], "row filter (id > 3)"),
+    ("a column list", a_catalog(T), a_catalog(a_table(1, "t", part=Part(None, (1, 2), False))), [PUBLICATION], "column list"),
+    # tables that are new under a publication of all tables, or of a schema
+    ("made under all tables", a_catalog(publication=ALL_TABLES),
+     a_catalog(a_table(1001, "n", part=WHOLE, fresh=True), publication=ALL_TABLES), [""], "is new"),
+    ("became a logged one", a_catalog(publication=ALL_TABLES), a_catalog(a_table(1001, "n", part=WHOLE), publication=ALL_TABLES),
+     [PUBLICATION], "joined"),
+    ("was there before", a_catalog(publication=ALL_TABLES),
+     a_catalog(a_table(999, "n", part=WHOLE, fresh=True), publication=ALL_TABLES), [PUBLICATION], "joined"),
+    ("made in a schema", a_catalog(), a_catalog(a_table(1001, "n", part=WHOLE, fresh=True)), [""], "is new"),
+    ("moved into a schema", a_catalog(),
+     a_catalog(dataclasses.replace(a_table(1001, "n", part=WHOLE, fresh=True), untouched=False)), [PUBLICATION], "joined"),
+    ("new, and added by hand", a_catalog(), a_catalog(a_table(1001, "n", fresh=True)), [PUBLICATION], "joined"),
+    # partitions under their root's name
+    ("attached", a_catalog(ROOT, partitions=TREE), a_catalog(ROOT, partitions=(*TREE, NEW)), [PUBLICATION], "public.p2 (12)"),
+    ("made as a partition", a_catalog(ROOT, partitions=TREE), a_catalog(ROOT, partitions=(*TREE, MADE)), [""], "is new"),
+    ("made in a new one", a_catalog(ROOT, partitions=TREE),
+     a_catalog(ROOT, partitions=(*TREE, SUB, dataclasses.replace(MADE, parent=13))), [""], "is new"),
+    ("made in one that was attached", a_catalog(ROOT, partitions=TREE),
+     a_catalog(ROOT, partitions=(*TREE, dataclasses.replace(SUB, made=False), dataclasses.replace(MADE, parent=13))),
+     [PUBLICATION], "was attached"),
+    ("detached", a_catalog(ROOT, partitions=TREE), a_catalog(ROOT, partitions=TREE[:1]), [PUBLICATION], "detached or dropped"),
+    ("a root comes with its partitions", a_catalog(), a_catalog(ROOT, partitions=TREE), [PUBLICATION], "public.root (10) joined"),
+    # partitions under their own names
+    ("made as one, under its own name", a_catalog(partitions=TREE), a_catalog(a_table(12, "p2"), partitions=(*TREE, MADE)), [""], "new"),
+    ("attached, under its own name", a_catalog(partitions=TREE), a_catalog(a_table(12, "p2"), partitions=(*TREE, NEW)),
+     [PUBLICATION], "joined"),
+    ("via root", a_catalog(a_table(11, "p1"), partitions=TREE), a_catalog(ROOT, publication=VIA_ROOT, partitions=TREE),
+     [PUBLICATION] * 3, "the root's name"),
+    ("not via root", a_catalog(ROOT, publication=VIA_ROOT, partitions=TREE), a_catalog(a_table(11, "p1"), partitions=TREE),
+     [PUBLICATION] * 3, "their own names"),
+    # types
+    ("a label renamed", a_catalog(types={500: MOOD}), a_catalog(types={500: {**MOOD, "501": "blue"}}), [VALUES], "sad became blue"),
+    ("a label added", a_catalog(types={500: MOOD}), a_catalog(types={500: {**MOOD, "503": "great"}}), [], ""),
+    ("a type renamed", a_catalog(types={500: MOOD}), a_catalog(types={500: {**MOOD, "name": "public.humour"}}), [], ""),
+    ("a part of a composite type", a_catalog(types={500: PAIR}), a_catalog(types={500: {**PAIR, "#3": "25 -1"}}),
+     [VALUES], "other parts"),
+    # definitions
+    ("a column joins", a_catalog(T), a_catalog(a_table(1, "t", a_shape([*COLUMNS, (0, "c", 23, -1)]))),
+     [VALUES], "column c of public.t (1)"),
+    ("a column goes", a_catalog(T), a_catalog(a_table(1, "t", a_shape([ID]))), [], ""),
+    ("a column renamed", a_catalog(T), a_catalog(a_table(1, "t", a_shape([ID, (0, "title", 25, -1)]))), [VALUES], "column title"),
+    ("a column made anew", a_catalog(T), a_catalog(a_table(1, "t", a_shape(COLUMNS, numbers=[1, 3]))), [VALUES], "made anew"),
+    ("a type", a_catalog(T), a_catalog(a_table(1, "t", a_shape([ID, (0, "name", 1043, 24)]))), [VALUES], "another type"),
+    ("a modifier", a_catalog(T), a_catalog(a_table(1, "t", a_shape([ID, (0, "name", 25, 8)]))), [VALUES], "another type"),
+    ("an identity", a_catalog(T), a_catalog(a_table(1, "t", a_shape([(1, "id", 23, -1), (1, "name", 25, -1)], "f"))),
+     [VALUES], "all columns"),
+    ("a key", a_catalog(T), a_catalog(a_table(1, "t", a_shape([ID, (1, "name", 25, -1)]))), [VALUES], "id, name"),
+    ("a key that goes", a_catalog(T), a_catalog(a_table(1, "t", a_shape([(0, "id", 23, -1), NAME]))), [VALUES], "no column"),
+]
+
+
+class Readings(unittest.TestCase):
+    def test_cases(self) -> None:
+        for about, before, now, kinds, word in CASES:
+            with self.subTest(about):
+                said = list(differences(before, now))
+                self.assertEqual([it.kind for it in said], kinds, said)
+                self.assertIn(word, said[0].text if said else "")
+
+    def test_names_are_no_business_of_theirs(self) -> None:
+        swapped = a_catalog(a_table(1, "u"), a_table(2, "t"))
+        self.assertEqual(list(differences(a_catalog(T, U), swapped)), [])
+        self.assertNotIn(NAMES, [it.kind for it in differences(a_catalog(T), swapped)])
+
+
+class Definitions(unittest.TestCase):
+    """Two Relation messages: their columns have no numbers."""
+
+    def said(self, before: list[tuple[int, str, int, int]], now: list[tuple[int, str, int, int]]) -> list[Difference]:
+        return list(shape_differences("public.t (1)", a_shape(before, numbers=[0] * len(before)), a_shape(now, numbers=[0] * len(now))))
+
+    def test_names_changed_among_each_other(self) -> None:
+        said = self.said([ID, (0, "a", 23, -1), (0, "b", 23, -1)], [ID, (0, "b", 23, -1), (0, "a", 23, -1)])
+        self.assertEqual([it.kind for it in said], [VALUES])
+        self.assertIn("among each other", said[0].text)
+
+    def test_made_anew_before_another(self) -> None:
+        said = self.said([ID, (0, "a", 23, -1), NAME], [ID, NAME, (0, "a", 23, -1)])
+        self.assertEqual([it.kind for it in said], [VALUES])
+
+    def test_the_same_texts_as_of_readings(self) -> None:
+        now = [ID, (0, "name", 1043, 24), (0, "c", 23, -1)]
+        read = differences(a_catalog(T), a_catalog(a_table(1, "t", a_shape(now))))
+        self.assertEqual(self.said(COLUMNS, now), list(read))
+
+    def test_dropped(self) -> None:
+        self.assertEqual(self.said([ID, NAME, (0, "a", 23, -1)], [ID, (0, "a", 23, -1)]), [])
+
+
+if __name__ == "__main__":
+    unittest.main()

@@ -1,0 +1,175 @@
+"""`drop`: the order, what is asked, and what it rejects."""
+
+from __future__ import annotations
+
+import fcntl
+import json
+import os
+from unittest import mock
+
+from pgsub_connect import dropping
+from pgsub_connect.checkpoint import Checkpoint
+from pgsub_connect.cli import Options
+from pgsub_connect.dropping import Dropper, ask_terminal, files_of
+from pgsub_connect.errors import FileError, Passing, ServerError, Unfit
+from tests.fake_server import FakeServer, Quiet, Row
+
+FILES = ("", "-wal", "-shm", ".connector", ".tables", ".copying", ".copying-wal", ".filter")
+
+
+class Dropping(Quiet):
+    def setUp(self) -> None:
+        super().setUp()
+        self.folder = self.make_folder()
+        self.store = os.path.join(self.folder, "copy.db")
+        for suffix in FILES:
+            with open(self.store + suffix, "w", encoding="utf-8"):
+                pass
+        with open(os.path.join(self.folder, "copy.db2"), "wb"), open(os.path.join(self.folder, "rows.db"), "wb"):
+            pass
+        checkpoint = Checkpoint(self.store)
+        checkpoint.write(True, phase="following", system="77", database="shop", slot="s1")
+        os.close(checkpoint.file)
+        self.server = server = FakeServer()
+        self.slots: list[Row] = [["f", "t"]]
+        self.publications = {"pgsub": "777"}
+        server.answer("pg_control_system", [["77", "shop"]])
+        server.answer("s.plugin = 'pgoutput' AND s.database = pg_catalog.current_database() FROM", lambda _: self.slots)
+        server.answer(
+            "SELECT p.oid FROM pg_catalog.pg_publication p",
+            lambda command: [[oid] for name, oid in self.publications.items() if command.endswith(f"'{name}'")],
+        )
+        patch = mock.patch.object(dropping, "Connection", server.connect)
+        patch.start()
+        self.addCleanup(patch.stop)
+        self.asked: list[str] = []
+        self.no: tuple[str, ...] = ()
+
+    def remember(self, **fields: object) -> None:
+        with open(self.store + ".tables", "w", encoding="utf-8") as file:
+            json.dump(fields, file)
+
+    def ask(self, question: str) -> bool:
+        self.asked.append(question)
+        return not any(part in question for part in self.no)
+
+    def run_it(self, **options: object) -> None:
+        Dropper(Options(store=self.store, publication=["pgsub"], **options), self.ask).run()  # type: ignore[arg-type]
+
+    def left(self) -> list[str]:
+        return sorted(os.listdir(self.folder))
+
+    def dropped(self) -> list[str]:
+        return self.server.told("pg_drop_replication_slot") + self.server.told("DROP PUBLICATION")
+
+    def refused(self, kind: type[Exception], text: str, **options: object) -> None:
+        before = self.left()
+        with self.assertRaisesRegex(kind, text):
+            self.run_it(**options)
+        self.assertEqual((self.dropped(), self.left()), ([], before))
+        self.assertEqual(self.server.opened, self.server.closed)
+
+    def test_slot_publications_files(self) -> None:
+        self.remember(made={"pgsub": 777})
+        self.run_it()
+        self.assertEqual([it.split(" ")[1] for it in self.asked], ["the", "the", self.store + ".copying,"])
+        self.assertIn("the slot s1", self.asked[0])
+        self.assertEqual(self.asked[1], "drop the publication pgsub?")
+        self.assertLess(self.server.index("pg_drop_replication_slot('s1')"), self.server.index('DROP PUBLICATION "pgsub"'))
+        self.assertEqual(self.left(), ["copy.db2", "rows.db"])
+
+    def test_the_checkpoint_goes_last(self) -> None:
+        self.assertEqual(files_of(self.store)[-2:], [self.store + ".tables", self.store + ".connector"])
+        self.assertEqual(len(files_of(self.store)), len(FILES))
+
+    def test_a_slot_that_stays_keeps_the_files(self) -> None:
+        self.no = ("the slot", "the publication")
+        self.run_it()
+        self.assertEqual((self.dropped(), len(self.left())), ([], len(FILES) + 2))
+
+    def test_a_slot_that_is_gone(self) -> None:
+        self.slots = []
+        self.run_it()
+        self.assertEqual(self.server.told("pg_drop_replication_slot"), [])
+        self.assertEqual(self.left(), ["copy.db2", "rows.db"])
+
+    def test_an_active_slot(self) -> None:
+        self.slots = [["t", "t"]]
+        with mock.patch.object(dropping, "PATIENCE", 0):
+            self.refused(Passing, "the slot s1 is active")
+
+    def test_a_connector_at_work(self) -> None:
+        file = os.open(self.store + ".connector", os.O_RDWR)
+        self.addCleanup(os.close, file)
+        fcntl.flock(file, fcntl.LOCK_EX)
+        self.refused(Passing, "a connector or its filter is at work")
+        self.assertEqual(self.server.opened, 0)
+
+    def test_another_server(self) -> None:
+        self.server.answer("pg_control_system", [["78", "shop"]])
+        self.refused(Unfit, "the store follows the database shop of the server 77, and this is shop of 78")
+
+    def test_another_slot_than_the_store_s(self) -> None:
+        self.refused(Unfit, "follows the slot s1, and not other", slot="other")
+
+    def test_a_slot_of_another_plugin(self) -> None:
+        self.slots = [["f", "f"]]
+        self.refused(Unfit, "not one of pgoutput")
+
+    def test_a_checkpoint_of_something_else(self) -> None:
+        with open(self.store + ".connector", "w", encoding="utf-8") as file:
+            file.write("nonsense")
+        with self.assertRaises(FileError):
+            self.run_it()
+
+    def test_a_slot_that_can_not_be_dropped_keeps_all_else(self) -> None:
+        self.server.answer("pg_drop_replication_slot", ServerError("permission denied", "42501"))
+        before = self.left()
+        with self.assertRaises(ServerError):
+            self.run_it()
+        self.assertEqual((self.server.told("DROP PUBLICATION"), self.left()), ([], before))
+
+    def test_a_publication_of_somebody_else(self) -> None:
+        self.run_it()
+        self.assertEqual(self.asked[1], "drop the publication pgsub, which somebody else may have made?")
+
+    def test_a_publication_that_was_made_anew_by_somebody_else(self) -> None:
+        self.remember(made={"pgsub": 5})
+        self.run_it()
+        self.assertIn("somebody else", self.asked[1])
+
+    def test_all_that_were_made(self) -> None:
+        self.remember(made={"pgsub": 777, "pgsub_inserts": 778}, followed=["more"])
+        self.publications = {"pgsub": "777", "pgsub_inserts": "778", "more": "779"}
+        self.run_it()
+        self.assertEqual(len(self.server.told("DROP PUBLICATION")), 3)
+
+    def test_other_slots_are_named(self) -> None:
+        self.server.answer("s.slot_name <>", [["other"]])
+        self.run_it()
+        self.assertIn("other slots may use it: other", self.asked[1])
+
+    def test_yes_drops_only_what_is_its_own(self) -> None:
+        self.run_it(yes=True)
+        self.assertEqual(self.server.told("DROP PUBLICATION"), [])
+        self.assertTrue(any("pgsub stays" in it for it in self.said))
+
+    def test_yes_keeps_what_others_may_use(self) -> None:
+        self.remember(made={"pgsub": 777})
+        self.server.answer("s.slot_name <>", [["other"]])
+        self.run_it(yes=True)
+        self.assertEqual(self.server.told("DROP PUBLICATION"), [])
+
+    def test_yes_drops_what_was_made(self) -> None:
+        self.remember(made={"pgsub": 777})
+        self.run_it(yes=True)
+        self.assertEqual(len(self.server.told("DROP PUBLICATION")), 1)
+
+    def test_a_store_without_a_checkpoint(self) -> None:
+        os.unlink(self.store + ".connector")
+        self.run_it(slot="s1")
+        self.assertEqual(len(self.dropped()), 2)
+
+    def test_nobody_at_the_terminal(self) -> None:
+        with mock.patch("sys.stdin.isatty", lambda: False), self.assertRaisesRegex(Unfit, "--yes"):
+            ask_terminal("?")

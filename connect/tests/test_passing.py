@@ -1,0 +1,148 @@
+"""What a follower passes on of what comes, what it records, and what it says of a commit that was rejected."""
+
+from __future__ import annotations
+
+import collections
+import os
+import tempfile
+import unittest
+from collections.abc import Sequence
+from unittest import mock
+
+from pgsub_connect.checkpoint import Checkpoint
+from pgsub_connect.cli import Options
+from pgsub_connect.errors import ServerError
+from pgsub_connect.filtering import PIECE, REJECTED, ROOM, Filter, FilterEnded
+from pgsub_connect.following import Follower
+from pgsub_connect.progress import Progress
+from pgsub_connect.recording import Aside, Recording
+from pgsub_connect.remembered import Remembered
+from pgsub_connect.snapshots import Snapshots
+
+from .vectors import a_catalog, a_table, begin, commit, insert, keepalive, logged, relation
+
+FAKE = os.path.join(os.path.dirname(os.path.abspath(__file__)), "fake_filter.py")
+
+
+class Source:
+    """A connection on which payloads have come, and then nothing, the end (None) or an error."""
+
+    def __init__(self, payloads: Sequence[bytes], then: bytes | Exception | None = b"") -> None:
+        self.payloads, self.then = list(payloads), then
+
+    def next_payload(self) -> bytes | None:
+        if self.payloads:
+            return self.payloads.pop(0)
+        if isinstance(self.then, Exception):
+            raise self.then
+        return self.then
+
+
+def framed(*payloads: bytes) -> bytes:
+    return b"".join(b"d" + (len(it) + 4).to_bytes(4, "big") + it for it in payloads)
+
+
+class Case(unittest.TestCase):
+    def setUp(self) -> None:
+        folder = tempfile.TemporaryDirectory()
+        self.addCleanup(folder.cleanup)
+        self.store = folder.name + "/copy.db"
+        remembered = Remembered(self.store)
+        remembered.begin_copy(a_catalog(a_table(1, "t")), 100)
+        self.child = Filter([FAKE, "follow", "--store", self.store], ())
+        self.addCleanup(self.child.kill)
+        self.child.pending, self.child.waiting, self.child.written = collections.deque(), 0, 0
+        self.recording = Recording(folder.name + "/r.pgx", False, 1 << 30)
+        self.addCleanup(self.recording.out.close)
+        options = Options(store=self.store, publication=["pgsub"], skip=0x210)
+        self.follower = Follower(
+            options, Checkpoint(self.store), self.child, Progress(), Aside(self.recording), Snapshots(self.store, None, 0.0), remembered
+        )
+
+    def take(self, source: Source) -> bool | None:
+        return self.follower.take_payloads(source)  # type: ignore[arg-type]
+
+    def pushed(self) -> bytes:
+        return b"".join(self.child.pending)
+
+    def recorded(self) -> bytes:
+        self.recording.flush()
+        with open(self.recording.path, encoding="ascii") as file:
+            return bytes.fromhex(file.read())
+
+
+class Passes(Case):
+    def test_all_in_order(self) -> None:
+        payloads = [begin(0x100, 7), relation(1, "t"), *[insert(1)] * 3, keepalive(0x90), commit(0x100, 0x108)]
+        for then, result in ((b"", False), (None, None)):
+            self.child.pending.clear()
+            self.assertIs(self.take(Source(payloads, then)), result)
+            self.assertEqual(self.pushed(), framed(*payloads))
+
+    def test_what_came_before_an_error(self) -> None:
+        with self.assertRaises(ServerError):
+            self.take(Source([begin(0x100, 7), insert(1)], ServerError("gone")))
+        self.assertEqual(self.pushed(), framed(begin(0x100, 7), insert(1)))
+        self.assertEqual(self.child.waiting, len(self.pushed()))
+
+    def test_long_ones_between(self) -> None:
+        long = insert(1) + bytes(3 * PIECE)
+        payloads = [insert(1), long, long, insert(1), keepalive(1)]
+        self.take(Source(payloads))
+        self.assertEqual(self.pushed(), framed(*payloads))
+
+    def test_no_more_than_there_is_room(self) -> None:
+        source = Source([insert(1) + bytes(10000)] * 1000)
+        self.assertIs(self.take(source), True)
+        self.assertFalse(self.child.has_room())
+        self.assertLess(self.child.waiting, ROOM + 2 * 10100)
+        left = len(source.payloads)
+        self.assertIs(self.take(source), True)
+        self.assertEqual(len(source.payloads), left)
+
+    def test_one_commit_without_its_changes(self) -> None:
+        self.follower.skipping.begin_session(0x200)
+        pair = [begin(0x210, 7), relation(1, "t"), insert(1), commit(0x210, 0x218)]
+        with logged() as said:
+            self.take(Source(pair))
+        self.assertEqual(self.pushed(), framed(pair[0], pair[1], pair[3]))
+        self.assertEqual(self.recorded(), framed(*pair))
+        self.assertEqual(list(self.follower.noting.ends), [0x218])
+        self.assertIn("skipped: transaction 7, final LSN 0/210, 1 change of public.t (1)", said[0])
+
+    def test_whole_transactions_while_it_is_to_come(self) -> None:
+        with logged():
+            self.follower.skipping.begin_session(0x211)
+        self.assertIn("streaming 'on'", self.follower.command(0))
+        self.follower.skipping.begin_session(0x210)
+        self.assertNotIn("streaming", self.follower.command(0))
+
+
+class Rejects(Case):
+    def end(self, said: str) -> list[str]:
+        """Passes two commits on, of which the store has the first, and has the filter end."""
+        with open(self.store, "w", encoding="ascii") as file:
+            file.write(str(0x108))
+        self.take(Source([begin(0x100, 7), insert(1), commit(0x100, 0x108), begin(0x110, 8), insert(1), commit(0x110, 0x118)]))
+        with logged() as lines, self.assertRaises(FilterEnded):
+            self.follower.note_end(FilterEnded(REJECTED, said))
+        return lines
+
+    def test_which_commit(self) -> None:
+        for said in ("pgsub: store 1 Clash", "pgsub: relation 5 UnknownRelation 1"):
+            text = "rejected: transaction 8, final LSN 0/110, 1 change of public.t (1): --skip 0/110 passes over it"
+            self.assertEqual(self.end(said), [f"error: {text}"])
+            self.assertFalse(self.child.is_running())
+            self.follower.noting.begin_store()
+
+    def test_not_a_commit(self) -> None:
+        for said in ("pgsub: order 2 NestedBegin", "pgsub: decode 1 UnknownMessage", ""):
+            self.assertEqual(self.end(said), [])
+
+    def test_the_store_cant_be_opened_then(self) -> None:
+        with mock.patch.object(self.child, "start", side_effect=FilterEnded(12, "pgsub: store 8 Refused")):
+            self.assertEqual(self.end("pgsub: store 1 Clash"), [])
+
+
+if __name__ == "__main__":
+    unittest.main()

@@ -1,0 +1,365 @@
+"""What is published: queries, several publications, identities, and how a publication is made or rejected."""
+
+from __future__ import annotations
+
+import unittest
+from unittest import mock
+
+from pgsub_connect import making
+from pgsub_connect.errors import ServerError, Stopped
+from pgsub_connect.making import Maker, Wanted, identity, names_of, publishable_tables
+from pgsub_connect.publishing import Column, Table, published_columns, published_tables, united
+from tests.fake_server import FakeServer, Quiet, Row, connection_to
+
+KEY, OTHER = Column("id", 23, -1, True), Column("Q\"x", 25, -1, False)
+
+
+def table(oid: int = 16385, row_filter: str | None = None, kind: str = "r", columns: list[Column] | None = None) -> Table:
+    return Table(oid, "public", "st\"k", kind, "d", row_filter, None, [KEY, OTHER] if columns is None else columns)
+
+
+class Query(unittest.TestCase):
+    def test_rows_of_a_table_are_its_own(self) -> None:
+        self.assertEqual(table().query(), 'COPY (SELECT "id", "Q""x" FROM ONLY "public"."st""k") TO STDOUT')
+
+    def test_rows_of_a_partitioned_table_are_those_of_its_partitions(self) -> None:
+        self.assertEqual(table(kind="p").query(), 'COPY (SELECT "id", "Q""x" FROM "public"."st""k") TO STDOUT')
+
+    def test_filter(self) -> None:
+        query = 'COPY (SELECT "id", "Q""x" FROM ONLY "public"."st""k" WHERE (id > 3)) TO STDOUT'
+        self.assertEqual(table(row_filter="(id > 3)").query(), query)
+
+    def test_no_columns(self) -> None:
+        self.assertEqual(table(columns=[]).query(), 'COPY (SELECT  FROM ONLY "public"."st""k") TO STDOUT')
+
+
+class United(unittest.TestCase):
+    """A table of several publications."""
+
+    def test_filters_are_joined_by_or(self) -> None:
+        tables = [table(row_filter="(id > 3)"), table(row_filter="(id < 0)"), table(row_filter="(id > 3)")]
+        self.assertEqual(united(tables).row_filter, "((id > 3)) OR ((id < 0))")
+
+    def test_one_filter_stays_as_it_is(self) -> None:
+        self.assertEqual(united([table(row_filter="(id > 3)")] * 2).row_filter, "(id > 3)")
+
+    def test_no_filter_wins(self) -> None:
+        self.assertIsNone(united([table(row_filter="(id > 3)"), table()]).row_filter)
+
+    def test_other_columns_are_rejected(self) -> None:
+        with self.assertRaisesRegex(ServerError, "different column lists for table public.st") as raised:
+            united([table(), table(columns=[KEY])])
+        self.assertTrue(raised.exception.is_lasting())
+
+
+def row(oid: int, name: str, kind: str = "r", row_filter: str | None = None, listed: str | None = None) -> list[str | None]:
+    return [str(oid), "public", name, kind, "d", row_filter, listed]
+
+
+ATTRIBUTES: list[list[str | None]] = [["id", "23", "-1", "1", "t"], ["v", "25", "-1", "2", "f"], ["g", "25", "-1", "3", "f"]]
+
+
+class Published(unittest.TestCase):
+    def setUp(self) -> None:
+        self.server = FakeServer()
+        self.server.answer("FROM pg_catalog.pg_attribute", ATTRIBUTES)
+
+    def test_union_by_oid(self) -> None:
+        self.server.answer("('a')", [row(9, "x"), row(5, "y")])
+        self.server.answer("('b')", [row(5, "y", row_filter="(v)"), row(7, "z")])
+        found = published_tables(connection_to(self.server), ["a", "b"])
+        self.assertEqual([(it.oid, it.row_filter) for it in found], [(5, None), (7, None), (9, None)])
+
+    def test_partitions_that_are_sent_as_their_root(self) -> None:
+        self.server.answer("('a')", [row(5, "p1")])
+        self.server.answer("('b')", [row(4, "p", kind="p")])
+        self.server.answer("pg_partition_ancestors", [["5", "4"], ["5", "3"]])
+        self.assertEqual([it.oid for it in published_tables(connection_to(self.server), ["a", "b"])], [4])
+
+    def test_a_list_of_all_columns_is_none(self) -> None:
+        self.server.answer("('a')", [row(5, "t")])
+        self.server.answer("('b')", [row(5, "t", listed="1,2,3")])
+        self.assertEqual(len(published_tables(connection_to(self.server), ["a", "b"])[0].columns), 3)
+
+    def test_lists_before_15(self) -> None:
+        server = FakeServer(130010)
+        published_tables(connection_to(server), ["a"])
+        self.assertNotIn("p.attrs", server.commands[0])
+        self.assertNotIn("p.qual", server.commands[0])
+
+    def columns(self, version: int, listed: list[int] | None) -> tuple[list[str], str]:
+        server = FakeServer(version)
+        server.answer("FROM pg_catalog.pg_attribute", ATTRIBUTES)
+        found = published_columns(connection_to(server), Table(5, "public", "t", "r", "d", None, listed))
+        return [it.name for it in found], server.commands[-1]
+
+    def test_generated_columns(self) -> None:
+        """From 18 on what the server says is exact."""
+        for version, listed, excluded in ((150018, None, True), (150018, [1, 3], True), (180006, [1, 3], False), (180006, None, True)):
+            names, query = self.columns(version, listed)
+            self.assertEqual("attgenerated" in query, excluded, (version, listed))
+            self.assertEqual(names, ["id", "g"] if listed else ["id", "v", "g"])
+        self.assertNotIn("attgenerated", self.columns(110000, None)[1])
+
+    def test_tables_that_may_be_listed(self) -> None:
+        for version, roots in ((150018, True), (120000, False)):
+            server = FakeServer(version)
+            server.answer("pg_class", [["Odd s", 'T"x']])
+            self.assertEqual(publishable_tables(connection_to(server)), ['"Odd s"."T""x"'])
+            self.assertEqual("NOT c.relispartition" in server.commands[0], roots)
+
+
+class Making(Quiet):
+    """What the server is told."""
+
+    def setUp(self) -> None:
+        super().setUp()
+        self.server = server = FakeServer()
+        server.answer("current_setting('search_path')", [['"$user", public']])
+        server.answer("pg_is_in_recovery", [["f"]])
+        self.theirs: tuple[str, ...] = ()
+        server.answer("SELECT p.oid FROM pg_catalog.pg_publication p", self.oid)
+        server.answer("c.relkind IN ('r', 'p') AND NOT", [["public", "stock"], ["public", "audit"]])
+        patch = mock.patch.object(making, "Connection", server.connect)
+        patch.start()
+        self.addCleanup(patch.stop)
+
+    def keyless(self, *lists: list[list[str | None]]) -> None:
+        """What the queries for tables without an identity give, one after the other."""
+        left = list(lists)
+        self.server.answer("AND NOT (c.relkind = 'r' AND c.relreplident = 'f'", lambda _: left.pop(0) if left else [])
+
+    def oid(self, command: str) -> list[Row]:
+        """The OID of a publication that is there, or that was made."""
+        name = command.rpartition("= '")[2].rstrip("'")
+        return [["777"]] if name in self.theirs or any(f'"{name}"' in it for it in self.made()) else []
+
+    def there(self, *names: str) -> None:
+        self.theirs = names
+        self.server.answer("SELECT FROM pg_catalog.pg_publication", lambda it: [[]] if any(f"'{name}'" in it for name in names) else [])
+
+    def maker(self, **wanted: object) -> Maker:
+        return Maker("", Wanted(["pgsub"], **wanted), "pgsub", lambda: None)  # type: ignore[arg-type]
+
+    def made(self) -> list[str]:
+        return self.server.told("CREATE PUBLICATION")
+
+    def test_a_list_of_what_is_there(self) -> None:
+        maker = self.maker()
+        maker.make()
+        self.assertEqual(self.made(), ['CREATE PUBLICATION "pgsub" FOR TABLE ONLY "public"."stock", ONLY "public"."audit"'])
+        self.assertEqual(self.server.commands[-1], "COMMIT")
+        self.assertEqual((maker.made, maker.publications), ({"pgsub": 777}, ["pgsub"]))
+
+    def test_all_that_is_done_is_one_transaction(self) -> None:
+        self.maker().make()
+        self.assertLess(self.server.index("BEGIN"), self.server.index("CREATE"))
+        self.assertLess(self.server.index("CREATE"), self.server.index("AND NOT (c.relkind"))
+        self.assertLess(self.server.index("AND NOT (c.relkind"), self.server.index("COMMIT"))
+
+    def test_tables_are_found_by_the_search_path_of_the_role(self) -> None:
+        self.maker(tables=["stock", "ONLY x (a, b)"]).make()
+        self.assertEqual(self.made(), ['CREATE PUBLICATION "pgsub" FOR TABLE stock, ONLY x (a, b)'])
+        before = self.server.commands[self.server.index("CREATE") - 1]
+        self.assertIn("set_config('search_path', '\"$user\", public', true)", before)
+        self.assertEqual(self.server.commands[self.server.index("CREATE") + 1], "SET LOCAL search_path = ''")
+
+    def test_all_tables_only_where_asked_for(self) -> None:
+        self.maker(all_tables=True).make()
+        self.assertEqual(self.made(), ['CREATE PUBLICATION "pgsub" FOR ALL TABLES'])
+
+    def test_no_tables(self) -> None:
+        self.server.answer("c.relkind IN ('r', 'p') AND NOT", [])
+        self.refused(self.maker(), "no tables that can be published")
+
+    def refused(self, maker: Maker, text: str) -> None:
+        with self.assertRaisesRegex(ServerError, text) as raised:
+            maker.make()
+        self.assertTrue(raised.exception.is_lasting())
+        self.assertEqual(self.server.told("COMMIT"), [])
+        self.assertEqual(maker.made, {})
+        self.assertEqual(self.server.opened, self.server.closed)
+        # (as the server forgets it)
+        self.server.commands.clear()
+
+    def test_keyless_tables_are_refused(self) -> None:
+        wanteds: list[dict[str, object]] = [{}, {"tables": ["audit"]}, {"all_tables": True}, {"all_tables": True, "keyless": "leave-out"}]
+        for wanted in wanteds:
+            self.keyless([["5", "public", "audit"]])
+            self.refused(self.maker(**wanted), "1 table without a usable replica identity: public.audit")
+
+    def test_what_the_server_rejects(self) -> None:
+        """As where a column list leaves out the key."""
+        text = 'ERROR:  cannot delete from table "stock"\nDETAIL:  Column list used by the publication does not cover the replica identity.'
+        self.server.answer("WHERE c.relkind = 'r' ORDER BY 2, 3", [["5", "public", "stock"], ["6", "public", "x"]])
+        for sqlstate in ("42P10", "55000"):
+            self.server.answer('EXPLAIN DELETE FROM ONLY "public"."stock"', ServerError(text, sqlstate))
+            self.refused(self.maker(), r"public\.stock \(Column list used by the publication does not cover the replica identity\)\.")
+        self.server.answer('EXPLAIN DELETE FROM ONLY "public"."stock"', ServerError("denied", "42501"))
+        self.maker().make()
+
+    def test_what_says_nothing_of_a_table_ends_it(self) -> None:
+        self.server.answer("WHERE c.relkind = 'r' ORDER BY 2, 3", [["5", "public", "stock"]])
+        for sqlstate in ("", "40P01", "55P03", "57P01"):
+            self.server.answer("EXPLAIN DELETE", ServerError("no", sqlstate))
+            with self.assertRaises(ServerError) as raised:
+                self.maker().make()
+            self.assertEqual((raised.exception.sqlstate, self.server.told("COMMIT")), (sqlstate, []))
+            self.server.commands.clear()
+
+    def test_generated_columns_of_an_identity(self) -> None:
+        self.assertNotIn("attgenerated", identity(170000))
+        self.assertEqual(identity(180000).count("NOT IN ('')"), 2)
+        self.assertEqual(identity(180000, True).count("NOT IN ('', 's')"), 2)
+
+    def listed(self) -> None:
+        self.server.answer("SELECT DISTINCT r.prrelid", [["5", "public", "audit", "a, b", "(a > 1)"]])
+        self.server.answer("SELECT n.nspname || '.' || c.relname", [["public.audit"], ["public.stock"]])
+
+    def test_keyless_tables_are_left_out(self) -> None:
+        self.keyless([["5", "public", "audit"]], [])
+        self.listed()
+        maker = self.maker(keyless="leave-out")
+        maker.make()
+        self.assertEqual(self.server.told("ALTER PUBLICATION"), ['ALTER PUBLICATION "pgsub" DROP TABLE "public"."audit"'])
+        self.assertEqual((len(self.made()), maker.publications), (1, ["pgsub"]))
+
+    def test_keyless_tables_get_a_publication_of_their_own(self) -> None:
+        self.keyless([["5", "public", "audit"]], [])
+        self.listed()
+        maker = self.maker(keyless="inserts")
+        maker.make()
+        self.assertEqual(
+            self.made()[1],
+            "CREATE PUBLICATION \"pgsub_inserts\" FOR TABLE ONLY \"public\".\"audit\" (a, b) WHERE ((a > 1))"
+            " WITH (publish = 'insert, truncate')",
+        )
+        self.assertEqual(maker.publications, ["pgsub", "pgsub_inserts"])
+        self.assertEqual(maker.keep(), {"pgsub": 777, "pgsub_inserts": 777})
+
+    def test_nothing_left_to_publish(self) -> None:
+        self.keyless([["5", "public", "audit"]])
+        self.listed()
+        self.server.answer("SELECT n.nspname || '.' || c.relname", [["public.audit"]])
+        self.refused(self.maker(keyless="leave-out"), "no table is left")
+
+    def test_a_schema_can_not_leave_out_a_table(self) -> None:
+        self.keyless([["5", "s", "audit"]])
+        self.refused(self.maker(tables=["TABLES IN SCHEMA s"], keyless="leave-out"), "s.audit")
+
+    def test_a_standby_makes_none(self) -> None:
+        self.server.answer("pg_is_in_recovery", [["t"]])
+        self.refused(self.maker(), "make it at the primary")
+        self.there("pgsub")
+        self.refused(self.maker(tables=["a"]), "leave --table out")
+        self.assertEqual(self.made(), [])
+        self.maker().make()
+
+    def contents(self, there: list[str], asked: list[str]) -> None:
+        """What the publication lists, and what one of --table would."""
+        left = [there, asked]
+        self.server.answer("SELECT n.nspname || '.' || c.relname", lambda _: [[it] for it in left.pop(0)])
+
+    def test_a_publication_that_is_there_stays(self) -> None:
+        self.there("pgsub")
+        self.contents(["public.stock"], ["public.stock"])
+        maker = self.maker(tables=["stock"])
+        maker.make()
+        self.assertEqual(maker.made, {})
+        self.assertEqual(len(self.server.told("ROLLBACK TO SAVEPOINT")), 1)
+
+    def test_a_publication_that_differs(self) -> None:
+        self.there("pgsub")
+        self.contents(["public.a", "public.x"], ["public.a", "public.b"])
+        self.refused(self.maker(tables=["a", "b"]), r"it lacks public\.b and has public\.x too")
+
+    def test_a_publication_for_some_tables_is_not_one_for_all(self) -> None:
+        self.there("pgsub")
+        self.contents(["public.a"], [])
+        self.refused(self.maker(all_tables=True), "isn't one for all tables")
+
+    def test_a_role_that_may_not_compare(self) -> None:
+        self.there("pgsub")
+        self.contents(["public.a"], [])
+        self.server.answer("CREATE PUBLICATION", ServerError("must be owner of table a", "42501"))
+        self.refused(self.maker(tables=["a"]), "--table can't be compared with it: must be owner.* Leave --table out")
+
+    def test_a_stop_before_the_end_leaves_nothing(self) -> None:
+        def stop(_: str) -> list[list[str | None]]:
+            raise Stopped
+
+        self.server.answer("CREATE PUBLICATION", stop)
+        maker = self.maker()
+        with self.assertRaises(Stopped):
+            maker.make()
+        maker.take_back()
+        self.assertEqual(self.server.told("DROP") + self.server.told("COMMIT"), [])
+
+    def test_a_stop_at_the_end_is_undone(self) -> None:
+        def stop(_: str) -> list[list[str | None]]:
+            raise Stopped
+
+        self.server.answer("COMMIT", stop)
+        maker = self.maker()
+        with self.assertRaises(Stopped):
+            maker.make()
+        self.server.answer("COMMIT", [])
+        self.server.answer("SELECT p.pubname", [["pgsub"]])
+        maker.take_back()
+        self.assertEqual(len(self.server.told('DROP PUBLICATION "pgsub"')), 1)
+
+    def test_another_attempt_finds_what_was_made(self) -> None:
+        self.keyless([["5", "public", "audit"]], [])
+        self.listed()
+        maker = self.maker(keyless="inserts")
+        maker.make()
+        maker.make()
+        self.assertEqual((len(self.made()), len(self.said)), (2, 3))
+        self.assertEqual(maker.publications, ["pgsub", "pgsub_inserts"])
+        self.assertEqual(maker.made, {"pgsub": 777, "pgsub_inserts": 777})
+
+    def test_another_attempt_makes_what_had_no_effect(self) -> None:
+        maker = self.maker()
+        maker.made = {"pgsub": 776}
+        maker.make()
+        self.assertEqual((len(self.made()), maker.made), (1, {"pgsub": 777}))
+
+    def test_a_look_can_end_it(self) -> None:
+        def look(connection: object, names: list[str]) -> None:
+            raise ServerError(f"denied {names}", "42501")
+
+        maker = Maker("", Wanted(["pgsub"]), "pgsub", lambda: None, look)
+        self.refused(maker, r"denied \['pgsub'\]")
+
+    def test_keyless_tables_of_a_publication_that_is_there_are_told(self) -> None:
+        self.there("pgsub")
+        self.server.answer("SELECT p.pubinsert, p.pubupdate, p.pubdelete, p.pubtruncate FROM", [["t", "t", "f", "t"]])
+        self.keyless([["5", "public", "audit"]])
+        self.maker().make()
+        self.assertEqual(self.said[0], "warning: the publication pgsub leaves out: delete")
+        self.assertIn("rejects Updates and Deletes: public.audit", self.said[1])
+
+    def test_a_publication_of_inserts_harms_no_table(self) -> None:
+        self.there("pgsub_inserts")
+        self.server.answer("SELECT p.pubinsert, p.pubupdate", [["t", "f", "f", "t"]])
+        self.keyless([["5", "public", "audit"]])
+        Maker("", Wanted(["pgsub_inserts"]), "pgsub", lambda: None).make()
+        self.assertEqual(self.said, [])
+
+    def test_what_somebody_else_made_since_stays(self) -> None:
+        maker = self.maker()
+        maker.make()
+        self.server.answer("SELECT p.pubname", [])
+        maker.take_back()
+        self.assertIn("p.oid = 777 AND p.pubname = 'pgsub'", self.server.commands[-1])
+        self.assertEqual(self.server.told("DROP"), [])
+
+
+class Names(unittest.TestCase):
+    def test_some_names(self) -> None:
+        self.assertEqual(names_of(["a", "b"]), "a, b")
+        self.assertTrue(names_of([f"t{it}" for it in range(25)]).endswith("t19 and 5 more"))
+
+
+if __name__ == "__main__":
+    unittest.main()

@@ -1,0 +1,319 @@
+"""The file of tables, and what is found by it."""
+
+from __future__ import annotations
+
+import contextlib
+import dataclasses
+import io
+import json
+import os
+import stat
+import tempfile
+import unittest
+from unittest import mock
+
+from pgsub_connect.catalog import Part, Partition
+from pgsub_connect.errors import FileError, Passing
+from pgsub_connect.remembered import MOST, Relation, Remembered, print_names
+
+from .vectors import ID, NAME, PGSUB, a_catalog, a_shape, a_table
+
+MORE = (0, "more", 23, -1)
+T, U = a_table(1, "t"), a_table(2, "u")
+WIDER = a_shape([ID, NAME, MORE])
+
+
+class Case(unittest.TestCase):
+    def setUp(self) -> None:
+        folder = tempfile.TemporaryDirectory()
+        self.addCleanup(folder.cleanup)
+        self.store = folder.name + "/copy.db"
+        self.remembered = Remembered(self.store)
+
+    def again(self) -> Remembered:
+        self.remembered.save()
+        self.remembered = Remembered(self.store)
+        return self.remembered
+
+    def note(self, oid: int, name: str, lsn: int, columns: list[tuple[int, str, int, int]] | None = None, identity: str = "d") -> None:
+        shape = a_shape(columns or [ID, NAME], identity, [0] * len(columns or [ID, NAME]))
+        self.remembered.note(Relation(oid, "public", name, shape), lsn, self.remembered.last_sent(oid))
+
+    def found(self, kind: str) -> list[str]:
+        return self.remembered.found[kind].texts if kind in self.remembered.found else []
+
+    def names(self) -> dict[str, tuple[int | None, list[int]]]:
+        return {f"{schema}.{name}": (it.oid, it.before) for (schema, name), it in self.remembered.names.items()}
+
+
+class File(Case):
+    def test_as_it_was(self) -> None:
+        shape, part = a_shape([(1, "\u20ac", 4_000_000_001, -1)], "i"), Part("(a > 'x')", (1, 3), True)
+        odd = a_table(4_000_000_000, 'we"ird \u00e4\n', shape, schema="s.x", part=part)
+        tree = (Partition(10, 0, "public.root", False), Partition(11, 10, "public.p", True))
+        types = {5: {"name": "mood", "6": "sad"}}
+        first = a_catalog(T, odd, lsn=1 << 40, highest=7, partitions=tree, types=types, names=["pgsub", "other"])
+        self.remembered.begin_copy(first, 1 << 41)
+        self.remembered.look(dataclasses.replace(first, tables={T.oid: dataclasses.replace(T, shape=WIDER)}, lsn=1 << 42))
+        self.note(3, "t", 1 << 43)
+        self.remembered.note_made({"pgsub": 900})
+        before = self.remembered
+        after = self.again()
+        for field in ("catalog", "made", "sent", "names", "held", "found", "told", "left"):
+            self.assertEqual(getattr(after, field), getattr(before, field), field)
+        self.assertEqual(after.publications(), ["pgsub", "other"])
+        self.assertFalse(after.is_urgent or after.is_changed)
+
+    def test_mode(self) -> None:
+        self.remembered.begin(a_catalog(T))
+        before = os.umask(0)
+        try:
+            with open(self.store + ".tables.new", "w", encoding="ascii") as left:
+                left.write("of an earlier run")
+            self.remembered.save()
+        finally:
+            os.umask(before)
+        self.assertEqual(stat.S_IMODE(os.stat(self.store + ".tables").st_mode), 0o600)
+        self.assertEqual(os.listdir(os.path.dirname(self.store)), ["copy.db.tables"])
+
+    def test_the_disk_has_it_before_the_name(self) -> None:
+        self.remembered.begin(a_catalog(T))
+        calls: list[str] = []
+        fsync, replace = os.fsync, os.replace
+
+        def synced(number: int) -> None:
+            calls.append("folder" if stat.S_ISDIR(os.fstat(number).st_mode) else "file")
+            fsync(number)
+
+        def replaced(before: str, after: str) -> None:
+            calls.append("name")
+            replace(before, after)
+
+        with mock.patch("os.fsync", synced), mock.patch("os.replace", replaced):
+            self.remembered.save()
+        self.assertEqual(calls, ["file", "name", "folder"])
+
+    def test_torn_or_foreign(self) -> None:
+        self.remembered.begin_copy(a_catalog(T, U), 100)
+        self.remembered.save()
+        with open(self.store + ".tables", "rb") as file:
+            whole = file.read()
+        said = json.loads(whole)
+        pieces = [whole[:length] for length in range(0, len(whole) - 1, 7)]
+        others = [b"null", b"[]", b"{}", b"17", b'"text"', b"\xff\xfe", b'{"format": 1}', *(
+            json.dumps({**said, name: 5}).encode() for name in said if name not in ("format", "highest")
+        )]
+        for content in (*pieces, *others):
+            with open(self.store + ".tables", "wb") as file:
+                file.write(content)
+            with self.subTest(content[:40]), self.assertRaisesRegex(FileError, "copy.db.tables: not a file of tables"):
+                Remembered(self.store)
+
+    def test_of_a_later_version(self) -> None:
+        with open(self.store + ".tables", "w", encoding="ascii") as file:
+            file.write('{"format": 2}')
+        with self.assertRaisesRegex(FileError, "later version"):
+            Remembered(self.store)
+
+    def test_cant_be_read(self) -> None:
+        os.mkdir(self.store + ".tables")
+        with self.assertRaises(FileError):
+            Remembered(self.store)
+
+    def test_a_full_disk_leaves_the_old_one(self) -> None:
+        self.remembered.begin(a_catalog(T))
+        self.remembered.save()
+        self.remembered.begin(a_catalog(T, U))
+        with mock.patch("os.fsync", side_effect=OSError(28, "No space left on device")), self.assertRaisesRegex(Passing, "No space"):
+            self.remembered.save()
+        self.assertTrue(self.remembered.is_urgent)
+        self.assertEqual(os.listdir(os.path.dirname(self.store)), ["copy.db.tables"])
+        old = Remembered(self.store).catalog
+        self.assertEqual(old and list(old.tables), [1])
+
+    def test_removed(self) -> None:
+        self.remembered.begin(a_catalog(T))
+        self.remembered.save()
+        self.remembered.remove()
+        self.remembered.save()
+        self.assertEqual((os.listdir(os.path.dirname(self.store)), self.remembered.publications()), ([], []))
+
+
+class Looks(Case):
+    def test_found_once(self) -> None:
+        self.remembered.begin_copy(a_catalog(T), 100)
+        self.assertEqual(self.remembered.look(a_catalog(T, U, lsn=200)), [])
+        self.assertEqual(len(self.found("publication")), 1)
+        self.assertEqual(self.remembered.take_news(), ["publication at 0/C8: " + self.found("publication")[0]])
+        self.again().look(a_catalog(T, U, lsn=300))
+        self.assertEqual(self.remembered.take_news(), [])
+        self.assertEqual((len(self.found("publication")), self.remembered.found["publication"].lsn), (1, 200))
+
+    def test_nothing_new_is_not_urgent(self) -> None:
+        root = Partition(10, 0, "public.root", False)
+        self.remembered.begin_copy(a_catalog(T, partitions=[root]), 100)
+        made = dataclasses.replace(root, made=True)
+        self.again().look(a_catalog(a_table(1, "t", fresh=True), lsn=200, highest=5000, partitions=[made]))
+        self.assertFalse(self.remembered.is_urgent)
+
+    def test_harmless(self) -> None:
+        whole = dataclasses.replace(PGSUB, whole=True)
+        self.remembered.begin_copy(a_catalog(publication=whole), 100)
+        new = a_table(1001, "n", part=Part(None, None, True), fresh=True)
+        self.assertEqual(len(self.remembered.look(a_catalog(new, publication=whole, lsn=200))), 1)
+        self.assertEqual(self.remembered.found, {})
+
+    def test_accepted(self) -> None:
+        self.remembered.begin_copy(a_catalog(T), 100)
+        self.remembered.look(a_catalog(dataclasses.replace(T, shape=WIDER), U, lsn=200))
+        self.assertEqual(sorted(self.remembered.found), ["publication", "values"])
+        self.remembered.accept(["names", "values"])
+        self.assertEqual(sorted(self.again().found), ["publication"])
+        self.remembered.accept(["all"])
+        self.assertEqual(self.remembered.found, {})
+
+    def test_a_table_that_came_and_went(self) -> None:
+        self.remembered.begin_copy(a_catalog(T), 100)
+        self.note(5, "staging", 150)
+        for lsn in (200, 300):
+            self.again().look(a_catalog(T, lsn=lsn))
+            self.assertEqual(len(self.found("publication")), 1)
+            self.assertIn("public.staging (5) was dropped", self.found("publication")[0])
+            self.remembered.take_news()
+        self.remembered.accept(["all"])
+        self.again().look(a_catalog(T, lsn=400))
+        self.assertEqual(self.remembered.found, {})
+
+    def test_many(self) -> None:
+        self.remembered.begin_copy(a_catalog(), 100)
+        self.remembered.look(a_catalog(*(a_table(it, f"t{it}") for it in range(MOST + 7)), lsn=200))
+        found = self.again().found["publication"]
+        self.assertEqual((len(found.texts), found.more), (MOST, 7))
+
+
+class LooksAndMessages(Case):
+    """The same command shows in a look at the server and in a Relation message, and the one that comes first is told."""
+
+    def test_look_first(self) -> None:
+        self.remembered.begin_copy(a_catalog(T), 100)
+        self.remembered.look(a_catalog(dataclasses.replace(T, shape=WIDER), lsn=300))
+        self.again().accept(["values"])
+        self.note(1, "t", 200)
+        self.note(1, "t", 250, [ID, NAME, MORE])
+        self.assertEqual(self.remembered.found, {})
+
+    def test_message_first(self) -> None:
+        self.remembered.begin_copy(a_catalog(T), 100)
+        self.note(1, "t", 200, [ID, NAME, MORE])
+        self.assertEqual(len(self.found("values")), 1)
+        self.again().accept(["values"])
+        self.remembered.look(a_catalog(dataclasses.replace(T, shape=WIDER), lsn=300))
+        self.assertEqual(self.remembered.found, {})
+
+    def test_there_and_back_between_two_looks(self) -> None:
+        self.remembered.begin_copy(a_catalog(T), 100)
+        self.remembered.look(a_catalog(T, lsn=300))
+        self.note(1, "t", 200, [ID, (0, "title", 25, -1)])
+        self.note(1, "t", 250)
+        self.assertEqual([it.split(" ")[1] for it in self.found("values")], ["title", "name"])
+
+    def test_again_after_it_was_accepted(self) -> None:
+        self.remembered.begin_copy(a_catalog(T), 100)
+        self.remembered.look(a_catalog(dataclasses.replace(T, shape=WIDER), lsn=300))
+        self.remembered.accept(["all"])
+        for lsn, columns in ((400, [ID, NAME, MORE]), (410, [ID, NAME]), (420, [ID, NAME, MORE])):
+            self.note(1, "t", lsn, columns)
+        self.assertEqual(self.remembered.found["values"].lsn, 420)
+
+    def test_of_a_store_that_was_not_copied(self) -> None:
+        self.remembered.begin(a_catalog(T, lsn=300))
+        self.note(1, "t", 200, [ID])
+        self.assertEqual(self.remembered.found, {})
+        self.note(1, "t", 250)
+        self.assertEqual(self.remembered.found["values"].lsn, 250)
+
+    def test_after_the_look_of_a_store_that_was_not_copied(self) -> None:
+        self.remembered.begin(a_catalog(T, lsn=300))
+        self.note(1, "t", 400, [ID, NAME, MORE])
+        self.assertEqual(self.remembered.found["values"].lsn, 400)
+
+    def test_told_until_they_are_in_the_store(self) -> None:
+        self.remembered.begin_copy(a_catalog(T), 100)
+        self.remembered.look(a_catalog(T, U, lsn=300))
+        self.remembered.forget_told(299)
+        self.assertEqual(len(self.remembered.told), 1)
+        self.remembered.forget_told(300)
+        self.assertEqual(self.remembered.told, {})
+
+
+class Names(Case):
+    def setUp(self) -> None:
+        super().setUp()
+        self.remembered.begin_copy(a_catalog(T, U), 100)
+
+    def test_dropped_and_made_anew(self) -> None:
+        self.note(3, "t", 200)
+        self.again().look(a_catalog(U, a_table(3, "t"), lsn=300))
+        self.assertEqual(len(self.found("names")), 1)
+        self.assertEqual(self.names(), {"public.t": (3, [1]), "public.u": (2, [])})
+        self.assertEqual(self.remembered.text_of(1), "public.t (1)")
+
+    def test_seen_by_a_look_first(self) -> None:
+        self.remembered.look(a_catalog(U, a_table(3, "t"), lsn=300))
+        self.remembered.accept(["all"])
+        self.note(3, "t", 200)
+        self.assertEqual(self.found("names"), [])
+        self.assertEqual(self.names()["public.t"], (3, [1]))
+
+    def test_gone_between_two_looks(self) -> None:
+        self.remembered.look(a_catalog(U, a_table(4, "t"), lsn=300))
+        self.remembered.accept(["all"])
+        self.note(3, "t", 200)
+        self.assertEqual(len(self.found("names")), 1)
+        self.assertEqual(self.names()["public.t"], (4, [1, 3]))
+
+    def test_an_older_name_is_no_news(self) -> None:
+        self.remembered.look(a_catalog(a_table(1, "t_old"), U, lsn=300))
+        self.note(1, "t", 200)
+        self.assertEqual((self.remembered.found, self.names()["public.t"]), ({}, (None, [1])))
+
+    def test_renamed(self) -> None:
+        self.note(1, "t2", 200)
+        self.assertEqual(self.remembered.found, {})
+        self.assertEqual(self.names(), {"public.t": (None, [1]), "public.t2": (1, []), "public.u": (2, [])})
+        self.note(1, "t", 210)
+        self.assertEqual((self.remembered.found, self.names()["public.t"]), ({}, (1, [])))
+
+    def test_swapped(self) -> None:
+        self.remembered.look(a_catalog(a_table(1, "u"), a_table(2, "t"), lsn=300))
+        self.assertEqual(len(self.found("names")), 2)
+        self.assertEqual(self.again().names[("public", "t")].oid, 2)
+        self.assertEqual(self.names(), {"public.t": (2, [1]), "public.u": (1, [2])})
+
+    def test_swapped_in_the_stream(self) -> None:
+        self.note(2, "t", 200)
+        self.note(1, "t_old", 210)
+        self.assertEqual(len(self.found("names")), 1)
+        self.assertEqual(self.names(), {"public.t": (2, [1]), "public.u": (None, [2]), "public.t_old": (1, [])})
+
+    def test_printed(self) -> None:
+        self.note(3, "t", 0x1_0000_0200)
+        self.again()
+        out = io.StringIO()
+        with contextlib.redirect_stdout(out):
+            print_names(self.store)
+        self.assertEqual(
+            [json.loads(line) for line in out.getvalue().splitlines()],
+            [
+                {"schema": "public", "table": "t", "oid": 3, "since": "1/200", "before": [1]},
+                {"schema": "public", "table": "u", "oid": 2, "since": "0/64", "before": []},
+            ],
+        )
+
+    def test_nothing_to_print(self) -> None:
+        with self.assertRaisesRegex(FileError, "no such file yet"):
+            print_names(self.store + "x")
+
+
+if __name__ == "__main__":
+    unittest.main()

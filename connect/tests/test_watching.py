@@ -1,0 +1,200 @@
+"""What was found, from one run to the next, and the words that go with it."""
+
+from __future__ import annotations
+
+import dataclasses
+import tempfile
+import unittest
+from unittest import mock
+
+from pgsub_connect import cli
+from pgsub_connect.catalog import Catalog
+from pgsub_connect.checkpoint import Checkpoint
+from pgsub_connect.cli import Options
+from pgsub_connect.errors import ServerError, Unfit
+from pgsub_connect.postgres import never
+from pgsub_connect.progress import Progress
+from pgsub_connect.remembered import Relation, Remembered
+from pgsub_connect.watching import Watch
+
+from .vectors import ID, NAME, PGSUB, a_catalog, a_shape, a_table, logged
+
+T, U = a_table(1, "t"), a_table(2, "u")
+WIDER = a_shape([ID, NAME, (0, "more", 23, -1)])
+
+
+class Case(unittest.TestCase):
+    def setUp(self) -> None:
+        folder = tempfile.TemporaryDirectory()
+        self.addCleanup(folder.cleanup)
+        self.store = folder.name + "/copy.db"
+        self.checkpoint = Checkpoint(self.store)
+        self.progress = Progress()
+        self.remembered = Remembered(self.store)
+        self.remembered.begin_copy(a_catalog(T), 100)
+        self.remembered.save()
+
+    def watch(self, *accept: str, strict: bool = False) -> Watch:
+        """That of a new run."""
+        self.progress, self.remembered = Progress(), Remembered(self.store)
+        options = Options(store=self.store, publication=["pgsub"], accept=list(accept), strict=strict)
+        watch = Watch(options, self.checkpoint, self.progress, self.remembered)
+        watch.begin()
+        return watch
+
+    def compare(self, watch: Watch, now: Catalog) -> None:
+        with mock.patch("pgsub_connect.watching.read_catalog", return_value=now):
+            watch.compare(mock.Mock(), 100)
+
+
+class Found(Case):
+    def test_is_kept_and_told_at_each_start(self) -> None:
+        with logged() as said:
+            self.compare(self.watch(), a_catalog(T, U, lsn=200))
+        self.assertEqual(len(said), 1)
+        self.assertIn("found: publication at 0/C8: table public.u (2) joined", said[0])
+        self.assertEqual(self.checkpoint.read().found, {"publication": "0/C8"})
+        for _ in range(2):
+            with logged() as again:
+                self.compare(self.watch(), a_catalog(T, U, lsn=300))
+            self.assertEqual(again, said)
+            self.assertEqual(list(self.progress.found), ["publication"])
+            self.assertIn("found", self.progress.shown(0.0))
+
+    def test_accepted(self) -> None:
+        with logged():
+            self.compare(self.watch(), a_catalog(dataclasses.replace(T, shape=WIDER), U, lsn=200))
+        with logged() as said:
+            self.watch("publication")
+        self.assertEqual(["values" in line for line in said], [True])
+        self.assertEqual((list(self.checkpoint.read().found), list(Remembered(self.store).found)), (["values"], ["values"]))
+        with logged() as said:
+            self.compare(self.watch("all", strict=True), a_catalog(dataclasses.replace(T, shape=WIDER), U, lsn=300))
+        self.assertEqual((said, self.progress.found), ([], {}))
+
+    def test_strict(self) -> None:
+        with logged(), self.assertRaisesRegex(Unfit, "(?s)--accept.*publication: table public.u .2. joined"):
+            self.compare(self.watch(strict=True), a_catalog(T, U, lsn=200))
+        with logged(), self.assertRaisesRegex(Unfit, "joined"):
+            self.watch(strict=True)
+        with logged():
+            self.watch("publication", strict=True)
+
+    def test_by_a_message(self) -> None:
+        watch = self.watch(strict=True)
+        self.remembered.note(Relation(3, "public", "t", T.shape), 200, -1)
+        with logged() as said, self.assertRaisesRegex(Unfit, "names: public.t is table 3 now"):
+            watch.tend(False, never, 100)
+        self.assertEqual(len(said), 1)
+        self.assertEqual(self.checkpoint.read().found, {"names": "0/C8"})
+        self.assertEqual(list(Remembered(self.store).found), ["names"])
+
+    def test_of_others(self) -> None:
+        with logged() as said:
+            self.watch().note("history", 300, "the store has changes that the server hasn't")
+        self.assertEqual(said, [])
+        with logged() as said:
+            self.watch()
+        self.assertIn("found: history at 0/12C: the store has changes", said[0])
+
+    def test_one_of_the_two_files_is_gone(self) -> None:
+        with logged():
+            self.compare(self.watch(), a_catalog(T, U, lsn=200))
+        self.checkpoint.write(True, found={})
+        with logged() as said:
+            self.watch()
+        self.assertEqual((len(said), self.checkpoint.read().found), (1, {"publication": "0/C8"}))
+        self.remembered.remove()
+        with logged() as said:
+            watch = self.watch()
+        self.assertIn("found: publication at 0/C8: see the log", said[0])
+        with logged() as said:
+            self.compare(watch, a_catalog(T, U, lsn=300))
+        self.assertIn("copy.db.tables remembers the publications as they are now", said[0])
+        self.assertEqual(Remembered(self.store).publications(), ["pgsub"])
+
+
+class Looks(Case):
+    def test_where_a_table_is_unknown(self) -> None:
+        watch = self.watch()
+        with mock.patch("pgsub_connect.watching.Connection") as connection, mock.patch("pgsub_connect.watching.settle"):
+            with mock.patch("pgsub_connect.watching.read_catalog", return_value=a_catalog(T, U, lsn=200)), logged() as said:
+                self.assertFalse(watch.tend(True, never, 100))
+            self.assertEqual(len(said), 1)
+            connection.return_value.close.assert_called_once()
+            self.assertTrue(watch.tend(True, never, 100), "not twice within a second")
+
+    def test_that_fail_are_tried_again(self) -> None:
+        watch = self.watch()
+        with mock.patch("pgsub_connect.watching.Connection", side_effect=ServerError("gone")) as connection, logged() as said:
+            self.assertTrue(watch.tend(True, never, 100))
+            self.assertTrue(watch.tend(True, never, 100))
+        self.assertEqual((len(said), connection.call_count), (1, 1))
+
+    def test_a_lock_in_the_way(self) -> None:
+        watch, connection = self.watch(), mock.Mock()
+        with mock.patch("pgsub_connect.watching.read_catalog", side_effect=ServerError("lock timeout", "55P03")), logged() as said:
+            self.assertFalse(watch.compare(connection, 100))
+        self.assertEqual([it.args[0] for it in connection.run.call_args_list], ["SET lock_timeout = 500", "SET lock_timeout = 0"])
+        self.assertIn("can't be looked at now: lock timeout", said[0])
+        with mock.patch("pgsub_connect.watching.read_catalog", side_effect=ServerError("gone", "57P01")), self.assertRaises(ServerError):
+            watch.compare(connection, 100)
+
+    def test_a_publication_of_inserts(self) -> None:
+        few = dataclasses.replace(PGSUB, actions=("insert", "update"))
+        self.remembered.begin(a_catalog(publication=few))
+        self.remembered.save()
+        watch = self.watch()
+        with logged() as said:
+            self.compare(watch, a_catalog(publication=few))
+            self.compare(watch, a_catalog(publication=few))
+        self.assertEqual(len(said), 1)
+        self.assertIn("publication pgsub has no deletes and no truncates", said[0])
+        watch = self.watch()
+        self.remembered.note_made({"pgsub": 900})
+        with logged() as said:
+            self.compare(watch, a_catalog(publication=few))
+        self.assertEqual(said, [])
+
+    def test_what_isnt_urgent_is_written_now_and_then(self) -> None:
+        watch = self.watch()
+        with mock.patch.object(self.remembered, "save", wraps=self.remembered.save) as save:
+            for lsn in (200, 210, 220):
+                self.remembered.note_again(1, lsn)
+                watch.tend(False, never, 100)
+            self.assertEqual(save.call_count, 1)
+            watch.finish()
+            watch.finish()
+            self.assertEqual(save.call_count, 2)
+        self.assertEqual(Remembered(self.store).last_sent(1), 220)
+
+
+class Words(Case):
+    def publications(self, *words: str, store: bool = True) -> list[str]:
+        if store:
+            with open(self.store, "w", encoding="ascii") as file:
+                file.write("a store")
+        options = cli.arguments(["follow", "--store", self.store, "--pgsub", "/bin/true", *words])
+        cli.settle_options(options)
+        return options.publication
+
+    def test_the_default_publications_are_those_that_were_followed(self) -> None:
+        self.assertEqual(self.publications(store=False), ["pgsub"])
+        self.remembered.begin(a_catalog(names=["b", "a"]))
+        self.remembered.save()
+        self.assertEqual(self.publications(), ["b", "a"])
+        self.assertEqual(self.publications("--publication", "c"), ["c"])
+        self.remembered.remove()
+        self.assertEqual(self.publications(), ["pgsub"])
+
+    def test_names(self) -> None:
+        with mock.patch("builtins.print") as said:
+            self.assertEqual(cli.main(["names", "--store", self.store]), 0)
+        said.assert_called_once_with('{"schema": "public", "table": "t", "oid": 1, "since": "0/64", "before": []}')
+        with logged() as lines:
+            self.assertEqual(cli.main(["names", "--store", self.store + "x"]), cli.FILE)
+        self.assertIn("no such file", lines[0])
+
+
+if __name__ == "__main__":
+    unittest.main()
