@@ -1,11 +1,9 @@
 #!/usr/bin/env bash
-# Measures how long a row takes that is carried over to another shape: run.sh [COLUMNS..]. Prints microseconds of processor time: a row by
-# columns that were looked up once, and a row whose columns are looked up for it alone.
-set -e
-here="$(cd "$(dirname "$0")" && pwd)"
-source "$here/../build.sh"
-work="$(mktemp -d)"
-trap 'rm -r "$work"' EXIT
+# Measures a row that is carried over to another shape: bench/run carrying [COLUMNS]..
+#
+# Microseconds of processor time: of a row by columns that were looked up once, and of a row whose columns are looked up for it alone;
+# with so many columns (default: 4 100 1600).
+source "$(dirname "$0")/../common.sh"
 [ $# -gt 0 ] || set -- 4 100 1600
-build "$here/main.rattle" carried "$work" pglsn pgtuple pglogical pgrel
-"$work/crates/carried/out/carried" "$@"
+build carried pglsn pgtuple pglogical pgrel
+"$program" "$@"

@@ -1,14 +1,7 @@
-#!/usr/bin/env python3
+#!/usr/bin/python3
 """Applies the same changes by `pgsub apply --store`, by the baseline over a database in a file, and by PostgreSQL's own apply worker, in turn.
 
-usage: measure.py BASELINE [--program PATH] [--folder PATH] [--port N] [--turns N] [--quick] [--only WORD]
-  BASELINE        the built baseline
-  --program PATH  the program (./pgsub of the repository if left out, which is proved and built first where it has to be)
-  --folder PATH   a folder on the disk that is measured, for servers, stores and sessions (a temporary one if left out)
-  --port N        the first of two free ports (54340)
-  --turns N       how often each is run (5)
-  --quick         a tenth of the changes
-  --only WORD     only sessions whose name has this word
+`bench/run replica` builds the baseline and calls this.
 
 The changes are made in a PostgreSQL server, and recorded from a slot. What is timed is up to the last commit: of the two programs from their
 start until they have read the session (it ends in keepalives, so that its last commit isn't among the bytes that they read last), of the worker
@@ -30,6 +23,7 @@ import time
 from pathlib import Path
 
 import servers
+from built import add_program, check_program
 
 KEEPALIVE = b"d" + struct.pack(">i", 22) + b"k" + struct.pack(">QqB", 0, 0, 0)
 # more than either program reads at once
@@ -227,26 +221,17 @@ def count_syncs(options, publisher, subscriber):
     print(f"- PostgreSQL's apply worker: {of_worker}")
 
 
-def built_program():
-    """Returns the repository's program. Its script proves and builds it where it has to be."""
-    subprocess.run([servers.TOP / "pgsub", "lsn", "0/0"], stdin=subprocess.DEVNULL, stdout=subprocess.DEVNULL)
-    program = servers.TOP / "crates/pgsub/out/pgsub"
-    if not program.is_file():
-        sys.exit("measure: the program isn't built")
-    return program
-
-
 def arguments():
-    parser = argparse.ArgumentParser(description=__doc__, formatter_class=argparse.RawDescriptionHelpFormatter, usage=argparse.SUPPRESS)
-    parser.add_argument("baseline", type=Path, help=argparse.SUPPRESS)
-    parser.add_argument("--program", type=Path, help=argparse.SUPPRESS)
-    parser.add_argument("--folder", type=Path, help=argparse.SUPPRESS)
-    parser.add_argument("--port", type=int, default=54340, help=argparse.SUPPRESS)
-    parser.add_argument("--turns", type=int, default=5, help=argparse.SUPPRESS)
-    parser.add_argument("--quick", action="store_true", help=argparse.SUPPRESS)
-    parser.add_argument("--only", default="", help=argparse.SUPPRESS)
+    parser = argparse.ArgumentParser(description=__doc__, formatter_class=argparse.RawDescriptionHelpFormatter)
+    parser.add_argument("baseline", type=Path, help="the built baseline")
+    add_program(parser)
+    parser.add_argument("--folder", type=Path, metavar="PATH", help="a folder on the disk that is measured (default: a temporary one)")
+    parser.add_argument("--port", type=int, default=54340, metavar="N", help="the first of two free ports (default: 54340)")
+    parser.add_argument("--turns", type=int, default=5, metavar="N", help="how often each runs (default: 5)")
+    parser.add_argument("--quick", action="store_true", help="a tenth of the changes")
+    parser.add_argument("--only", default="", metavar="WORD", help="only sessions whose name has this word")
     options = parser.parse_args()
-    options.program = (options.program or built_program()).resolve()
+    options.program = check_program(parser, options.program)
     return options
 
 

@@ -9,8 +9,9 @@ import time
 from pathlib import Path
 
 TOP = Path(__file__).resolve().parent.parent.parent
-sys.path.insert(0, str(TOP / "tools"))
-from connector.libpq import Connection, load_libpq
+sys.path[:0] = [str(TOP / "connect"), str(TOP / "tools")]
+from histories_model.recording import sessions_of  # noqa: E402
+from pgsub_connect.postgres import Connection  # noqa: E402
 
 SETTINGS = {
     "fsync": "on",
@@ -77,7 +78,7 @@ class Server:
         with (self.data / "postgresql.auto.conf").open("a") as settings:
             settings.writelines(f"{name} = {value}\n" for name, value in {**SETTINGS, "port": port}.items())
         self.run("pg_ctl", "--wait", f"--log={self.data}/log", "start")
-        self.connection = Connection(load_libpq(), self.dsn, quiet=True)
+        self.connection = Connection(self.dsn, quiet=True)
 
     def run(self, program, *words):
         command = [*self.prefix, binaries() / program, f"--pgdata={self.data}", *words]
@@ -125,9 +126,9 @@ def record(publisher, slot, file):
     """Records what is in a slot as the plain bytes of a session, and returns them."""
     recording = file.with_suffix(".pgx")
     words = ["--dsn", publisher.dsn, "--slot", slot, "--publication", "p", "--until", "now", "--bytes", str(1 << 40), "--record", recording]
-    subprocess.run([sys.executable, TOP / "tools/pgsub-connect", *words], check=True, stderr=subprocess.DEVNULL)
-    with recording.open() as lines, file.open("wb") as out:
-        out.writelines(bytes.fromhex(line) for line in lines if not line.startswith("#"))
+    subprocess.run([TOP / "connect/pgsub-connect", "record", *words], check=True, stderr=subprocess.DEVNULL)
+    with file.open("wb") as out:
+        out.writelines(chunk for chunks in sessions_of(recording.read_bytes()) for chunk in chunks)
     recording.unlink()
     return file
 

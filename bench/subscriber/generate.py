@@ -13,35 +13,30 @@ The file holds the plain bytes, or with --recording a recording with a frame a l
 
 import argparse
 import random
-import struct
+import sys
+from pathlib import Path
 
-OID = 16384
+sys.path.insert(0, str(Path(__file__).resolve().parents[2] / "tools"))
+from histories_model import wire  # noqa: E402
+
 CELLS = 4
-
-
-def cell(number):
-    return b"t" + struct.pack(">i", 10) + b"%010d" % number
+TABLE = wire.Definition(16384, b"public", b"t", b"d", [wire.Column(int(n == 0), b"c%d" % n, 25, -1) for n in range(CELLS)])
 
 
 def row(key, turn):
-    return struct.pack(">h", CELLS) + b"".join(cell(key if n == 0 else turn + n) for n in range(CELLS))
+    return [wire.text(b"%010d" % (key if n == 0 else turn + n)) for n in range(CELLS)]
 
 
-def relation(xid=b""):
-    columns = b"".join(b"%c" % (n == 0) + b"c%d\0" % n + struct.pack(">Ii", 25, -1) for n in range(CELLS))
-    return b"R" + xid + struct.pack(">I", OID) + b"public\0t\0d" + struct.pack(">h", CELLS) + columns
+def relation(xid=None):
+    return wire.item(b"R", TABLE.rest, xid)
 
 
-def insert(key, turn, xid=b""):
-    return b"I" + xid + struct.pack(">I", OID) + b"N" + row(key, turn)
+def insert(key, turn, xid=None):
+    return wire.item(b"I", wire.Change(b"I", [TABLE], new=row(key, turn)).rest(), xid)
 
 
 def update(key, turn):
-    return b"U" + struct.pack(">I", OID) + b"N" + row(key, turn)
-
-
-def stream_commit(xid, lsn):
-    return b"c" + xid + struct.pack(">BQQq", 0, lsn, lsn + 0x30, 0)
+    return wire.item(b"U", wire.Change(b"U", [TABLE], new=row(key, turn)).rest())
 
 
 class Session:
@@ -54,8 +49,7 @@ class Session:
 
     def send(self, *messages):
         for message in messages:
-            payload = b"w" + struct.pack(">QQq", self.lsn, self.lsn, 0) + message
-            frame = b"d" + struct.pack(">i", len(payload) + 4) + payload
+            frame = wire.xlog_data(self.lsn, self.lsn, 0, message)
             self.out.write(frame.hex().encode() + b"\n" if self.recording else frame)
 
     def next_lsn(self):
@@ -64,8 +58,11 @@ class Session:
 
     def send_pair(self, xid, messages):
         lsn = self.next_lsn()
-        self.send(b"B" + struct.pack(">QqI", lsn, 0, xid), *messages)
-        self.send(b"C" + struct.pack(">BQQq", 0, lsn, lsn + 0x30, 0))
+        self.send(wire.begin(lsn, 0, xid), *messages, wire.commit(lsn, lsn + 0x30, 0))
+
+    def send_stream_commit(self, xid):
+        lsn = self.next_lsn()
+        self.send(wire.stream_commit(xid, lsn, lsn + 0x30, 0))
 
 
 def send_pairs(session, changes, each):
@@ -88,11 +85,11 @@ def send_updates(session, options):
 
 
 def send_block(session, xid, is_first, messages):
-    session.send(b"S" + xid + bytes([is_first]), *messages, b"E")
+    session.send(wire.stream_start(xid, is_first), *messages, b"E")
 
 
 def send_interleaved(session, options):
-    xids = [struct.pack(">I", 1000 + n) for n in range(options.open)]
+    xids = [1000 + n for n in range(options.open)]
     per_round = options.open * options.block
     for start in range(0, options.changes, per_round):
         for n, xid in enumerate(xids):
@@ -101,18 +98,18 @@ def send_interleaved(session, options):
             send_block(session, xid, start == 0, [relation(xid)] * (start == 0) + made)
     random.Random(options.seed).shuffle(xids)
     for xid in xids:
-        session.send(stream_commit(xid, session.next_lsn()))
+        session.send_stream_commit(xid)
 
 
 def send_rolled_back(session, options):
-    top = struct.pack(">I", 1000)
+    top = 1000
     for first in range(0, options.changes, options.block):
-        subxid = struct.pack(">I", 1001 + first // options.block)
+        subxid = 1001 + first // options.block
         head = [relation(top)] if first == 0 else []
         made = [insert(key, key, subxid) for key in range(first + 1, min(first + options.block, options.changes))]
         send_block(session, top, first == 0, [*head, insert(first, first, top), *made])
-        session.send(b"A" + top + subxid)
-    session.send(stream_commit(top, session.next_lsn()))
+        session.send(wire.stream_abort(top, subxid))
+    session.send_stream_commit(top)
 
 
 KINDS = {

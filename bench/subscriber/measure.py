@@ -1,11 +1,7 @@
 #!/usr/bin/env python3
 """Runs the program and the baseline in turn on sessions of some kinds, and prints a table of what they take.
 
-usage: measure.py BASELINE FOLDER [--program PATH] [--changes N..] [--turns N]
-  BASELINE, FOLDER  the built baseline, and a folder for sessions and outputs
-  --program PATH    the program (./pgsub of the repository if left out, which is proved and built first where it has to be)
-  --changes N..     the sizes of the sessions in changes (50000 200000)
-  --turns N         how often each is run (3)
+`bench/run subscriber` builds the baseline and calls this.
 
 Seconds are of a processor (user and system), the quickest run of each; memory is the most that was resident, in MB, of that run. The
 status is 1 where the two print other rows or another position.
@@ -20,7 +16,8 @@ import sys
 from pathlib import Path
 
 HERE = Path(__file__).resolve().parent
-TOP = HERE.parent.parent
+sys.path.insert(0, str(HERE.parents[1] / "tools"))
+from built import add_program, check_program  # noqa: E402
 
 # what the table says of a session, its arguments, and whether the program reads it as a recording
 SESSIONS = (
@@ -81,24 +78,15 @@ def line(name, changes, here, there):
     return f"| {name} | {changes:,} | {told(here)} | {told(there)} | {here.seconds / there.seconds:.1f} |"
 
 
-def built_program():
-    """Returns the repository's program. Its script proves and builds it where it has to be."""
-    subprocess.run([TOP / "pgsub", "lsn", "0/0"], stdin=subprocess.DEVNULL, stdout=subprocess.DEVNULL)
-    program = TOP / "crates/pgsub/out/pgsub"
-    if not program.is_file():
-        sys.exit("measure: the program isn't built")
-    return program
-
-
 def main():
-    parser = argparse.ArgumentParser(description=__doc__, formatter_class=argparse.RawDescriptionHelpFormatter, usage=argparse.SUPPRESS)
-    parser.add_argument("baseline", type=Path, help=argparse.SUPPRESS)
-    parser.add_argument("folder", type=Path, help=argparse.SUPPRESS)
-    parser.add_argument("--program", type=Path, help=argparse.SUPPRESS)
-    parser.add_argument("--changes", type=int, nargs="+", default=[50000, 200000], help=argparse.SUPPRESS)
-    parser.add_argument("--turns", type=int, default=3, help=argparse.SUPPRESS)
+    parser = argparse.ArgumentParser(description=__doc__, formatter_class=argparse.RawDescriptionHelpFormatter)
+    parser.add_argument("baseline", type=Path, help="the built baseline")
+    parser.add_argument("folder", type=Path, help="a folder for sessions and outputs")
+    add_program(parser)
+    parser.add_argument("--changes", type=int, nargs="+", default=[50000, 200000], metavar="N", help="the sizes of the sessions in changes (default: 50000 200000)")
+    parser.add_argument("--turns", type=int, default=3, metavar="N", help="how often each runs (default: 3)")
     options = parser.parse_args()
-    options.program = (options.program or built_program()).resolve()
+    options.program = check_program(parser, options.program)
     print("| Session | Changes | Here | changes/s | Memory | C | changes/s | Memory | Ratio of the times |")
     print("|---|---|---|---|---|---|---|---|---|")
     for (name, session, is_recording), changes in itertools.product(SESSIONS, options.changes):

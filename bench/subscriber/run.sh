@@ -1,13 +1,12 @@
 #!/usr/bin/env bash
-# Measures `pgsub apply` beside baseline.c, which does the same by hand in C over libsqlite3, in turn, and compares what they print:
-# run.sh [--program PATH] [--changes N..] [--turns N]. The table says processor seconds of the quickest of three runs; measure.py has the rest.
-set -e
-here="$(cd "$(dirname "$0")" && pwd)"
-work="$(mktemp -d)"
-trap 'rm -r "$work"' EXIT
-if ! gcc -O2 -Wall -Wextra -o "$work/baseline" "$here/baseline.c" -lsqlite3; then
-    echo "run.sh: baseline.c can't be built; it needs SQLite's header and library (Debian: apt-get install libsqlite3-dev)" >&2
-    exit 1
-fi
+# Measures `pgsub apply` beside a subscriber by hand in C over libsqlite3 (baseline.c): bench/run subscriber [OPTION]..
+#
+#   --program PATH  the program to run (default: crates/pgsub/out/pgsub)
+#   --changes N..   the sizes of the sessions in changes (default: 50000 200000)
+#   --turns N       how often each runs (default: 3)
+#
+# Seven kinds of sessions, each by both in turn: seconds of a processor of the quickest run, and the most memory. It fails where the
+# outputs differ. Needs gcc, SQLite's header and library, and /usr/bin/time.
+source "$(dirname "$0")/../common.sh"
+build_baseline
 python3 "$here/measure.py" "$work/baseline" "$work" "$@"
-uptime
