@@ -1,8 +1,13 @@
 #!/usr/bin/env bash
-# Prints the processor seconds (user and system) that each crate takes from nothing: its proof, the further proof of its tests, and its
-# must-fail edits. times.sh [CRATE..], all crates if none is named. It works in a clone of the last commit, so out/ stays as it is; a run
-# over all crates takes two hours of processor time. RT names the toolchain, if not rt.
+# Prints the processor seconds (user and system) that each crate takes from nothing: tools/times.sh [CRATE..]
+#
+# A table of its proof, the further proof of its tests, and its must-fail edits; of all crates if none is named. It works in a clone of
+# the last commit, so out/ stays as it is; a run over all crates takes two hours of processor time. RT names the toolchain, if not rt.
 set -eu
+case "${1-}" in
+    -h | --help) sed -n '2,/^[^#]/ s/^# \{0,1\}//p' "$0"; exit ;;
+    -*) echo "times.sh: there is no option $1: see --help" >&2; exit 2 ;;
+esac
 top="$(cd "$(dirname "$0")/.." && pwd)"
 work="$(mktemp -d)"
 trap 'rm -rf "$work"' EXIT

@@ -9,6 +9,8 @@ import time
 import traceback
 from queue import Empty
 
+from built import add_program, check_program
+
 from . import cases, program
 
 
@@ -80,18 +82,17 @@ def run_all(made, options, folder):
     return done, differ
 
 
-def add_options(parser, top):
+def add_options(parser):
     """The options that all tools have which run cases."""
-    parser.add_argument("--program", default=os.path.join(top, "crates/pgsub/out/pgsub"), help="the program to run")
+    add_program(parser)
     parser.add_argument("--jobs", type=int, default=1, help="how many run at once (default 1)")
     parser.add_argument("--keep", default="differences", help="where the files of cases that differ go (default: differences)")
     parser.add_argument("--stop-after", type=int, default=10, metavar="N", help="stop after N differences (default 10)")
 
 
 def checked_options(parser, options, runs_program=True):
-    if runs_program and not os.access(options.program, os.X_OK):
-        parser.error(f"there is no program {options.program}: build it, or name it with --program")
-    options.program = os.path.abspath(options.program)
+    if runs_program:
+        options.program = str(check_program(parser, options.program))
     options.keep = os.path.abspath(options.keep)
     return options
 

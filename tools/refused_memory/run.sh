@@ -1,15 +1,23 @@
 #!/usr/bin/env bash
-# Runs the tests of crates with each request for memory refused in turn, and so a program's stored run: run.sh CRATE[/WORD].., where WORD
-# leaves only the tests whose names have it. They are proved and built first; then each runs once for each request that it makes, with
-# this one refused in place of the C library's answer. It prints a
-# line for each: its requests, and how often it passed all the same, stopped, and crashed. A test stops with its own error or assertion. A
-# program passes with what is stored, and stops where it says that memory has run out, with status 1, and prints nothing else, or what is
-# stored, or that no commit was taken. Whatever else it answers is counted as a crash. A crash makes the status 1, and so does a test named
-# refused_memory_changes_nothing that doesn't pass each time. RT names the toolchain, if not rt.
-# run.sh --all CRATE/WORD..: each test runs once with all its requests refused, and has to pass all the same; for tests of calls that take
-# no memory, as pglogical_tests/first_faults and pglogical_tests/without_memory.
-# run.sh --built ..: the tests are those that an earlier rt test has built; proving them anew can take minutes.
+# Runs the tests of crates, and the stored run of a program, with each request for memory refused in turn.
+#
+#   tools/refused_memory/run.sh [--all] [--built] CRATE[/WORD]..
+#
+#   CRATE/WORD  only the tests whose names have the word
+#   --all       each test runs once with all its requests refused, and has to pass all the same; for tests of calls that take no memory,
+#               as tests_messages/first_faults and tests_messages/without_memory
+#   --built     the tests are those that an earlier `rt test` has built; else they are proved and built first, which can take minutes
+#
+# Each runs once for each request that it makes, with this one refused in place of the C library's answer. A line for each tells its
+# requests, and how often it passed all the same, stopped, and crashed. A test stops with its own error or assertion. A program passes
+# with what is stored, and stops where it says that memory has run out, with status 1, and prints nothing else, or what is stored, or
+# that no commit was taken. All else is counted as a crash. A crash makes the status 1, and so does a test named
+# refused_memory_changes_nothing that doesn't pass each time. Needs gcc. RT names the toolchain, if not rt.
 set -eu
+case "${1-}" in
+    -h | --help) sed -n '2,/^[^#]/ s/^# \{0,1\}//p' "$0"; exit ;;
+    "") echo "run.sh: name the crates: see --help" >&2; exit 2 ;;
+esac
 here="$(cd "$(dirname "$0")" && pwd)"
 top="$(cd "$here/../.." && pwd)"
 work="$(mktemp -d)"

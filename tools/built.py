@@ -1,0 +1,20 @@
+"""The option `--program`: the program that a tool runs. Nothing is built."""
+
+import argparse
+import os
+from pathlib import Path
+
+TOP = Path(__file__).resolve().parent.parent
+PROGRAM = TOP / "crates/pgsub/out/pgsub"
+
+
+def add_program(parser: argparse.ArgumentParser) -> None:
+    """Adds the option `--program PATH` to a tool."""
+    parser.add_argument("--program", type=Path, default=PROGRAM, metavar="PATH", help=f"the program to run (default: {PROGRAM.relative_to(TOP)})")
+
+
+def check_program(parser: argparse.ArgumentParser, path: Path) -> Path:
+    """Returns the program's absolute path. Ends the tool with a usage error where it isn't there."""
+    if not os.access(path, os.X_OK) or path.is_dir():
+        parser.error(f"there is no program {path}: `./pgsub lsn 0/0` builds it, or name another with --program")
+    return path.resolve()

@@ -1,0 +1,1 @@
+"""What the documents say, compared with the tree, and their walkthroughs run."""

@@ -1,0 +1,244 @@
+"""Checks of the documents by their texts. Each returns what is wrong, a line for each."""
+
+import os
+import re
+import subprocess
+from collections.abc import Iterator
+from dataclasses import dataclass
+from fnmatch import fnmatch
+from functools import cached_property
+from pathlib import Path
+
+from . import texts
+
+# How many words each document may have, and all of docs/ together. What is left of the whole is for later parts.
+SHARES = {
+    "README.md": 800,
+    "docs/ARCHITECTURE.md": 1700,
+    "docs/PROOFS.md": 3000,
+    "docs/PROTOCOL.md": 3000,
+    "docs/OPERATING.md": 2600,
+    "docs/DECISIONS.md": 1300,
+    "docs/PERFORMANCE.md": 1000,
+    "docs/CONTRIBUTING.md": 1200,
+}
+WHOLE = 15000
+# folders that no commit has, or that have no document's paths
+SKIPPED = {".git", "out", "__pycache__", "differences"}
+# a name with one of these at its end is a file of the tree, wherever it lies
+KINDS = (".md", ".rt", ".antt", ".py", ".svg", ".txt", ".edit", ".toml", ".service", ".rattle", ".sh")
+PATH = re.compile(r"(?<![\w/.:~$-])\.?[\w.*{}-]+(?:/[\w.*{}-]+)*/?")
+URL = re.compile(r"\b[a-z]+://[^\s)>`]+")
+# each of these words stands for any name
+PLACEHOLDER = re.compile(r"(?<![A-Z_])(?:NAME|CRATE|MODULE|FUNCTION|KIND|M|F|WHAT|WHAT_IT_DOES)(?![A-Z_])")
+PARTS = ("src", "specs", "proofs", "must-fail", "mutants")
+OPTION = re.compile(r"(?<![\w-])--[a-z][a-z0-9-]*")
+LONG = re.compile(r"\.long\(\s*\"([a-z0-9-]+)\"")
+# what PROOFS says of the definitions behind the statement is said of these clauses
+CLAUSES = (
+    "pgsub_core::follow.followed",
+    "pgsub_core::follow.crash",
+    "pgsub_core::follow.fed",
+    "pgsub_core::converge.agree",
+    "pgsub_core::converge.converges",
+    "pgsub_core::left_is_start.start",
+    "pgfollow::follow_live.followed",
+    "pgrecovery::crashes_lose_nothing_confirmed.followed",
+)
+# commands whose options aren't ours
+FOREIGN = ("rt", "psql", "git", "apt", "apt-get", "systemctl", "createdb", "journalctl", "pip", "sqlite3", "docker", "mypy", "python3", "sudo")
+
+
+@dataclass(frozen=True)
+class Tree:
+    """The files of a repository."""
+
+    top: Path
+
+    @cached_property
+    def files(self) -> list[str]:
+        found = []
+        for folder, folders, names in os.walk(self.top):
+            folders[:] = sorted(it for it in folders if it not in SKIPPED)
+            found += [os.path.relpath(os.path.join(folder, it), self.top) for it in sorted(names)]
+        return found
+
+    @cached_property
+    def paths(self) -> set[str]:
+        """All files, and the folders that have one."""
+        found = set(self.files)
+        for file in self.files:
+            found.update(str(it) for it in Path(file).parents)
+        return found - {"."}
+
+    @cached_property
+    def names(self) -> set[str]:
+        return {Path(it).name for it in self.paths}
+
+    @cached_property
+    def crates(self) -> set[str]:
+        return {it.split("/")[1] for it in self.files if it.startswith("crates/") and it.count("/") > 1}
+
+    def has(self, pattern: str) -> bool:
+        pattern = pattern.rstrip("/")
+        return pattern in self.paths or ("*" in pattern and any(fnmatch(it, pattern) for it in self.paths))
+
+    def documents(self) -> list[str]:
+        """The texts that are checked."""
+        return [it for it in self.files if it.endswith(".md") and not it.startswith("bench/results/")]
+
+    def text(self, file: str) -> str:
+        return (self.top / file).read_text(encoding="utf-8")
+
+
+def check_words(tree: Tree) -> tuple[list[str], list[str]]:
+    """Returns what is wrong, and a line for each document."""
+    wrong, told, whole = [], [], 0
+    for file, share in SHARES.items():
+        count = texts.words_of((tree.top / file).read_bytes())
+        whole += count if file.startswith("docs/") else 0
+        told.append(f"{file}: {count} of {share} words")
+        if count > share:
+            wrong.append(f"{file}: {count} words, and its share is {share}")
+    for file in tree.documents():
+        if file.startswith("docs/") and file not in SHARES:
+            wrong.append(f"{file}: it has no share of the words")
+    told.append(f"docs/: {whole} of {WHOLE} words")
+    if whole > WHOLE:
+        wrong.append(f"docs/: {whole} words, and at most {WHOLE} are allowed")
+    return wrong, told
+
+
+def places_to_fill(tree: Tree) -> list[str]:
+    """The comments that stand for a text which is still to come."""
+    return [f"{file}:{number}: {line.strip()}" for file in tree.documents() for number, line in enumerate(tree.text(file).splitlines(), 1) if "<!-- fill:" in line]
+
+
+def is_elsewhere(target: str) -> bool:
+    return bool(re.match(r"[a-z][a-z0-9+.-]*:", target))
+
+
+def wrong_link(tree: Tree, file: str, target: str) -> str | None:
+    path, _, anchor = target.partition("#")
+    goal = file if not path else os.path.normpath(os.path.join(os.path.dirname(file), path))
+    if goal not in tree.paths:
+        return f"there is no {goal}"
+    if anchor and anchor not in texts.anchors_of(tree.text(goal)):
+        return f"{goal} has no heading #{anchor}"
+    return None
+
+
+def check_links(tree: Tree, file: str) -> list[str]:
+    wrong = []
+    for line in texts.lines_of(tree.text(file)):
+        for target in [] if line.is_code else texts.links_of(line.text):
+            why = None if is_elsewhere(target) else wrong_link(tree, file, target)
+            if why:
+                wrong.append(f"{file}:{line.number}: link {target}: {why}")
+    return wrong
+
+
+def patterns_of(tree: Tree, token: str) -> list[str] | None:
+    """The paths of which one has to be there, None where the token names no path."""
+    token = token.removeprefix("./").rstrip(".")
+    if not token or token.startswith("-") or "/out/" in f"{token}/":
+        return None
+    pattern = PLACEHOLDER.sub("*", token)
+    first, _, rest = pattern.partition("/")
+    tops = {it.split("/")[0] for it in tree.paths}
+    if rest and token.split("/")[0] in tops:
+        return [pattern]
+    if rest and first in tree.crates:
+        return [f"crates/{pattern}{end}" for end in ("", ".antt", ".rt")] + [f"crates/{first}/specs/{rest}.antt"]
+    if rest and first in PARTS:
+        return [f"crates/*/{pattern}"]
+    if not rest and token.endswith(KINDS) and "*" not in token and not token.startswith("."):
+        return [pattern, f"*/{pattern}"]
+    return None
+
+
+def check_paths(tree: Tree, file: str) -> list[str]:
+    wrong = []
+    for line in texts.lines_of(tree.text(file)):
+        if line.is_code:
+            continue
+        for found in PATH.finditer(URL.sub("", line.text)):
+            patterns = patterns_of(tree, found[0])
+            if patterns and not any(tree.has(it) for it in patterns):
+                wrong.append(f"{file}:{line.number}: there is no {found[0]}")
+    return wrong
+
+
+def sources_of(tree: Tree, command: str) -> list[str] | None:
+    """The files that tell a command's options, None where the command isn't the repository's."""
+    name = Path(command).name
+    if name == "pgsub":
+        return [it for it in tree.files if it.startswith("crates/pgcommand/src/") or it == "pgsub"]
+    if name == "pgsub-connect":
+        return [it for it in tree.files if it.startswith(("connect/pgsub_connect/", "tools/connector/")) or Path(it).name == name]
+    if command.startswith("bench/"):
+        return [it for it in tree.files if it.startswith("bench/") and not it.endswith(".md")]
+    if name == "install" and "install" in tree.files:
+        return ["install"]
+    if not command.startswith("tools/") or command not in tree.files:
+        return None
+    modules = re.findall(r"^\s*(?:from|import) (\w+)", tree.text(command), re.M)
+    return [command, *(it for it in tree.files for module in modules if it == f"tools/{module}.py" or it.startswith(f"tools/{module}/"))]
+
+
+def options_in(tree: Tree, files: list[str]) -> set[str]:
+    found = {"--help"}
+    for file in files:
+        text = tree.text(file)
+        found.update(OPTION.findall(text), (f"--{it}" for it in LONG.findall(text)))
+    if any(it.startswith("crates/pgcommand/") for it in files):
+        found.add("--version")
+    return found
+
+
+def commands_in(line: texts.Line) -> Iterator[tuple[str, str]]:
+    """Gives each text of a line that may have options, with the command that it begins with."""
+    if line.is_code:
+        words = line.text.removeprefix("$ ").split()
+        yield (words[0] if words else ""), line.text
+        return
+    for span in texts.spans_of(line.text):
+        yield span.split()[0], span
+    yield "", texts.SPAN.sub(" ", line.text)
+
+
+def all_options(tree: Tree) -> set[str]:
+    ours = ("tools/", "bench/", "connect/", "crates/pgcommand/src/")
+    readable = ("", ".py", ".sh", ".rt", ".toml", ".service")
+    return options_in(tree, [it for it in tree.files if (it.startswith(ours) or it in ("pgsub", "install")) and Path(it).suffix in readable])
+
+
+def check_options(tree: Tree, file: str) -> list[str]:
+    wrong, everything = [], all_options(tree)
+    for line in texts.lines_of(tree.text(file)):
+        for command, text in commands_in(line):
+            sources = sources_of(tree, command.removeprefix("./"))
+            known = everything if sources is None else options_in(tree, sources)
+            if command in FOREIGN:
+                continue
+            wrong += [f"{file}:{line.number}: {command or 'nothing'} has an option {it}" for it in OPTION.findall(text) if it not in known]
+    return wrong
+
+
+def check_statement(tree: Tree) -> list[str]:
+    """PROOFS names each module of the definitions that its clauses stand on."""
+    words = [it for clause in CLAUSES for it in ("--clause", clause)]
+    ran = subprocess.run([tree.top / "tools/statement", *words], capture_output=True, text=True, check=False)
+    if ran.returncode:
+        return [ran.stderr.strip()]
+    modules = re.findall(r"^(\w+)\.specs\.([\w.]+): \d", ran.stdout, re.M)
+    named = {span for line in texts.lines_of(tree.text("docs/PROOFS.md")) for span in texts.spans_of(line.text)}
+    return [f"docs/PROOFS.md doesn't name {crate}/{module}" for crate, module in modules if f"{crate}/{module}" not in named]
+
+
+def check_copies(tree: Tree) -> list[str]:
+    """The recording at the top is the one that rt runs the program on, which may be no link."""
+    copy = "crates/pgsub/data/first.pgx"
+    if copy in tree.files and (tree.top / copy).read_bytes() == (tree.top / "first.pgx").read_bytes():
+        return []
+    return [f"{copy}: it differs from first.pgx"]

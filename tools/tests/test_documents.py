@@ -1,0 +1,82 @@
+"""Documents are compared with a tree."""
+
+import tempfile
+import unittest
+from pathlib import Path
+
+from documents import checks, texts
+
+TREE = {
+    "README.md": "See [the map](docs/MAP.md#the-parts) and `crates/low/src/lib.rt`.\n",
+    "docs/MAP.md": "# Map\n\n## The *parts*\n",
+    "crates/low/src/lib.rt": "",
+    "crates/low/specs/Texts.antt": "",
+    "crates/pgcommand/src/commands.rt": '.long("proto")',
+    "tools/look": "import looking\n",
+    "tools/looking.py": 'add("--deep")',
+}
+
+
+class Made(unittest.TestCase):
+    def setUp(self) -> None:
+        room = tempfile.TemporaryDirectory()
+        self.addCleanup(room.cleanup)
+        self.top = Path(room.name)
+        for name, text in TREE.items():
+            self.write(name, text)
+
+    def write(self, name: str, text: str) -> None:
+        file = self.top / name
+        file.parent.mkdir(parents=True, exist_ok=True)
+        file.write_text(text)
+
+    def wrong(self, check: str, text: str) -> list[str]:
+        self.write("docs/PAGE.md", text)
+        found = getattr(checks, check)(checks.Tree(self.top), "docs/PAGE.md")
+        return [it.partition(": ")[2] for it in found]
+
+
+class Links(Made):
+    def test_links_that_are_there(self) -> None:
+        self.assertEqual(self.wrong("check_links", "[a](MAP.md) [b](../README.md) [c](#page) [d](https://x.y/z) `[e](no)`\n\n# Page\n"), [])
+
+    def test_links_that_are_not(self) -> None:
+        self.assertEqual(self.wrong("check_links", "[a](NO.md)"), ["link NO.md: there is no docs/NO.md"])
+        self.assertEqual(self.wrong("check_links", "[a](MAP.md#no)"), ["link MAP.md#no: docs/MAP.md has no heading #no"])
+        self.assertEqual(self.wrong("check_links", '<img src="no.svg">'), ["link no.svg: there is no docs/no.svg"])
+
+
+class Paths(Made):
+    def test_paths_that_are_there(self) -> None:
+        text = "`crates/low/src/lib.rt` docs/MAP.md `low/Texts` `low/src/` `crates/NAME/src/*.rt` `lib.rt` specs/Texts.antt README.md."
+        self.assertEqual(self.wrong("check_paths", text), [])
+
+    def test_what_is_no_path(self) -> None:
+        self.assertEqual(self.wrong("check_paths", "0/130 and/or `copy.db` https://a.b/docs/no.md 16/B374D848 `crates/low/out/x`\n\n```\ndocs/no.md\n```"), [])
+
+    def test_paths_that_are_not(self) -> None:
+        for path in ("crates/low/src/no.rt", "docs/NO.md", "low/No", "no.rt", "specs/No.antt", "tools/no"):
+            with self.subTest(path=path):
+                self.assertEqual(self.wrong("check_paths", f"see `{path}`"), [f"there is no {path}"])
+
+
+class Options(Made):
+    def test_options_that_are_there(self) -> None:
+        self.assertEqual(self.wrong("check_options", "`pgsub apply --proto 1` `tools/look --deep` with `--deep`\n\n```\n$ ./pgsub show --proto 1 f\n```\n`rt ci --anew`"), [])
+
+    def test_options_that_are_not(self) -> None:
+        self.assertEqual(self.wrong("check_options", "`pgsub apply --deep x`"), ["pgsub has an option --deep"])
+        self.assertEqual(self.wrong("check_options", "`tools/look --proto`"), ["tools/look has an option --proto"])
+        self.assertEqual(self.wrong("check_options", "the option `--none`"), ["--none has an option --none"])
+
+
+class Words(unittest.TestCase):
+    def test_words_are_those_of_wc(self) -> None:
+        self.assertEqual(texts.words_of("one  two\n| three-four |\n\u00a0".encode()), 6)
+
+    def test_anchors_are_those_of_forges(self) -> None:
+        self.assertEqual(texts.anchors_of("# What a *well-formed* server is\n## `a` b\n## `a` b\n```\n# no\n```\n"), {"what-a-well-formed-server-is", "a-b", "a-b-1"})
+
+
+if __name__ == "__main__":
+    unittest.main()
