@@ -13,8 +13,9 @@ import traceback
 from collections.abc import Callable, Sequence
 from typing import Any, Protocol
 
-from . import VERSION, checking, dropping, log
+from . import VERSION, checking, dropping, log, probing
 from . import checkpoint as known_of
+from .asking import Asker
 from .checkpoint import Checkpoint
 from .copying import Copier, create_slot, maker_of
 from .errors import FileError, FilterFault, Passing, ServerError, Stopped, Unfit, UsageError
@@ -22,9 +23,10 @@ from .filtering import Filter, FilterEnded
 from .following import Follower
 from .limits import default_buffered
 from .postgres import Check, parameters
-from .progress import Progress, Reporter
+from .progress import Progress
 from .recording import LONGEST, Aside, Recorder, Recording
 from .remembered import Remembered, print_names
+from .reporting import Reporter
 from .snapshots import Snapshots
 from .texts import parse_lsn
 
@@ -78,6 +80,8 @@ class Options:
     strict: bool = False
     skip: int = 0
     status_file: str | None = None
+    max_lag: list[probing.Limit] = dataclasses.field(default_factory=list)
+    max_age: float = 30.0
     metrics_file: str | None = None
     snapshot: str | None = None
     snapshot_every: float = 0.0
@@ -234,6 +238,7 @@ COMMANDS: dict[str, tuple[str, Sequence[Callable[[argparse.ArgumentParser], None
     "check": ("tell what following needs of the server, and change nothing", (add_server, add_copying, add_checking)),
     "drop": ("drop slot, publications and files", (add_server, add_dropping)),
     "names": ("tell which OID each name of a table has now, and which ones had it before", (add_names,)),
+    "status": (probing.ABOUT, (probing.add_options,)),
 }
 
 
@@ -246,7 +251,7 @@ def arguments(words: Sequence[str]) -> Options:
     commands = parser.add_subparsers(dest="command", metavar="COMMAND", required=True)
     parsers = {}
     for name, (about, adds) in COMMANDS.items():
-        parsers[name] = commands.add_parser(name, help=about, description=about)
+        parsers[name] = commands.add_parser(name, help=about.partition("\n")[0], description=about, formatter_class=AsWritten)
         for add in adds:
             add(parsers[name])
     if words and words[0] not in (*COMMANDS, "-h", "--help", "--version"):
@@ -264,7 +269,7 @@ def check(parser: argparse.ArgumentParser, options: Options) -> None:
         ("table", "create"), ("all_tables", "create"), ("failover", "create"), ("append", "record"), ("snapshot", "store"),
         ("snapshot_every", "snapshot"), ("skip", "store"), ("strict", "store"),
     ):
-        if options.command != "check" and getattr(options, given) and not getattr(options, needed):
+        if options.command not in ("check", "status") and getattr(options, given) and not getattr(options, needed):
             parser.error(f"--{given.replace('_', '-')} needs --{needed}")
     if options.command == "follow" and not options.store:
         parser.error("--store is needed")
@@ -289,6 +294,8 @@ def check(parser: argparse.ArgumentParser, options: Options) -> None:
 
 def settle_options(options: Options) -> None:
     """Fills in what stands elsewhere: the connection string of a file, the program, the limits."""
+    if options.command == "status":
+        return
     if options.dsn_file:
         with open(options.dsn_file, encoding="utf-8") as file:
             options.dsn = file.readline().strip()
@@ -309,6 +316,10 @@ def program() -> str:
         if os.access(path, os.X_OK) and os.path.isfile(path):
             return path
     return shutil.which("pgsub") or checkout
+
+
+class AsWritten(argparse.RawDescriptionHelpFormatter):
+    """Help whose description keeps its lines."""
 
 
 class TellVersion(argparse.Action):
@@ -378,7 +389,8 @@ def follow(options: Options) -> None:
     snapshot_by_signal(snapshots)
     stop_by_signals(copier, follower)
     copier.stop_asked = follower.stop_asked = start.stop_asked
-    reporter = Reporter(options, progress, options.status_file) if options.status_file else None
+    reporter, asker = Reporter(options, progress) if options.status_file or options.metrics_file else None, Asker(options, progress)
+    asker.start()
     if reporter:
         reporter.start()
     try:
@@ -395,6 +407,7 @@ def follow(options: Options) -> None:
         child.kill()
         if recording:
             recording.flush()
+        asker.finish()
         if reporter:
             reporter.finish()
 
@@ -441,7 +454,7 @@ def stoppable(call: Callable[[Options, Check], int]) -> Callable[[Options], int]
 
 RUNS: dict[str, Callable[[Options], Any]] = {
     "follow": follow, "record": record, "check": stoppable(checking.run), "drop": stoppable(dropping.run),
-    "names": lambda options: print_names(options.store),
+    "names": lambda options: print_names(options.store), "status": probing.run,
 }
 
 

@@ -210,6 +210,8 @@ class Follower:
         self.tell_plain_text(connection)
         server = identify(connection)
         self.progress.note_server(connection.version(), server.timeline)
+        self.progress.server_started, self.progress.is_standby = server.started, server.is_standby
+        self.progress.was_promoted = False
         self.choose_protocol(connection.version())
         at = self.filter.confirmed()
         self.check_server(server, at)
@@ -225,7 +227,7 @@ class Follower:
         self.skipping.begin_session(self.filter.confirmed())
         self.noting.begin_session()
         if options.until == "now" and self.until is None:
-            self.until = log_end(connection, server.is_standby)
+            self.until = log_end(connection)
         timeout = sender_timeout(connection)
         self.heartbeat = min(options.heartbeat, timeout / 3) if timeout else options.heartbeat
         connection.run(self.command(self.filter.confirmed()), wanted=COPY_BOTH)
@@ -277,10 +279,14 @@ class Follower:
         """Checks that what the store has is in the server's history too, where its timeline isn't that of the last session.
 
         A server that was promoted or put back has a timeline of its own. It left the old one at an LSN; what the store has above
-        that is of commits that the server hasn't.
+        that is of commits that the server hasn't. But a standby that was promoted since without being started anew has all that it
+        ever sent.
         """
         known = self.checkpoint.known
         if not known.timeline or server.timeline == known.timeline or self.options.accepts("history"):
+            return
+        if known.started and known.started == server.started:
+            log.info(f"the server was promoted while it was followed: it is on the timeline {server.timeline} now")
             return
         left = left_at(connection, server.timeline, known.timeline) if server.timeline > known.timeline else None
         if left is None or self.position > left:
@@ -325,8 +331,8 @@ class Follower:
         else:
             check_gap(known, position, slot_at)
         self.checkpoint.write(
-            True, phase=known_of.FOLLOWING, system=server.system, timeline=server.timeline, database=server.database,
-            slot=self.options.slot, position=max(position, self.checkpoint.known.position),
+            True, phase=known_of.FOLLOWING, system=server.system, timeline=server.timeline, started=server.started,
+            database=server.database, slot=self.options.slot, position=max(position, self.checkpoint.known.position),
         )
 
     def command(self, at: int) -> str:
@@ -348,6 +354,8 @@ class Follower:
         socket = connection.socket()
         while not self.is_over():
             self.progress.beat()
+            if self.progress.was_promoted:
+                raise ServerError("the standby was promoted: a session with the new primary is begun")
             room = not self.holds_for_snapshot() and self.filter.has_room()
             if more and room:
                 more = self.take_payloads(connection)

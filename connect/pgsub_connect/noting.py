@@ -9,6 +9,7 @@ from __future__ import annotations
 
 import collections
 import struct
+import time
 from collections.abc import Sequence
 
 from .catalog import Column, Shape
@@ -23,6 +24,8 @@ CHANGES = b"IUD"
 OUTSIDE, INSIDE = 30, 34
 # How many tables a text names.
 NAMED = 5
+# 2000-01-01, from which the server counts, in seconds since 1970.
+EPOCH = 946684800
 
 
 # A commit that was passed on: the message that has its xid and final LSN (Begin or Stream Commit), how many changes it has by letter
@@ -61,6 +64,7 @@ class Noting:
         self.strangers: set[int] = set()
         # the last Relation message of each table that was compared with what is remembered, as it came
         self.compared: dict[int, bytes] = {}
+        self.counts: dict[bytes, int] = {}
         self.begin_store()
 
     def begin_store(self) -> None:
@@ -77,14 +81,17 @@ class Noting:
         # the end of a keepalive that asks for a status
         self.asked: int | None = None
         self.last = self.begun = b""
-        # how many bytes have come, and how many of them before the transaction or block that is under way
-        self.total = self.began = 0
+        # how many bytes have come, how many of them the progress was told of, and how many came before the transaction or block that
+        # is under way
+        self.total = self.shown = self.began = 0
+        # (what was passed on of a transaction that isn't complete was passed on all the same)
+        self.changes += sum(self.counts.values())
         self.leave()
 
     def leave(self) -> None:
         """Between transactions. What comes here is out of order, which the filter tells."""
         self.current: Streamed | None = None
-        self.counts: dict[bytes, int] = {}
+        self.counts = {}
         self.relations: list[tuple[bytes, bytes]] = []
         self.end = OUTSIDE
 
@@ -180,17 +187,30 @@ class Noting:
     def show(self) -> None:
         """Tells the progress what came, and how far the transaction that isn't complete has come. Called after each lot of payloads."""
         last = self.last
-        if last:
-            self.progress.sent_to = last[9:17] if last[0] == 0x77 else last[1:9]
-        self.progress.passed_changes = self.changes + sum(self.counts.values())
-        self.progress.passed_commits = self.commits
+        progress = self.progress
+        if self.total != self.shown:
+            self.shown = self.total
+            progress.sent_to = last[9:17] if last[0] == 0x77 else last[1:9]
+            progress.last_message = time.time()
+        progress.passed_changes = self.changes + sum(self.counts.values())
+        progress.passed_commits = self.commits
+        self.show_waiting()
+
+    def show_waiting(self) -> None:
+        """Tells the progress how old the first commit is that was passed on, or is being, and isn't confirmed."""
+        first = self.passed[0][0] if self.passed else self.begun
+        self.progress.lag.waits_since = commit_time(first) if first else None
 
     def confirm(self, confirmed: int, position: int) -> int:
         """Forgets commits that are confirmed. Returns the store's position by them, at least `position`."""
         ends, passed = self.ends, self.passed
+        if not ends or ends[0] > confirmed:
+            return position
         while ends and ends[0] <= confirmed:
             position = max(position, ends.popleft())
-            passed.popleft()
+            last = passed.popleft()
+        self.progress.lag.last_commit = commit_time(last[0])
+        self.show_waiting()
         return position
 
     def rejected_text(self, position: int) -> str:
@@ -224,6 +244,11 @@ def xid_of(message: bytes) -> int:
 def final_lsn(message: bytes) -> int:
     """The final LSN in a Begin or Stream Commit: that of the commit's own record."""
     return number(message[26:34] if message[25:26] == b"B" else message[31:39])
+
+
+def commit_time(message: bytes) -> float:
+    """The commit's time in a Begin or Stream Commit, in seconds since 1970."""
+    return EPOCH + number(message[34:42] if message[25:26] == b"B" else message[47:55]) / 1000000
 
 
 def changes_text(counts: dict[bytes, int], remembered: Remembered) -> str:
