@@ -21,7 +21,7 @@ from .copying import Copier, create_slot, maker_of
 from .errors import FileError, FilterFault, Passing, ServerError, Stopped, Unfit, UsageError
 from .filtering import Filter, FilterEnded
 from .following import Follower
-from .limits import default_buffered
+from .limits import LONGEST_FRAME, default_buffered
 from .postgres import Check, parameters
 from .progress import Progress
 from .recording import LONGEST, Aside, Recorder, Recording
@@ -46,15 +46,13 @@ The server needs wal_level = logical. The user needs the attribute REPLICATION, 
 for --create the right to create a publication (of all tables: to be a superuser). A slot keeps the server's log until it is
 confirmed or dropped: SELECT pg_drop_replication_slot('NAME').
 
-exit status: 0 ended as asked; 1 the filter rejected the stream; 2 usage error; 3 a file can't be used; 4 the server rejected
+exit status: 0 ended as asked; 1 the filter rejected the stream, or was killed twice in one transaction; 2 usage error; 3 a file can't be used; 4 the server rejected
 a command for good; 5 the store and the slot don't fit together, or the copy may be wrong; 6 a bug; 7 something is in the way
 only for now, such as a server that isn't there: start it again
 """
 TOP = os.path.dirname(os.path.dirname(os.path.dirname(os.path.realpath(__file__))))
 REJECTED, USAGE, FILE, SERVER, UNFIT, BUG, PASSING = 1, 2, 3, 4, 5, 6, 7
 KINDS = ("history", "slot", "names", "publication", "values", "gap", "all")
-# The longest frame that PostgreSQL can send, with its length.
-LONGEST_FRAME = 2147483643
 
 
 @dataclasses.dataclass

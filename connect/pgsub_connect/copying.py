@@ -20,7 +20,7 @@ from collections.abc import Callable
 from typing import TYPE_CHECKING
 
 from . import checkpoint as known_of
-from . import log
+from . import log, sizes
 from .catalog import read_catalog
 from .checking import require, require_reading
 from .errors import FileError, Passing, ServerError, Stopped, Unfit
@@ -93,6 +93,8 @@ class Copier:
         self.plain: Connection | None = None
         self.replication: Connection | None = None
         self.lsn, self.delay = 0, 0.0
+        # the length of the longest row
+        self.longest = 0
         self.maker = maker_of(options, self.check_stop, require_reading)
 
     def run(self) -> None:
@@ -115,6 +117,8 @@ class Copier:
             self.attempt()
             return True
         except FilterEnded as ended:
+            if text := sizes.text_of(ended, self.options, (0, 0), self.longest):
+                log.error(text)
             if ended.is_rejection():
                 raise
             tries.note("", ended)
@@ -306,6 +310,7 @@ class Copier:
         self.send(frame(self.lsn, relation(table)))
         heads, size = InsertHeads(table, self.lsn), 0
         for lines in plain.copied_blocks(table.query(), BLOCK):
+            self.longest = max(self.longest, len(max(lines, key=len)))
             if size >= PART:
                 self.end_part()
                 self.begin_part()

@@ -8,7 +8,7 @@ import time
 from typing import TYPE_CHECKING
 
 from . import checkpoint as known_of
-from . import log
+from . import log, sizes
 from .checkpoint import Checkpoint, check_gap
 from .errors import Passing, ServerError, Stopped, Unfit
 from .filtering import PIECE, Filter, FilterEnded, asking, flushed, pack_header
@@ -59,6 +59,7 @@ class Follower:
         self.noting = Noting(progress, remembered)
         self.watch = Watch(options, checkpoint, progress, remembered)
         self.skipping = Skipping(options.skip, checkpoint, progress, remembered)
+        self.kills = sizes.Kills()
         # the greatest end of a commit that was passed on and is confirmed
         self.position = 0
         self.last_sent = self.last_moved = 0.0
@@ -104,9 +105,13 @@ class Follower:
     def note_end(self, ended: FilterEnded) -> None:
         """Notes why the filter ended. Raises where the same would come of another try."""
         if not (ended.is_full() and self.stop_streaming("open transactions were too much at a time")):
+            largest = self.noting.largest()
+            if text := sizes.text_of(ended, self.options, largest, self.noting.longest):
+                log.error(text)
             if ended.is_rejection():
                 self.tell_rejected(ended)
                 raise ended
+            self.kills.note(ended, *largest)
             log.warning(f"{ended}: it is started again")
         self.progress.last_error = str(ended)
         self.progress.restarts += 1
@@ -425,6 +430,7 @@ class Follower:
                 frames += (pack_header(b"d", size + 4), payload)
                 if size >= PIECE:
                     # (a long one isn't copied together with others)
+                    self.noting.longest = max(self.noting.longest, size)
                     child.push_all(frames[:-1])
                     child.push(payload)
                     frames.clear()

@@ -29,8 +29,8 @@ EPOCH = 946684800
 
 
 # A commit that was passed on: the message that has its xid and final LSN (Begin or Stream Commit), how many changes it has by letter
-# and OID as they came, and whether some of them may have been rolled back.
-Passed = tuple[bytes, dict[bytes, int], bool]
+# and OID as they came, whether some of them may have been rolled back, and how many bytes it had.
+Passed = tuple[bytes, dict[bytes, int], bool, int]
 
 
 class Streamed:
@@ -78,6 +78,8 @@ class Noting:
         """Forgets the transactions of a session that has ended."""
         self.open: dict[int, Streamed] = {}
         self.described: dict[int, list[bytes]] = {}
+        # the length of the longest message, where it is one of the long ones
+        self.longest = 0
         # the end of a keepalive that asks for a status
         self.asked: int | None = None
         self.last = self.begun = b""
@@ -110,7 +112,7 @@ class Noting:
                 self.begun, self.began, self.counts = payload, self.total, {}
             elif letter == COMMIT:
                 self.changes += sum(counts.values())
-                self.commit((self.begun, counts, False), self.relations, payload[35:43])
+                self.commit((self.begun, counts, False, self.total - self.began), self.relations, payload[35:43])
                 self.begun, self.counts = b"", {}
             else:
                 self.note_other(letter, payload)
@@ -142,7 +144,7 @@ class Noting:
             self.leave()
         elif letter == STREAM_COMMIT:
             it = self.open.pop(xid, None) or Streamed()
-            self.commit((payload, it.counts, it.about), it.relations, payload[39:47])
+            self.commit((payload, it.counts, it.about, it.size), it.relations, payload[39:47])
         elif payload[26:30] == payload[30:34]:
             self.open.pop(xid, None)
         elif xid in self.open:
@@ -215,7 +217,7 @@ class Noting:
 
     def rejected_text(self, position: int) -> str:
         """What is said of the first commit above a store's position, which its filter has rejected; "" where there is none."""
-        for end, (message, counts, about) in zip(self.ends, self.passed):
+        for end, (message, counts, about, _) in zip(self.ends, self.passed):
             if end > position:
                 lsn, most = lsn_text(final_lsn(message)), "at most " if about else ""
                 return (
@@ -225,8 +227,9 @@ class Noting:
         return ""
 
     def largest(self) -> tuple[int, int]:
-        """The xid of the largest transaction that isn't complete, and how many bytes of it were passed on."""
-        sizes = {xid: it.size + (self.total - self.began if it is self.current else 0) for xid, it in self.open.items()}
+        """The xid of the largest transaction that isn't confirmed, and how many bytes of it were passed on."""
+        sizes = {xid_of(it[0]): it[3] for it in self.passed}
+        sizes |= {xid: it.size + (self.total - self.began if it is self.current else 0) for xid, it in self.open.items()}
         if self.begun:
             sizes[xid_of(self.begun)] = self.total - self.began
         return max(sizes.items(), key=lambda it: it[1], default=(0, 0))
