@@ -419,9 +419,10 @@ def begin(options: Options, checkpoint: Checkpoint, copier: Copier, remembered: 
         raise Unfit(f"{options.store} is gone, and the slot {known.slot} went on: remove {checkpoint.path} to begin anew")
     if not options.create and not options.no_copy:
         raise Unfit(f"there is no store {options.store}: --create makes it, with publication and slot; see --help")
-    made = create_slot(options, check) if options.create else {}
-    remembered.remove()
-    remembered.note_made(made)
+    if options.create:
+        create_slot(options, check, remembered)
+    else:
+        remembered.remove()
 
 
 def record(options: Options) -> None:

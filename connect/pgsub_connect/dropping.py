@@ -16,7 +16,7 @@ from . import checkpoint as known_of
 from . import log
 from .checkpoint import Known
 from .errors import FileError, Passing, Unfit
-from .making import inserts_of, oid_of
+from .making import inserts_of, oid_of, other_slots
 from .postgres import Check, Connection, never
 from .server import settle
 from .texts import identifier, literal
@@ -206,15 +206,6 @@ class Dropper:
             except OSError as error:
                 raise FileError(f"{path}: {error.strerror}") from None
         log.info(f"removed {', '.join(files)}")
-
-
-def other_slots(connection: Connection, slot: str) -> list[str]:
-    """Other slots of this database by which a publication may be followed."""
-    rows = connection.rows(
-        "SELECT s.slot_name FROM pg_catalog.pg_replication_slots s WHERE s.plugin = 'pgoutput'"
-        f" AND s.database = pg_catalog.current_database() AND s.slot_name <> {literal(slot)} ORDER BY 1"
-    )
-    return [row[0] or "" for row in rows]
 
 
 def run(options: Options, check: Check = never) -> int:
