@@ -4,6 +4,7 @@ from __future__ import annotations
 
 import argparse
 import dataclasses
+import errno
 import os
 import shutil
 import signal
@@ -17,6 +18,7 @@ from . import VERSION, checking, dropping, log, probing
 from . import checkpoint as known_of
 from .asking import Asker
 from .checkpoint import Checkpoint
+from .comparing import require_published
 from .copying import Copier, create_slot, maker_of
 from .errors import FileError, FilterFault, Passing, ServerError, Stopped, Unfit, UsageError
 from .filtering import Filter, FilterEnded
@@ -143,6 +145,16 @@ def within(least: int, most: int) -> Callable[[str], int]:
     return number
 
 
+def seconds(text: str) -> float:
+    try:
+        number = float(text)
+    except ValueError:
+        number = 0.0
+    if not 0.1 <= number <= 86400.0:
+        raise argparse.ArgumentTypeError(f"{text!r} is no number of seconds from 0.1 to 86400")
+    return number
+
+
 def add_server(parser: argparse.ArgumentParser) -> None:
     """Options on the server and the slot."""
     add = parser.add_argument
@@ -152,7 +164,7 @@ def add_server(parser: argparse.ArgumentParser) -> None:
     add("--publication", action="append", default=[],
         help="publication, may be repeated (default: those that the store has followed, else pgsub)")
     add("--proto", type=int, choices=(1, 2), default=2, help="protocol version (default: 2, and 1 where the server has no other)")
-    add("--heartbeat", type=float, default=10.0, metavar="N",
+    add("--heartbeat", type=seconds, default=10.0, metavar="N",
         help="seconds between statuses (default: 10, and at most a third of wal_sender_timeout)")
     add("--mode", type=mode, default=0o600, metavar="OCTAL", help="mode of the files that are made (default: 600)")
 
@@ -167,7 +179,7 @@ def add_following(parser: argparse.ArgumentParser) -> None:
     add("--max-frame", type=within(1 << 10, LONGEST_FRAME), default=0, metavar="BYTES",
         help="the longest message that is accepted (default: what may be buffered, at most 1 GiB)")
     add("--until", type=lsn_or_now, metavar="LSN|now", help="stop once all that was committed up to this LSN, or up to now, is stored")
-    add("--silence", type=float, default=60.0, metavar="N", help="give a server up that says nothing for N seconds (default: 60)")
+    add("--silence", type=seconds, default=60.0, metavar="N", help="give a server up that says nothing for N seconds (default: 60)")
     add("--strict", action="store_true", help="end with status 5 where something was found that may have made the copy wrong")
     add("--accept", action="append", default=[], choices=KINDS, help="take what was found of this kind as it is, may be repeated")
     add("--accept-gap", dest="accept", action="append_const", const="gap",
@@ -297,7 +309,7 @@ def settle_options(options: Options) -> None:
     if options.dsn_file:
         with open(options.dsn_file, encoding="utf-8") as file:
             options.dsn = file.readline().strip()
-    elif "password" in parameters(options.dsn):
+    elif {"password", "sslpassword"} & parameters(options.dsn).keys():
         log.warning("the password on the command line can be read by every account: use ~/.pgpass, PGPASSWORD or --dsn-file")
     remembered = Remembered(options.store).publications() if os.path.exists(options.store) else []
     options.publication = options.publication or remembered or ["pgsub"]
@@ -394,6 +406,8 @@ def follow(options: Options) -> None:
     try:
         if not os.path.exists(options.store):
             begin(options, checkpoint, copier, remembered, follower.check_stop)
+        elif options.table or options.all_tables:
+            require_published(options, follower.check_stop)
         follower.run()
         progress.state = "stopped"
     except Stopped:
@@ -477,7 +491,7 @@ def main(words: Sequence[str]) -> int:
         log.error(f"{error.filename or 'a file'}: {error.strerror}")
         return PASSING if error.errno in PASSING_ERRORS else FILE
     except Exception:  # noqa: BLE001
-        traceback.print_exc()
+        log.error(f"a bug: {traceback.format_exc().rstrip()}")
         return BUG
 
 
@@ -489,8 +503,9 @@ def status_of(ended: FilterEnded) -> int:
 
 
 STATUSES: dict[type[Exception], int] = {Unfit: UNFIT, FileError: FILE, FilterFault: FILE, Passing: PASSING, UsageError: USAGE}
-# No space, no memory.
-PASSING_ERRORS = (28, 12, 122)
+PASSING_ERRORS = (
+    errno.ENOSPC, errno.EDQUOT, errno.ENOMEM, errno.EAGAIN, errno.EMFILE, errno.ENFILE, errno.ESTALE, errno.ETIMEDOUT, errno.EHOSTDOWN,
+)
 
 
 def run() -> None:

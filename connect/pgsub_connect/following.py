@@ -17,7 +17,7 @@ from .postgres import COPY_BOTH, Connection
 from .progress import Progress
 from .recording import Aside
 from .remembered import Remembered
-from .server import Server, identify, left_at, log_end, sender_timeout, settle, slot_position
+from .server import Server, identify, is_lost, left_at, log_end, sender_timeout, settle, slot_position
 from .skipping import Skipping
 from .snapshots import Snapshots
 from .texts import counted, identifier, lsn_text, replication_literal
@@ -34,6 +34,8 @@ OPENED_AFTER = (1, 2, 4, 8, 15, 30)
 INTERNAL = "XX000"
 # How often a position that a keepalive alone has moved is passed on, in seconds. Each time costs a sync of the checkpoint.
 QUIET = 1.0
+# What a standby says that can't be followed: it has no such feature, or the slot is one that it only keeps for its promotion.
+NOT_AT_STANDBYS = ("0A", "55000")
 # The first version of the server that has version 2 of the protocol, and the first that aborts transactions in version 1 too.
 STREAMS, ABORTS_IN_VERSION_1 = 140000, 180000
 
@@ -235,7 +237,7 @@ class Follower:
             self.until = log_end(connection)
         timeout = sender_timeout(connection)
         self.heartbeat = min(options.heartbeat, timeout / 3) if timeout else options.heartbeat
-        connection.run(self.command(self.filter.confirmed()), wanted=COPY_BOTH)
+        self.start_replication(connection, server)
         self.check_slot()
         self.was_connected = True
         self.progress.sessions += 1
@@ -243,6 +245,15 @@ class Follower:
         if self.recording:
             self.recording.begin_session(connection, options, at)
         return connection
+
+    def start_replication(self, connection: Connection, server: Server) -> None:
+        """Asks for the changes. A standby rejects that where it has no slots of its own, until it is promoted."""
+        try:
+            connection.run(self.command(self.filter.confirmed()), wanted=COPY_BOTH, limit=self.options.silence)
+        except ServerError as error:
+            if server.is_standby and error.sqlstate.startswith(NOT_AT_STANDBYS) and not is_lost(connection, self.options.slot):
+                raise ServerError(f"the server is a standby: {error}") from None
+            raise
 
     def tell_plain_text(self, connection: Connection) -> None:
         """Warns once of a connection that others on the way can read."""

@@ -87,6 +87,13 @@ def slot_position(connection: Connection, slot: str) -> int | None:
     return int(position)
 
 
+def is_lost(connection: Connection, slot: str) -> bool:
+    """Whether the server has removed log that the slot needs, so that nothing can be read from it any more."""
+    return connection.version() >= 130000 and connection.value(
+        f"SELECT s.wal_status FROM pg_catalog.pg_replication_slots s WHERE s.slot_name = {literal(slot)}", QUICK
+    ) == "lost"
+
+
 def sender_timeout(connection: Connection) -> float | None:
     """After how many seconds of silence the server gives a session up; None for never."""
     text = connection.value("SHOW wal_sender_timeout", QUICK) or "0"
