@@ -108,6 +108,11 @@ class FakeConnection:
             os.close(end)
 
 
+def with_level(level: str, text: str) -> str:
+    """A line that was logged, as tests compare it."""
+    return text if level == "info" else f"{level}: {text}"
+
+
 def connection_to(server: FakeServer) -> Connection:
     return server.connect("")
 
@@ -123,6 +128,6 @@ class Quiet(unittest.TestCase):
 
     def setUp(self) -> None:
         self.said: list[str] = []
-        patch = mock.patch("pgsub_connect.log.line", self.said.append)
+        patch = mock.patch("pgsub_connect.log.line", lambda level, text: self.said.append(with_level(level, text)))
         patch.start()
         self.addCleanup(patch.stop)
