@@ -14,7 +14,7 @@ import traceback
 from collections.abc import Callable, Sequence
 from typing import Any, Protocol
 
-from . import VERSION, checking, dropping, log, probing
+from . import VERSION, checking, dropping, exporting, log, probing, taking
 from . import checkpoint as known_of
 from .asking import Asker
 from .checkpoint import Checkpoint
@@ -102,6 +102,8 @@ class Options:
     messages: bool = False
     json: bool = False
     yes: bool = False
+    into: str = ""
+    text: bool = False
 
     def accepts(self, kind: str) -> bool:
         """Whether what may be wrong in this way was said to be taken as it is."""
@@ -241,12 +243,27 @@ def add_names(parser: argparse.ArgumentParser) -> None:
     parser.add_argument("--store", metavar="FILE", required=True, help="the store, which may be in use")
 
 
+def add_reading(parser: argparse.ArgumentParser) -> None:
+    """Options on a copy of a store."""
+    add = parser.add_argument
+    add("--store", metavar="FILE", required=True, help="the store, which may be in use: then its follower is asked for a copy")
+    add("--into", metavar="FILE", required=True, help="the file to write; one of an earlier run is replaced")
+    add("--mode", type=mode, default=0o600, metavar="OCTAL", help="its mode (default: 600)")
+
+
+def add_exporting(parser: argparse.ArgumentParser) -> None:
+    add = parser.add_argument
+    add("--text", action="store_true", help="each value as TEXT, as the server prints it")
+
+
 # Each subcommand: what adds its options.
 COMMANDS: dict[str, tuple[str, Sequence[Callable[[argparse.ArgumentParser], None]]]] = {
     "follow": ("follow into a store", (add_server, add_following, add_recording)),
     "record": ("only record", (add_server, add_following, add_recording)),
     "check": ("tell what following needs of the server, and change nothing", (add_server, add_copying, add_checking)),
     "drop": ("drop slot, publications and files", (add_server, add_dropping)),
+    "export": ("make ordinary tables of SQLite from the rows of a store, or of a copy of one", (add_reading, add_exporting)),
+    "snapshot": ("copy a store into one file", (add_reading,)),
     "names": ("tell which OID each name of a table has now, and which ones had it before", (add_names,)),
     "status": (probing.ABOUT, (probing.add_options,)),
 }
@@ -467,6 +484,7 @@ def stoppable(call: Callable[[Options, Check], int]) -> Callable[[Options], int]
 
 RUNS: dict[str, Callable[[Options], Any]] = {
     "follow": follow, "record": record, "check": stoppable(checking.run), "drop": stoppable(dropping.run),
+    "export": stoppable(exporting.run), "snapshot": stoppable(taking.run),
     "names": lambda options: print_names(options.store), "status": probing.run,
 }
 

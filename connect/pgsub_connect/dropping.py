@@ -27,7 +27,7 @@ if TYPE_CHECKING:
 
 # What the names of a store's files add to its own, the checkpoint last: as long as it is there, a start tells what is missing.
 SUFFIXES = (
-    ".copying", ".copying-wal", ".copying-shm", ".copying.pgsub-new", ".filter", ".pgsub-new", "-wal", "-shm", "", ".tables", ".connector",
+    ".copying", ".copying-wal", ".copying-shm", ".copying.pgsub-new", ".filter", ".pgsub-new", "-wal", "-shm", "", ".request", ".tables", ".connector",
 )
 # How long a slot that was just left by its connection is waited for.
 PATIENCE = 5.0
@@ -86,7 +86,7 @@ def files_of(store: str) -> list[str]:
     named = [store + suffix for suffix in SUFFIXES]
     others = [
         path for path in glob.glob(glob.escape(store) + ".*")
-        if path.startswith((store + ".copying", store + ".filter", store + ".tables", store + ".connector")) and path not in named
+        if path.startswith(tuple(store + it for it in (".copying", ".filter", ".export.", ".request", ".tables", ".connector"))) and path not in named
     ]
     return [path for path in (*sorted(others), *named) if os.path.lexists(path)]
 

@@ -1,7 +1,6 @@
 //! A server is followed over a store: what is written, what is stored, and how it ends.
 
 use crate::runs::File;
-use trial_stores::{Trial, on_memory_disks};
 use pgapply::ReplicaStore;
 use pgfollow::{Clock, Link};
 use pglsn::Lsn;
@@ -12,6 +11,7 @@ use std::io;
 use std::io::{ErrorKind, Write};
 use std::process::Abort;
 use std::test::Fail;
+use trial_stores::{Trial, on_memory_disks};
 
 /// A transaction that ends at 0/130 and stores a row, and a keepalive of 0/180 that asks for a reply.
 const SESSION: &[u8] =

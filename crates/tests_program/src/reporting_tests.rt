@@ -1,6 +1,5 @@
 //! What is told of a long run, and that nothing else is another one.
 
-use trial_stores::{Trial, on_memory_disks};
 use pgapply::ReplicaStore;
 use pglsn::Lsn;
 use pgorder::Version;
@@ -11,6 +10,7 @@ use std::io;
 use std::process::Abort;
 use std::test::Fail;
 use std::time::{Clock, Duration};
+use trial_stores::{Trial, on_memory_disks};
 
 /// A clock that goes on by 600 milliseconds whenever it is read.
 #[derive(Drop)]

@@ -1,6 +1,5 @@
 //! What is applied to a store, and how a store that isn't opened is told.
 
-use trial_stores::{Trial, on_memory_disks};
 use pgapply::{ReplicaStore, StoreFault};
 use pgcommand::Task;
 use pgorder::Version;
@@ -9,6 +8,7 @@ use pgsub_cli::storing::{Incoming, read_input, run_store, tell_stopped, tell_uno
 use pgsub_core::Side;
 use std::process::Abort;
 use std::test::Fail;
+use trial_stores::{Trial, on_memory_disks};
 
 /// The bytes of a file, which are no frames.
 struct FeedsBytes;
