@@ -69,8 +69,9 @@ class Case(unittest.TestCase):
         told = self.run_it(*words)
         self.assertEqual(told.returncode, 1, told.stderr)
         self.assertIn("UnknownFrame", told.stderr)
-        with open(self.root / "lib/pgsub/BUILD", "a") as file:
-            file.write("more 1\n")
+        build = self.root / "lib/pgsub/BUILD"
+        self.addCleanup(build.write_text, build.read_text())
+        build.write_text("version 1.2+4\n")
         told = self.run_it(*words)
         self.assertEqual(told.returncode, 7, told.stderr)
         self.assertIn("install both from one package", told.stderr)
