@@ -70,7 +70,7 @@ class FakeConnection:
     def text(self, command: str) -> str:
         return self.value(command) or ""
 
-    def run(self, command: str, wanted: object = None) -> None:
+    def run(self, command: str, wanted: object = None, limit: float = 0) -> None:
         self.server.rows_for(command)
 
     def copied_blocks(self, command: str, size: int) -> Iterator[list[bytes]]:
@@ -92,6 +92,9 @@ class FakeConnection:
 
     def socket(self) -> int:
         return self.ends[0]
+
+    def pid(self) -> int:
+        return 4711
 
     def consume(self) -> None:
         raise ServerError("lost")
