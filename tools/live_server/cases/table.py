@@ -9,11 +9,14 @@ from ..checks import Checks
 from ..errors import Unusable
 from ..options import Options
 from ..place import Place, Shared
-from . import shapes, starts
+from . import names, publications, shapes, starts, values
 from .case import Case
 
 THEMES: dict[str, Sequence[Case]] = {
     "starts": (*starts.CASES, *shapes.CASES),
+    "names": names.CASES,
+    "publications": publications.CASES,
+    "values": values.CASES,
 }
 
 
