@@ -5,7 +5,7 @@ from __future__ import annotations
 import contextlib
 import json
 import shutil
-import signal
+import subprocess
 import sys
 import tempfile
 import time
@@ -73,6 +73,20 @@ class Place:
         cluster.start()
         cluster.run("CREATE DATABASE shop", database="postgres")
         return cluster
+
+    def copy_of(self, server: Cluster) -> Cluster:
+        """Another server, with a copy of the files of one that is stopped. It isn't started yet."""
+        cluster = Cluster(self.options.installed, self.options.folder, files=server.data)
+        self.closing.callback(cluster.remove)
+        return cluster
+
+    def small_disk(self, megabytes: int) -> Path:
+        """A folder on a file system of its own."""
+        folder = self.folder / "disk"
+        folder.mkdir()
+        subprocess.run(["mount", "-t", "tmpfs", "-o", f"size={megabytes}M,mode=700", "tmpfs", folder], check=True)
+        self.closing.callback(lambda: subprocess.run(["umount", "-l", folder], check=False))
+        return folder
 
     def proxy(self, cluster: Cluster | None = None) -> Proxy:
         """A proxy before the server."""
@@ -164,7 +178,7 @@ class Place:
     def is_strict_about(self, kind: str) -> None:
         """What was found ends a strict start, and is forgotten once it is accepted."""
         self.ends(UNFIT, kind, "--strict")
-        self.follow("--accept", kind)
+        self.follow(*(word for it in self.found() for word in ("--accept", it)))
         if self.found():
             raise Failed(f"it still has {self.found()}")
         self.follow("--strict")
@@ -250,4 +264,3 @@ copying.{name} = last
 sys.argv[0] = {house!r} + "/pgsub-connect"
 cli.run()
 """
-SIGNALS = (signal.SIGTERM, signal.SIGINT)
