@@ -90,6 +90,10 @@ class Cluster:
     def dsn(self, database: str = "shop", user: str = "") -> str:
         return f"host={self.folder} port={self.port} user={user or self.user} dbname={database}"
 
+    def dsn_inside(self, database: str = "shop") -> str:
+        """A connection string for another server of the same installation."""
+        return self.dsn(database).replace(str(self.folder), self.installed.inside(self.folder))
+
     def connect(self, database: str = "shop") -> Session:
         return Session(self.dsn(database))
 

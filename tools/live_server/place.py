@@ -9,7 +9,7 @@ import subprocess
 import sys
 import tempfile
 import time
-from collections.abc import Callable, Mapping
+from collections.abc import Mapping
 from pathlib import Path
 from typing import Any
 
@@ -232,16 +232,6 @@ class Shared:
         if self.cluster:
             self.cluster.remove()
         self.cluster = None
-
-
-def at_a_signal(call: Callable[[], None], seconds: float) -> float:
-    """How long a call took. Fails where it took longer than so many seconds."""
-    began = time.monotonic()
-    call()
-    took = time.monotonic() - began
-    if took > seconds:
-        raise Failed(f"it took {took:.1f} seconds in place of {seconds}")
-    return took
 
 
 def killed_at(place: Place, name: str, after: bool) -> None:
