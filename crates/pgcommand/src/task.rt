@@ -1,10 +1,10 @@
 //! The tasks of the program, and how the parsed words ask for them.
 
-ghost use Rattle.std.specs.Prelude.{◌≡◌, ◌≤◌, ◌↔◌, IfOk, Option, true, codes, string_bytes};
+ghost use Rattle.std.specs.Prelude.{◌≡◌, ◌↔◌, IfOk, Option, true, codes, string_bytes};
 ghost use Rattle.clap.specs.Words.{found_of, one_of, rows_of};
 ghost use Rattle.pgcommand.specs.Asked.{IsAsked, IsCommandName, IsFlag, IsLimits, NamesStore, ReadsAsOne, ReadsUpTo, IsVersion, text_in};
 
-use crate::limits::{Limits, fitting};
+use crate::limits::Limits;
 use clap::ArgMatches;
 use pgorder::Version;
 use std::alloc::{AllocError, Global};
@@ -88,12 +88,11 @@ fn max_buffered_of(found: &ArgMatches<'_>) -> u64
 
 /// The value of `--max-frame`.
 fn max_frame_of(found: &ArgMatches<'_>) -> u32
-    ensures fits { result ≤ 2147483643 }
-    ensures reads { ReadsUpTo 2147483643 (one_of (codes "max-frame") (rows_of (found_of found.now)))
+    ensures { ReadsUpTo 2147483643 (one_of (codes "max-frame") (rows_of (found_of found.now)))
         result }
 {
     match found.get_one::<u32>("max-frame") {
-        Some(bytes) => fitting(bytes),
+        Some(bytes) => bytes,
         None => Limits::DEFAULT.max_frame,
     }
 }

@@ -14,15 +14,15 @@ use Rattle.pgsub_core.specs.Following.{AreFed, Becomes}
 use Rattle.pgsub_core.specs.SubscriberValue.{SubscriberValue, seen}
 use Rattle.pglsn.specs.Texts.{lsn_text}
 use Rattle.pgsub_cli.specs.DumpText.{dump_of, position_line}
-use Rattle.pgsub_cli.specs.Limits.{clock}
+use Rattle.pgsub_cli.specs.Limits.{clock, longest_within}
 
 -- over an empty store, within these limits
 abbrev pub new_subscriber : Limits → Version → Subscribed
-new_subscriber limits version = newly map.empty 0 version limits.max_frame limits.max_buffered
+new_subscriber limits version = newly map.empty 0 version (longest_within limits) limits.max_buffered
 
 -- over a store with these tables at this position
 abbrev pub subscriber_over : Limits → Tables → ℕ → Version → Subscribed
-subscriber_over limits tables position version = newly tables position version limits.max_frame limits.max_buffered
+subscriber_over limits tables position version = newly tables position version (longest_within limits) limits.max_buffered
 
 -- The bytes of these sessions lead from one state to another, and this fault stopped them, if one did. Of whatever history they are
 -- the sessions, they were followed.

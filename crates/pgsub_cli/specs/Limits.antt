@@ -1,5 +1,5 @@
 -- The program's limits, in bytes.
-use Rattle.std.specs.Prelude.{◌≡◌, ℕ, ℤ, pos, refl}
+use Rattle.std.specs.Prelude.{◌≡◌, ℕ, ℤ, min, pos, refl}
 use Rattle.pgcommand.specs.declared.limits.Limits.{Limits}
 use Rattle.pgcommand.specs.declared.limits.TheConstants.Limits.{DEFAULT}
 
@@ -20,6 +20,10 @@ default_limits = DEFAULT
 
 pub default_limits_are : (default_limits.max_buffered ≡ most_buffered) × (default_limits.max_frame ≡ longest_payload)
 default_limits_are = (refl, refl)
+
+-- of a frame's payload, where the command line says so: none can be longer than 2147483643
+abbrev pub longest_within : Limits → ℕ
+longest_within limits = min limits.max_frame 2147483643
 
 -- the client's clock of replies, of which the program sends none
 abbrev pub clock : ℤ

@@ -4,7 +4,7 @@ ghost use Rattle.std.specs.Prelude.{IfOk, IfErr};
 ghost use Rattle.pgsub_core.specs.Faults.{IsReadFault};
 ghost use Rattle.pgsub_cli.specs.Stores.{IsNew};
 
-use crate::limits::Limits;
+use crate::limits::{Limits, max_frame};
 use pgapply::StoreFault;
 use pgmemory::MemoryDisk;
 use pgorder::Version;
@@ -32,5 +32,5 @@ pub(crate) fn new_subscriber(
         Err(fault) => return Err(Fault::Store(fault)),
     };
     let spools = ByteSpools::new(alloc, limits.max_buffered);
-    Ok(Subscriber::new(alloc, store, spools, version, limits.max_frame))
+    Ok(Subscriber::new(alloc, store, spools, version, max_frame(limits)))
 }

@@ -18,7 +18,7 @@ use crate::applying::{apply_input, apply_sessions};
 use crate::dump::dump_text;
 use crate::fault::{Ending, RunFault};
 use crate::files::{Input, Output};
-use crate::limits::Limits;
+use crate::limits::{Limits, max_frame};
 use crate::printed::{Printed, write_printed};
 use crate::recorded::read_sessions;
 use crate::running::{left_path, right_path, status, tell};
@@ -100,7 +100,7 @@ pub(crate) fn subscriber_over<C: ReplicaStore + Drop>(
         ≡ subscriber_over limits tables (C.place store) version }
 {
     let spools = ByteSpools::new(alloc, limits.max_buffered);
-    Subscriber::new(alloc, store, spools, version, limits.max_frame)
+    Subscriber::new(alloc, store, spools, version, max_frame(limits))
 }
 
 /// A fault of a store, as that of following.

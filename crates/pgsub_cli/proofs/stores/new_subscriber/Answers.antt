@@ -9,6 +9,7 @@ returns-clause-new c = record {
   empty = subst (λ (s : InMemory). holds_tables s map.empty) (sym c.new.ensures.store) c.in-Ok.ensures.empty.1.stored;
   state =
       c.new.ensures.state map.empty
-      ∙ ap (λ (n : ℕ). newly map.empty n c.args.version c.args.limits.max_frame c.new-spools.result.most) (sym c.in-Ok.ensures.empty.1.position)
-      ∙ ap (λ (n : ℕ). newly map.empty 0 c.args.version c.args.limits.max_frame n) c.new-spools.ensures.limit;
+      ∙ ap (λ (n : ℕ). newly map.empty n c.args.version c.max_frame.result c.new-spools.result.most) (sym c.in-Ok.ensures.empty.1.position)
+      ∙ ap (λ (n : ℕ). newly map.empty 0 c.args.version c.max_frame.result n) c.new-spools.ensures.limit
+      ∙ ap (λ (n : ℕ). newly map.empty 0 c.args.version n c.args.limits.max_buffered) c.max_frame.ensures.least;
 }
