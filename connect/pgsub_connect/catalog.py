@@ -94,7 +94,7 @@ class Catalog:
 
 def read_catalog(connection: Connection, names: list[str]) -> Catalog:
     """Reads it, with a number of queries that doesn't depend on that of the tables."""
-    connection.run("SET jit = off")
+    connection.run("SET jit = off", limit=QUICK)
     publications = read_publications(connection, names)
     tables = read_tables(connection, list(publications))
     partitions = read_partitions(connection, list(publications))

@@ -4,6 +4,7 @@ from __future__ import annotations
 
 import collections
 import contextlib
+import errno
 import fcntl
 import os
 import select
@@ -13,7 +14,7 @@ import subprocess
 from collections.abc import Sequence
 
 from . import log
-from .errors import FilterFault
+from .errors import FilterFault, Passing
 from .postgres import Check, never
 
 # A status: CopyData, 34 bytes of payload that begin with `r`, and written, flushed, applied, clock and ask in them.
@@ -107,6 +108,8 @@ class Filter:
                 env={name: value for name, value in os.environ.items() if name in KEPT},
             )
         except OSError as error:
+            if error.errno in (errno.EAGAIN, errno.ENOMEM):
+                raise Passing(f"{self.words[0]} can't be started now: {error.strerror}") from None
             raise FilterFault(f"{self.words[0]}: {error.strerror}") from None
         assert self.child.stdin and self.child.stdout and self.child.stderr
         self.down, self.up, self.err = (it.fileno() for it in (self.child.stdin, self.child.stdout, self.child.stderr))

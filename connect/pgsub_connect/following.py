@@ -8,7 +8,7 @@ import time
 from typing import TYPE_CHECKING
 
 from . import checkpoint as known_of
-from . import log
+from . import log, sizes
 from .checkpoint import Checkpoint, check_gap
 from .errors import Passing, ServerError, Stopped, Unfit
 from .filtering import PIECE, Filter, FilterEnded, asking, flushed, pack_header
@@ -17,7 +17,7 @@ from .postgres import COPY_BOTH, Connection
 from .progress import Progress
 from .recording import Aside
 from .remembered import Remembered
-from .server import Server, identify, left_at, log_end, sender_timeout, settle, slot_position
+from .server import Server, identify, is_lost, left_at, log_end, sender_timeout, settle, slot_position
 from .skipping import Skipping
 from .snapshots import Snapshots
 from .texts import counted, identifier, lsn_text, replication_literal
@@ -34,6 +34,8 @@ OPENED_AFTER = (1, 2, 4, 8, 15, 30)
 INTERNAL = "XX000"
 # How often a position that a keepalive alone has moved is passed on, in seconds. Each time costs a sync of the checkpoint.
 QUIET = 1.0
+# What a standby says that can't be followed: it has no such feature, or the slot is one that it only keeps for its promotion.
+NOT_AT_STANDBYS = ("0A", "55000")
 # The first version of the server that has version 2 of the protocol, and the first that aborts transactions in version 1 too.
 STREAMS, ABORTS_IN_VERSION_1 = 140000, 180000
 
@@ -59,6 +61,7 @@ class Follower:
         self.noting = Noting(progress, remembered)
         self.watch = Watch(options, checkpoint, progress, remembered)
         self.skipping = Skipping(options.skip, checkpoint, progress, remembered)
+        self.kills = sizes.Kills()
         # the greatest end of a commit that was passed on and is confirmed
         self.position = 0
         self.last_sent = self.last_moved = 0.0
@@ -104,9 +107,13 @@ class Follower:
     def note_end(self, ended: FilterEnded) -> None:
         """Notes why the filter ended. Raises where the same would come of another try."""
         if not (ended.is_full() and self.stop_streaming("open transactions were too much at a time")):
+            largest = self.noting.largest()
+            if text := sizes.text_of(ended, self.options, largest, self.noting.longest):
+                log.error(text)
             if ended.is_rejection():
                 self.tell_rejected(ended)
                 raise ended
+            self.kills.note(ended, *largest)
             log.warning(f"{ended}: it is started again")
         self.progress.last_error = str(ended)
         self.progress.restarts += 1
@@ -210,6 +217,8 @@ class Follower:
         self.tell_plain_text(connection)
         server = identify(connection)
         self.progress.note_server(connection.version(), server.timeline)
+        self.progress.server_started, self.progress.is_standby = server.started, server.is_standby
+        self.progress.was_promoted = False
         self.choose_protocol(connection.version())
         at = self.filter.confirmed()
         self.check_server(server, at)
@@ -225,10 +234,10 @@ class Follower:
         self.skipping.begin_session(self.filter.confirmed())
         self.noting.begin_session()
         if options.until == "now" and self.until is None:
-            self.until = log_end(connection, server.is_standby)
+            self.until = log_end(connection)
         timeout = sender_timeout(connection)
         self.heartbeat = min(options.heartbeat, timeout / 3) if timeout else options.heartbeat
-        connection.run(self.command(self.filter.confirmed()), wanted=COPY_BOTH)
+        self.start_replication(connection, server)
         self.check_slot()
         self.was_connected = True
         self.progress.sessions += 1
@@ -236,6 +245,15 @@ class Follower:
         if self.recording:
             self.recording.begin_session(connection, options, at)
         return connection
+
+    def start_replication(self, connection: Connection, server: Server) -> None:
+        """Asks for the changes. A standby rejects that where it has no slots of its own, until it is promoted."""
+        try:
+            connection.run(self.command(self.filter.confirmed()), wanted=COPY_BOTH, limit=self.options.silence)
+        except ServerError as error:
+            if server.is_standby and error.sqlstate.startswith(NOT_AT_STANDBYS) and not is_lost(connection, self.options.slot):
+                raise ServerError(f"the server is a standby: {error}") from None
+            raise
 
     def tell_plain_text(self, connection: Connection) -> None:
         """Warns once of a connection that others on the way can read."""
@@ -277,10 +295,14 @@ class Follower:
         """Checks that what the store has is in the server's history too, where its timeline isn't that of the last session.
 
         A server that was promoted or put back has a timeline of its own. It left the old one at an LSN; what the store has above
-        that is of commits that the server hasn't.
+        that is of commits that the server hasn't. But a standby that was promoted since without being started anew has all that it
+        ever sent.
         """
         known = self.checkpoint.known
         if not known.timeline or server.timeline == known.timeline or self.options.accepts("history"):
+            return
+        if known.started and known.started == server.started:
+            log.info(f"the server was promoted while it was followed: it is on the timeline {server.timeline} now")
             return
         left = left_at(connection, server.timeline, known.timeline) if server.timeline > known.timeline else None
         if left is None or self.position > left:
@@ -325,8 +347,8 @@ class Follower:
         else:
             check_gap(known, position, slot_at)
         self.checkpoint.write(
-            True, phase=known_of.FOLLOWING, system=server.system, timeline=server.timeline, database=server.database,
-            slot=self.options.slot, position=max(position, self.checkpoint.known.position),
+            True, phase=known_of.FOLLOWING, system=server.system, timeline=server.timeline, started=server.started,
+            database=server.database, slot=self.options.slot, position=max(position, self.checkpoint.known.position),
         )
 
     def command(self, at: int) -> str:
@@ -348,6 +370,8 @@ class Follower:
         socket = connection.socket()
         while not self.is_over():
             self.progress.beat()
+            if self.progress.was_promoted:
+                raise ServerError("the standby was promoted: a session with the new primary is begun")
             room = not self.holds_for_snapshot() and self.filter.has_room()
             if more and room:
                 more = self.take_payloads(connection)
@@ -417,6 +441,7 @@ class Follower:
                 frames += (pack_header(b"d", size + 4), payload)
                 if size >= PIECE:
                     # (a long one isn't copied together with others)
+                    self.noting.longest = max(self.noting.longest, size)
                     child.push_all(frames[:-1])
                     child.push(payload)
                     frames.clear()

@@ -185,7 +185,7 @@ class Connection:
                 if self.unsent:
                     self.flush()
                 if time.monotonic() > until:
-                    raise ServerError(f"the server didn't answer within {QUICK:.0f} seconds")
+                    raise ServerError("the server didn't answer in time")
                 # (what TLS has read already doesn't wake select)
                 self.consume()
                 if not self.raw.is_busy():
@@ -202,7 +202,7 @@ class Connection:
             # (libpq's own call has no limit)
             thread = threading.Thread(target=cancel_by, args=(handle,), daemon=True)
             thread.start()
-            thread.join(2)
+            thread.join(TICK / 2)
 
     def next_result(self, until: float = float("inf")) -> pq.abc.PGresult | None:
         """The next result of the command that runs, None after the last."""
@@ -238,8 +238,8 @@ class Connection:
         sqlstate = result.error_field(pq.DiagnosticField.SQLSTATE)
         return ServerError(said or self.error(), sqlstate.decode() if sqlstate else "")
 
-    def run(self, command: str, wanted: tuple[pq.ExecStatus, ...] = DONE) -> None:
-        self.execute(command, wanted)
+    def run(self, command: str, wanted: tuple[pq.ExecStatus, ...] = DONE, limit: float = float("inf")) -> None:
+        self.execute(command, wanted, limit)
 
     def rows(self, command: str, limit: float = float("inf")) -> list[list[str | None]]:
         """Runs a query, and returns its rows as lists of texts, None for null."""
@@ -254,8 +254,8 @@ class Connection:
         return rows[0][0] if rows else None
 
     def text(self, command: str) -> str:
-        """The first value of a query's first row, which is there."""
-        return self.value(command) or ""
+        """The first value of a query's first row, which is there and takes no time."""
+        return self.value(command, QUICK) or ""
 
     def parameter(self, name: str) -> str:
         value = self.raw.parameter_status(name.encode())
@@ -267,6 +267,10 @@ class Connection:
 
     def socket(self) -> int:
         return self.number
+
+    def pid(self) -> int:
+        """The process at the server."""
+        return self.raw.backend_pid
 
     def is_encrypted(self) -> bool:
         return bool(self.raw.ssl_in_use)

@@ -3,6 +3,8 @@
 The file is `STORE.tables`, one object of JSON. It is replaced as a whole: written to a new file, which gets the name once the disk
 has it. So a reader (`pgsub-connect names`) may look at it at any time.
 
+As long as nothing was copied it has the first two fields alone.
+
 | Field | Means |
 |---|---|
 | `format` | 1 |
@@ -138,8 +140,14 @@ class Remembered:
 
     def note_made(self, made: dict[str, int]) -> None:
         """Notes publications that were made for this store, with their OIDs."""
-        self.made = {**self.made, **made}
-        self.is_urgent = self.is_changed = True
+        if made:
+            self.made = {**self.made, **made}
+            self.is_urgent = self.is_changed = True
+
+    def keep_made(self, made: dict[str, int]) -> None:
+        """Notes publications before they are there for others, and durably: so a later run knows what one that was killed has left."""
+        self.note_made(made)
+        self.save()
 
     def look(self, now: Catalog) -> list[str]:
         """Compares what a server has with what is remembered, and remembers it. Returns what makes nothing wrong, but is new."""
@@ -289,6 +297,10 @@ class Remembered:
     def restore(self, said: dict[str, Any]) -> None:
         if said["format"] != FORMAT:
             raise FileError(f"{self.path}: of a later version of this program (format {said['format']})")
+        self.made = {str(name): int(oid) for name, oid in said["made"].items()}
+        if "followed" not in said:
+            # (nothing was copied yet)
+            return
         self.catalog = catalog_of(said)
         self.sent = {
             int(oid): Sent(parse_lsn(lsn), shape_of(*shape) if shape else None) for oid, (lsn, shape) in said["sent"].items()
@@ -301,10 +313,10 @@ class Remembered:
         self.found = {kind: Found(parse_lsn(lsn), list(texts), int(more)) for kind, (lsn, texts, more) in said["found"].items()}
         self.told = {text: parse_lsn(lsn) for text, lsn in said["told"].items()}
         self.left = {int(oid) for oid in said["left"]}
-        self.made = {str(name): int(oid) for name, oid in said["made"].items()}
 
     def written(self) -> dict[str, Any]:
-        assert self.catalog is not None
+        if self.catalog is None:
+            return {"format": FORMAT, "made": self.made}
         return {
             "format": FORMAT,
             "made": self.made,
@@ -318,15 +330,25 @@ class Remembered:
 
     def save(self) -> None:
         """Replaces the file. The disk has it before this returns."""
-        if self.catalog is None:
+        if self.catalog is None and not self.made:
             self.is_urgent = self.is_changed = False
             return
         text = json.dumps(self.written(), ensure_ascii=False, separators=(",", ":")) + "\n"
         replace_file(self.path, text.encode())
         self.is_urgent = self.is_changed = False
 
+    def begin_anew(self) -> None:
+        """Forgets all but the publications that were made, as where the store is made anew."""
+        made = self.made
+        self.forget()
+        self.made = made
+        if made:
+            self.save()
+        else:
+            self.remove()
+
     def remove(self) -> None:
-        """Forgets all, as where the store is made anew."""
+        """Forgets all, and the file goes."""
         self.forget()
         try:
             with contextlib.suppress(FileNotFoundError):

@@ -3,7 +3,6 @@
 use crate::row::Step::{At, Rows};
 use crate::row::{AMPLE, Row, T_1_A};
 use crate::steps::{MAX_FRAME, NOW, bytes_of, take_steps};
-use trial_stores::{Trial, in_memory};
 use pgapply::ReplicaStore;
 use pglsn::Lsn;
 use pgorder::{OrderFault, Version};
@@ -13,6 +12,7 @@ use std::io;
 use std::io::{ErrorKind, Read};
 use std::process::Abort;
 use std::test::Fail;
+use trial_stores::{Trial, in_memory};
 
 /// Gives at most so many bytes a call, and after the last one an error or the end.
 #[derive(Clone, Copy, Drop)]

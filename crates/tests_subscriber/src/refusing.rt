@@ -115,10 +115,7 @@ fn takes_all_in_memory(
 }
 
 /// The same over disks in memory. Where a disk can't grow, the store may shut with `Refused`, and all is taken anew by other spools.
-fn takes_all_on_disks(
-    rt: &(impl Abort + AllocGlobal),
-    trial: &TakesAll<'_>,
-) -> Result<bool, Fail> {
+fn takes_all_on_disks(rt: &(impl Abort + AllocGlobal), trial: &TakesAll<'_>) -> Result<bool, Fail> {
     if let Ok(taken) = on_memory_disks(rt, trial) {
         if taken != Err(Fault::Store(StoreFault::Refused)) {
             return Ok(taken?);

@@ -3,13 +3,13 @@
 use crate::row::Step::{At, Feed, Replies, Rows, Status};
 use crate::row::{AMPLE, Row, T_1_A, T_2_B};
 use crate::steps::{MAX_FRAME, take_steps};
-use trial_stores::{Trial, in_memory};
 use pgapply::ReplicaStore;
 use pgorder::Version;
 use pgspool::{ByteSpools, ListSpools};
 use pgsub_core::Subscriber;
 use std::process::Abort;
 use std::test::Fail;
+use trial_stores::{Trial, in_memory};
 
 static FIRST: Row = Row {
     shows: "the first of two subscribers",

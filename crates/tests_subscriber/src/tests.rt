@@ -4,12 +4,12 @@ use crate::blocks::BLOCKS;
 use crate::row::Row;
 use crate::states::{STATES, VERSION_1};
 use crate::steps::{Way, check};
-use trial_stores::{Trial, in_memory, on_memory_disks};
 use crate::transactions::{BAD_CHANGES, TRANSACTIONS};
 use pgapply::ReplicaStore;
 use pgorder::Version;
 use std::process::Abort;
 use std::test::Fail;
+use trial_stores::{Trial, in_memory, on_memory_disks};
 
 /// Encoded items, a byte at a time.
 const ENCODED_IN_BYTES: Way = Way {

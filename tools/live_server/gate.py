@@ -1,0 +1,46 @@
+"""The short run of the merge gate: a copy of rows, following, each part killed once, and a comparison."""
+
+from __future__ import annotations
+
+import dataclasses
+import time
+
+from .checks import Checks
+from .killing import Run
+from .options import Options
+
+
+def run(options: Options, checks: Checks) -> None:
+    # (before version 14 of the server there is no version 2)
+    run = Run(dataclasses.replace(options, workers=2, pause=0.2), proto=options.proto or 2)
+    try:
+        if checks.run("copies rows while others are written", lambda: copies(run)):
+            follows(run, checks)
+    finally:
+        run.close()
+
+
+def copies(run: Run) -> None:
+    run.fill(20_000)
+    run.begin(truncates=False)
+    run.wait_for("0/1", 60, "the copy")
+    run.supervisor.check()
+
+
+def follows(run: Run, checks: Checks) -> None:
+    for victim in ("filter", "connector", "server"):
+        checks.run(f"goes on after its {victim} was killed", lambda: goes_on(run, victim))
+    checks.run("has the rows of the server", lambda: equal(run))
+
+
+def goes_on(run: Run, victim: str) -> None:
+    """Kills a part, and waits until what is written afterwards is confirmed."""
+    assert run.kill(victim), f"no {victim} runs"
+    time.sleep(0.5)
+    end = run.cluster.log_end()
+    run.wait_for(end, 60, f"confirming {end}")
+
+
+def equal(run: Run) -> str:
+    committed = run.end_load()
+    return f"{run.compare()}; {committed} transactions"
