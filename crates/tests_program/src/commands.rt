@@ -231,7 +231,7 @@ const REJECTED: &[(&str, ErrorKind)] = &[
         "pgsub apply --max-buffered=-1 F",
         ErrorKind::ValueValidation,
     ),
-    ("pgsub apply --max-frame= F", ErrorKind::InvalidValue),
+    ("pgsub apply --max-frame= F", ErrorKind::ValueValidation),
     (
         "pgsub follow --store S --max-frame 1 --max-frame 2",
         ErrorKind::ArgumentConflict,
