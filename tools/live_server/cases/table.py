@@ -11,6 +11,7 @@ from ..options import Options
 from ..place import Place, Shared
 from . import names, publications, shapes, starts, values
 from .case import Case
+from . import privacy, reaching, sideroads, standbys, versions
 
 THEMES: dict[str, Sequence[Case]] = {
     "starts": (*starts.CASES, *shapes.CASES),
@@ -18,6 +19,12 @@ THEMES: dict[str, Sequence[Case]] = {
     "publications": publications.CASES,
     "values": values.CASES,
 }
+# what lies beside the way of the changes, and other ways to a server
+THEMES["standbys"] = standbys.CASES
+THEMES["reaching"] = reaching.CASES
+THEMES["versions"] = versions.CASES
+THEMES["sideroads"] = sideroads.CASES
+THEMES["privacy"] = privacy.CASES
 
 
 def chosen(names: Sequence[str]) -> list[Case]:
