@@ -10,7 +10,7 @@ from pathlib import Path
 from signal import SIGKILL, SIGTERM
 
 from .errors import Failed
-from .follower import children, wait_until
+from .follower import Patience, children, wait_until
 
 
 class Child:
@@ -56,6 +56,7 @@ class Child:
 
     def end(self, seconds: float = 60) -> int:
         """Waits for the end, and returns the status."""
+        seconds *= Patience.factor
         try:
             return self.process.wait(seconds)
         except subprocess.TimeoutExpired:
@@ -69,7 +70,7 @@ class Child:
         status = self.end()
         if status:
             raise Failed(f"it ended with status {status} after signal {number}: {self.said()}")
-        if (took := time.monotonic() - began) > within:
+        if (took := time.monotonic() - began) > within * Patience.factor:
             raise Failed(f"it ended {took:.1f} seconds after the signal")
         return self.said()
 

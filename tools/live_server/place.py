@@ -5,11 +5,11 @@ from __future__ import annotations
 import contextlib
 import json
 import shutil
-import signal
+import subprocess
 import sys
 import tempfile
 import time
-from collections.abc import Callable, Mapping
+from collections.abc import Mapping
 from pathlib import Path
 from typing import Any
 
@@ -73,6 +73,20 @@ class Place:
         cluster.start()
         cluster.run("CREATE DATABASE shop", database="postgres")
         return cluster
+
+    def copy_of(self, server: Cluster) -> Cluster:
+        """Another server, with a copy of the files of one that is stopped. It isn't started yet."""
+        cluster = Cluster(self.options.installed, self.options.folder, files=server.data)
+        self.closing.callback(cluster.remove)
+        return cluster
+
+    def small_disk(self, megabytes: int) -> Path:
+        """A folder on a file system of its own."""
+        folder = self.folder / "disk"
+        folder.mkdir()
+        subprocess.run(["mount", "-t", "tmpfs", "-o", f"size={megabytes}M,mode=700", "tmpfs", folder], check=True)
+        self.closing.callback(lambda: subprocess.run(["umount", "-l", folder], check=False))
+        return folder
 
     def proxy(self, cluster: Cluster | None = None) -> Proxy:
         """A proxy before the server."""
@@ -164,7 +178,7 @@ class Place:
     def is_strict_about(self, kind: str) -> None:
         """What was found ends a strict start, and is forgotten once it is accepted."""
         self.ends(UNFIT, kind, "--strict")
-        self.follow("--accept", kind)
+        self.follow(*(word for it in self.found() for word in ("--accept", it)))
         if self.found():
             raise Failed(f"it still has {self.found()}")
         self.follow("--strict")
@@ -220,16 +234,6 @@ class Shared:
         self.cluster = None
 
 
-def at_a_signal(call: Callable[[], None], seconds: float) -> float:
-    """How long a call took. Fails where it took longer than so many seconds."""
-    began = time.monotonic()
-    call()
-    took = time.monotonic() - began
-    if took > seconds:
-        raise Failed(f"it took {took:.1f} seconds in place of {seconds}")
-    return took
-
-
 def killed_at(place: Place, name: str, after: bool) -> None:
     """Runs the connector, which ends at once where it makes a call of its module `copying`."""
     code = KILLED_AT.format(house=str(place.options.connect.parent), name=name, before="real(*words)" if after else "pass")
@@ -250,4 +254,3 @@ copying.{name} = last
 sys.argv[0] = {house!r} + "/pgsub-connect"
 cli.run()
 """
-SIGNALS = (signal.SIGTERM, signal.SIGINT)

@@ -31,7 +31,10 @@ class Proxy:
         self.asked: list[str] = []
         self.flows = threading.Event()
         self.flows.set()
-        self.answers = True
+        self.ended = threading.Event()
+        # after how many bytes of the server a connection stops, and how many have
+        self.limit: int | None = None
+        self.stopped = 0
         self.open: list[socket.socket] = []
         self.listener = socket.socket(socket.AF_UNIX)
         self.listener.bind(str(folder / server.name))
@@ -57,6 +60,7 @@ class Proxy:
 
     def close(self) -> None:
         self.thaw()
+        self.ended.set()
         self.listener.close()
         self.cut()
         shutil.rmtree(self.folder, ignore_errors=True)
@@ -77,10 +81,15 @@ class Proxy:
 
     def down(self, client: socket.socket, server: socket.socket) -> None:
         """Passes on what the server says."""
+        passed = 0
         with contextlib.suppress(OSError):
             while piece := server.recv(1 << 16):
                 self.flows.wait()
                 client.sendall(piece)
+                passed += len(piece)
+                if self.limit is not None and passed >= self.limit:
+                    self.stopped += 1
+                    self.ended.wait()
         for it in (client, server):
             with contextlib.suppress(OSError):
                 it.shutdown(socket.SHUT_RDWR)

@@ -18,14 +18,16 @@ class Case:
     run: Callable[[Place], None]
     since: int = 13
     until: int = NEWEST
+    # whether it needs the rights of root
+    root: bool = False
 
     def about(self) -> str:
         return " ".join((self.run.__doc__ or "").split())
 
-    def has(self, version: int) -> bool:
-        return self.since <= version <= self.until
+    def needs(self) -> str:
+        """What it needs."""
+        servers = f"{self.since} and later" if self.until == NEWEST else f"{self.since} to {self.until}"
+        return f"{servers}, as root" if self.root else servers
 
-    def servers(self) -> str:
-        if self.until == NEWEST:
-            return f"{self.since}+"
-        return f"{self.since} to {self.until}"
+    def can_run(self, version: int, is_root: bool) -> bool:
+        return self.since <= version <= self.until and (is_root or not self.root)

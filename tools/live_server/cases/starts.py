@@ -10,7 +10,7 @@ from pathlib import Path
 
 from ..errors import Failed
 from ..follower import wait_until
-from ..place import FILE, LOG, PASSING, REJECTED, SERVER, UNFIT, USAGE, Place, at_a_signal, killed_at
+from ..place import FILE, LOG, PASSING, REJECTED, SERVER, UNFIT, USAGE, Place, killed_at
 from ..rows import compare, quoted, rows_of_server, rows_of_store
 from .case import Case
 
@@ -126,7 +126,7 @@ def signals(place: Place) -> None:
             writer.run("BEGIN", "INSERT INTO stock VALUES (99, 9)")
             child = place.start(*words)
             wait_until(lambda: place.value(waiting) == "1", "making a slot", 60, child.check)
-            at_a_signal(lambda child=child: child.stop(signal.SIGINT), 5)  # type: ignore[misc]
+            child.stop(signal.SIGINT, within=5)
             wait_until(lambda: place.value("SELECT count(*) FROM pg_replication_slots") == "0", "dropping the slot")
     place.follow("--create")
     place.equal()

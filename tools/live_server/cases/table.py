@@ -3,13 +3,14 @@
 from __future__ import annotations
 
 import contextlib
+import os
 from collections.abc import Iterable, Sequence
 
 from ..checks import Checks
 from ..errors import Unusable
 from ..options import Options
 from ..place import Place, Shared
-from . import names, publications, shapes, starts, values
+from . import copying, names, publications, shapes, silence, slots, starts, stops, timelines, values
 from .case import Case
 from . import privacy, reaching, sideroads, standbys, versions
 
@@ -18,6 +19,11 @@ THEMES: dict[str, Sequence[Case]] = {
     "names": names.CASES,
     "publications": publications.CASES,
     "values": values.CASES,
+    "timelines": timelines.CASES,
+    "slots": slots.CASES,
+    "copying": copying.CASES,
+    "stops": stops.CASES,
+    "silence": silence.CASES,
 }
 # what lies beside the way of the changes, and other ways to a server
 THEMES["standbys"] = standbys.CASES
@@ -41,7 +47,7 @@ def tell() -> None:
     for theme, cases in THEMES.items():
         print(f"{theme}:")
         for case in cases:
-            print(f"  {case.name} ({case.servers()}): {case.about()}")
+            print(f"  {case.name} ({case.needs()}): {case.about()}")
 
 
 def run_case(case: Case, options: Options, shared: Shared) -> None:
@@ -54,9 +60,9 @@ def run(cases: Iterable[Case], options: Options, checks: Checks) -> None:
     shared = Shared(options)
     try:
         for case in cases:
-            if case.has(options.installed.version):
+            if case.can_run(options.installed.version, os.getuid() == 0):
                 checks.run(case.name, lambda case=case: run_case(case, options, shared))  # type: ignore[misc]
             else:
-                print(f"passed over {case.name}: it needs a server {case.servers()}", flush=True)
+                print(f"passed over {case.name}: it needs {case.needs()}", flush=True)
     finally:
         shared.close()
