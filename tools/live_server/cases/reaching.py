@@ -44,7 +44,7 @@ def reached_by_tcp(place: Place, address: str, host: str) -> Cluster:
     port = free_port()
     cluster = place.own_cluster({"listen_addresses": address, "port": str(port), "password_encryption": "scram-sha-256"})
     cluster.port = port
-    lines = f"local all {cluster.user} trust\n{host} all follower {address}/32 scram-sha-256\n"
+    lines = f"local all {cluster.user} trust\n{host} all follower 127.0.0.0/8 scram-sha-256\n"
     (cluster.data / "pg_hba.conf").write_text(lines)
     if host == "hostssl":
         with_certificate(cluster)
@@ -137,7 +137,11 @@ def rights(place: Place) -> None:
     place.run("CREATE ROLE follower LOGIN")
     dsn = place.cluster.dsn(user="follower")
     (place.cluster.data / "pg_hba.conf").write_text("local all all trust\n")
-    place.ends(SERVER, "lacks REPLICATION", "--create", dsn=dsn)
+    place.ends(SERVER, "replication", "--create", dsn=dsn)
+    checked = place.started([str(place.options.connect), "check", "--dsn", dsn])
+    checked.end()
+    if "error role: follower lacks REPLICATION" not in checked.said():
+        raise Failed(f"check doesn't tell what is missing: {checked.said()}")
     place.run("ALTER ROLE follower REPLICATION")
     place.ends(SERVER, "lacks SELECT on: public.stock", "--create", dsn=dsn)
     if place.value("SELECT count(*) FROM pg_replication_slots") != "0" or place.files():
