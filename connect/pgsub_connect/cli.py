@@ -14,7 +14,7 @@ import traceback
 from collections.abc import Callable, Sequence
 from typing import Any, Protocol
 
-from . import VERSION, checking, dropping, exporting, log, probing, taking
+from . import VERSION, builds, checking, dropping, exporting, log, probing, taking
 from . import checkpoint as known_of
 from .asking import Asker
 from .checkpoint import Checkpoint
@@ -360,7 +360,9 @@ class TellVersion(argparse.Action):
 
 
 def version() -> str:
-    """The version, and the commit where this is a checkout."""
+    """The version, and of which build this is, or which commit where it is a checkout."""
+    if builds.OWN:
+        return f"{log.PROGRAM} {builds.OWN.get('version')} (commit {builds.OWN.get('commit')}, {builds.OWN.get('kit')})"
     try:
         done = subprocess.run(["git", "-C", TOP, "describe", "--always", "--dirty"], capture_output=True, check=True, timeout=5)
         return f"{log.PROGRAM} {VERSION} ({done.stdout.decode().strip()})"

@@ -1,4 +1,4 @@
-"""The short run of the merge gate: a copy of rows, following, each part killed once, and a comparison."""
+"""The short run of the merge gate: a copy of rows, following, each part killed once, a comparison, and README's walkthrough."""
 
 from __future__ import annotations
 
@@ -9,6 +9,7 @@ from .checks import Checks
 from .killing import Run, mixed
 from .load import Mixed
 from .options import Options
+from .walking import walk
 
 
 def run(options: Options, checks: Checks) -> None:
@@ -20,6 +21,7 @@ def run(options: Options, checks: Checks) -> None:
             follows(run, checks)
     finally:
         run.close()
+    checks.run("README's walkthrough with a server", lambda: walk(options))
 
 
 def copies(run: Run, load: Mixed) -> None:

@@ -95,14 +95,10 @@ struct Follows<'t> {
     expected: Expected<'t>,
 }
 
-impl Trial for Follows<'_> {
+impl<R: Abort + AllocGlobal> Trial<R> for Follows<'_> {
     type Outcome = Result<(), Fail>;
 
-    fn run<C: ReplicaStore + Drop>(
-        &self,
-        rt: &(impl Abort + AllocGlobal),
-        store: C,
-    ) -> Result<(), Fail> {
+    fn run<C: ReplicaStore + Drop>(&self, rt: &R, store: C) -> Result<(), Fail> {
         let (alloc, expected) = (rt.alloc(), &self.expected);
         let writer = Writer {
             taken: Vec::new(alloc),

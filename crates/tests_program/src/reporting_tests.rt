@@ -75,14 +75,10 @@ fn a_line_comes_once_a_second_at_most(rt: HostRuntime) -> Result<(), Fail> {
 /// A run of which is told how far it is.
 struct IsTold;
 
-impl Trial for IsTold {
+impl<R: Abort + AllocGlobal> Trial<R> for IsTold {
     type Outcome = Result<(), Fail>;
 
-    fn run<C: ReplicaStore + Drop>(
-        &self,
-        rt: &(impl Abort + AllocGlobal),
-        store: C,
-    ) -> Result<(), Fail> {
+    fn run<C: ReplicaStore + Drop>(&self, rt: &R, store: C) -> Result<(), Fail> {
         let alloc = rt.alloc();
         let reporter = RefCell::new(Reporter::new(alloc, new_clock(), Vec::new(alloc), None)?);
         let (mut out, mut err) = (Vec::new(alloc), Vec::new(alloc));

@@ -13,14 +13,10 @@ use trial_stores::{Trial, on_memory_disks};
 /// The bytes of a file, which are no frames.
 struct FeedsBytes;
 
-impl Trial for FeedsBytes {
+impl<R: Abort + AllocGlobal> Trial<R> for FeedsBytes {
     type Outcome = Result<(), Fail>;
 
-    fn run<C: ReplicaStore + Drop>(
-        &self,
-        rt: &(impl Abort + AllocGlobal),
-        store: C,
-    ) -> Result<(), Fail> {
+    fn run<C: ReplicaStore + Drop>(&self, rt: &R, store: C) -> Result<(), Fail> {
         let alloc = rt.alloc();
         let file = Some(b"x".as_slice());
         let Ok(Incoming::Raw(bytes)) = read_input(alloc, true, file) else {
