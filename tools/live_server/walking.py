@@ -13,7 +13,7 @@ from .options import Options
 
 
 def walk(options: Options) -> str:
-    """Runs the walkthrough's commands over an empty server. The program and the connector are found in PATH, as installed ones are."""
+    """Runs the walkthrough's commands over an empty server. Program and connector are found in PATH, as installed ones are."""
     folder = options.folder / "walk"
     folder.mkdir()
     for name, path in (("pgsub", options.program), ("pgsub-connect", options.connect)):
@@ -22,13 +22,13 @@ def walk(options: Options) -> str:
     try:
         cluster.start()
         places = {"PGHOST": str(cluster.folder), "PGPORT": str(cluster.port), "PGUSER": cluster.user}
-        path = f"{folder}:{options.installed.bin}:{os.environ['PATH']}"
+        search = f"{folder}:{options.installed.bin}:{os.environ['PATH']}"
         done = subprocess.run(
-            [TOP / "tools/check_documents", "--run", "server"], env={**os.environ, **places, "PATH": path},
+            [TOP / "tools/check_documents", "--run", "server"], env={**os.environ, **places, "PATH": search},
             capture_output=True, text=True, check=False,
         )
     finally:
         cluster.remove()
     if done.returncode:
         raise Failed(f"{done.stdout}{done.stderr}".strip())
-    return done.stdout.splitlines()[-1]
+    return str(done.stdout.splitlines()[-1])

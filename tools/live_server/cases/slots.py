@@ -93,6 +93,24 @@ def idle_publication(place: Place) -> None:
         raise Failed(f"the checkpoint was written at least {len(seen)} times in 6 seconds")
 
 
+def idle_for_long(place: Place) -> None:
+    """A slot that the server gave up because nobody followed it ends the start, which says so, and `check` too."""
+    place.stock()
+    place.follow("--create")
+    place.set(idle_replication_slot_timeout="1s")
+    reason = "SELECT coalesce(invalidation_reason, '') FROM pg_replication_slots"
+
+    def is_given_up() -> bool:
+        place.run("CHECKPOINT")
+        return place.value(reason) == "idle_timeout"
+
+    wait_until(is_given_up, "giving up the slot", 60)
+    place.ends(SERVER, "idle_timeout")
+    words = ("--dsn", place.dsn(), "--slot", place.slot, "--store", str(place.store))
+    if "lost (idle_timeout)" not in place.subcommand("check", *words, status=SERVER):
+        raise Failed("check doesn't tell it")
+
+
 CASES = (
     Case("slot-moved-before-the-session", moved_before_session),
     Case("tables-without-an-identity", keyless_tables),
@@ -100,4 +118,5 @@ CASES = (
     Case("publication-without-a-copy", no_copy_comes),
     Case("publication-of-a-start-that-was-stopped", stopped_while_made),
     Case("publication-that-is-idle", idle_publication),
+    Case("slot-that-was-idle-for-long", idle_for_long, since=18),
 )

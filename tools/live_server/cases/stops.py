@@ -10,6 +10,7 @@ import signal
 import time
 from pathlib import Path
 
+from ..child import Child
 from ..errors import Failed
 from ..follower import wait_until
 from ..place import FILE, OK, PASSING, REJECTED, Place
@@ -47,6 +48,29 @@ def large_transaction(place: Place) -> None:
     place.run("INSERT INTO large VALUES (100, repeat('z', 20000000))")
     place.follow("--proto", "1")
     place.equal()
+
+
+def long_row(place: Place) -> None:
+    """A row of 100 MB takes at most three times its length in the connector."""
+    place.run("CREATE TABLE large (id int PRIMARY KEY, word text)", "ALTER TABLE large ALTER word SET STORAGE EXTERNAL")
+    place.run("CREATE PUBLICATION pgsub FOR TABLE large")
+    child = place.start("--create")
+    place.catch_up(child)
+    before = most_memory(child)
+    place.run("INSERT INTO large VALUES (100, repeat('z', 100000000))")
+    place.catch_up(child)
+    taken = most_memory(child) - before
+    child.stop()
+    place.equal()
+    if taken > 300_000_000:
+        raise Failed(f"it took {taken} bytes more")
+
+
+def most_memory(child: Child) -> int:
+    """The most memory that a connector has had, in bytes."""
+    found = re.search(r"VmHWM:\s+(\d+) kB", Path(f"/proc/{child.process.pid}/status").read_text())
+    assert found
+    return 1024 * int(found[1])
 
 
 def second_connector(place: Place) -> None:
@@ -195,6 +219,7 @@ def interrupted_twice(place: Place) -> None:
 CASES = (
     Case("commit-that-is-rejected", rejected_commit),
     Case("transaction-above-64-megabytes", large_transaction),
+    Case("row-of-100-megabytes", long_row),
     Case("second-connector-on-a-store", second_connector),
     Case("program-is-never-built", not_built),
     Case("signal-while-a-lock-is-waited-for", heard_in_catalog),

@@ -12,6 +12,7 @@ from ..options import Options
 from ..place import Place, Shared
 from . import copying, names, publications, shapes, silence, slots, starts, stops, timelines, values
 from .case import Case
+from . import privacy, reaching, sideroads, standbys, versions
 
 THEMES: dict[str, Sequence[Case]] = {
     "starts": (*starts.CASES, *shapes.CASES),
@@ -24,6 +25,12 @@ THEMES: dict[str, Sequence[Case]] = {
     "stops": stops.CASES,
     "silence": silence.CASES,
 }
+# what lies beside the way of the changes, and other ways to a server
+THEMES["standbys"] = standbys.CASES
+THEMES["reaching"] = reaching.CASES
+THEMES["versions"] = versions.CASES
+THEMES["sideroads"] = sideroads.CASES
+THEMES["privacy"] = privacy.CASES
 
 
 def chosen(names: Sequence[str]) -> list[Case]:
