@@ -333,6 +333,8 @@ def settle_options(options: Options) -> None:
     options.pgsub = options.pgsub or program()
     options.max_buffered = options.max_buffered or default_buffered()
     options.max_frame = options.max_frame or min(options.max_buffered, LONGEST_FRAME)
+    # (all files get the mode that was asked for, and not what the caller's umask leaves of it)
+    os.umask(0o777 & ~options.mode)
 
 
 def program() -> str:

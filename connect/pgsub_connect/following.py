@@ -26,7 +26,10 @@ from .watching import Watch
 if TYPE_CHECKING:
     from .cli import Options
 
-LONGEST_DELAY = 60.0
+# After how many seconds a lost session is begun anew, at first and at most.
+FIRST_DELAY, LONGEST_DELAY = 1.0, 60.0
+# How long the server and the filter are waited for, and how long it is slept, before it is looked whether the end was asked for.
+STEP, SLEEP = 0.5, 0.2
 # After how many seconds each a store that can't be opened is tried again, the last one again and again.
 OPENED_AFTER = (1, 2, 4, 8, 15, 30)
 # An error that the server doesn't expect of itself. PostgreSQL 15 has one (`could not map filenode .. to relation OID`) where it
@@ -128,7 +131,7 @@ class Follower:
             if text := self.noting.rejected_text(position):
                 log.error(text)
             while True:
-                self.filter.serve(1.0)
+                self.filter.serve(STEP)
 
     def stop_streaming(self, why: str) -> bool:
         """Asks for whole transactions from now on. Returns false where they come so already."""
@@ -188,11 +191,11 @@ class Follower:
         until = time.monotonic() + seconds
         while (left := until - time.monotonic()) > 0:
             self.check_stop()
-            time.sleep(min(left, 0.2))
+            time.sleep(min(left, SLEEP))
 
     def wait(self) -> None:
         """Waits before the next session, each time longer, and serves the filter meanwhile."""
-        self.delay = min(2 * self.delay, LONGEST_DELAY) if self.delay else 1.0
+        self.delay = min(2 * self.delay, LONGEST_DELAY) if self.delay else FIRST_DELAY
         if not self.stop_asked:
             self.progress.state = "waiting to connect again"
         until = time.monotonic() + self.delay
@@ -200,10 +203,10 @@ class Follower:
             self.progress.beat()
             self.holds_for_snapshot()
             if not self.filter.is_running():
-                time.sleep(min(left, 0.2))
+                time.sleep(min(left, SLEEP))
                 continue
             try:
-                self.note_statuses(self.filter.serve(min(left, 0.5))[2])
+                self.note_statuses(self.filter.serve(min(left, STEP))[2])
             except FilterEnded as ended:
                 self.note_end(ended)
 
@@ -385,7 +388,7 @@ class Follower:
             if self.held:
                 wait = min(wait, QUIET)
             readable, writable, statuses = self.filter.serve(
-                max(0.0, min(wait, 1.0)), [socket] if room else [], [socket] if connection.unsent else []
+                max(0.0, min(wait, STEP)), [socket] if room else [], [socket] if connection.unsent else []
             )
             self.forward(statuses)
             # (what TLS has read already doesn't wake select)
@@ -505,7 +508,7 @@ class Follower:
         try:
             while True:
                 self.progress.beat()
-                for status in self.filter.serve(1.0)[2][-1:]:
+                for status in self.filter.serve(STEP)[2][-1:]:
                     self.pass_on(status)
                 if time.monotonic() - self.last_sent >= self.heartbeat:
                     self.release()
@@ -525,7 +528,7 @@ class Follower:
         try:
             while True:
                 self.progress.beat()
-                self.note_statuses(self.filter.serve(1.0)[2])
+                self.note_statuses(self.filter.serve(STEP)[2])
         except FilterEnded as ended:
             if ended.is_rejection():
                 raise

@@ -124,8 +124,8 @@ class Quiet(unittest.TestCase):
     """A test that keeps the lines on standard error."""
 
     def make_folder(self) -> str:
-        """A folder that goes with the test, in memory where that is possible: tests sync many files."""
-        folder = tempfile.TemporaryDirectory(dir="/dev/shm" if os.access("/dev/shm", os.W_OK) else None)
+        """A folder that goes with the test."""
+        folder = tempfile.TemporaryDirectory()
         self.addCleanup(folder.cleanup)
         return folder.name
 

@@ -69,11 +69,11 @@ class SmallServer:
 
     def close(self) -> None:
         self.ended = True
+        for thread in self.threads:
+            thread.join(5)
         self.listener.close()
         with contextlib.suppress(FileNotFoundError):
             os.unlink(self.path)
-        for thread in self.threads:
-            thread.join(5)
 
     def dsn(self) -> str:
         return f"host={self.folder} port={self.port} dbname=shop user=u"

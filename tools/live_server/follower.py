@@ -20,6 +20,12 @@ from .errors import Failed
 AGAIN = (7,)
 
 
+class Patience:
+    """By how much limits of time are longer than on a machine that has nothing else to do."""
+
+    factor = 1.0
+
+
 def nothing() -> None:
     """Checks nothing."""
 
@@ -104,6 +110,7 @@ class Supervisor(threading.Thread):
 
 def wait_until(condition: Callable[[], bool], what: str, seconds: float = 60, check: Callable[[], None] = nothing) -> None:
     """Waits for a condition. A server that isn't there meanwhile is no fault."""
+    seconds *= Patience.factor
     until = time.monotonic() + seconds
     while True:
         check()
