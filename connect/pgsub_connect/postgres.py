@@ -124,6 +124,8 @@ class Connection:
     ) -> None:
         self.check = check
         self.unsent = False
+        # what broke the stream of CopyData off, and is to be raised after those that came before it
+        self.broken: ServerError | None = None
         settings = {**DEFAULTS, "application_name": name, **parameters(dsn), "client_encoding": "UTF8"}
         if replication:
             settings["replication"] = "database"
@@ -336,10 +338,39 @@ class Connection:
             return whole if isinstance(whole, bytes) else bytes(payload)
         if length == 0:
             return b""
+        self.end_copies()
+        return None
+
+    def payloads(self, room: int, long: int) -> tuple[list[bytes], bool | None]:
+        """Those of CopyData that have come, up to so many bytes, or to the first one that is at least `long`.
+
+        Beside them: whether there may be more, None after the last. An error is raised once those before it were returned.
+        """
+        if self.broken:
+            raise self.broken
+        take, found = self.raw.get_copy_data, list[bytes]()
+        try:
+            while room > 0:
+                length, payload = take(1)
+                if length == 0:
+                    return found, False
+                if length < 0:
+                    self.end_copies()
+                    return found, None
+                whole = payload.obj
+                found.append(whole if isinstance(whole, bytes) else bytes(payload))
+                room -= length if length < long else room
+        except (psycopg.OperationalError, ServerError) as error:
+            self.broken = error if isinstance(error, ServerError) else ServerError(str(error))
+            if not found:
+                raise self.broken from None
+        return found, True
+
+    def end_copies(self) -> None:
+        """After the last CopyData. Raises the error with which the server ended them, if it did."""
         result = self.next_result()
         if result is not None and result.error_message:
             raise self.error_of(result)
-        return None
 
     def send(self, payload: bytes) -> None:
         """Sends a CopyData without waiting; `unsent` tells that some of it waits for the socket."""
