@@ -114,7 +114,12 @@ class Noting:
                 self.counts = counts = {}
             elif letter == COMMIT:
                 self.changes += sum(counts.values())
-                self.commit((self.begun, counts, False, total - self.began), self.relations, payload[35:43])
+                passed = (self.begun, counts, False, total - self.began)
+                self.ends.append(int.from_bytes(payload[35:43], "big"))
+                self.passed.append(passed)
+                self.commits += 1
+                if self.relations or self.described:
+                    self.describe(passed, self.relations)
                 self.begun = b""
                 self.counts = counts = {}
             elif letter:

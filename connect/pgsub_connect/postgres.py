@@ -12,6 +12,7 @@ import socket
 import threading
 import time
 from collections.abc import Callable, Iterator
+from typing import cast
 
 import psycopg
 from psycopg import pq
@@ -348,23 +349,22 @@ class Connection:
         """
         if self.broken:
             raise self.broken
-        take, found = self.raw.get_copy_data, list[bytes]()
+        take, views = self.raw.get_copy_data, list[memoryview]()
         try:
             while room > 0:
-                length, payload = take(1)
+                length, view = take(1)
                 if length == 0:
-                    return found, False
+                    return bytes_of(views), False
                 if length < 0:
                     self.end_copies()
-                    return found, None
-                whole = payload.obj
-                found.append(whole if isinstance(whole, bytes) else bytes(payload))
+                    return bytes_of(views), None
+                views.append(view)
                 room -= length if length < long else room
         except (psycopg.OperationalError, ServerError) as error:
             self.broken = error if isinstance(error, ServerError) else ServerError(str(error))
-            if not found:
+            if not views:
                 raise self.broken from None
-        return found, True
+        return bytes_of(views), True
 
     def end_copies(self) -> None:
         """After the last CopyData. Raises the error with which the server ended them, if it did."""
@@ -397,6 +397,13 @@ class Connection:
 
     def close(self) -> None:
         self.raw.finish()
+
+
+def bytes_of(views: list[memoryview]) -> list[bytes]:
+    """What memory views show. Those of libpq by ctypes show bytes, which aren't copied."""
+    if views and isinstance(views[0].obj, bytes):
+        return [cast(bytes, view.obj) for view in views]
+    return [bytes(view) for view in views]
 
 
 def set_verbosity(raw: pq.abc.PGconn, verbosity: int) -> None:
