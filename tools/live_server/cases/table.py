@@ -11,7 +11,8 @@ from ..errors import Unusable
 from ..options import Options
 from ..place import Place, Shared
 from . import (
-    copying, names, privacy, publications, reaching, shapes, sideroads, silence, slots, standbys, starts, stops, timelines, values, versions,
+    copying, names, privacy, publications, reaching, shapes, sideroads, silence, slots, standbys, starts, stops, timelines, values,
+    versions,
 )
 from .case import Case
 
