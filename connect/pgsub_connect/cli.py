@@ -412,7 +412,7 @@ def follow(options: Options) -> None:
     checkpoint = Checkpoint(options.store, options.mode, start.check)
     progress = Progress()
     recording = Aside(Recording(options.record, True, options.bytes, options.mode)) if options.record else None
-    remembered = Remembered(options.store)
+    remembered = Remembered(options.store, options.mode)
     copier = Copier(options, checkpoint, make_filter(options, checkpoint, options.store + ".copying"), progress, remembered)
     child = make_filter(options, checkpoint, options.store)
     snapshots = Snapshots(options.store, options.snapshot, options.snapshot_every, options.mode)

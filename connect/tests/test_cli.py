@@ -7,6 +7,7 @@ import stat
 
 from pgsub_connect.checkpoint import Checkpoint
 from pgsub_connect.cli import arguments, settle_options
+from pgsub_connect.remembered import replace_file
 
 from .fake_server import Quiet
 
@@ -19,4 +20,6 @@ class Modes(Quiet):
             options = arguments(["follow", "--store", store, "--mode", word])
             settle_options(options)
             os.close(Checkpoint(store, options.mode).file)
-            self.assertEqual(stat.S_IMODE(os.stat(f"{store}.connector").st_mode), mode)
+            replace_file(f"{store}.tables", b"", options.mode)
+            for name in ("connector", "tables"):
+                self.assertEqual(stat.S_IMODE(os.stat(f"{store}.{name}").st_mode), mode, name)

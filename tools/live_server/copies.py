@@ -43,7 +43,10 @@ class Standby(Cluster):
         self.control("promote")
 
     def synchronize(self, slot: str) -> None:
-        """Waits until it has the primary's failover slot. The primary has to log its running transactions for that."""
+        """Waits until it has the primary's failover slot, which is followed meanwhile.
+
+        The primary has to log its running transactions for that.
+        """
         here = f"SELECT count(*) FROM pg_replication_slots WHERE slot_name = '{slot}' AND synced AND NOT temporary"
 
         def is_there() -> bool:

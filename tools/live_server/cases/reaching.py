@@ -137,7 +137,7 @@ def rights(place: Place) -> None:
     place.run("CREATE ROLE follower LOGIN")
     dsn = place.cluster.dsn(user="follower")
     (place.cluster.data / "pg_hba.conf").write_text("local all all trust\n")
-    place.ends(SERVER, "replication", "--create", dsn=dsn)
+    place.ends(SERVER, "to start", "--create", dsn=dsn)
     checked = place.started([str(place.options.connect), "check", "--dsn", dsn])
     checked.end()
     if "error role: follower lacks REPLICATION" not in checked.said():

@@ -10,9 +10,11 @@ from ..checks import Checks
 from ..errors import Unusable
 from ..options import Options
 from ..place import Place, Shared
-from . import copying, names, publications, shapes, silence, slots, starts, stops, timelines, values
+from . import (
+    copying, names, privacy, publications, reaching, shapes, sideroads, silence, slots, standbys, starts, stops, timelines, values,
+    versions,
+)
 from .case import Case
-from . import privacy, reaching, sideroads, standbys, versions
 
 THEMES: dict[str, Sequence[Case]] = {
     "starts": (*starts.CASES, *shapes.CASES),
@@ -24,13 +26,12 @@ THEMES: dict[str, Sequence[Case]] = {
     "copying": copying.CASES,
     "stops": stops.CASES,
     "silence": silence.CASES,
+    "standbys": standbys.CASES,
+    "reaching": reaching.CASES,
+    "versions": versions.CASES,
+    "sideroads": sideroads.CASES,
+    "privacy": privacy.CASES,
 }
-# what lies beside the way of the changes, and other ways to a server
-THEMES["standbys"] = standbys.CASES
-THEMES["reaching"] = reaching.CASES
-THEMES["versions"] = versions.CASES
-THEMES["sideroads"] = sideroads.CASES
-THEMES["privacy"] = privacy.CASES
 
 
 def chosen(names: Sequence[str]) -> list[Case]:
