@@ -14,7 +14,7 @@ import traceback
 from collections.abc import Callable, Sequence
 from typing import Any, Protocol
 
-from . import VERSION, checking, dropping, exporting, log, probing, taking
+from . import VERSION, builds, checking, dropping, exporting, log, probing, taking
 from . import checkpoint as known_of
 from .asking import Asker
 from .checkpoint import Checkpoint
@@ -333,6 +333,8 @@ def settle_options(options: Options) -> None:
     options.pgsub = options.pgsub or program()
     options.max_buffered = options.max_buffered or default_buffered()
     options.max_frame = options.max_frame or min(options.max_buffered, LONGEST_FRAME)
+    # (all files get the mode that was asked for, and not what the caller's umask leaves of it)
+    os.umask(0o777 & ~options.mode)
 
 
 def program() -> str:
@@ -358,7 +360,9 @@ class TellVersion(argparse.Action):
 
 
 def version() -> str:
-    """The version, and the commit where this is a checkout."""
+    """The version, and of which build this is, or which commit where it is a checkout."""
+    if builds.OWN:
+        return f"{log.PROGRAM} {builds.OWN.get('version')} (commit {builds.OWN.get('commit')}, {builds.OWN.get('kit')})"
     try:
         done = subprocess.run(["git", "-C", TOP, "describe", "--always", "--dirty"], capture_output=True, check=True, timeout=5)
         return f"{log.PROGRAM} {VERSION} ({done.stdout.decode().strip()})"
@@ -408,7 +412,7 @@ def follow(options: Options) -> None:
     checkpoint = Checkpoint(options.store, options.mode, start.check)
     progress = Progress()
     recording = Aside(Recording(options.record, True, options.bytes, options.mode)) if options.record else None
-    remembered = Remembered(options.store)
+    remembered = Remembered(options.store, options.mode)
     copier = Copier(options, checkpoint, make_filter(options, checkpoint, options.store + ".copying"), progress, remembered)
     child = make_filter(options, checkpoint, options.store)
     snapshots = Snapshots(options.store, options.snapshot, options.snapshot_every, options.mode)

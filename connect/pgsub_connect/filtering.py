@@ -13,7 +13,7 @@ import struct
 import subprocess
 from collections.abc import Sequence
 
-from . import log
+from . import builds, log
 from .errors import FilterFault, Passing
 from .postgres import Check, never
 
@@ -115,6 +115,7 @@ class Filter:
 
     def launch(self) -> None:
         """Starts the filter. Its first status comes once it has opened its store."""
+        builds.check_program(self.words[0])
         try:
             # (a session of its own: an interrupt at the terminal is for the connector, which ends the filter in its own time)
             self.child = subprocess.Popen(

@@ -80,8 +80,8 @@ class Found:
 class Remembered:
     """The file. `is_urgent`: it says what has to be on the disk before anything more is confirmed; `is_changed`: anything new."""
 
-    def __init__(self, store: str) -> None:
-        self.path = store + ".tables"
+    def __init__(self, store: str, mode: int = 0o600) -> None:
+        self.path, self.mode = store + ".tables", mode
         self.forget()
         with contextlib.suppress(FileNotFoundError):
             self.read()
@@ -334,7 +334,7 @@ class Remembered:
             self.is_urgent = self.is_changed = False
             return
         text = json.dumps(self.written(), ensure_ascii=False, separators=(",", ":")) + "\n"
-        replace_file(self.path, text.encode())
+        replace_file(self.path, text.encode(), self.mode)
         self.is_urgent = self.is_changed = False
 
     def begin_anew(self) -> None:
@@ -377,13 +377,13 @@ def names_text(key: tuple[str, str], oid: int, before: int) -> str:
     return f"{'.'.join(key)} is table {oid} now, and was {before} before: rows of both have this name here"
 
 
-def replace_file(path: str, content: bytes) -> None:
-    """Replaces a file that only its owner may read, durably: whoever reads it finds the old or the new one as a whole."""
+def replace_file(path: str, content: bytes, mode: int = 0o600) -> None:
+    """Replaces a file durably: whoever reads it finds the old or the new one as a whole."""
     new = path + NEW
     try:
         with contextlib.suppress(FileNotFoundError):
             os.unlink(new)
-        number = os.open(new, os.O_WRONLY | os.O_CREAT | os.O_EXCL | os.O_CLOEXEC, 0o600)
+        number = os.open(new, os.O_WRONLY | os.O_CREAT | os.O_EXCL | os.O_CLOEXEC, mode)
         with open(number, "wb") as file:
             file.write(content)
             file.flush()
@@ -413,7 +413,7 @@ def catalog_written(catalog: Catalog) -> dict[str, Any]:
             }
             for it in catalog.tables.values()
         ],
-        "partitions": [[it.oid, it.parent, it.name, it.leaf] for it in catalog.partitions.values()],
+        "partitions": [[it.oid, it.parent, it.name, it.leaf, it.node] for it in catalog.partitions.values()],
         "types": catalog.types,
     }
 
@@ -424,10 +424,15 @@ def catalog_of(said: dict[str, Any]) -> Catalog:
         for name, it in said["publications"].items()
     }
     tables = {it["oid"]: table_of(it) for it in said["tables"]}
-    partitions = {oid: Partition(int(oid), int(parent), str(name), bool(leaf)) for oid, parent, name, leaf in said["partitions"]}
+    partitions = {it[0]: partition_of(*it) for it in said["partitions"]}
     types = {int(oid): {str(part): str(text) for part, text in it.items()} for oid, it in said["types"].items()}
     names = tuple(str(it) for it in said["followed"])
     return Catalog(names, parse_lsn(said["lsn"]), int(said["highest"]), publications, tables, partitions, types)
+
+
+def partition_of(oid: int, parent: int, name: str, leaf: bool, node: int = 0) -> Partition:
+    """A partition; an earlier version of this program didn't keep the number of its file."""
+    return Partition(int(oid), int(parent), str(name), bool(leaf), node=int(node))
 
 
 def table_of(said: dict[str, Any]) -> Table:

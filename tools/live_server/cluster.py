@@ -6,6 +6,7 @@ import contextlib
 import os
 import pwd
 import shutil
+import subprocess
 import tempfile
 from collections.abc import Mapping
 from pathlib import Path
@@ -13,6 +14,7 @@ from pathlib import Path
 import psycopg
 
 from .errors import Unusable
+from .patience import Patience
 from .installed import Installation
 from .sessions import Session
 
@@ -35,14 +37,22 @@ SETTINGS = {
 class Cluster:
     """The server. A server doesn't run as root: then it runs as the account of its installation."""
 
-    def __init__(self, installed: Installation, folder: Path, settings: Mapping[str, str] = {}, encoding: str = "UTF8") -> None:
+    def __init__(
+        self, installed: Installation, folder: Path, settings: Mapping[str, str] = {}, encoding: str = "UTF8",
+        files: Path | None = None,
+    ) -> None:
+        """Makes a new one, or one of another server's files."""
         self.installed, self.port = installed, 5432
         self.folder = Path(tempfile.mkdtemp(prefix="server-", dir=installed.work_folder(folder)))
         self.data, self.log = self.folder / "data", self.folder / "log"
         self.user = installed.account.name if installed.account else pwd.getpwuid(os.getuid()).pw_name
         if installed.account:
             os.chown(self.folder, installed.account.uid, installed.account.gid)
-        self.prepare({**SETTINGS, **settings}, encoding)
+        if files is None:
+            self.prepare({**SETTINGS, **settings}, encoding)
+        else:
+            subprocess.run(["cp", "-a", files, self.data], check=True)
+            self.configure({"unix_socket_directories": self.installed.inside(self.folder), **settings})
 
     def prepare(self, settings: Mapping[str, str], encoding: str) -> None:
         words = ["-A", "trust", "-U", self.user, "-E", encoding, "--locale=C" if encoding != "UTF8" else "--locale=C.UTF-8"]
@@ -69,8 +79,22 @@ class Cluster:
     def stop(self, mode: str = "fast") -> None:
         self.control("-m", mode, "stop")
 
+    def promote(self) -> None:
+        """Starts it as a standby and makes a primary of it, with a timeline of its own."""
+        signal = self.data / "standby.signal"
+        signal.touch()
+        if self.installed.account:
+            os.chown(signal, self.installed.account.uid, self.installed.account.gid)
+        self.start()
+        self.control("promote")
+
     def dsn(self, database: str = "shop", user: str = "") -> str:
-        return f"host={self.folder} port={self.port} user={user or self.user} dbname={database}"
+        limit = round(10 * Patience.factor)
+        return f"host={self.folder} port={self.port} user={user or self.user} dbname={database} connect_timeout={limit}"
+
+    def dsn_inside(self, database: str = "shop") -> str:
+        """A connection string for another server of the same installation."""
+        return self.dsn(database).replace(str(self.folder), self.installed.inside(self.folder))
 
     def connect(self, database: str = "shop") -> Session:
         return Session(self.dsn(database))

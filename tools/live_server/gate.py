@@ -1,4 +1,4 @@
-"""The short run of the merge gate: a copy of rows, following, each part killed once, and a comparison."""
+"""The short run of the merge gate: a copy of rows, following, each part killed once, a comparison, and README's walkthrough."""
 
 from __future__ import annotations
 
@@ -6,23 +6,28 @@ import dataclasses
 import time
 
 from .checks import Checks
-from .killing import Run
+from .killing import Run, mixed
+from .load import Mixed
 from .options import Options
+from .walking import walk
 
 
 def run(options: Options, checks: Checks) -> None:
     # (before version 14 of the server there is no version 2)
-    run = Run(dataclasses.replace(options, workers=2, pause=0.2), proto=options.proto or 2)
+    run, load = mixed(dataclasses.replace(options, workers=2, pause=0.2), options.proto or 2)
     try:
-        if checks.run("copies rows while others are written", lambda: copies(run)):
+        if checks.run("copies rows while others are written", lambda: copies(run, load)):
+            load.truncate(True)
             follows(run, checks)
     finally:
         run.close()
+    checks.run("README's walkthrough with a server", lambda: walk(options))
 
 
-def copies(run: Run) -> None:
-    run.fill(20_000)
-    run.begin(truncates=False)
+def copies(run: Run, load: Mixed) -> None:
+    load.truncate(False)
+    load.fill(20_000)
+    run.begin()
     run.wait_for("0/1", 60, "the copy")
     run.supervisor.check()
 
@@ -42,5 +47,5 @@ def goes_on(run: Run, victim: str) -> None:
 
 
 def equal(run: Run) -> str:
-    committed = run.end_load()
+    committed = run.load.end()
     return f"{run.compare()}; {committed} transactions"

@@ -4,12 +4,14 @@ from __future__ import annotations
 
 import random
 import time
+from collections.abc import Callable
 from pathlib import Path
+from typing import Protocol
 
 from .cluster import Cluster
 from .errors import Failed
 from .follower import Supervisor, is_confirmed, wait_until
-from .load import EXTERNAL, SCHEMA, Altering, Mix, Worker, final_statements
+from .load import SCHEMA, Mixed
 from .options import Options
 from .rows import compare, rows_of_server, rows_of_store
 
@@ -17,38 +19,31 @@ SLOT = "pgsub"
 VICTIMS = ("filter", "filter", "connector", "connector", "server", "session")
 
 
+class Load(Protocol):
+    """What runs at a server meanwhile."""
+
+    def begin(self) -> None:
+        """Starts it."""
+
+    def end(self) -> int:
+        """Ends it. Returns how many transactions were committed."""
+
+
 class Run:
     """One server with its load and its follower."""
 
-    def __init__(self, options: Options, proto: int) -> None:
+    def __init__(self, options: Options, proto: int, load: Callable[[Cluster], Load]) -> None:
         self.options, self.proto = options, proto
         self.rng = random.Random(f"kills {options.seed} {proto}")
         self.cluster = Cluster(options.installed, options.folder)
         self.cluster.start()
         self.cluster.run("CREATE DATABASE shop", database="postgres")
-        self.cluster.run(*SCHEMA, "CREATE PUBLICATION pgsub FOR ALL TABLES")
+        self.load = load(self.cluster)
         self.store = options.folder / f"{self.cluster.folder.name}.db"
         words = options.words(self.cluster.dsn(), self.store, "--create", "--proto", str(proto))
         words += ["--status-file", f"{self.store}.status"]
         self.supervisor = Supervisor(words, Path(f"{self.store}.log"))
         self.counts = dict.fromkeys(VICTIMS, 0)
-        self.workers: list[Worker] = []
-        for it in range(options.workers):
-            self.workers.append(Worker(self.cluster, f"{options.seed} {proto} {it}", options.pause))
-        self.workers.append(Altering(self.cluster, f"{options.seed} {proto} alter", 20 * options.pause))
-
-    def fill(self, rows: int) -> None:
-        """Rows that are there before the slot."""
-        mix = Mix(random.Random(f"before {self.options.seed}"))
-        self.cluster.run(
-            f"INSERT INTO kept SELECT it, E'tab\\t and \\\\ back', md5(it::text) FROM generate_series(1, {rows // 2}) it",
-            f"INSERT INTO whole SELECT 'before', it % 100, repeat('x', it % 50) FROM generate_series(1, {rows // 4}) it",
-            f"INSERT INTO keyed SELECT it, md5(it::text), NULL FROM generate_series(100000, {100000 + rows // 4}) it",
-            f"INSERT INTO kept SELECT -it, NULL, {EXTERNAL.format(60000)} FROM generate_series(2, 4) it",
-        )
-        with self.cluster.connect() as session:
-            for _ in range(300):
-                mix.attempt(session)
 
     def kill(self, victim: str) -> bool:
         """Kills one of the parts. Returns whether it was there."""
@@ -87,25 +82,13 @@ class Run:
             time.sleep(0.01)
         return done
 
-    def begin(self, truncates: bool = True) -> None:
+    def begin(self) -> None:
         """Starts load and follower."""
-        for it in self.workers:
-            it.truncates = truncates
-            it.start()
+        self.load.begin()
         self.supervisor.begin()
 
     def wait_for(self, lsn: str, seconds: float, what: str) -> None:
         wait_until(lambda: is_confirmed(self.cluster, SLOT, lsn), what, seconds, self.supervisor.check)
-
-    def end_load(self) -> int:
-        """Ends the load. Returns how many transactions were committed."""
-        for it in self.workers:
-            it.truncates = True
-            it.ended.set()
-        for it in self.workers:
-            it.join(60)
-        self.cluster.run(*final_statements())
-        return sum(it.committed for it in self.workers)
 
     def compare(self) -> str:
         """Waits until everything is confirmed, ends the connector, and compares. Returns what there is to say."""
@@ -120,28 +103,45 @@ class Run:
 
     def close(self) -> None:
         self.supervisor.kill()
-        for it in self.workers:
-            it.ended.set()
+        self.load.end()
         self.cluster.remove()
+
+
+def killed(run: Run, copying: int, before_kills: Callable[[], None]) -> str:
+    """Starts, kills parts while rows are copied and afterwards, and compares."""
+    try:
+        run.begin()
+        while_copying = run.kill_copying(copying) if copying else 0
+        run.wait_for("0/1", 300, "the first copy")
+        before_kills()
+        run.kill_often(run.options.kills)
+        committed = run.load.end()
+        said = run.compare()
+    finally:
+        run.close()
+    if copying and not while_copying:
+        raise Failed("the copy was complete before anything was killed: there were too few rows")
+    kills = ", ".join(f"{count} {name}" for name, count in run.counts.items())
+    return f"{said}; {committed} transactions, killed {kills} ({while_copying} while copying), {run.supervisor.starts} starts"
+
+
+def mixed(options: Options, proto: int) -> tuple[Run, Mixed]:
+    """A run with the load that has transactions of every kind."""
+    loads: list[Mixed] = []
+
+    def load(cluster: Cluster) -> Mixed:
+        cluster.run(*SCHEMA, "CREATE PUBLICATION pgsub FOR ALL TABLES")
+        loads.append(Mixed(cluster, f"{options.seed} {proto}", options.workers, options.pause))
+        return loads[0]
+
+    run = Run(options, proto, load)
+    return run, loads[0]
 
 
 def follow(options: Options, proto: int) -> str:
     """The whole of it, in one version of the protocol."""
-    run = Run(options, proto)
-    try:
-        if options.before:
-            run.fill(options.rows)
-        run.begin(truncates=not options.before)
-        copying = run.kill_copying(4) if options.before else 0
-        run.wait_for("0/1", 300, "the first copy")
-        for it in run.workers:
-            it.truncates = True
-        run.kill_often(options.kills)
-        committed = run.end_load()
-        said = run.compare()
-    finally:
-        run.close()
-    if options.before and not copying:
-        raise Failed("the copy was complete before anything was killed: there are too few --rows")
-    kills = ", ".join(f"{count} {name}" for name, count in run.counts.items())
-    return f"{said}; {committed} transactions, killed {kills} ({copying} while copying), {run.supervisor.starts} starts"
+    run, load = mixed(options, proto)
+    load.truncate(not options.before)
+    if options.before:
+        load.fill(options.rows)
+    return killed(run, 4 if options.before else 0, lambda: load.truncate(True))

@@ -227,6 +227,49 @@ class Altering(Worker):
         self.committed += 1
 
 
+class Mixed:
+    """Several workers, and one that alters a table."""
+
+    def __init__(self, cluster: Cluster, seed: str, workers: int, pause: float) -> None:
+        self.cluster, self.seed = cluster, seed
+        self.workers: list[Worker] = [Worker(cluster, f"{seed} {it}", pause) for it in range(workers)]
+        self.workers.append(Altering(cluster, f"{seed} alter", 20 * pause))
+        self.is_running = False
+
+    def fill(self, rows: int) -> None:
+        """Makes rows that are there before anything is followed."""
+        mix = Mix(random.Random(f"before {self.seed}"))
+        self.cluster.run(
+            f"INSERT INTO kept SELECT it, E'tab\\t and \\\\ back', md5(it::text) FROM generate_series(1, {rows // 2}) it",
+            f"INSERT INTO whole SELECT 'before', it % 100, repeat('x', it % 50) FROM generate_series(1, {rows // 4}) it",
+            f"INSERT INTO keyed SELECT it, md5(it::text), NULL FROM generate_series(100000, {100000 + rows // 4}) it",
+            f"INSERT INTO kept SELECT -it, NULL, {EXTERNAL.format(60000)} FROM generate_series(2, 4) it",
+        )
+        with self.cluster.connect() as session:
+            for _ in range(300):
+                mix.attempt(session)
+
+    def truncate(self, truncates: bool) -> None:
+        """Says whether tables are truncated from now on."""
+        for it in self.workers:
+            it.truncates = truncates
+
+    def begin(self) -> None:
+        self.is_running = True
+        for it in self.workers:
+            it.start()
+
+    def end(self) -> int:
+        if self.is_running:
+            self.is_running = False
+            for it in self.workers:
+                it.ended.set()
+            for it in self.workers:
+                it.join(60)
+            self.cluster.run(*final_statements())
+        return sum(it.committed for it in self.workers)
+
+
 def final_statements() -> tuple[str, ...]:
     """One more change of each table, so that the stream has its last shape."""
     return (

@@ -39,16 +39,19 @@ def published(session: Session, publications: Iterable[str]) -> Iterator[tuple[s
     fine = "t.attnames::text[], t.rowfilter" if version >= FILTERS else "NULL::text[], NULL"
     listed = "t.attnames IS NULL OR a.attname = ANY (t.attnames)"
     generated = "true" if version >= EXACT else "a.attgenerated = ''"
+    columns = (
+        "SELECT string_agg(quote_ident(a.attname), ', ' ORDER BY a.attnum) FROM pg_attribute a"
+        f" WHERE a.attrelid = c.oid AND a.attnum > 0 AND NOT a.attisdropped AND {generated} AND ({listed})"
+    )
     rows = session.rows(
-        "SELECT t.schemaname, t.tablename, t.rowfilter, c.relkind,"
-        f" (SELECT string_agg(quote_ident(a.attname), ', ' ORDER BY a.attnum) FROM pg_attribute a WHERE a.attrelid = c.oid AND a.attnum > 0 AND NOT a.attisdropped AND {generated} AND ({listed}))"
+        f"SELECT t.schemaname, t.tablename, t.rowfilter, c.relkind, ({columns})"
         f" FROM (SELECT t.schemaname, t.tablename, {fine} FROM pg_publication_tables t WHERE t.pubname IN ({names}))"
         " t (schemaname, tablename, attnames, rowfilter)"
         " JOIN pg_namespace n ON n.nspname = t.schemaname JOIN pg_class c ON c.relnamespace = n.oid AND c.relname = t.tablename"
     )
-    for schema, table, row_filter, kind, columns in rows:
+    for schema, table, row_filter, kind, listing in rows:
         name = f"{'' if kind == 'p' else 'ONLY '}{quoted(schema or '')}.{quoted(table or '')}"
-        query = f"SELECT {columns or ''} FROM {name}" + (f" WHERE {row_filter}" if row_filter else "")
+        query = f"SELECT {listing or ''} FROM {name}" + (f" WHERE {row_filter}" if row_filter else "")
         yield schema or "", table or "", query
 
 

@@ -109,14 +109,10 @@ struct RejectsAt {
     is_encoded: bool,
 }
 
-impl Trial for RejectsAt {
+impl<R: Abort + AllocGlobal> Trial<R> for RejectsAt {
     type Outcome = Result<(), Fail>;
 
-    fn run<C: ReplicaStore + Drop>(
-        &self,
-        rt: &(impl Abort + AllocGlobal),
-        store: C,
-    ) -> Result<(), Fail> {
+    fn run<C: ReplicaStore + Drop>(&self, rt: &R, store: C) -> Result<(), Fail> {
         if self.is_encoded {
             let spools = ByteSpools::new(rt.alloc(), AMPLE);
             check_over(rt, store, spools, self.count, self.bad)

@@ -87,14 +87,10 @@ struct TakesAll<'a> {
     sessions: &'a [Session],
 }
 
-impl Trial for TakesAll<'_> {
+impl<R: Abort + AllocGlobal> Trial<R> for TakesAll<'_> {
     type Outcome = Result<bool, Fault>;
 
-    fn run<C: ReplicaStore + Drop>(
-        &self,
-        rt: &(impl Abort + AllocGlobal),
-        store: C,
-    ) -> Result<bool, Fault> {
+    fn run<C: ReplicaStore + Drop>(&self, rt: &R, store: C) -> Result<bool, Fault> {
         if self.as_bytes {
             takes_all(rt, store, ByteSpools::new(rt.alloc(), AMPLE), self.sessions)
         } else {

@@ -36,14 +36,10 @@ static SECOND: Row = Row {
 /// Fills a store by one subscriber, and goes on with another over it.
 struct Restarts;
 
-impl Trial for Restarts {
+impl<R: Abort + AllocGlobal> Trial<R> for Restarts {
     type Outcome = Result<(), Fail>;
 
-    fn run<C: ReplicaStore + Drop>(
-        &self,
-        rt: &(impl Abort + AllocGlobal),
-        store: C,
-    ) -> Result<(), Fail> {
+    fn run<C: ReplicaStore + Drop>(&self, rt: &R, store: C) -> Result<(), Fail> {
         let alloc = rt.alloc();
         let spools = ByteSpools::new(alloc, AMPLE);
         let mut first = Subscriber::new(alloc, store, spools, Version::One, MAX_FRAME);

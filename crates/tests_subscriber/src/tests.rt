@@ -60,14 +60,10 @@ struct TakesRow {
     way: Way,
 }
 
-impl Trial for TakesRow {
+impl<R: Abort + AllocGlobal> Trial<R> for TakesRow {
     type Outcome = Result<(), Fail>;
 
-    fn run<C: ReplicaStore + Drop>(
-        &self,
-        rt: &(impl Abort + AllocGlobal),
-        store: C,
-    ) -> Result<(), Fail> {
+    fn run<C: ReplicaStore + Drop>(&self, rt: &R, store: C) -> Result<(), Fail> {
         check(rt, store, &self.row, self.way)
     }
 }
