@@ -413,7 +413,7 @@ def catalog_written(catalog: Catalog) -> dict[str, Any]:
             }
             for it in catalog.tables.values()
         ],
-        "partitions": [[it.oid, it.parent, it.name, it.leaf] for it in catalog.partitions.values()],
+        "partitions": [[it.oid, it.parent, it.name, it.leaf, it.node] for it in catalog.partitions.values()],
         "types": catalog.types,
     }
 
@@ -424,10 +424,15 @@ def catalog_of(said: dict[str, Any]) -> Catalog:
         for name, it in said["publications"].items()
     }
     tables = {it["oid"]: table_of(it) for it in said["tables"]}
-    partitions = {oid: Partition(int(oid), int(parent), str(name), bool(leaf)) for oid, parent, name, leaf in said["partitions"]}
+    partitions = {it[0]: partition_of(*it) for it in said["partitions"]}
     types = {int(oid): {str(part): str(text) for part, text in it.items()} for oid, it in said["types"].items()}
     names = tuple(str(it) for it in said["followed"])
     return Catalog(names, parse_lsn(said["lsn"]), int(said["highest"]), publications, tables, partitions, types)
+
+
+def partition_of(oid: int, parent: int, name: str, leaf: bool, node: int = 0) -> Partition:
+    """A partition; an earlier version of this program didn't keep the number of its file."""
+    return Partition(int(oid), int(parent), str(name), bool(leaf), node=int(node))
 
 
 def table_of(said: dict[str, Any]) -> Table:

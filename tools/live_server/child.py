@@ -10,7 +10,8 @@ from pathlib import Path
 from signal import SIGKILL, SIGTERM
 
 from .errors import Failed
-from .follower import Patience, children, wait_until
+from .follower import filters_of, wait_until
+from .patience import Patience
 
 
 class Child:
@@ -49,7 +50,7 @@ class Child:
 
     def filters(self) -> list[int]:
         """The processes of its filters."""
-        return children(self.process.pid)
+        return filters_of(self.process.pid)
 
     def signal(self, number: int) -> None:
         self.process.send_signal(number)

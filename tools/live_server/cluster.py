@@ -14,6 +14,7 @@ from pathlib import Path
 import psycopg
 
 from .errors import Unusable
+from .patience import Patience
 from .installed import Installation
 from .sessions import Session
 
@@ -88,7 +89,8 @@ class Cluster:
         self.control("promote")
 
     def dsn(self, database: str = "shop", user: str = "") -> str:
-        return f"host={self.folder} port={self.port} user={user or self.user} dbname={database}"
+        limit = round(10 * Patience.factor)
+        return f"host={self.folder} port={self.port} user={user or self.user} dbname={database} connect_timeout={limit}"
 
     def dsn_inside(self, database: str = "shop") -> str:
         """A connection string for another server of the same installation."""

@@ -15,27 +15,24 @@ import psycopg
 
 from .cluster import Cluster
 from .errors import Failed
+from .patience import Patience
 
 # The statuses after which a supervisor starts the connector again: something is in the way only for now.
 AGAIN = (7,)
-
-
-class Patience:
-    """By how much limits of time are longer than on a machine that has nothing else to do."""
-
-    factor = 1.0
 
 
 def nothing() -> None:
     """Checks nothing."""
 
 
-def children(pid: int) -> list[int]:
-    try:
-        with open(f"/proc/{pid}/task/{pid}/children", encoding="ascii") as file:
-            return [int(it) for it in file.read().split()]
-    except (FileNotFoundError, ProcessLookupError):
-        return []
+def filters_of(pid: int) -> list[int]:
+    """The filters that a connector runs. While it starts, it has other children, which look for libpq."""
+    found = []
+    with contextlib.suppress(FileNotFoundError, ProcessLookupError):
+        for child in Path(f"/proc/{pid}/task/{pid}/children").read_text(encoding="ascii").split():
+            if b"\0follow\0" in Path(f"/proc/{child}/cmdline").read_bytes():
+                found.append(int(child))
+    return found
 
 
 class Supervisor(threading.Thread):
@@ -74,7 +71,7 @@ class Supervisor(threading.Thread):
     def kill_filter(self) -> bool:
         """Kills the filter. Returns whether one ran."""
         killed = False
-        for pid in children(self.child.pid):
+        for pid in filters_of(self.child.pid):
             with contextlib.suppress(ProcessLookupError):
                 os.kill(pid, signal.SIGKILL)
                 killed = True

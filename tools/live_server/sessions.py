@@ -14,7 +14,7 @@ class Session:
     """A connection on which each command is a transaction of its own, unless it says BEGIN."""
 
     def __init__(self, dsn: str) -> None:
-        self.raw = psycopg.connect(dsn, autocommit=True, client_encoding="UTF8", connect_timeout=10)
+        self.raw = psycopg.connect(dsn, autocommit=True, client_encoding="UTF8")
 
     def __enter__(self) -> Session:
         return self

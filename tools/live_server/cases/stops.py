@@ -129,7 +129,7 @@ def heard_while_opening(place: Place) -> None:
     place.stock()
     place.follow("--create")
     program = place.folder / "slow"
-    program.write_text("#!/bin/sh\nexec sleep 40\n")
+    program.write_text("#!/bin/sh\nsleep 40\n")
     program.chmod(0o755)
     child = place.start("--pgsub", str(program))
     wait_until(lambda: bool(child.filters()), "starting the filter", 30, child.check)
