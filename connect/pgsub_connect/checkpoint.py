@@ -61,8 +61,12 @@ class Checkpoint:
             self.file = os.open(self.path, os.O_RDWR | os.O_CREAT | os.O_CLOEXEC, mode)
         except OSError as error:
             raise FileError(f"{self.path}: {error.strerror}") from None
-        self.lock(check)
-        self.known = self.read()
+        try:
+            self.lock(check)
+            self.known = self.read()
+        except BaseException:
+            os.close(self.file)
+            raise
 
     def lock(self, check: Check) -> None:
         until = time.monotonic() + PATIENCE

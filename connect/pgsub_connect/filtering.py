@@ -24,6 +24,8 @@ COPY_DONE = b"c\x00\x00\x00\x04"
 # How many bytes wait for the filter before no more are read from the server.
 ROOM = 1 << 20
 PIECE = 1 << 16
+# The headers of payloads up to this length are kept.
+KEPT_HEADERS = 1 << 12
 # The size that the pipe to the filter is asked to have.
 PIPE = 1 << 20
 # The statuses with which a filter ends by itself.
@@ -79,7 +81,20 @@ pack_header = struct.Struct(">ci").pack
 
 def header(payload: bytes) -> bytes:
     """The five bytes before the payload of a CopyData."""
-    return pack_header(b"d", len(payload) + 4)
+    return HEADERS[len(payload)]
+
+
+class Headers(dict[int, bytes]):
+    """The five bytes before the payload of a CopyData, by the payload's length."""
+
+    def __missing__(self, length: int) -> bytes:
+        head = pack_header(b"d", length + 4)
+        if length < KEPT_HEADERS:
+            self[length] = head
+        return head
+
+
+HEADERS = Headers()
 
 
 class Filter:
@@ -152,11 +167,17 @@ class Filter:
         self.waiting += len(piece)
         self.in_session = True
 
-    def push_all(self, pieces: list[bytes]) -> None:
-        """Gives the filter many short pieces, and empties the list."""
-        if pieces:
-            self.push(b"".join(pieces))
-            pieces.clear()
+    def push_payloads(self, payloads: list[bytes]) -> None:
+        """Gives the filter CopyData with these payloads. A long one isn't copied together with others: it may be the last only."""
+        if not payloads:
+            return
+        parts = [b""] * (2 * len(payloads))
+        parts[::2] = map(HEADERS.__getitem__, map(len, payloads))
+        parts[1::2] = payloads
+        long = parts.pop() if len(payloads[-1]) >= PIECE else b""
+        self.push(b"".join(parts))
+        if long:
+            self.push(long)
 
     def end_session(self) -> None:
         """Puts CopyDone in the place of a connection that is gone."""

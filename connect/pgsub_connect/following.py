@@ -11,7 +11,7 @@ from . import checkpoint as known_of
 from . import log, sizes
 from .checkpoint import Checkpoint, check_gap
 from .errors import Passing, ServerError, Stopped, Unfit
-from .filtering import PIECE, Filter, FilterEnded, asking, flushed, pack_header
+from .filtering import PIECE, Filter, FilterEnded, asking, flushed
 from .noting import Noting
 from .postgres import COPY_BOTH, Connection
 from .progress import Progress
@@ -425,33 +425,20 @@ class Follower:
         self.tick()
 
     def take_payloads(self, connection: Connection) -> bool | None:
-        """Passes on what has come. Returns false where there is no more yet, true where the room is full, None after the end."""
-        take, note, child, recording = connection.next_payload, self.noting.note, self.filter, self.recording
-        passes = self.skipping.passes if self.skipping.is_pending else None
-        frames: list[bytes] = []
-        room = child.room()
-        try:
-            while room > 0:
-                payload = take()
-                if not payload:
-                    return False if payload is not None else None
-                if recording:
-                    recording.write_payload(payload)
-                if passes and not passes(payload):
-                    continue
-                size = len(payload)
-                room -= size
-                frames += (pack_header(b"d", size + 4), payload)
-                if size >= PIECE:
-                    # (a long one isn't copied together with others)
-                    self.noting.longest = max(self.noting.longest, size)
-                    child.push_all(frames[:-1])
-                    child.push(payload)
-                    frames.clear()
-                note(payload)
-            return True
-        finally:
-            child.push_all(frames)
+        """Passes on what has come. Returns false where there is no more yet, true where there may be, None after the end."""
+        payloads, more = connection.payloads(self.filter.room(), PIECE)
+        if not payloads:
+            return more
+        if self.recording:
+            for payload in payloads:
+                self.recording.write_payload(payload)
+        if self.skipping.is_pending:
+            payloads = [payload for payload in payloads if self.skipping.passes(payload)]
+        if payloads and len(payloads[-1]) >= PIECE:
+            self.noting.longest = max(self.noting.longest, len(payloads[-1]))
+        self.filter.push_payloads(payloads)
+        self.noting.note_all(payloads)
+        return more
 
     def note_statuses(self, statuses: list[bytes]) -> None:
         """Notes the last status, before it is sent."""

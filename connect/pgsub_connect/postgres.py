@@ -12,6 +12,7 @@ import socket
 import threading
 import time
 from collections.abc import Callable, Iterator
+from typing import cast
 
 import psycopg
 from psycopg import pq
@@ -124,6 +125,8 @@ class Connection:
     ) -> None:
         self.check = check
         self.unsent = False
+        # what broke the stream of CopyData off, and is to be raised after those that came before it
+        self.broken: ServerError | None = None
         settings = {**DEFAULTS, "application_name": name, **parameters(dsn), "client_encoding": "UTF8"}
         if replication:
             settings["replication"] = "database"
@@ -336,10 +339,38 @@ class Connection:
             return whole if isinstance(whole, bytes) else bytes(payload)
         if length == 0:
             return b""
+        self.end_copies()
+        return None
+
+    def payloads(self, room: int, long: int) -> tuple[list[bytes], bool | None]:
+        """Those of CopyData that have come, up to so many bytes, or to the first one that is at least `long`.
+
+        Beside them: whether there may be more, None after the last. An error is raised once those before it were returned.
+        """
+        if self.broken:
+            raise self.broken
+        take, views = self.raw.get_copy_data, list[memoryview]()
+        try:
+            while room > 0:
+                length, view = take(1)
+                if length == 0:
+                    return bytes_of(views), False
+                if length < 0:
+                    self.end_copies()
+                    return bytes_of(views), None
+                views.append(view)
+                room -= length if length < long else room
+        except (psycopg.OperationalError, ServerError) as error:
+            self.broken = error if isinstance(error, ServerError) else ServerError(str(error))
+            if not views:
+                raise self.broken from None
+        return bytes_of(views), True
+
+    def end_copies(self) -> None:
+        """After the last CopyData. Raises the error with which the server ended them, if it did."""
         result = self.next_result()
         if result is not None and result.error_message:
             raise self.error_of(result)
-        return None
 
     def send(self, payload: bytes) -> None:
         """Sends a CopyData without waiting; `unsent` tells that some of it waits for the socket."""
@@ -366,6 +397,13 @@ class Connection:
 
     def close(self) -> None:
         self.raw.finish()
+
+
+def bytes_of(views: list[memoryview]) -> list[bytes]:
+    """What memory views show. Those of libpq by ctypes show bytes, which aren't copied."""
+    if views and isinstance(views[0].obj, bytes):
+        return [cast(bytes, view.obj) for view in views]
+    return [bytes(view) for view in views]
 
 
 def set_verbosity(raw: pq.abc.PGconn, verbosity: int) -> None:

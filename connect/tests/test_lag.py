@@ -73,8 +73,7 @@ class Commits(unittest.TestCase):
         self.noting = Noting(self.progress, Remembered("/nonexistent/copy.db"))
 
     def note(self, *payloads: bytes) -> None:
-        for payload in payloads:
-            self.noting.note(payload)
+        self.noting.note_all(payloads)
         self.noting.show()
 
     def waits_since(self) -> float | None:

@@ -30,8 +30,7 @@ class Case(unittest.TestCase):
         self.noting = Noting(self.progress, self.remembered)
 
     def note(self, *payloads: bytes) -> None:
-        for payload in payloads:
-            self.noting.note(payload)
+        self.noting.note_all(payloads)
         self.noting.show()
 
     def found(self) -> dict[str, list[str]]:

@@ -72,11 +72,16 @@ class Build:
         return replace(self, version=f"{self.version}.later")
 
 
-def install(build: Build, prefix: str, room: Path) -> Path:
-    """Installs below a folder, and gives each file the build's time."""
-    words = (TOP / "install", prefix, "--destdir", room, "--program", build.program, "--version", build.version)
-    run(*words, env={**os.environ, "SOURCE_DATE_EPOCH": str(build.time)}, stderr=subprocess.DEVNULL)
-    return room
+def make_pages(build: Build, folder: Path) -> None:
+    """Makes the manual pages, which are the same in each package."""
+    words = (TOP / "tools/manuals", "--program", build.program, "--version", f"pgsub {build.version}", folder)
+    run(*words, env={**os.environ, "SOURCE_DATE_EPOCH": str(build.time)})
+
+
+def install(build: Build, prefix: str, pages: Path, room: Path) -> None:
+    """Installs below a folder."""
+    words = [TOP / "install", prefix, "--destdir", room, "--program", build.program, "--version", build.version, "--pages", pages]
+    run(*words, stderr=subprocess.DEVNULL)
 
 
 def settle_times(folder: Path, time: int) -> None:
@@ -96,8 +101,8 @@ def maintainer() -> str:
     return run("git", "-C", TOP, "log", "-1", "--format=%an <%ae>")
 
 
-def make_deb(build: Build, room: Path, out: Path) -> Path:
-    install(build, "/usr", room)
+def make_deb(build: Build, pages: Path, room: Path, out: Path) -> Path:
+    install(build, "/usr", pages, room)
     texts = dict(line.split(" ", 1) for line in (room / "usr/lib/pgsub/BUILD").read_text().splitlines())
     size = sum(it.lstat().st_size for it in room.rglob("*") if not it.is_dir())
     folder = room / "DEBIAN"
@@ -125,8 +130,8 @@ def make_deb(build: Build, room: Path, out: Path) -> Path:
     return path
 
 
-def make_tar(build: Build, room: Path, out: Path) -> Path:
-    install(build, "/usr/local", room)
+def make_tar(build: Build, pages: Path, room: Path, out: Path) -> Path:
+    install(build, "/usr/local", pages, room)
     name = f"pgsub-{build.version}-x86_64"
     (room / "usr/local").rename(room / name)
     plain = run_tar(room, name, build.time)
@@ -150,11 +155,12 @@ def digest(path: Path, kind: str = "sha256") -> str:
 
 def make_packages(build: Build, out: Path) -> list[Path]:
     """Makes both packages and their sums."""
-    made = []
-    for make in (make_deb, make_tar):
-        with tempfile.TemporaryDirectory(prefix="pgsub-package-") as room:
-            (Path(room) / "root").mkdir()
-            made.append(make(build, Path(room) / "root", out))
+    with tempfile.TemporaryDirectory(prefix="pgsub-package-") as folder:
+        pages, deb, tar = (Path(folder) / it for it in ("pages", "deb", "tar"))
+        for it in (pages, deb, tar):
+            it.mkdir()
+        make_pages(build, pages)
+        made = [make_deb(build, pages, deb, out), make_tar(build, pages, tar, out)]
     sums = out / "SHA256SUMS"
     sums.write_text(lines_of(made))
     return [*made, sums]

@@ -28,8 +28,8 @@ class Case(unittest.TestCase):
         cls.install()
 
     @classmethod
-    def install(cls) -> None:
-        words = ("/opt/here", "--destdir", cls.room / "root", "--program", cls.room / "program", "--version", "1.2+3")
+    def install(cls, *more: str | Path) -> None:
+        words = ("/opt/here", "--destdir", cls.room / "root", "--program", cls.room / "program", "--version", "1.2+3", *more)
         subprocess.run([TOP / "install", *words], check=True, capture_output=True, cwd=cls.room)
 
     def run_it(self, *words: str) -> subprocess.CompletedProcess[str]:
@@ -61,7 +61,9 @@ class Case(unittest.TestCase):
         """Modules that are gone go, a program that runs goes on, and the connector runs no other build's."""
         (self.root / "lib/pgsub/pgsub_connect/old.py").write_text("")
         before = os.stat(self.root / "lib/pgsub/pgsub").st_ino
-        self.install()
+        for name in ("pgsub.1", "pgsub-connect.1"):
+            (self.room / name).write_text("page")
+        self.install("--pages", self.room)
         self.assertNotIn("lib/pgsub/pgsub_connect/old.py", self.files())
         self.assertNotEqual(os.stat(self.root / "lib/pgsub/pgsub").st_ino, before)
         (self.root / "lib/pgsub/pgsub").write_text("#!/bin/sh\necho pgsub: wire 1 UnknownFrame 7 >&2; exit 1\n")

@@ -52,14 +52,10 @@ const BUFFERS_LESS: Limits = Limits {
     max_frame: 65,
 };
 
-impl Trial for BuffersLess {
+impl<R: Abort + AllocGlobal> Trial<R> for BuffersLess {
     type Outcome = Result<(), Fail>;
 
-    fn run<C: ReplicaStore + Drop>(
-        &self,
-        rt: &(impl Abort + AllocGlobal),
-        store: C,
-    ) -> Result<(), Fail> {
+    fn run<C: ReplicaStore + Drop>(&self, rt: &R, store: C) -> Result<(), Fail> {
         let alloc = rt.alloc();
         let input = Some((Version::Two, Incoming::Raw(SESSION)));
         let (mut out, mut err) = (Vec::new(alloc), Vec::new(alloc));
