@@ -115,6 +115,8 @@ class Place:
     def catch_up(self, child: Child, cluster: Cluster | None = None) -> None:
         """Waits until all is confirmed, and a keepalive has moved the slot beyond the last commit."""
         server = cluster or self.cluster
+        # (a slot that was just made has confirmed all that was before it)
+        child.wait_for("following slot")
         query = "SELECT pg_current_wal_insert_lsn() FROM pg_logical_emit_message(false, '', '')"
         end = server.value(query, self.database)
         wait_until(lambda: self.has_confirmed(end, server), f"confirming {end}", 60, child.check)
