@@ -81,8 +81,11 @@ def found(bug: Bug) -> str:
 def main(words: list[str]) -> int:
     about, _, more = (__doc__ or "").partition("\n\n")
     parser = argparse.ArgumentParser(description=about, epilog=more, formatter_class=argparse.RawDescriptionHelpFormatter)
-    parser.add_argument("numbers", nargs="*", type=int, choices=range(1, len(BUGS) + 1), metavar="NUMBER", help="only these (default: all)")
-    chosen = [BUGS[number - 1] for number in parser.parse_args(words).numbers] or list(BUGS)
+    parser.add_argument("numbers", nargs="*", type=int, metavar="NUMBER", help=f"only these, from 1 to {len(BUGS)} (default: all)")
+    numbers = parser.parse_args(words).numbers or range(1, len(BUGS) + 1)
+    if not all(1 <= number <= len(BUGS) for number in numbers):
+        parser.error(f"the numbers are from 1 to {len(BUGS)}")
+    chosen = [BUGS[number - 1] for number in numbers]
     with concurrent.futures.ThreadPoolExecutor(os.cpu_count()) as pool:
         results = list(zip(chosen, pool.map(found, chosen), strict=True))
     for bug, wrong in results:

@@ -12,7 +12,9 @@ STATUS = struct.Struct(">cIcQQQqB")
 
 
 # The exit status of each fault that isn't the stream's.
-STATUSES = {"spool 1 SpoolFull": 10, "wire 3 TooLarge": 11, "store 8 Refused": 13, "store 10 NotAStore": 13, "memory": 14, "read": 15}
+STATUSES = {
+    "spool 1 SpoolFull": 10, "wire 3 TooLarge": 11, "store 8 Refused": 13, "store 10 NotAStore": 13, "memory": 14, "read": 15,
+}
 
 
 def exit_status(fault):
