@@ -318,7 +318,7 @@ CASES = (
     Case("another-database-or-plugin", others),
     Case("server-is-not-there", not_there),
     Case("transaction-above-the-limit", rejected),
-    Case("open-transactions-above-the-limit", open_transactions),
+    Case("open-transactions-above-the-limit", open_transactions, since=14),
     Case("slot-whose-log-was-given-up", slot_given_up),
     Case("slot-without-a-copy", without_copy),
     *(Case(f"copy-cut-off-{name}", cut(call, after)) for name, call, after in CUTS),
