@@ -12,7 +12,7 @@ import socket
 import threading
 import time
 from collections.abc import Callable, Iterator
-from typing import cast
+from typing import Any
 
 import psycopg
 from psycopg import pq
@@ -21,6 +21,7 @@ from psycopg.conninfo import conninfo_to_dict, make_conninfo
 from . import log
 from .errors import ServerError
 
+LIBPQ = ctypes.PyDLL("libpq.so.5") if pq.__impl__ == "python" else None
 # After how many seconds each, at most, a host is given up, and a command that takes no time at the server.
 CONNECT_LIMIT = 10.0
 QUICK = 60.0
@@ -36,6 +37,12 @@ DEFAULT, VERBOSE = 1, 2
 CODE, PLACE_IN_SOURCE = re.compile(r":  ([0-9A-Z]{5}): "), re.compile(r"\n[^\n]*\.c:\d+$", re.M)
 # What a DSN goes before. A lost peer is noticed within about a minute.
 DEFAULTS = {"keepalives_idle": "30", "keepalives_interval": "10", "keepalives_count": "3", "tcp_user_timeout": "60000"}
+
+# What PQgetCopyData returns after the last message, and for an error.
+ENDED, FAILED = -1, -2
+# libpq's own calls, where psycopg makes them by ctypes too.
+GET_COPY_DATA: Any = LIBPQ.PQgetCopyData if LIBPQ else None
+FREE: Any = LIBPQ.PQfreemem if LIBPQ else None
 
 Check = Callable[[], None]
 
@@ -349,22 +356,18 @@ class Connection:
         """
         if self.broken:
             raise self.broken
-        take, views = self.raw.get_copy_data, list[memoryview]()
+        found, last = taken(self.raw, room, long)
         try:
-            while room > 0:
-                length, view = take(1)
-                if length == 0:
-                    return bytes_of(views), False
-                if length < 0:
-                    self.end_copies()
-                    return bytes_of(views), None
-                views.append(view)
-                room -= length if length < long else room
-        except (psycopg.OperationalError, ServerError) as error:
-            self.broken = error if isinstance(error, ServerError) else ServerError(str(error))
-            if not views:
-                raise self.broken from None
-        return bytes_of(views), True
+            if last == ENDED:
+                self.end_copies()
+            elif last < 0:
+                raise ServerError(self.error())
+        except ServerError as error:
+            self.broken = error
+            if not found:
+                raise
+            return found, True
+        return found, None if last == ENDED else last > 0
 
     def end_copies(self) -> None:
         """After the last CopyData. Raises the error with which the server ended them, if it did."""
@@ -399,11 +402,39 @@ class Connection:
         self.raw.finish()
 
 
-def bytes_of(views: list[memoryview]) -> list[bytes]:
-    """What memory views show. Those of libpq by ctypes show bytes, which aren't copied."""
-    if views and isinstance(views[0].obj, bytes):
-        return [cast(bytes, view.obj) for view in views]
-    return [bytes(view) for view in views]
+def taken(raw: pq.abc.PGconn, room: int, long: int) -> tuple[list[bytes], int]:
+    """Payloads of CopyData, as far as there is room or to the first long one, and what PQgetCopyData returned last.
+
+    It is called for each message of a session, so psycopg's way by ctypes, which costs as much again, is passed by.
+    """
+    pointer = getattr(raw, "pgconn_ptr", None) if GET_COPY_DATA else None
+    if pointer is None:
+        return taken_by_psycopg(raw, room, long)
+    connection, buffer, found, length = ctypes.c_void_p(pointer), ctypes.c_void_p(), list[bytes](), 1
+    place, string_at = ctypes.byref(buffer), ctypes.string_at
+    while room > 0:
+        length = GET_COPY_DATA(connection, place, 1)
+        if length <= 0:
+            break
+        found.append(string_at(buffer, length))
+        FREE(buffer)
+        room -= length if length < long else room
+    return found, length
+
+
+def taken_by_psycopg(raw: pq.abc.PGconn, room: int, long: int) -> tuple[list[bytes], int]:
+    """The same where psycopg isn't the one over Debian's libpq."""
+    found, length = list[bytes](), 1
+    while room > 0:
+        try:
+            length, view = raw.get_copy_data(1)
+        except psycopg.OperationalError:
+            return found, FAILED
+        if length <= 0:
+            break
+        found.append(bytes(view))
+        room -= length if length < long else room
+    return found, length
 
 
 def set_verbosity(raw: pq.abc.PGconn, verbosity: int) -> None:

@@ -11,6 +11,7 @@ from pgsub_connect import postgres
 from pgsub_connect.errors import ServerError, Stopped
 from pgsub_connect.postgres import COPY_BOTH, Connection, hosts_of, parameters
 
+from . import small_server
 from .fake_server import FakeServer, Quiet
 from .small_server import SmallServer, error, message
 
@@ -180,6 +181,42 @@ class Copies(Case):
         while (payload := connection.next_payload()) == b"" and time.monotonic() < until:
             connection.consume()
         self.assertIsNone(payload)
+
+    def test_lots(self) -> None:
+        """By both ways to take them: up to the room, to the first long one, what is there, and then the end."""
+        sent = [b"%d" % it for it in range(100)] + [b"x" * 1000] + [b"y"] * 3
+        for quick in (True, False):
+            server = self.start(5433 + quick)
+            server.to_send = list(sent)
+            connection, lots, more, until = self.connect(server.dsn()), list[list[bytes]](), True, time.monotonic() + 10
+            connection.run("START_REPLICATION", COPY_BOTH, 5.0)
+            with mock.patch.object(postgres, "GET_COPY_DATA", postgres.GET_COPY_DATA if quick else None):
+                while sum(map(len, lots)) < len(sent) and time.monotonic() < until:
+                    found, more = connection.payloads(50, 1000)  # type: ignore[assignment]
+                    lots += [found] if found else []
+                    if not more:
+                        connection.consume()
+                connection.end_copy()
+                while more is not None and time.monotonic() < until:
+                    connection.consume()
+                    found, more = connection.payloads(50, 1000)  # type: ignore[assignment]
+            self.assertEqual([it for lot in lots for it in lot], sent)
+            self.assertTrue(all(len(it) < 1000 for lot in lots for it in lot[:-1]))
+            self.assertIsNone(more)
+
+    def test_what_came_before_the_session_broke(self) -> None:
+        body = small_server.COPY_BOTH + message(b"d", b"one") + message(b"d", b"two") + error("terminating", "57P01")
+        for quick in (True, False):
+            with mock.patch.object(small_server, "COPY_BOTH", body), mock.patch.object(
+                postgres, "GET_COPY_DATA", postgres.GET_COPY_DATA if quick else None
+            ):
+                connection, found, until = self.connect(), list[bytes](), time.monotonic() + 10
+                connection.run("START_REPLICATION", COPY_BOTH, 5.0)
+                with self.assertRaisesRegex(ServerError, "terminating") as raised:
+                    while time.monotonic() < until:
+                        found += connection.payloads(1 << 20, 1 << 16)[0]
+                        connection.consume()
+                self.assertEqual((found, raised.exception.sqlstate), ([b"one", b"two"], "57P01"))
 
     def test_rows(self) -> None:
         copied = b"".join(message(b"d", b"%d\tx\n" % it) for it in range(100))

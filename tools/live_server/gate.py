@@ -6,6 +6,7 @@ import dataclasses
 import time
 
 from .checks import Checks
+from .follower import wait_until
 from .killing import Run, mixed
 from .load import Mixed
 from .options import Options
@@ -40,7 +41,8 @@ def follows(run: Run, checks: Checks) -> None:
 
 def goes_on(run: Run, victim: str) -> None:
     """Kills a part, and waits until what is written afterwards is confirmed."""
-    assert run.kill(victim), f"no {victim} runs"
+    # (a filter is started anew after the copy, and after each of the other kills)
+    wait_until(lambda: run.kill(victim), f"finding a {victim} that runs", 30)
     time.sleep(0.5)
     end = run.cluster.log_end()
     run.wait_for(end, 60, f"confirming {end}")

@@ -117,7 +117,7 @@ CASES = (
     Case("publication-of-a-list", left_out),
     Case("publication-without-a-copy", no_copy_comes),
     Case("publication-of-a-start-that-was-stopped", stopped_while_made),
-    # (servers before 15 send commits that changed nothing, with which a store's position moves)
+    # (before, such transactions come as empty ones, and move the store)
     Case("publication-that-is-idle", idle_publication, since=15),
     Case("slot-that-was-idle-for-long", idle_for_long, since=18),
 )
