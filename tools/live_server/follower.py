@@ -64,9 +64,13 @@ class Supervisor(threading.Thread):
         self.start()
         self.begun.wait()
 
-    def kill_connector(self) -> None:
+    def kill_connector(self) -> bool:
+        """Kills the connector. Returns whether one ran."""
+        if self.killed or self.child.poll() is not None:
+            return False
         self.killed = True
         self.child.send_signal(signal.SIGKILL)
+        return True
 
     def kill_filter(self) -> bool:
         """Kills the filter. Returns whether one ran."""

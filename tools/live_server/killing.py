@@ -49,17 +49,16 @@ class Run:
         """Kills one of the parts. Returns whether it was there."""
         if victim == "filter":
             there = self.supervisor.kill_filter()
+        elif victim == "connector":
+            there = self.supervisor.kill_connector()
         elif victim == "session":
-            ended = "SELECT count(pg_terminate_backend(active_pid)) FROM pg_replication_slots"
+            ended = "SELECT count(pg_terminate_backend(active_pid)) FROM pg_replication_slots WHERE active"
             there = self.cluster.value(ended) != "0"
         else:
             there = True
-            if victim == "connector":
-                self.supervisor.kill_connector()
-            else:
-                self.cluster.stop(self.rng.choice(("immediate", "immediate", "fast")))
-                time.sleep(self.rng.uniform(0, 1))
-                self.cluster.start()
+            self.cluster.stop(self.rng.choice(("immediate", "immediate", "fast")))
+            time.sleep(self.rng.uniform(0, 1))
+            self.cluster.start()
         self.counts[victim] += there
         return there
 
