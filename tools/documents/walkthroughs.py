@@ -120,6 +120,11 @@ def is_printed(expected: Sequence[str], printed: Sequence[str], is_whole: bool) 
     return bool(printed) and printed[0] == expected[0] and is_printed(expected[1:], printed[1:], is_whole)
 
 
+def hear_interrupts() -> None:
+    """Has a command hear Ctrl-C, which it wouldn't where this was started in the background of a script."""
+    signal.signal(signal.SIGINT, signal.SIG_DFL)
+
+
 class Running:
     """A command that runs in a folder, with all that it prints in a file."""
 
@@ -129,7 +134,8 @@ class Running:
         self.out = Path(name)
         with open(descriptor, "wb") as out:
             self.process = subprocess.Popen(
-                ["bash", "-c", command.text], cwd=folder, env=dict(environment), stdin=subprocess.DEVNULL, stdout=out, stderr=subprocess.STDOUT, start_new_session=True
+                ["bash", "-c", command.text], cwd=folder, env=dict(environment), stdin=subprocess.DEVNULL, stdout=out,
+                stderr=subprocess.STDOUT, start_new_session=True, preexec_fn=hear_interrupts,
             )
 
     def printed(self) -> list[str]:
