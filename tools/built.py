@@ -16,5 +16,5 @@ def add_program(parser: argparse.ArgumentParser) -> None:
 def check_program(parser: argparse.ArgumentParser, path: Path) -> Path:
     """Returns the program's absolute path. Ends the tool with a usage error where it isn't there."""
     if not os.access(path, os.X_OK) or path.is_dir():
-        parser.error(f"there is no program {path}: `./pgsub lsn 0/0` builds it, or name another with --program")
+        parser.error(f"there is no program {path}: `./pgsub --build` makes it, or name another with --program")
     return path.resolve()

@@ -67,13 +67,15 @@ class Table:
 
 @dataclasses.dataclass(frozen=True)
 class Partition:
-    """A partition or a partitioned table; `parent` is 0 of one that is in no other. `made`: it was made there, and not attached."""
+    """A partition or a partitioned table; `parent` is 0 of one that is in no other. `made`: it was made there, and not attached;
+    `node`: the number of the file with its rows, 0 where that isn't known."""
 
     oid: int
     parent: int
     name: str
     leaf: bool
     made: bool = dataclasses.field(default=False, compare=False)
+    node: int = 0
 
 
 @dataclasses.dataclass(frozen=True)
@@ -94,7 +96,7 @@ class Catalog:
 
 def read_catalog(connection: Connection, names: list[str]) -> Catalog:
     """Reads it, with a number of queries that doesn't depend on that of the tables."""
-    connection.run("SET jit = off")
+    connection.run("SET jit = off", limit=QUICK)
     publications = read_publications(connection, names)
     tables = read_tables(connection, list(publications))
     partitions = read_partitions(connection, list(publications))
@@ -229,14 +231,15 @@ def read_partitions(connection: Connection, names: list[str]) -> dict[int, Parti
         "   WHERE r.prpubid = p.oid AND r.prrelid = root.oid))"
         f" LEFT JOIN pg_catalog.pg_inherits i ON i.inhrelid = root.oid WHERE p.pubname IN ({listed_names(names)})"
         " UNION SELECT i.inhrelid, i.inhparent FROM t JOIN pg_catalog.pg_inherits i ON i.inhparent = t.oid)"
-        f" SELECT c.oid, t.parent, n.nspname || '.' || c.relname, c.relkind <> 'p', i.xmin = y.xmin AND {UNTOUCHED} AND {UNWRITTEN}"
+        f" SELECT c.oid, t.parent, n.nspname || '.' || c.relname, c.relkind <> 'p', i.xmin = y.xmin AND {UNTOUCHED} AND {UNWRITTEN},"
+        " pg_catalog.pg_relation_filenode(c.oid)"
         " FROM t JOIN pg_catalog.pg_class c ON c.oid = t.oid JOIN pg_catalog.pg_namespace n ON n.oid = c.relnamespace"
         " LEFT JOIN pg_catalog.pg_inherits i ON i.inhrelid = t.oid JOIN pg_catalog.pg_type y ON y.oid = c.reltype ORDER BY 1",
         QUICK,
     )
     return {
-        number(oid): Partition(number(oid), number(parent), name or "", leaf == "t", made == "t")
-        for oid, parent, name, leaf, made in rows
+        number(oid): Partition(number(oid), number(parent), name or "", leaf == "t", made == "t", number(node))
+        for oid, parent, name, leaf, made, node in rows
     }
 
 

@@ -11,6 +11,7 @@ from typing import TYPE_CHECKING
 
 from .errors import ServerError, UsageError
 from .facts import Facts, all_facts, role_facts, server_facts, tables_facts
+from .log import escaped
 from .making import REFUSED, Wanted, inserts_of, keyless_text, members, names_of
 from .postgres import Check, Connection, never
 from .texts import counted
@@ -343,6 +344,6 @@ def run(options: Options, check: Check = never) -> int:
         json.dump([dataclasses.asdict(it) for it in found], sys.stdout, indent=1)
         sys.stdout.write("\n")
     else:
-        sys.stdout.writelines(f"{it.level} {it.name}: {it.text}\n" for it in found)
+        sys.stdout.writelines(f"{it.level} {it.name}: {escaped(it.text)}\n" for it in found)
     sys.stdout.flush()
     return 4 if any(it.level == ERROR for it in found) else 0

@@ -9,6 +9,7 @@ one opens the store.
 | `phase` | `new`: nothing yet; `copying`: rows are being copied; `copied`: all rows are in `STORE.copying`, and the slot is made next; `following` |
 | `system`, `database`, `slot` | whose changes the store holds |
 | `timeline` | the server's timeline in the last session; 0 where it isn't known |
+| `started` | when the server of the last session was started, in microseconds since 1970; 0 where it isn't known |
 | `confirmed` | at least what was ever sent as flushed because of a keepalive, and at most what the store had confirmed |
 | `position` | the store's position was at least this |
 | `found` | what may have made the copy wrong, and the LSN at which it was found first; until somebody accepts it |
@@ -44,6 +45,7 @@ class Known:
     database: str = ""
     slot: str = ""
     timeline: int = 0
+    started: int = 0
     confirmed: int = 0
     position: int = 0
     found: dict[str, str] = dataclasses.field(default_factory=dict)
@@ -59,8 +61,12 @@ class Checkpoint:
             self.file = os.open(self.path, os.O_RDWR | os.O_CREAT | os.O_CLOEXEC, mode)
         except OSError as error:
             raise FileError(f"{self.path}: {error.strerror}") from None
-        self.lock(check)
-        self.known = self.read()
+        try:
+            self.lock(check)
+            self.known = self.read()
+        except BaseException:
+            os.close(self.file)
+            raise
 
     def lock(self, check: Check) -> None:
         until = time.monotonic() + PATIENCE

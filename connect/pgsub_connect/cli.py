@@ -4,6 +4,7 @@ from __future__ import annotations
 
 import argparse
 import dataclasses
+import errno
 import os
 import shutil
 import signal
@@ -13,18 +14,21 @@ import traceback
 from collections.abc import Callable, Sequence
 from typing import Any, Protocol
 
-from . import VERSION, checking, dropping, log
+from . import VERSION, builds, checking, dropping, exporting, log, probing, taking
 from . import checkpoint as known_of
+from .asking import Asker
 from .checkpoint import Checkpoint
+from .comparing import require_published
 from .copying import Copier, create_slot, maker_of
 from .errors import FileError, FilterFault, Passing, ServerError, Stopped, Unfit, UsageError
 from .filtering import Filter, FilterEnded
 from .following import Follower
-from .limits import default_buffered
+from .limits import LONGEST_FRAME, default_buffered
 from .postgres import Check, parameters
-from .progress import Progress, Reporter
+from .progress import Progress
 from .recording import LONGEST, Aside, Recorder, Recording
 from .remembered import Remembered, print_names
+from .reporting import Reporter
 from .snapshots import Snapshots
 from .texts import parse_lsn
 
@@ -44,15 +48,13 @@ The server needs wal_level = logical. The user needs the attribute REPLICATION, 
 for --create the right to create a publication (of all tables: to be a superuser). A slot keeps the server's log until it is
 confirmed or dropped: SELECT pg_drop_replication_slot('NAME').
 
-exit status: 0 ended as asked; 1 the filter rejected the stream; 2 usage error; 3 a file can't be used; 4 the server rejected
+exit status: 0 ended as asked; 1 the filter rejected the stream, or was killed twice in one transaction; 2 usage error; 3 a file can't be used; 4 the server rejected
 a command for good; 5 the store and the slot don't fit together, or the copy may be wrong; 6 a bug; 7 something is in the way
 only for now, such as a server that isn't there: start it again
 """
 TOP = os.path.dirname(os.path.dirname(os.path.dirname(os.path.realpath(__file__))))
 REJECTED, USAGE, FILE, SERVER, UNFIT, BUG, PASSING = 1, 2, 3, 4, 5, 6, 7
 KINDS = ("history", "slot", "names", "publication", "values", "gap", "all")
-# The longest frame that PostgreSQL can send, with its length.
-LONGEST_FRAME = 2147483643
 
 
 @dataclasses.dataclass
@@ -78,6 +80,8 @@ class Options:
     strict: bool = False
     skip: int = 0
     status_file: str | None = None
+    max_lag: list[probing.Limit] = dataclasses.field(default_factory=list)
+    max_age: float = 30.0
     metrics_file: str | None = None
     snapshot: str | None = None
     snapshot_every: float = 0.0
@@ -98,6 +102,8 @@ class Options:
     messages: bool = False
     json: bool = False
     yes: bool = False
+    into: str = ""
+    text: bool = False
 
     def accepts(self, kind: str) -> bool:
         """Whether what may be wrong in this way was said to be taken as it is."""
@@ -141,6 +147,16 @@ def within(least: int, most: int) -> Callable[[str], int]:
     return number
 
 
+def seconds(text: str) -> float:
+    try:
+        number = float(text)
+    except ValueError:
+        number = 0.0
+    if not 0.1 <= number <= 86400.0:
+        raise argparse.ArgumentTypeError(f"{text!r} is no number of seconds from 0.1 to 86400")
+    return number
+
+
 def add_server(parser: argparse.ArgumentParser) -> None:
     """Options on the server and the slot."""
     add = parser.add_argument
@@ -150,7 +166,7 @@ def add_server(parser: argparse.ArgumentParser) -> None:
     add("--publication", action="append", default=[],
         help="publication, may be repeated (default: those that the store has followed, else pgsub)")
     add("--proto", type=int, choices=(1, 2), default=2, help="protocol version (default: 2, and 1 where the server has no other)")
-    add("--heartbeat", type=float, default=10.0, metavar="N",
+    add("--heartbeat", type=seconds, default=10.0, metavar="N",
         help="seconds between statuses (default: 10, and at most a third of wal_sender_timeout)")
     add("--mode", type=mode, default=0o600, metavar="OCTAL", help="mode of the files that are made (default: 600)")
 
@@ -165,7 +181,7 @@ def add_following(parser: argparse.ArgumentParser) -> None:
     add("--max-frame", type=within(1 << 10, LONGEST_FRAME), default=0, metavar="BYTES",
         help="the longest message that is accepted (default: what may be buffered, at most 1 GiB)")
     add("--until", type=lsn_or_now, metavar="LSN|now", help="stop once all that was committed up to this LSN, or up to now, is stored")
-    add("--silence", type=float, default=60.0, metavar="N", help="give a server up that says nothing for N seconds (default: 60)")
+    add("--silence", type=seconds, default=60.0, metavar="N", help="give a server up that says nothing for N seconds (default: 60)")
     add("--strict", action="store_true", help="end with status 5 where something was found that may have made the copy wrong")
     add("--accept", action="append", default=[], choices=KINDS, help="take what was found of this kind as it is, may be repeated")
     add("--accept-gap", dest="accept", action="append_const", const="gap",
@@ -227,13 +243,29 @@ def add_names(parser: argparse.ArgumentParser) -> None:
     parser.add_argument("--store", metavar="FILE", required=True, help="the store, which may be in use")
 
 
+def add_reading(parser: argparse.ArgumentParser) -> None:
+    """Options on a copy of a store."""
+    add = parser.add_argument
+    add("--store", metavar="FILE", required=True, help="the store, which may be in use: then its follower is asked for a copy")
+    add("--into", metavar="FILE", required=True, help="the file to write; one of an earlier run is replaced")
+    add("--mode", type=mode, default=0o600, metavar="OCTAL", help="its mode (default: 600)")
+
+
+def add_exporting(parser: argparse.ArgumentParser) -> None:
+    add = parser.add_argument
+    add("--text", action="store_true", help="each value as TEXT, as the server prints it")
+
+
 # Each subcommand: what adds its options.
 COMMANDS: dict[str, tuple[str, Sequence[Callable[[argparse.ArgumentParser], None]]]] = {
     "follow": ("follow into a store", (add_server, add_following, add_recording)),
     "record": ("only record", (add_server, add_following, add_recording)),
     "check": ("tell what following needs of the server, and change nothing", (add_server, add_copying, add_checking)),
     "drop": ("drop slot, publications and files", (add_server, add_dropping)),
+    "export": ("make ordinary tables of SQLite from the rows of a store, or of a copy of one", (add_reading, add_exporting)),
+    "snapshot": ("copy a store into one file", (add_reading,)),
     "names": ("tell which OID each name of a table has now, and which ones had it before", (add_names,)),
+    "status": (probing.ABOUT, (probing.add_options,)),
 }
 
 
@@ -246,7 +278,7 @@ def arguments(words: Sequence[str]) -> Options:
     commands = parser.add_subparsers(dest="command", metavar="COMMAND", required=True)
     parsers = {}
     for name, (about, adds) in COMMANDS.items():
-        parsers[name] = commands.add_parser(name, help=about, description=about)
+        parsers[name] = commands.add_parser(name, help=about.partition("\n")[0], description=about, formatter_class=AsWritten)
         for add in adds:
             add(parsers[name])
     if words and words[0] not in (*COMMANDS, "-h", "--help", "--version"):
@@ -264,7 +296,7 @@ def check(parser: argparse.ArgumentParser, options: Options) -> None:
         ("table", "create"), ("all_tables", "create"), ("failover", "create"), ("append", "record"), ("snapshot", "store"),
         ("snapshot_every", "snapshot"), ("skip", "store"), ("strict", "store"),
     ):
-        if options.command != "check" and getattr(options, given) and not getattr(options, needed):
+        if options.command not in ("check", "status") and getattr(options, given) and not getattr(options, needed):
             parser.error(f"--{given.replace('_', '-')} needs --{needed}")
     if options.command == "follow" and not options.store:
         parser.error("--store is needed")
@@ -289,16 +321,20 @@ def check(parser: argparse.ArgumentParser, options: Options) -> None:
 
 def settle_options(options: Options) -> None:
     """Fills in what stands elsewhere: the connection string of a file, the program, the limits."""
+    if options.command == "status":
+        return
     if options.dsn_file:
         with open(options.dsn_file, encoding="utf-8") as file:
             options.dsn = file.readline().strip()
-    elif "password" in parameters(options.dsn):
+    elif {"password", "sslpassword"} & parameters(options.dsn).keys():
         log.warning("the password on the command line can be read by every account: use ~/.pgpass, PGPASSWORD or --dsn-file")
     remembered = Remembered(options.store).publications() if os.path.exists(options.store) else []
     options.publication = options.publication or remembered or ["pgsub"]
     options.pgsub = options.pgsub or program()
     options.max_buffered = options.max_buffered or default_buffered()
     options.max_frame = options.max_frame or min(options.max_buffered, LONGEST_FRAME)
+    # (all files get the mode that was asked for, and not what the caller's umask leaves of it)
+    os.umask(0o777 & ~options.mode)
 
 
 def program() -> str:
@@ -311,6 +347,10 @@ def program() -> str:
     return shutil.which("pgsub") or checkout
 
 
+class AsWritten(argparse.RawDescriptionHelpFormatter):
+    """Help whose description keeps its lines."""
+
+
 class TellVersion(argparse.Action):
     """`--version`."""
 
@@ -320,7 +360,9 @@ class TellVersion(argparse.Action):
 
 
 def version() -> str:
-    """The version, and the commit where this is a checkout."""
+    """The version, and of which build this is, or which commit where it is a checkout."""
+    if builds.OWN:
+        return f"{log.PROGRAM} {builds.OWN.get('version')} (commit {builds.OWN.get('commit')}, {builds.OWN.get('kit')})"
     try:
         done = subprocess.run(["git", "-C", TOP, "describe", "--always", "--dirty"], capture_output=True, check=True, timeout=5)
         return f"{log.PROGRAM} {VERSION} ({done.stdout.decode().strip()})"
@@ -370,7 +412,7 @@ def follow(options: Options) -> None:
     checkpoint = Checkpoint(options.store, options.mode, start.check)
     progress = Progress()
     recording = Aside(Recording(options.record, True, options.bytes, options.mode)) if options.record else None
-    remembered = Remembered(options.store)
+    remembered = Remembered(options.store, options.mode)
     copier = Copier(options, checkpoint, make_filter(options, checkpoint, options.store + ".copying"), progress, remembered)
     child = make_filter(options, checkpoint, options.store)
     snapshots = Snapshots(options.store, options.snapshot, options.snapshot_every, options.mode)
@@ -378,12 +420,17 @@ def follow(options: Options) -> None:
     snapshot_by_signal(snapshots)
     stop_by_signals(copier, follower)
     copier.stop_asked = follower.stop_asked = start.stop_asked
-    reporter = Reporter(options, progress, options.status_file) if options.status_file else None
+    reporter, asker = Reporter(options, progress) if options.status_file or options.metrics_file else None, Asker(options, progress)
+    asker.start()
     if reporter:
         reporter.start()
     try:
         if not os.path.exists(options.store):
             begin(options, checkpoint, copier, remembered, follower.check_stop)
+            # (a server that is lost from now on is waited for)
+            follower.was_connected = copier.was_connected
+        elif options.table or options.all_tables:
+            require_published(options, follower.check_stop)
         follower.run()
         progress.state = "stopped"
     except Stopped:
@@ -395,6 +442,7 @@ def follow(options: Options) -> None:
         child.kill()
         if recording:
             recording.flush()
+        asker.finish()
         if reporter:
             reporter.finish()
 
@@ -408,9 +456,10 @@ def begin(options: Options, checkpoint: Checkpoint, copier: Copier, remembered: 
         raise Unfit(f"{options.store} is gone, and the slot {known.slot} went on: remove {checkpoint.path} to begin anew")
     if not options.create and not options.no_copy:
         raise Unfit(f"there is no store {options.store}: --create makes it, with publication and slot; see --help")
-    made = create_slot(options, check) if options.create else {}
-    remembered.remove()
-    remembered.note_made(made)
+    if options.create:
+        create_slot(options, check, remembered)
+    else:
+        remembered.remove()
 
 
 def record(options: Options) -> None:
@@ -441,7 +490,8 @@ def stoppable(call: Callable[[Options, Check], int]) -> Callable[[Options], int]
 
 RUNS: dict[str, Callable[[Options], Any]] = {
     "follow": follow, "record": record, "check": stoppable(checking.run), "drop": stoppable(dropping.run),
-    "names": lambda options: print_names(options.store),
+    "export": stoppable(exporting.run), "snapshot": stoppable(taking.run),
+    "names": lambda options: print_names(options.store), "status": probing.run,
 }
 
 
@@ -465,7 +515,7 @@ def main(words: Sequence[str]) -> int:
         log.error(f"{error.filename or 'a file'}: {error.strerror}")
         return PASSING if error.errno in PASSING_ERRORS else FILE
     except Exception:  # noqa: BLE001
-        traceback.print_exc()
+        log.error(f"a bug: {traceback.format_exc().rstrip()}")
         return BUG
 
 
@@ -477,8 +527,9 @@ def status_of(ended: FilterEnded) -> int:
 
 
 STATUSES: dict[type[Exception], int] = {Unfit: UNFIT, FileError: FILE, FilterFault: FILE, Passing: PASSING, UsageError: USAGE}
-# No space, no memory.
-PASSING_ERRORS = (28, 12, 122)
+PASSING_ERRORS = (
+    errno.ENOSPC, errno.EDQUOT, errno.ENOMEM, errno.EAGAIN, errno.EMFILE, errno.ENFILE, errno.ESTALE, errno.ETIMEDOUT, errno.EHOSTDOWN,
+)
 
 
 def run() -> None:

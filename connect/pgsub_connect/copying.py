@@ -20,19 +20,19 @@ from collections.abc import Callable
 from typing import TYPE_CHECKING
 
 from . import checkpoint as known_of
-from . import log
+from . import log, sizes
 from .catalog import read_catalog
 from .checking import require, require_reading
 from .errors import FileError, Passing, ServerError, Stopped, Unfit
 from .filtering import Filter, FilterEnded
 from .making import REFUSED, Look, Maker, Wanted, has_publication
 from .messages import InsertHeads, begin, commit, frame, inserts, relation
-from .postgres import Check, Connection
+from .postgres import QUICK, Check, Connection, never
 from .publishing import Table, are_so_named, estimated_rows, published_tables, stored_in
 from .server import Server, identify, settle, slot_position
 from .snapshots import sync_folder
 from .texts import counted, identifier, literal, lsn_text, parse_lsn
-from .waiting import Waiting
+from .waiting import Waiting, what_blocks
 
 if TYPE_CHECKING:
     from .checkpoint import Checkpoint
@@ -52,8 +52,8 @@ LOG = "-wal"
 # what may be in the way only for now: a table that was altered or dropped while it was to be read
 CHANGED = "the published tables changed while the slot was made"
 GONE = ("42P01", "42703", "42704")
-# The most attempts that the same cause ends: of those that may pass by themselves, and of all others.
-MOST_PASSING, MOST = 10, 5
+# The most attempts that the same cause ends: of tables that were changed, of what else may pass by itself, and of all others.
+MOST_CHANGED, MOST_PASSING, MOST = 20, 10, 5
 # after these a command may have had its effect: a lost connection, the end of the session
 LEFT_OPEN = ("08", "57")
 # connections, deadlocks, too many connections, a slot in use, a server that is stopped
@@ -67,10 +67,10 @@ class Tries:
         self.counts: collections.Counter[str] = collections.Counter()
 
     def note(self, cause: str, error: Exception) -> None:
-        """Notes a cause: a SQLSTATE, or none for a connection or a filter that was lost. Raises where enough attempts ended by it."""
+        """Notes a cause: a SQLSTATE, CHANGED, or none for a connection or a filter that was lost. Raises where it ended enough attempts."""
         self.counts[cause] += 1
-        passing = not cause or cause.startswith(PASSING)
-        if self.counts[cause] < (MOST_PASSING if passing else MOST):
+        passing = not cause or cause.startswith(PASSING) or cause == CHANGED
+        if self.counts[cause] < (MOST_CHANGED if cause == CHANGED else MOST_PASSING if passing else MOST):
             return
         text = f"{error}; {self.counts[cause]} attempts to copy ended in this way"
         if passing:
@@ -93,7 +93,9 @@ class Copier:
         self.plain: Connection | None = None
         self.replication: Connection | None = None
         self.lsn, self.delay = 0, 0.0
-        self.maker = maker_of(options, self.check_stop, require_reading)
+        # the length of the longest row
+        self.longest = 0
+        self.maker = maker_of(options, self.check_stop, require_reading, remembered)
 
     def run(self) -> None:
         """Copies until it is done, anew where the server or the filter is lost. Where no copy comes of it, what was made goes."""
@@ -115,6 +117,8 @@ class Copier:
             self.attempt()
             return True
         except FilterEnded as ended:
+            if text := sizes.text_of(ended, self.options, (0, 0), self.longest):
+                log.error(text)
             if ended.is_rejection():
                 raise
             tries.note("", ended)
@@ -123,6 +127,7 @@ class Copier:
             if str(error) == CHANGED or error.sqlstate == LOCK_TIMEOUT:
                 # (no row was read yet)
                 self.delay = 0.0
+                tries.note(CHANGED, error)
             elif error.is_lasting():
                 raise
             elif not self.was_connected:
@@ -248,6 +253,10 @@ class Copier:
         """Locks the tables against whoever alters or truncates them."""
         if not tables:
             return
+        check, pid = plain.check, plain.pid()
+        plain.check = Waiting(
+            self.options.dsn, self.options.slot, check, lambda it: f"the copy waits for the locks of {what_blocks(it, pid)}"
+        ).check
         try:
             plain.run(f"LOCK TABLE {', '.join(table.sql_name() for table in tables)} IN ACCESS SHARE MODE")
         except ServerError as error:
@@ -255,6 +264,8 @@ class Copier:
                 raise
             text = f"{error}; to lock a table while it is read needs SELECT on all of it, and not on some columns"
             raise ServerError(text, DENIED) from None
+        finally:
+            plain.check = check
 
     def check_names(self, tables: list[Table]) -> None:
         """Checks that the tables still have their names and columns.
@@ -306,6 +317,7 @@ class Copier:
         self.send(frame(self.lsn, relation(table)))
         heads, size = InsertHeads(table, self.lsn), 0
         for lines in plain.copied_blocks(table.query(), BLOCK):
+            self.longest = max(self.longest, len(max(lines, key=len)))
             if size >= PART:
                 self.end_part()
                 self.begin_part()
@@ -373,7 +385,7 @@ class Copier:
             for it in (self.part, self.part + LOG, self.store + LOG):
                 with contextlib.suppress(FileNotFoundError):
                     os.unlink(it)
-            self.remembered.remove()
+            self.remembered.begin_anew()
         except OSError as error:
             raise FileError(f"{self.part}: {error.strerror}") from None
 
@@ -415,17 +427,23 @@ def set_failover(replication: Connection, slot: str, wanted: bool) -> None:
         replication.run(f"ALTER_REPLICATION_SLOT {identifier(slot)} (FAILOVER true)")
 
 
-def maker_of(options: Options, check: Check, look: Look = lambda connection, names: None) -> Maker:
+def maker_of(
+    options: Options, check: Check, look: Look = lambda connection, names: None, remembered: Remembered | None = None
+) -> Maker:
     wanted = Wanted(list(options.publication), options.table, options.all_tables, options.keyless)
-    return Maker(options.dsn, wanted, options.slot, check, look)
+    if remembered is None:
+        return Maker(options.dsn, wanted, options.slot, check, look)
+    return Maker(options.dsn, wanted, options.slot, check, look, remembered.made, remembered.keep_made)
 
 
-def create_slot(options: Options, check: Check) -> dict[str, int]:
-    """Makes publications and slot, without rows, where they aren't there. Returns the publications that were made.
+def create_slot(options: Options, check: Check, remembered: Remembered | None = None) -> None:
+    """Makes publications and slot, without rows, where they aren't there, and remembers what is published from then on.
 
     Where `check` raises meanwhile, none of them is made.
     """
-    maker = maker_of(options, check)
+    if remembered:
+        remembered.begin_anew()
+    maker, is_made = maker_of(options, check, remembered=remembered), False
     connection = Connection(options.dsn, replication=True, name=options.slot, check=check)
     try:
         settle(connection)
@@ -438,12 +456,28 @@ def create_slot(options: Options, check: Check) -> dict[str, int]:
         maker.make()
         options.publication = maker.publications
         if slot_at is None:
+            connection.check = Waiting(options.dsn, options.slot, check).check
             connection.run(f"CREATE_REPLICATION_SLOT {identifier(options.slot)} LOGICAL pgoutput NOEXPORT_SNAPSHOT")
+            connection.check, is_made = check, True
             log.info(f"made the slot {options.slot}")
         set_failover(connection, options.slot, options.failover)
-        return maker.keep()
+        if remembered:
+            remembered.begin(read_catalog(connection, options.publication))
+            remembered.keep_made(maker.made)
+        maker.keep()
     except BaseException:
+        if is_made:
+            drop_slot(connection, options.slot)
         maker.take_back()
         raise
     finally:
         connection.close()
+
+
+def drop_slot(connection: Connection, slot: str) -> None:
+    """Drops a slot that was just made."""
+    connection.check = never
+    try:
+        connection.run(f"DROP_REPLICATION_SLOT {identifier(slot)}", limit=QUICK)
+    except ServerError as error:
+        log.warning(f"the slot {slot} was made and not dropped again: {error}")

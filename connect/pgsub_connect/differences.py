@@ -14,7 +14,7 @@ from __future__ import annotations
 from collections.abc import Iterator
 from typing import NamedTuple
 
-from .catalog import Catalog, Part, Publication, Shape, Table
+from .catalog import Catalog, Part, Partition, Publication, Shape, Table
 
 NAMES, PUBLICATION, VALUES = "names", "publication", "values"
 KINDS = (NAMES, PUBLICATION, VALUES)
@@ -159,6 +159,24 @@ def partition_differences(before: Catalog, now: Catalog) -> Iterator[Difference]
                 yield Difference("", f"{partition} is new, and followed from its first row on")
             else:
                 yield Difference(PUBLICATION, f"{partition} was attached: the rows that it had before are missing")
+    yield from truncations(before, now)
+
+
+def truncations(before: Catalog, now: Catalog) -> Iterator[Difference]:
+    """Partitions under another name whose rows are in another file: a TRUNCATE of such a one alone isn't sent.
+
+    Where all partitions of a table are, that was done by way of the table, which is sent.
+    """
+    parts: dict[int, list[Partition]] = {}
+    for oid in sorted(before.partitions.keys() & now.partitions.keys() - now.tables.keys()):
+        root = root_of(oid, now)
+        if root and root == root_of(oid, before):
+            parts.setdefault(root, []).append(now.partitions[oid])
+    for root, partitions in parts.items():
+        anew = [it for it in partitions if before.partitions[it.oid].node not in (0, it.node)]
+        for it in anew if len(anew) < len(partitions) or len(anew) == 1 else ():
+            partition = f"partition {it.name} ({it.oid}) of {now.tables[root].text()}"
+            yield Difference(PUBLICATION, f"{partition} was truncated or written anew: if it was truncated, its rows stay")
 
 
 def root_of(oid: int, catalog: Catalog) -> int:

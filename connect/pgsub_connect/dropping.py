@@ -7,6 +7,7 @@ import fcntl
 import glob
 import json
 import os
+import select
 import sys
 import time
 from collections.abc import Callable, Iterator
@@ -16,8 +17,8 @@ from . import checkpoint as known_of
 from . import log
 from .checkpoint import Known
 from .errors import FileError, Passing, Unfit
-from .making import inserts_of, oid_of
-from .postgres import Check, Connection, never
+from .making import inserts_of, oid_of, other_slots
+from .postgres import TICK, Check, Connection, never
 from .server import settle
 from .texts import identifier, literal
 
@@ -26,7 +27,7 @@ if TYPE_CHECKING:
 
 # What the names of a store's files add to its own, the checkpoint last: as long as it is there, a start tells what is missing.
 SUFFIXES = (
-    ".copying", ".copying-wal", ".copying-shm", ".copying.pgsub-new", ".filter", ".pgsub-new", "-wal", "-shm", "", ".tables", ".connector",
+    ".copying", ".copying-wal", ".copying-shm", ".copying.pgsub-new", ".filter", ".pgsub-new", "-wal", "-shm", "", ".request", ".tables", ".connector",
 )
 # How long a slot that was just left by its connection is waited for.
 PATIENCE = 5.0
@@ -85,7 +86,7 @@ def files_of(store: str) -> list[str]:
     named = [store + suffix for suffix in SUFFIXES]
     others = [
         path for path in glob.glob(glob.escape(store) + ".*")
-        if path.startswith((store + ".copying", store + ".filter", store + ".tables", store + ".connector")) and path not in named
+        if path.startswith(tuple(store + it for it in (".copying", ".filter", ".export.", ".request", ".tables", ".connector"))) and path not in named
     ]
     return [path for path in (*sorted(others), *named) if os.path.lexists(path)]
 
@@ -93,14 +94,15 @@ def files_of(store: str) -> list[str]:
 Ask = Callable[[str], bool]
 
 
-def ask_terminal(question: str) -> bool:
-    """Asks on the terminal. Nobody there is a no."""
+def ask_terminal(question: str, check: Check = never) -> bool:
+    """Asks on the terminal. Nobody there is a no. What `check` raises meanwhile ends it."""
     if not sys.stdin.isatty():
         raise Unfit("drop asks on the terminal, and there is none: say --yes to drop without asking")
-    try:
-        return input(f"{question} [y/N] ").strip().lower() in ("y", "yes")
-    except EOFError:
-        return False
+    sys.stderr.write(f"{log.escaped(question)} [y/N] ")
+    sys.stderr.flush()
+    while not select.select([sys.stdin], [], [], TICK)[0]:
+        check()
+    return sys.stdin.readline().strip().lower() in ("y", "yes")
 
 
 class Dropper:
@@ -208,16 +210,7 @@ class Dropper:
         log.info(f"removed {', '.join(files)}")
 
 
-def other_slots(connection: Connection, slot: str) -> list[str]:
-    """Other slots of this database by which a publication may be followed."""
-    rows = connection.rows(
-        "SELECT s.slot_name FROM pg_catalog.pg_replication_slots s WHERE s.plugin = 'pgoutput'"
-        f" AND s.database = pg_catalog.current_database() AND s.slot_name <> {literal(slot)} ORDER BY 1"
-    )
-    return [row[0] or "" for row in rows]
-
-
 def run(options: Options, check: Check = never) -> int:
     """Drops it all; the exit status."""
-    Dropper(options, (lambda question: True) if options.yes else ask_terminal, check).run()
+    Dropper(options, (lambda _: True) if options.yes else lambda question: ask_terminal(question, check), check).run()
     return 0

@@ -4,6 +4,7 @@ from __future__ import annotations
 
 import collections
 import contextlib
+import errno
 import fcntl
 import os
 import select
@@ -12,8 +13,8 @@ import struct
 import subprocess
 from collections.abc import Sequence
 
-from . import log
-from .errors import FilterFault
+from . import builds, log
+from .errors import FilterFault, Passing
 from .postgres import Check, never
 
 # A status: CopyData, 34 bytes of payload that begin with `r`, and written, flushed, applied, clock and ask in them.
@@ -23,6 +24,8 @@ COPY_DONE = b"c\x00\x00\x00\x04"
 # How many bytes wait for the filter before no more are read from the server.
 ROOM = 1 << 20
 PIECE = 1 << 16
+# The headers of payloads up to this length are kept.
+KEPT_HEADERS = 1 << 12
 # The size that the pipe to the filter is asked to have.
 PIPE = 1 << 20
 # The statuses with which a filter ends by itself.
@@ -78,7 +81,20 @@ pack_header = struct.Struct(">ci").pack
 
 def header(payload: bytes) -> bytes:
     """The five bytes before the payload of a CopyData."""
-    return pack_header(b"d", len(payload) + 4)
+    return HEADERS[len(payload)]
+
+
+class Headers(dict[int, bytes]):
+    """The five bytes before the payload of a CopyData, by the payload's length."""
+
+    def __missing__(self, length: int) -> bytes:
+        head = pack_header(b"d", length + 4)
+        if length < KEPT_HEADERS:
+            self[length] = head
+        return head
+
+
+HEADERS = Headers()
 
 
 class Filter:
@@ -99,6 +115,7 @@ class Filter:
 
     def launch(self) -> None:
         """Starts the filter. Its first status comes once it has opened its store."""
+        builds.check_program(self.words[0])
         try:
             # (a session of its own: an interrupt at the terminal is for the connector, which ends the filter in its own time)
             self.child = subprocess.Popen(
@@ -107,6 +124,8 @@ class Filter:
                 env={name: value for name, value in os.environ.items() if name in KEPT},
             )
         except OSError as error:
+            if error.errno in (errno.EAGAIN, errno.ENOMEM):
+                raise Passing(f"{self.words[0]} can't be started now: {error.strerror}") from None
             raise FilterFault(f"{self.words[0]}: {error.strerror}") from None
         assert self.child.stdin and self.child.stdout and self.child.stderr
         self.down, self.up, self.err = (it.fileno() for it in (self.child.stdin, self.child.stdout, self.child.stderr))
@@ -148,11 +167,17 @@ class Filter:
         self.waiting += len(piece)
         self.in_session = True
 
-    def push_all(self, pieces: list[bytes]) -> None:
-        """Gives the filter many short pieces, and empties the list."""
-        if pieces:
-            self.push(b"".join(pieces))
-            pieces.clear()
+    def push_payloads(self, payloads: list[bytes]) -> None:
+        """Gives the filter CopyData with these payloads. A long one isn't copied together with others: it may be the last only."""
+        if not payloads:
+            return
+        parts = [b""] * (2 * len(payloads))
+        parts[::2] = map(HEADERS.__getitem__, map(len, payloads))
+        parts[1::2] = payloads
+        long = parts.pop() if len(payloads[-1]) >= PIECE else b""
+        self.push(b"".join(parts))
+        if long:
+            self.push(long)
 
     def end_session(self) -> None:
         """Puts CopyDone in the place of a connection that is gone."""

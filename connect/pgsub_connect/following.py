@@ -8,16 +8,16 @@ import time
 from typing import TYPE_CHECKING
 
 from . import checkpoint as known_of
-from . import log
+from . import log, sizes
 from .checkpoint import Checkpoint, check_gap
 from .errors import Passing, ServerError, Stopped, Unfit
-from .filtering import PIECE, Filter, FilterEnded, asking, flushed, pack_header
+from .filtering import PIECE, Filter, FilterEnded, asking, flushed
 from .noting import Noting
 from .postgres import COPY_BOTH, Connection
 from .progress import Progress
 from .recording import Aside
 from .remembered import Remembered
-from .server import Server, identify, left_at, log_end, sender_timeout, settle, slot_position
+from .server import Server, identify, is_lost, left_at, log_end, sender_timeout, settle, slot_position
 from .skipping import Skipping
 from .snapshots import Snapshots
 from .texts import counted, identifier, lsn_text, replication_literal
@@ -26,7 +26,10 @@ from .watching import Watch
 if TYPE_CHECKING:
     from .cli import Options
 
-LONGEST_DELAY = 60.0
+# After how many seconds a lost session is begun anew, at first and at most.
+FIRST_DELAY, LONGEST_DELAY = 1.0, 60.0
+# How long the server and the filter are waited for, and how long it is slept, before it is looked whether the end was asked for.
+STEP, SLEEP = 0.5, 0.2
 # After how many seconds each a store that can't be opened is tried again, the last one again and again.
 OPENED_AFTER = (1, 2, 4, 8, 15, 30)
 # An error that the server doesn't expect of itself. PostgreSQL 15 has one (`could not map filenode .. to relation OID`) where it
@@ -34,6 +37,8 @@ OPENED_AFTER = (1, 2, 4, 8, 15, 30)
 INTERNAL = "XX000"
 # How often a position that a keepalive alone has moved is passed on, in seconds. Each time costs a sync of the checkpoint.
 QUIET = 1.0
+# What a standby says that can't be followed: it has no such feature, or the slot is one that it only keeps for its promotion.
+NOT_AT_STANDBYS = ("0A", "55000")
 # The first version of the server that has version 2 of the protocol, and the first that aborts transactions in version 1 too.
 STREAMS, ABORTS_IN_VERSION_1 = 140000, 180000
 
@@ -59,6 +64,7 @@ class Follower:
         self.noting = Noting(progress, remembered)
         self.watch = Watch(options, checkpoint, progress, remembered)
         self.skipping = Skipping(options.skip, checkpoint, progress, remembered)
+        self.kills = sizes.Kills()
         # the greatest end of a commit that was passed on and is confirmed
         self.position = 0
         self.last_sent = self.last_moved = 0.0
@@ -104,9 +110,13 @@ class Follower:
     def note_end(self, ended: FilterEnded) -> None:
         """Notes why the filter ended. Raises where the same would come of another try."""
         if not (ended.is_full() and self.stop_streaming("open transactions were too much at a time")):
+            largest = self.noting.largest()
+            if text := sizes.text_of(ended, self.options, largest, self.noting.longest):
+                log.error(text)
             if ended.is_rejection():
                 self.tell_rejected(ended)
                 raise ended
+            self.kills.note(ended, *largest)
             log.warning(f"{ended}: it is started again")
         self.progress.last_error = str(ended)
         self.progress.restarts += 1
@@ -121,7 +131,7 @@ class Follower:
             if text := self.noting.rejected_text(position):
                 log.error(text)
             while True:
-                self.filter.serve(1.0)
+                self.filter.serve(STEP)
 
     def stop_streaming(self, why: str) -> bool:
         """Asks for whole transactions from now on. Returns false where they come so already."""
@@ -181,11 +191,11 @@ class Follower:
         until = time.monotonic() + seconds
         while (left := until - time.monotonic()) > 0:
             self.check_stop()
-            time.sleep(min(left, 0.2))
+            time.sleep(min(left, SLEEP))
 
     def wait(self) -> None:
         """Waits before the next session, each time longer, and serves the filter meanwhile."""
-        self.delay = min(2 * self.delay, LONGEST_DELAY) if self.delay else 1.0
+        self.delay = min(2 * self.delay, LONGEST_DELAY) if self.delay else FIRST_DELAY
         if not self.stop_asked:
             self.progress.state = "waiting to connect again"
         until = time.monotonic() + self.delay
@@ -193,10 +203,10 @@ class Follower:
             self.progress.beat()
             self.holds_for_snapshot()
             if not self.filter.is_running():
-                time.sleep(min(left, 0.2))
+                time.sleep(min(left, SLEEP))
                 continue
             try:
-                self.note_statuses(self.filter.serve(min(left, 0.5))[2])
+                self.note_statuses(self.filter.serve(min(left, STEP))[2])
             except FilterEnded as ended:
                 self.note_end(ended)
 
@@ -210,6 +220,8 @@ class Follower:
         self.tell_plain_text(connection)
         server = identify(connection)
         self.progress.note_server(connection.version(), server.timeline)
+        self.progress.server_started, self.progress.is_standby = server.started, server.is_standby
+        self.progress.was_promoted = False
         self.choose_protocol(connection.version())
         at = self.filter.confirmed()
         self.check_server(server, at)
@@ -225,10 +237,10 @@ class Follower:
         self.skipping.begin_session(self.filter.confirmed())
         self.noting.begin_session()
         if options.until == "now" and self.until is None:
-            self.until = log_end(connection, server.is_standby)
+            self.until = log_end(connection)
         timeout = sender_timeout(connection)
         self.heartbeat = min(options.heartbeat, timeout / 3) if timeout else options.heartbeat
-        connection.run(self.command(self.filter.confirmed()), wanted=COPY_BOTH)
+        self.start_replication(connection, server)
         self.check_slot()
         self.was_connected = True
         self.progress.sessions += 1
@@ -236,6 +248,15 @@ class Follower:
         if self.recording:
             self.recording.begin_session(connection, options, at)
         return connection
+
+    def start_replication(self, connection: Connection, server: Server) -> None:
+        """Asks for the changes. A standby rejects that where it has no slots of its own, until it is promoted."""
+        try:
+            connection.run(self.command(self.filter.confirmed()), wanted=COPY_BOTH, limit=self.options.silence)
+        except ServerError as error:
+            if server.is_standby and error.sqlstate.startswith(NOT_AT_STANDBYS) and not is_lost(connection, self.options.slot):
+                raise ServerError(f"the server is a standby: {error}") from None
+            raise
 
     def tell_plain_text(self, connection: Connection) -> None:
         """Warns once of a connection that others on the way can read."""
@@ -277,10 +298,14 @@ class Follower:
         """Checks that what the store has is in the server's history too, where its timeline isn't that of the last session.
 
         A server that was promoted or put back has a timeline of its own. It left the old one at an LSN; what the store has above
-        that is of commits that the server hasn't.
+        that is of commits that the server hasn't. But a standby that was promoted since without being started anew has all that it
+        ever sent.
         """
         known = self.checkpoint.known
         if not known.timeline or server.timeline == known.timeline or self.options.accepts("history"):
+            return
+        if known.started and known.started == server.started:
+            log.info(f"the server was promoted while it was followed: it is on the timeline {server.timeline} now")
             return
         left = left_at(connection, server.timeline, known.timeline) if server.timeline > known.timeline else None
         if left is None or self.position > left:
@@ -325,8 +350,8 @@ class Follower:
         else:
             check_gap(known, position, slot_at)
         self.checkpoint.write(
-            True, phase=known_of.FOLLOWING, system=server.system, timeline=server.timeline, database=server.database,
-            slot=self.options.slot, position=max(position, self.checkpoint.known.position),
+            True, phase=known_of.FOLLOWING, system=server.system, timeline=server.timeline, started=server.started,
+            database=server.database, slot=self.options.slot, position=max(position, self.checkpoint.known.position),
         )
 
     def command(self, at: int) -> str:
@@ -348,6 +373,8 @@ class Follower:
         socket = connection.socket()
         while not self.is_over():
             self.progress.beat()
+            if self.progress.was_promoted:
+                raise ServerError("the standby was promoted: a session with the new primary is begun")
             room = not self.holds_for_snapshot() and self.filter.has_room()
             if more and room:
                 more = self.take_payloads(connection)
@@ -361,7 +388,7 @@ class Follower:
             if self.held:
                 wait = min(wait, QUIET)
             readable, writable, statuses = self.filter.serve(
-                max(0.0, min(wait, 1.0)), [socket] if room else [], [socket] if connection.unsent else []
+                max(0.0, min(wait, STEP)), [socket] if room else [], [socket] if connection.unsent else []
             )
             self.forward(statuses)
             # (what TLS has read already doesn't wake select)
@@ -398,32 +425,20 @@ class Follower:
         self.tick()
 
     def take_payloads(self, connection: Connection) -> bool | None:
-        """Passes on what has come. Returns false where there is no more yet, true where the room is full, None after the end."""
-        take, note, child, recording = connection.next_payload, self.noting.note, self.filter, self.recording
-        passes = self.skipping.passes if self.skipping.is_pending else None
-        frames: list[bytes] = []
-        room = child.room()
-        try:
-            while room > 0:
-                payload = take()
-                if not payload:
-                    return False if payload is not None else None
-                if recording:
-                    recording.write_payload(payload)
-                if passes and not passes(payload):
-                    continue
-                size = len(payload)
-                room -= size
-                frames += (pack_header(b"d", size + 4), payload)
-                if size >= PIECE:
-                    # (a long one isn't copied together with others)
-                    child.push_all(frames[:-1])
-                    child.push(payload)
-                    frames.clear()
-                note(payload)
-            return True
-        finally:
-            child.push_all(frames)
+        """Passes on what has come. Returns false where there is no more yet, true where there may be, None after the end."""
+        payloads, more = connection.payloads(self.filter.room(), PIECE)
+        if not payloads:
+            return more
+        if self.recording:
+            for payload in payloads:
+                self.recording.write_payload(payload)
+        if self.skipping.is_pending:
+            payloads = [payload for payload in payloads if self.skipping.passes(payload)]
+        if payloads and len(payloads[-1]) >= PIECE:
+            self.noting.longest = max(self.noting.longest, len(payloads[-1]))
+        self.filter.push_payloads(payloads)
+        self.noting.note_all(payloads)
+        return more
 
     def note_statuses(self, statuses: list[bytes]) -> None:
         """Notes the last status, before it is sent."""
@@ -480,7 +495,7 @@ class Follower:
         try:
             while True:
                 self.progress.beat()
-                for status in self.filter.serve(1.0)[2][-1:]:
+                for status in self.filter.serve(STEP)[2][-1:]:
                     self.pass_on(status)
                 if time.monotonic() - self.last_sent >= self.heartbeat:
                     self.release()
@@ -500,7 +515,7 @@ class Follower:
         try:
             while True:
                 self.progress.beat()
-                self.note_statuses(self.filter.serve(1.0)[2])
+                self.note_statuses(self.filter.serve(STEP)[2])
         except FilterEnded as ended:
             if ended.is_rejection():
                 raise

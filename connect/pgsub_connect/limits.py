@@ -5,6 +5,8 @@ from __future__ import annotations
 import contextlib
 import os
 
+# The longest frame that PostgreSQL can send, with its length.
+LONGEST_FRAME = 2147483643
 MOST = 1 << 30
 LEAST = 64 << 20
 

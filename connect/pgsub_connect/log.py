@@ -1,4 +1,4 @@
-"""The lines on standard error: `2026-11-25T09:00:00Z pgsub-connect: warning: text`."""
+"""The lines on standard error: `2026-11-25T09:00:00Z pgsub-connect: warning: text`, with one of the levels info, warning and error."""
 
 from __future__ import annotations
 
@@ -9,16 +9,24 @@ import time
 PROGRAM = "pgsub-connect"
 
 
+def shown(character: str) -> str:
+    """A character that a terminal only shows."""
+    if character.isprintable():
+        return character
+    number = ord(character)
+    return " " if character == "\t" else f"\\x{number:02x}" if number < 256 else f"\\u{number:04x}"
+
+
 def escaped(text: str) -> str:
     """A text of another process or of the server on one line, without control characters."""
-    return "".join(it if it.isprintable() else " " if it == "\t" else f"\\x{ord(it):02x}" if ord(it) < 256 else f"\\u{ord(it):04x}" for it in text)
+    return text if text.isprintable() else "".join(map(shown, text))
 
 
-def line(text: str) -> None:
+def line(level: str, text: str) -> None:
     """Writes a line. Each line of a longer text gets its own head, so that nothing can look as if this program had said it."""
     now = time.strftime("%Y-%m-%dT%H:%M:%SZ", time.gmtime())
-    parts = text.split("\n")
-    lines = [f"{now} {PROGRAM}: {escaped(parts[0])}\n", *(f"{now} {PROGRAM}:   {escaped(it)}\n" for it in parts[1:])]
+    first, *more = text.split("\n")
+    lines = [f"{now} {PROGRAM}: {level}: {escaped(first)}\n", *(f"{now} {PROGRAM}: {level}:   {escaped(it)}\n" for it in more)]
     # (where nobody reads them any more, following goes on)
     with contextlib.suppress(OSError, ValueError):
         sys.stderr.write("".join(lines))
@@ -26,12 +34,12 @@ def line(text: str) -> None:
 
 
 def info(text: str) -> None:
-    line(text)
+    line("info", text)
 
 
 def warning(text: str) -> None:
-    line(f"warning: {text}")
+    line("warning", text)
 
 
 def error(text: str) -> None:
-    line(f"error: {text}")
+    line("error", text)

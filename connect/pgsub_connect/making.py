@@ -9,7 +9,8 @@ from __future__ import annotations
 import dataclasses
 import secrets
 import time
-from collections.abc import Callable
+from collections.abc import Callable, Mapping
+from types import MappingProxyType
 from typing import NamedTuple
 
 from . import log
@@ -229,15 +230,32 @@ def content_of(connection: Connection, name: str) -> set[str]:
     return {row[0] or "" for row in connection.rows(query)}
 
 
-# What looks at publications before they are there for others, and may raise.
+def other_slots(connection: Connection, slot: str) -> list[str]:
+    """Other slots of this database by which a publication may be followed."""
+    rows = connection.rows(
+        "SELECT s.slot_name FROM pg_catalog.pg_replication_slots s WHERE s.plugin = 'pgoutput'"
+        f" AND s.database = pg_catalog.current_database() AND s.slot_name <> {literal(slot)} ORDER BY 1"
+    )
+    return [row[0] or "" for row in rows]
+
+
+# What looks at publications before they are there for others, and may raise; and what notes their OIDs then.
 Look = Callable[[Connection, list[str]], None]
+Note = Callable[[dict[str, int]], None]
 
 
 class Maker:
-    """Makes what is missing of publications, and knows what it made."""
+    """Makes what is missing of publications, and knows what it made.
 
-    def __init__(self, dsn: str, wanted: Wanted, name: str, check: Check, look: Look = lambda connection, names: None) -> None:
-        self.dsn, self.wanted, self.name, self.check, self.look = dsn, wanted, name, check, look
+    `left`: those that earlier runs have made, with their OIDs. `note` is told the OIDs before a publication is there for others.
+    """
+
+    def __init__(
+        self, dsn: str, wanted: Wanted, name: str, check: Check, look: Look = lambda connection, names: None,
+        left: Mapping[str, int] = MappingProxyType({}), note: Note = lambda made: None,
+    ) -> None:
+        self.dsn, self.wanted, self.name, self.check, self.look, self.note = dsn, wanted, name, check, look, note
+        self.left = dict(left)
         # the publications that are there afterwards, and those that were made: each with its OID
         self.publications = list(wanted.publications)
         self.made: dict[str, int] = {}
@@ -259,9 +277,11 @@ class Maker:
                 " SET LOCAL lock_timeout = 0"
             )
             self.is_standby = connection.value("SELECT pg_catalog.pg_is_in_recovery()") == "t"
+            self.drop_left(connection)
             for name in self.wanted.publications:
                 self.see_to(name, before)
             self.look(connection, self.publications)
+            self.note(self.begun)
             # (from here on they may be there, whatever becomes of the answer)
             self.made = self.begun
             connection.run("COMMIT")
@@ -271,6 +291,14 @@ class Maker:
             log.warning(text)
         for name in [it for it in self.made if it not in before]:
             log.info(f"made the publication {name}")
+
+    def drop_left(self, connection: Connection) -> None:
+        """Drops what a run that was killed has left, so that it is made as it is wanted now; not what somebody else may use by now."""
+        names = [it for name in self.wanted.publications for it in (name, inserts_of(name))]
+        left = [it for it in names if it in self.left and self.made.get(it) != self.left[it] == oid_of(connection, it)]
+        if left and not self.is_standby and not other_slots(connection, self.name):
+            connection.run(f"DROP PUBLICATION {', '.join(map(identifier, left))}")
+            log.info(f"an earlier run has left the publication {names_of(left)}: it is made anew")
 
     def see_to(self, name: str, before: dict[str, int]) -> None:
         """Makes a publication, unless it is there: by an attempt before, or by somebody else."""

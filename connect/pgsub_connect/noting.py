@@ -9,6 +9,7 @@ from __future__ import annotations
 
 import collections
 import struct
+import time
 from collections.abc import Sequence
 
 from .catalog import Column, Shape
@@ -23,11 +24,13 @@ CHANGES = b"IUD"
 OUTSIDE, INSIDE = 30, 34
 # How many tables a text names.
 NAMED = 5
+# 2000-01-01, from which the server counts, in seconds since 1970.
+EPOCH = 946684800
 
 
 # A commit that was passed on: the message that has its xid and final LSN (Begin or Stream Commit), how many changes it has by letter
-# and OID as they came, and whether some of them may have been rolled back.
-Passed = tuple[bytes, dict[bytes, int], bool]
+# and OID as they came, whether some of them may have been rolled back, and how many bytes it had.
+Passed = tuple[bytes, dict[bytes, int], bool, int]
 
 
 class Streamed:
@@ -61,6 +64,7 @@ class Noting:
         self.strangers: set[int] = set()
         # the last Relation message of each table that was compared with what is remembered, as it came
         self.compared: dict[int, bytes] = {}
+        self.counts: dict[bytes, int] = {}
         self.begin_store()
 
     def begin_store(self) -> None:
@@ -74,41 +78,58 @@ class Noting:
         """Forgets the transactions of a session that has ended."""
         self.open: dict[int, Streamed] = {}
         self.described: dict[int, list[bytes]] = {}
+        # the length of the longest message, where it is one of the long ones
+        self.longest = 0
         # the end of a keepalive that asks for a status
         self.asked: int | None = None
         self.last = self.begun = b""
-        # how many bytes have come, and how many of them before the transaction or block that is under way
-        self.total = self.began = 0
+        # how many bytes have come, how many of them the progress was told of, and how many came before the transaction or block that
+        # is under way
+        self.total = self.shown = self.began = 0
+        # (what was passed on of a transaction that isn't complete was passed on all the same)
+        self.changes += sum(self.counts.values())
         self.leave()
 
     def leave(self) -> None:
         """Between transactions. What comes here is out of order, which the filter tells."""
         self.current: Streamed | None = None
-        self.counts: dict[bytes, int] = {}
+        self.counts = {}
         self.relations: list[tuple[bytes, bytes]] = []
         self.end = OUTSIDE
 
-    def note(self, payload: bytes) -> None:
-        """Notes a payload that was passed on."""
-        self.last = payload
-        self.total += len(payload)
-        counts, key = self.counts, payload[25 : self.end]
-        if key in counts:
-            counts[key] += 1
-        elif key:
-            letter = key[0]
+    def note_all(self, payloads: Sequence[bytes]) -> None:
+        """Notes payloads that were passed on, in one loop: a call for each would cost more than all that is done for it."""
+        counts, end, total = self.counts, self.end, self.total
+        for payload in payloads:
+            total += len(payload)
+            key = payload[25:end]
+            if key in counts:
+                counts[key] += 1
+                continue
+            letter = key[0] if key else 0
             if letter in CHANGES:
                 counts[key] = 1
             elif letter == BEGIN:
-                self.begun, self.began, self.counts = payload, self.total, {}
+                self.begun, self.began = payload, total
+                self.counts = counts = {}
             elif letter == COMMIT:
                 self.changes += sum(counts.values())
-                self.commit((self.begun, counts, False), self.relations, payload[35:43])
-                self.begun, self.counts = b"", {}
-            else:
+                passed = (self.begun, counts, False, total - self.began)
+                self.ends.append(int.from_bytes(payload[35:43], "big"))
+                self.passed.append(passed)
+                self.commits += 1
+                if self.relations or self.described:
+                    self.describe(passed, self.relations)
+                self.begun = b""
+                self.counts = counts = {}
+            elif letter:
+                self.total = total
                 self.note_other(letter, payload)
-        elif payload[-1] == 1:
-            self.asked = number(payload[1:9])
+                counts, end = self.counts, self.end
+            elif payload[-1] == 1:
+                self.asked = number(payload[1:9])
+        self.total = total
+        self.last = payloads[-1] if payloads else self.last
 
     def note_other(self, letter: int, payload: bytes) -> None:
         if letter == RELATION:
@@ -135,7 +156,7 @@ class Noting:
             self.leave()
         elif letter == STREAM_COMMIT:
             it = self.open.pop(xid, None) or Streamed()
-            self.commit((payload, it.counts, it.about), it.relations, payload[39:47])
+            self.commit((payload, it.counts, it.about, it.size), it.relations, payload[39:47])
         elif payload[26:30] == payload[30:34]:
             self.open.pop(xid, None)
         elif xid in self.open:
@@ -180,22 +201,35 @@ class Noting:
     def show(self) -> None:
         """Tells the progress what came, and how far the transaction that isn't complete has come. Called after each lot of payloads."""
         last = self.last
-        if last:
-            self.progress.sent_to = last[9:17] if last[0] == 0x77 else last[1:9]
-        self.progress.passed_changes = self.changes + sum(self.counts.values())
-        self.progress.passed_commits = self.commits
+        progress = self.progress
+        if self.total != self.shown:
+            self.shown = self.total
+            progress.sent_to = last[9:17] if last[0] == 0x77 else last[1:9]
+            progress.last_message = time.time()
+        progress.passed_changes = self.changes + sum(self.counts.values())
+        progress.passed_commits = self.commits
+        self.show_waiting()
+
+    def show_waiting(self) -> None:
+        """Tells the progress how old the first commit is that was passed on, or is being, and isn't confirmed."""
+        first = self.passed[0][0] if self.passed else self.begun
+        self.progress.lag.waits_since = commit_time(first) if first else None
 
     def confirm(self, confirmed: int, position: int) -> int:
         """Forgets commits that are confirmed. Returns the store's position by them, at least `position`."""
         ends, passed = self.ends, self.passed
+        if not ends or ends[0] > confirmed:
+            return position
         while ends and ends[0] <= confirmed:
             position = max(position, ends.popleft())
-            passed.popleft()
+            last = passed.popleft()
+        self.progress.lag.last_commit = commit_time(last[0])
+        self.show_waiting()
         return position
 
     def rejected_text(self, position: int) -> str:
         """What is said of the first commit above a store's position, which its filter has rejected; "" where there is none."""
-        for end, (message, counts, about) in zip(self.ends, self.passed):
+        for end, (message, counts, about, _) in zip(self.ends, self.passed):
             if end > position:
                 lsn, most = lsn_text(final_lsn(message)), "at most " if about else ""
                 return (
@@ -205,8 +239,9 @@ class Noting:
         return ""
 
     def largest(self) -> tuple[int, int]:
-        """The xid of the largest transaction that isn't complete, and how many bytes of it were passed on."""
-        sizes = {xid: it.size + (self.total - self.began if it is self.current else 0) for xid, it in self.open.items()}
+        """The xid of the largest transaction that isn't confirmed, and how many bytes of it were passed on."""
+        sizes = {xid_of(it[0]): it[3] for it in self.passed}
+        sizes |= {xid: it.size + (self.total - self.began if it is self.current else 0) for xid, it in self.open.items()}
         if self.begun:
             sizes[xid_of(self.begun)] = self.total - self.began
         return max(sizes.items(), key=lambda it: it[1], default=(0, 0))
@@ -224,6 +259,11 @@ def xid_of(message: bytes) -> int:
 def final_lsn(message: bytes) -> int:
     """The final LSN in a Begin or Stream Commit: that of the commit's own record."""
     return number(message[26:34] if message[25:26] == b"B" else message[31:39])
+
+
+def commit_time(message: bytes) -> float:
+    """The commit's time in a Begin or Stream Commit, in seconds since 1970."""
+    return EPOCH + number(message[34:42] if message[25:26] == b"B" else message[47:55]) / 1000000
 
 
 def changes_text(counts: dict[bytes, int], remembered: Remembered) -> str:

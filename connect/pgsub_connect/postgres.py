@@ -12,6 +12,7 @@ import socket
 import threading
 import time
 from collections.abc import Callable, Iterator
+from typing import Any
 
 import psycopg
 from psycopg import pq
@@ -20,6 +21,7 @@ from psycopg.conninfo import conninfo_to_dict, make_conninfo
 from . import log
 from .errors import ServerError
 
+LIBPQ = ctypes.PyDLL("libpq.so.5") if pq.__impl__ == "python" else None
 # After how many seconds each, at most, a host is given up, and a command that takes no time at the server.
 CONNECT_LIMIT = 10.0
 QUICK = 60.0
@@ -35,6 +37,12 @@ DEFAULT, VERBOSE = 1, 2
 CODE, PLACE_IN_SOURCE = re.compile(r":  ([0-9A-Z]{5}): "), re.compile(r"\n[^\n]*\.c:\d+$", re.M)
 # What a DSN goes before. A lost peer is noticed within about a minute.
 DEFAULTS = {"keepalives_idle": "30", "keepalives_interval": "10", "keepalives_count": "3", "tcp_user_timeout": "60000"}
+
+# What PQgetCopyData returns after the last message, and for an error.
+ENDED, FAILED = -1, -2
+# libpq's own calls, where psycopg makes them by ctypes too.
+GET_COPY_DATA: Any = LIBPQ.PQgetCopyData if LIBPQ else None
+FREE: Any = LIBPQ.PQfreemem if LIBPQ else None
 
 Check = Callable[[], None]
 
@@ -124,6 +132,8 @@ class Connection:
     ) -> None:
         self.check = check
         self.unsent = False
+        # what broke the stream of CopyData off, and is to be raised after those that came before it
+        self.broken: ServerError | None = None
         settings = {**DEFAULTS, "application_name": name, **parameters(dsn), "client_encoding": "UTF8"}
         if replication:
             settings["replication"] = "database"
@@ -185,7 +195,7 @@ class Connection:
                 if self.unsent:
                     self.flush()
                 if time.monotonic() > until:
-                    raise ServerError(f"the server didn't answer within {QUICK:.0f} seconds")
+                    raise ServerError("the server didn't answer in time")
                 # (what TLS has read already doesn't wake select)
                 self.consume()
                 if not self.raw.is_busy():
@@ -202,7 +212,7 @@ class Connection:
             # (libpq's own call has no limit)
             thread = threading.Thread(target=cancel_by, args=(handle,), daemon=True)
             thread.start()
-            thread.join(2)
+            thread.join(TICK / 2)
 
     def next_result(self, until: float = float("inf")) -> pq.abc.PGresult | None:
         """The next result of the command that runs, None after the last."""
@@ -238,8 +248,8 @@ class Connection:
         sqlstate = result.error_field(pq.DiagnosticField.SQLSTATE)
         return ServerError(said or self.error(), sqlstate.decode() if sqlstate else "")
 
-    def run(self, command: str, wanted: tuple[pq.ExecStatus, ...] = DONE) -> None:
-        self.execute(command, wanted)
+    def run(self, command: str, wanted: tuple[pq.ExecStatus, ...] = DONE, limit: float = float("inf")) -> None:
+        self.execute(command, wanted, limit)
 
     def rows(self, command: str, limit: float = float("inf")) -> list[list[str | None]]:
         """Runs a query, and returns its rows as lists of texts, None for null."""
@@ -254,8 +264,8 @@ class Connection:
         return rows[0][0] if rows else None
 
     def text(self, command: str) -> str:
-        """The first value of a query's first row, which is there."""
-        return self.value(command) or ""
+        """The first value of a query's first row, which is there and takes no time."""
+        return self.value(command, QUICK) or ""
 
     def parameter(self, name: str) -> str:
         value = self.raw.parameter_status(name.encode())
@@ -267,6 +277,10 @@ class Connection:
 
     def socket(self) -> int:
         return self.number
+
+    def pid(self) -> int:
+        """The process at the server."""
+        return self.raw.backend_pid
 
     def is_encrypted(self) -> bool:
         return bool(self.raw.ssl_in_use)
@@ -332,10 +346,34 @@ class Connection:
             return whole if isinstance(whole, bytes) else bytes(payload)
         if length == 0:
             return b""
+        self.end_copies()
+        return None
+
+    def payloads(self, room: int, long: int) -> tuple[list[bytes], bool | None]:
+        """Those of CopyData that have come, up to so many bytes, or to the first one that is at least `long`.
+
+        Beside them: whether there may be more, None after the last. An error is raised once those before it were returned.
+        """
+        if self.broken:
+            raise self.broken
+        found, last = taken(self.raw, room, long)
+        try:
+            if last == ENDED:
+                self.end_copies()
+            elif last < 0:
+                raise ServerError(self.error())
+        except ServerError as error:
+            self.broken = error
+            if not found:
+                raise
+            return found, True
+        return found, None if last == ENDED else last > 0
+
+    def end_copies(self) -> None:
+        """After the last CopyData. Raises the error with which the server ended them, if it did."""
         result = self.next_result()
         if result is not None and result.error_message:
             raise self.error_of(result)
-        return None
 
     def send(self, payload: bytes) -> None:
         """Sends a CopyData without waiting; `unsent` tells that some of it waits for the socket."""
@@ -362,6 +400,41 @@ class Connection:
 
     def close(self) -> None:
         self.raw.finish()
+
+
+def taken(raw: pq.abc.PGconn, room: int, long: int) -> tuple[list[bytes], int]:
+    """Payloads of CopyData, as far as there is room or to the first long one, and what PQgetCopyData returned last.
+
+    It is called for each message of a session, so psycopg's way by ctypes, which costs as much again, is passed by.
+    """
+    pointer = getattr(raw, "pgconn_ptr", None) if GET_COPY_DATA else None
+    if pointer is None:
+        return taken_by_psycopg(raw, room, long)
+    connection, buffer, found, length = ctypes.c_void_p(pointer), ctypes.c_void_p(), list[bytes](), 1
+    place, string_at = ctypes.byref(buffer), ctypes.string_at
+    while room > 0:
+        length = GET_COPY_DATA(connection, place, 1)
+        if length <= 0:
+            break
+        found.append(string_at(buffer, length))
+        FREE(buffer)
+        room -= length if length < long else room
+    return found, length
+
+
+def taken_by_psycopg(raw: pq.abc.PGconn, room: int, long: int) -> tuple[list[bytes], int]:
+    """The same where psycopg isn't the one over Debian's libpq."""
+    found, length = list[bytes](), 1
+    while room > 0:
+        try:
+            length, view = raw.get_copy_data(1)
+        except psycopg.OperationalError:
+            return found, FAILED
+        if length <= 0:
+            break
+        found.append(bytes(view))
+        room -= length if length < long else room
+    return found, length
 
 
 def set_verbosity(raw: pq.abc.PGconn, verbosity: int) -> None:

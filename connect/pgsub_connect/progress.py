@@ -1,29 +1,31 @@
-"""What is told of a running follower: the file of `--status-file`, a JSON object that is replaced each second."""
+"""What is known of a running follower: counters and times that it sets, and others show."""
 
 from __future__ import annotations
 
-import json
 import os
-import threading
 import time
-from typing import TYPE_CHECKING
 
-from . import log
-from .errors import ServerError
-from .postgres import QUICK, Connection
-from .server import log_end
+from . import VERSION
+from .lag import Lag
 from .texts import lsn_text
 
-if TYPE_CHECKING:
-    from .cli import Options
+# What a follower may be at.
+STATES = (
+    "starting", "copying", "opening the store", "connecting", "following", "copying the store", "waiting to connect again", "stopping",
+    "stopped", "failed",
+)
 
-INTERVAL = 1.0
-# each so many intervals the server is asked where its log ends, and the rate is taken over as many
-ASK_EACH = 5
+
+class Slot:
+    """What the server says of the slot; empty or None where its version doesn't say it, or hasn't yet."""
+
+    def __init__(self) -> None:
+        self.wal_status = ""
+        self.safe_wal_size: int | None = None
 
 
 class Progress:
-    """Counters that the follower sets and a thread of its own shows."""
+    """What the follower sets, and what the thread that asks the server does. All times are in seconds since 1970."""
 
     def __init__(self) -> None:
         self.state = "starting"
@@ -35,10 +37,16 @@ class Progress:
         # by the server's statistics: None where it has none
         self.copy_total_rows: int | None = None
         self.last_error: str | None = None
-        self.log_end = 0
         self.version = self.timeline = 0
         self.found: dict[str, str] = {}
         self.skipped = ""
+        self.lag, self.slot = Lag(), Slot()
+        self.last_message: float | None = None
+        # of the session's server: when it was started, whether it was a standby then, and whether it was promoted since
+        self.server_started = 0
+        self.is_standby = self.was_promoted = False
+        # what `pgsub --version` says
+        self.program = ""
         self.heartbeat = time.time()
 
     def beat(self) -> None:
@@ -47,9 +55,17 @@ class Progress:
 
     def note_confirmed(self, confirmed: int, position: int) -> None:
         self.confirmed, self.position = confirmed, position
+        self.lag.confirmed = confirmed
 
     def note_server(self, version: int, timeline: int) -> None:
         self.version, self.timeline = version, timeline
+
+    def server_end(self) -> int:
+        """The greatest LSN that the server is known to have reached; 0 where none is known."""
+        return max(self.lag.end, int.from_bytes(self.sent_to, "big"))
+
+    def lag_bytes(self) -> int | None:
+        return self.lag.bytes(self.server_end())
 
     def copy_seconds_left(self, rate: float) -> int | None:
         """How long the copy takes on, by the server's statistics and this rate."""
@@ -57,14 +73,22 @@ class Progress:
             return None
         return round(max(self.copy_total_rows - self.copied_rows, 0) / rate)
 
-    def shown(self, rate: float) -> dict[str, object]:
-        end = max(self.log_end, int.from_bytes(self.sent_to, "big"))
+    def shown(self, rate: float, now: float) -> dict[str, object]:
+        """The object of the status file at this moment; without what isn't known."""
+        end, seconds = self.server_end(), self.lag.seconds(now)
         shown: dict[str, object] = {
             "state": self.state,
+            "heartbeat": time_text(self.heartbeat),
+            "updated": time_text(now),
             "position": lsn_text(self.position),
             "confirmed": lsn_text(self.confirmed),
             "server_end": lsn_text(end) if end else None,
-            "lag_bytes": max(end - self.confirmed, 0) if end else None,
+            "lag_bytes": self.lag_bytes(),
+            "lag_seconds": None if seconds is None else round(seconds, 1),
+            "last_message": time_text(self.last_message),
+            "last_commit": time_text(self.lag.last_commit),
+            "wal_status": self.slot.wal_status or None,
+            "safe_wal_size": self.slot.safe_wal_size,
             "changes_per_second": round(rate, 1),
             "changes": self.passed_changes,
             "commits": self.passed_commits,
@@ -79,80 +103,12 @@ class Progress:
             "skipped": self.skipped or None,
             "server_version": self.version or None,
             "timeline": self.timeline or None,
-            "updated": time.strftime("%Y-%m-%dT%H:%M:%SZ", time.gmtime(self.heartbeat)),
+            "connector_version": VERSION,
+            "program_version": self.program or None,
             "pid": os.getpid(),
         }
         return {name: value for name, value in shown.items() if value is not None}
 
 
-class LogEnd(threading.Thread):
-    """Asks the server where its log ends, on a connection of its own. An answer may take as long as a connection is tried."""
-
-    connection: Connection | None
-
-    def __init__(self, options: Options, progress: Progress, ended: threading.Event) -> None:
-        super().__init__(daemon=True)
-        self.options, self.progress, self.ended = options, progress, ended
-        self.connection = None
-        self.is_standby = False
-
-    def run(self) -> None:
-        while not self.ended.wait(INTERVAL):
-            if self.progress.sessions:
-                self.ask()
-                self.ended.wait((ASK_EACH - 1) * INTERVAL)
-
-    def ask(self) -> None:
-        try:
-            if self.connection is None:
-                self.connection = Connection(self.options.dsn, name=f"{self.options.slot} status", quiet=True)
-                self.is_standby = self.connection.value("SELECT pg_catalog.pg_is_in_recovery()", QUICK) == "t"
-            self.progress.log_end = log_end(self.connection, self.is_standby)
-        except ServerError:
-            if self.connection:
-                self.connection.close()
-            self.connection = None
-
-
-class Reporter(threading.Thread):
-    """Writes the status file."""
-
-    def __init__(self, options: Options, progress: Progress, path: str) -> None:
-        super().__init__(daemon=True)
-        self.path, self.progress, self.mode = path, progress, options.mode
-        self.ended = threading.Event()
-        self.log_end = LogEnd(options, progress, self.ended)
-        self.rates = [(time.monotonic(), 0)]
-        self.is_told = False
-
-    def run(self) -> None:
-        self.log_end.start()
-        while not self.ended.is_set():
-            self.write()
-            self.ended.wait(INTERVAL)
-
-    def rate(self) -> float:
-        self.rates = [*self.rates[-ASK_EACH:], (time.monotonic(), self.progress.passed_changes + self.progress.copied_rows)]
-        (began, before), (now, after) = self.rates[0], self.rates[-1]
-        return (after - before) / (now - began) if now > began else 0.0
-
-    def write(self) -> None:
-        try:
-            replace(self.path, json.dumps(self.progress.shown(self.rate())) + "\n", self.mode)
-            self.is_told = False
-        except OSError as error:
-            if not self.is_told:
-                log.warning(f"{self.path}: {error.strerror}")
-            self.is_told = True
-
-    def finish(self) -> None:
-        self.ended.set()
-        self.join(5)
-        self.write()
-
-
-def replace(path: str, text: str, mode: int) -> None:
-    """Puts a file with this text in the place of one that is there."""
-    with open(os.open(path + ".new", os.O_WRONLY | os.O_CREAT | os.O_TRUNC, mode), "w", encoding="utf-8") as file:
-        file.write(text)
-    os.replace(path + ".new", path)
+def time_text(at: float | None) -> str | None:
+    return None if at is None else time.strftime("%Y-%m-%dT%H:%M:%SZ", time.gmtime(at))

@@ -13,7 +13,7 @@ from . import log
 from .errors import Stopped
 from .filtering import COPY_DONE, header
 from .postgres import COPY_BOTH, Connection
-from .server import identify, log_end, settle
+from .server import log_end, settle
 from .texts import counted, identifier, lsn_text, replication_literal
 
 if TYPE_CHECKING:
@@ -140,7 +140,7 @@ class Recorder:
                 connection.run(f"CREATE_REPLICATION_SLOT {identifier(options.slot)} TEMPORARY LOGICAL pgoutput NOEXPORT_SNAPSHOT")
                 log.info("recording from now on: make changes now")
             if options.until == "now":
-                self.until = log_end(connection, identify(connection).is_standby)
+                self.until = log_end(connection)
             connection.run(self.command(), wanted=COPY_BOTH)
             self.recording.begin_session(connection, options, options.start)
             self.record()

@@ -3,6 +3,8 @@
 The file is `STORE.tables`, one object of JSON. It is replaced as a whole: written to a new file, which gets the name once the disk
 has it. So a reader (`pgsub-connect names`) may look at it at any time.
 
+As long as nothing was copied it has the first two fields alone.
+
 | Field | Means |
 |---|---|
 | `format` | 1 |
@@ -78,8 +80,8 @@ class Found:
 class Remembered:
     """The file. `is_urgent`: it says what has to be on the disk before anything more is confirmed; `is_changed`: anything new."""
 
-    def __init__(self, store: str) -> None:
-        self.path = store + ".tables"
+    def __init__(self, store: str, mode: int = 0o600) -> None:
+        self.path, self.mode = store + ".tables", mode
         self.forget()
         with contextlib.suppress(FileNotFoundError):
             self.read()
@@ -138,8 +140,14 @@ class Remembered:
 
     def note_made(self, made: dict[str, int]) -> None:
         """Notes publications that were made for this store, with their OIDs."""
-        self.made = {**self.made, **made}
-        self.is_urgent = self.is_changed = True
+        if made:
+            self.made = {**self.made, **made}
+            self.is_urgent = self.is_changed = True
+
+    def keep_made(self, made: dict[str, int]) -> None:
+        """Notes publications before they are there for others, and durably: so a later run knows what one that was killed has left."""
+        self.note_made(made)
+        self.save()
 
     def look(self, now: Catalog) -> list[str]:
         """Compares what a server has with what is remembered, and remembers it. Returns what makes nothing wrong, but is new."""
@@ -289,6 +297,10 @@ class Remembered:
     def restore(self, said: dict[str, Any]) -> None:
         if said["format"] != FORMAT:
             raise FileError(f"{self.path}: of a later version of this program (format {said['format']})")
+        self.made = {str(name): int(oid) for name, oid in said["made"].items()}
+        if "followed" not in said:
+            # (nothing was copied yet)
+            return
         self.catalog = catalog_of(said)
         self.sent = {
             int(oid): Sent(parse_lsn(lsn), shape_of(*shape) if shape else None) for oid, (lsn, shape) in said["sent"].items()
@@ -301,10 +313,10 @@ class Remembered:
         self.found = {kind: Found(parse_lsn(lsn), list(texts), int(more)) for kind, (lsn, texts, more) in said["found"].items()}
         self.told = {text: parse_lsn(lsn) for text, lsn in said["told"].items()}
         self.left = {int(oid) for oid in said["left"]}
-        self.made = {str(name): int(oid) for name, oid in said["made"].items()}
 
     def written(self) -> dict[str, Any]:
-        assert self.catalog is not None
+        if self.catalog is None:
+            return {"format": FORMAT, "made": self.made}
         return {
             "format": FORMAT,
             "made": self.made,
@@ -318,15 +330,25 @@ class Remembered:
 
     def save(self) -> None:
         """Replaces the file. The disk has it before this returns."""
-        if self.catalog is None:
+        if self.catalog is None and not self.made:
             self.is_urgent = self.is_changed = False
             return
         text = json.dumps(self.written(), ensure_ascii=False, separators=(",", ":")) + "\n"
-        replace_file(self.path, text.encode())
+        replace_file(self.path, text.encode(), self.mode)
         self.is_urgent = self.is_changed = False
 
+    def begin_anew(self) -> None:
+        """Forgets all but the publications that were made, as where the store is made anew."""
+        made = self.made
+        self.forget()
+        self.made = made
+        if made:
+            self.save()
+        else:
+            self.remove()
+
     def remove(self) -> None:
-        """Forgets all, as where the store is made anew."""
+        """Forgets all, and the file goes."""
         self.forget()
         try:
             with contextlib.suppress(FileNotFoundError):
@@ -355,13 +377,13 @@ def names_text(key: tuple[str, str], oid: int, before: int) -> str:
     return f"{'.'.join(key)} is table {oid} now, and was {before} before: rows of both have this name here"
 
 
-def replace_file(path: str, content: bytes) -> None:
-    """Replaces a file that only its owner may read, durably: whoever reads it finds the old or the new one as a whole."""
+def replace_file(path: str, content: bytes, mode: int = 0o600) -> None:
+    """Replaces a file durably: whoever reads it finds the old or the new one as a whole."""
     new = path + NEW
     try:
         with contextlib.suppress(FileNotFoundError):
             os.unlink(new)
-        number = os.open(new, os.O_WRONLY | os.O_CREAT | os.O_EXCL | os.O_CLOEXEC, 0o600)
+        number = os.open(new, os.O_WRONLY | os.O_CREAT | os.O_EXCL | os.O_CLOEXEC, mode)
         with open(number, "wb") as file:
             file.write(content)
             file.flush()
@@ -391,7 +413,7 @@ def catalog_written(catalog: Catalog) -> dict[str, Any]:
             }
             for it in catalog.tables.values()
         ],
-        "partitions": [[it.oid, it.parent, it.name, it.leaf] for it in catalog.partitions.values()],
+        "partitions": [[it.oid, it.parent, it.name, it.leaf, it.node] for it in catalog.partitions.values()],
         "types": catalog.types,
     }
 
@@ -402,10 +424,15 @@ def catalog_of(said: dict[str, Any]) -> Catalog:
         for name, it in said["publications"].items()
     }
     tables = {it["oid"]: table_of(it) for it in said["tables"]}
-    partitions = {oid: Partition(int(oid), int(parent), str(name), bool(leaf)) for oid, parent, name, leaf in said["partitions"]}
+    partitions = {it[0]: partition_of(*it) for it in said["partitions"]}
     types = {int(oid): {str(part): str(text) for part, text in it.items()} for oid, it in said["types"].items()}
     names = tuple(str(it) for it in said["followed"])
     return Catalog(names, parse_lsn(said["lsn"]), int(said["highest"]), publications, tables, partitions, types)
+
+
+def partition_of(oid: int, parent: int, name: str, leaf: bool, node: int = 0) -> Partition:
+    """A partition; an earlier version of this program didn't keep the number of its file."""
+    return Partition(int(oid), int(parent), str(name), bool(leaf), node=int(node))
 
 
 def table_of(said: dict[str, Any]) -> Table:

@@ -38,6 +38,8 @@ class Server:
     log_end: int
     database: str
     is_standby: bool
+    # when it was started, in microseconds since 1970; 0 where it doesn't say
+    started: int = 0
 
 
 def settle(connection: Connection) -> None:
@@ -51,7 +53,7 @@ def identify(connection: Connection) -> Server:
     """Asks a replication connection whose it is."""
     system, timeline, log_end, database = (it or "" for it in connection.rows("IDENTIFY_SYSTEM", QUICK)[0])
     standby = connection.value("SELECT pg_catalog.pg_is_in_recovery()", QUICK) == "t"
-    return Server(system, int(timeline), parse_lsn(log_end), database, standby)
+    return Server(system, int(timeline), parse_lsn(log_end), database, standby, postmaster_start(connection))
 
 
 def left_at(connection: Connection, timeline: int, before: int) -> int | None:
@@ -85,6 +87,13 @@ def slot_position(connection: Connection, slot: str) -> int | None:
     return int(position)
 
 
+def is_lost(connection: Connection, slot: str) -> bool:
+    """Whether the server has removed log that the slot needs, so that nothing can be read from it any more."""
+    return connection.version() >= 130000 and connection.value(
+        f"SELECT s.wal_status FROM pg_catalog.pg_replication_slots s WHERE s.slot_name = {literal(slot)}", QUICK
+    ) == "lost"
+
+
 def sender_timeout(connection: Connection) -> float | None:
     """After how many seconds of silence the server gives a session up; None for never."""
     text = connection.value("SHOW wal_sender_timeout", QUICK) or "0"
@@ -93,7 +102,32 @@ def sender_timeout(connection: Connection) -> float | None:
     return milliseconds / 1000 if milliseconds else None
 
 
-def log_end(connection: Connection, is_standby: bool) -> int:
+# Where the log ends, how far it is on the disk, and how long its files are. Of a standby: how far it is replayed.
+END = (
+    "CASE WHEN pg_catalog.pg_is_in_recovery() THEN pg_catalog.pg_last_wal_replay_lsn()"
+    " ELSE pg_catalog.pg_current_wal_insert_lsn() END,"
+    " CASE WHEN pg_catalog.pg_is_in_recovery() THEN pg_catalog.pg_last_wal_replay_lsn()"
+    " ELSE pg_catalog.pg_current_wal_flush_lsn() END,"
+    " pg_catalog.pg_size_bytes(pg_catalog.current_setting('wal_segment_size'))"
+)
+PAGE, SHORT_HEAD, LONG_HEAD = 8192, 24, 40
+
+
+def exact_end(end: int, flushed: int, segment: int) -> int:
+    """Where the log ends. At the end of a page the server tells the place behind the next page's head, which nothing ever reaches."""
+    head = LONG_HEAD if segment and flushed % segment == 0 else SHORT_HEAD
+    return flushed if flushed % PAGE == 0 and end == flushed + head else end
+
+
+def log_end(connection: Connection) -> int:
     """Where the server's log ends now; of a standby, how far it is replayed."""
-    call = "pg_last_wal_replay_lsn" if is_standby else "pg_current_wal_insert_lsn"
-    return parse_lsn(connection.value(f"SELECT pg_catalog.{call}()", QUICK) or "0/0")
+    end, flushed, segment = connection.rows(f"SELECT {END}", QUICK)[0]
+    return exact_end(parse_lsn(end or "0/0"), parse_lsn(flushed or "0/0"), int(segment or 0))
+
+
+def postmaster_start(connection: Connection) -> int:
+    """When the server was started, in microseconds since 1970. A server that runs on loses nothing, whatever becomes of its timeline."""
+    text = connection.value(
+        "SELECT (pg_catalog.date_part('epoch', pg_catalog.pg_postmaster_start_time()) * 1000000)::pg_catalog.int8", QUICK
+    )
+    return int(text) if text else 0

@@ -62,7 +62,8 @@ class Snapshots:
         if not isinstance(into, str) or owner not in (os.getuid(), 0):
             return None
         into = os.path.abspath(into)
-        if os.path.dirname(into) != os.path.dirname(os.path.abspath(self.store)) or os.path.exists(into):
+        folders = {os.path.realpath(os.path.dirname(it)) for it in (into, os.path.abspath(self.store))}
+        if len(folders) > 1 or os.path.lexists(into):
             self.answer(into, "the copy has to be a new file in the store's folder")
             return None
         return into

@@ -1,8 +1,9 @@
-"""Tells what a new slot waits for: the server makes it once all transactions have ended that ran when it was asked for."""
+"""Tells what a new slot or a lock waits for: the server makes a slot once all transactions have ended that ran when it was asked for."""
 
 from __future__ import annotations
 
 import time
+from collections.abc import Callable
 
 from . import log
 from .errors import ServerError
@@ -50,11 +51,25 @@ def what_is_waited_for(connection: Connection) -> str:
     return "; ".join(texts) if texts else "transactions that have ended by now"
 
 
-class Waiting:
-    """Is asked each half second while the slot is made."""
+def slot_text(connection: Connection) -> str:
+    return f"the slot waits for {what_is_waited_for(connection)}"
 
-    def __init__(self, dsn: str, slot: str, check_stop: Check) -> None:
-        self.dsn, self.slot, self.check_stop = dsn, slot, check_stop
+
+def what_blocks(connection: Connection, pid: int) -> str:
+    """Who has the locks for which another process of the server waits."""
+    rows = connection.rows(
+        f"SELECT a.pid, a.usename, a.datname, {SECONDS.format('a.xact_start')} FROM pg_catalog.pg_stat_activity a"
+        f" WHERE a.pid = ANY (pg_catalog.pg_blocking_pids({pid})) ORDER BY a.xact_start LIMIT {MOST}"
+    )
+    texts = [f"process {other} ({user}, database {database}){for_how_long(age)}" for other, user, database, age in rows]
+    return "; ".join(texts) if texts else "somebody who has left them by now"
+
+
+class Waiting:
+    """Is asked each half second while something is waited for. `text` says what that is."""
+
+    def __init__(self, dsn: str, slot: str, check_stop: Check, text: Callable[[Connection], str] = slot_text) -> None:
+        self.dsn, self.slot, self.check_stop, self.text = dsn, slot, check_stop, text
         self.next = time.monotonic() + FIRST
 
     def check(self) -> None:
@@ -65,8 +80,8 @@ class Waiting:
         try:
             connection = Connection(self.dsn, name=f"{self.slot} status", quiet=True, check=self.check_stop)
             try:
-                log.info(f"the slot waits for {what_is_waited_for(connection)}")
+                log.info(self.text(connection))
             finally:
                 connection.close()
         except ServerError as error:
-            log.info(f"the slot waits for running transactions, which can't be told: {error}")
+            log.info(f"what is waited for can't be told: {error}")

@@ -9,7 +9,7 @@ from . import log
 from .catalog import ACTIONS, Catalog, read_catalog
 from .checkpoint import Checkpoint
 from .errors import Passing, ServerError, Unfit
-from .postgres import Check, Connection
+from .postgres import QUICK, Check, Connection
 from .progress import Progress
 from .remembered import Remembered
 from .server import settle
@@ -67,13 +67,13 @@ class Watch:
         """Compares what the server has with what is remembered. Returns false where a lock of somebody else is in the way."""
         remembered = self.remembered
         try:
-            connection.run(f"SET lock_timeout = {PATIENCE}")
+            connection.run(f"SET lock_timeout = {PATIENCE}", limit=QUICK)
             now = read_catalog(connection, self.options.publication)
-            connection.run("SET lock_timeout = 0")
+            connection.run("SET lock_timeout = 0", limit=QUICK)
         except ServerError as error:
             if error.sqlstate != LOCK_TIMEOUT:
                 raise
-            connection.run("SET lock_timeout = 0")
+            connection.run("SET lock_timeout = 0", limit=QUICK)
             self.next_look = time.monotonic() + AGAIN
             log.warning(f"the publications can't be looked at now: {error}")
             return False

@@ -70,7 +70,7 @@ class FakeConnection:
     def text(self, command: str) -> str:
         return self.value(command) or ""
 
-    def run(self, command: str, wanted: object = None) -> None:
+    def run(self, command: str, wanted: object = None, limit: float = 0) -> None:
         self.server.rows_for(command)
 
     def copied_blocks(self, command: str, size: int) -> Iterator[list[bytes]]:
@@ -93,6 +93,9 @@ class FakeConnection:
     def socket(self) -> int:
         return self.ends[0]
 
+    def pid(self) -> int:
+        return 4711
+
     def consume(self) -> None:
         raise ServerError("lost")
 
@@ -108,6 +111,11 @@ class FakeConnection:
             os.close(end)
 
 
+def with_level(level: str, text: str) -> str:
+    """A line that was logged, as tests compare it."""
+    return text if level == "info" else f"{level}: {text}"
+
+
 def connection_to(server: FakeServer) -> Connection:
     return server.connect("")
 
@@ -116,13 +124,13 @@ class Quiet(unittest.TestCase):
     """A test that keeps the lines on standard error."""
 
     def make_folder(self) -> str:
-        """A folder that goes with the test, in memory where that is possible: tests sync many files."""
-        folder = tempfile.TemporaryDirectory(dir="/dev/shm" if os.access("/dev/shm", os.W_OK) else None)
+        """A folder that goes with the test."""
+        folder = tempfile.TemporaryDirectory()
         self.addCleanup(folder.cleanup)
         return folder.name
 
     def setUp(self) -> None:
         self.said: list[str] = []
-        patch = mock.patch("pgsub_connect.log.line", self.said.append)
+        patch = mock.patch("pgsub_connect.log.line", lambda level, text: self.said.append(with_level(level, text)))
         patch.start()
         self.addCleanup(patch.stop)

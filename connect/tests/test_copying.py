@@ -288,6 +288,21 @@ class Ends(Copying):
                 self.setUp()
                 self.failing(ServerError("lost", sqlstate), Passing, attempts=10)
 
+    def test_tables_that_change_at_each_attempt(self) -> None:
+        """As by TRUNCATE without a pause."""
+        files = iter(range(1, 1000))
+        self.server.answer("pg_relation_filenode", lambda _: [["16385", str(next(files))]])
+        with self.assertRaisesRegex(Passing, f"{CHANGED}; 20 attempts to copy"):
+            self.copier().run()
+        self.assertEqual((len(self.slept), set(self.slept)), (19, {1.0}))
+        self.assertEqual((self.server.told("COPY ("), len(self.server.told('DROP PUBLICATION "pgsub"'))), ([], 1))
+
+    def test_locks_that_cant_be_had_at_any_attempt(self) -> None:
+        self.server.answer("LOCK TABLE", ServerError("lock timeout", "55P03"))
+        with self.assertRaises(Passing):
+            self.copier().run()
+        self.assertEqual(len(self.server.told("LOCK TABLE")), 20)
+
     def test_signal(self) -> None:
         self.failing(Stopped(), Stopped)
 
@@ -376,6 +391,68 @@ class Ends(Copying):
         self.assertEqual(copier.options.publication, ["pgsub", "pgsub_inserts"])
 
 
+class Left(Copying):
+    """A publication that a run has left which was killed."""
+
+    def killed(self, **options: object) -> None:
+        """Is killed while it copies."""
+        copier = self.copier(**options)
+        self.server.answer("COPY (", ServerError("", "42000"))
+        self.patch(copier.maker, "take_back", lambda: None)
+        with self.assertRaises(ServerError):
+            copier.run()
+        os.close(self.checkpoint.file)
+        self.patch(os, "close", lambda number: None)
+        self.server.answers.pop(0)
+        self.server.commands.clear()
+        self.server.answer("SELECT p.oid FROM pg_catalog.pg_publication p", lambda _: self.oids())
+
+    def oids(self) -> list[Row]:
+        """That of the publication now."""
+        if self.server.told("CREATE PUBLICATION"):
+            return [["778"]]
+        return [] if self.server.told("DROP PUBLICATION") else [["777"]]
+
+    def test_its_oid_is_on_the_disk_before_it_is_there(self) -> None:
+        made: list[dict[str, int]] = []
+
+        def commit(_: str) -> list[Row]:
+            made.append(self.made())
+            raise Stopped
+
+        self.server.answer("COMMIT", commit)
+        with self.assertRaises(Stopped):
+            self.copier().run()
+        self.assertEqual(made[0], {"pgsub": 777})
+
+    def test_it_is_made_anew(self) -> None:
+        self.killed()
+        self.assertEqual(self.made(), {"pgsub": 777})
+        self.copier().run()
+        self.assertLess(self.server.index('DROP PUBLICATION "pgsub"'), self.server.index('CREATE PUBLICATION "pgsub"'))
+        self.assertEqual(self.made(), {"pgsub": 778})
+
+    def test_it_goes_where_no_copy_comes_of_it(self) -> None:
+        self.killed()
+        self.server.answer("COPY (", ServerError("denied", "42501"))
+        self.server.answer("SELECT p.pubname FROM", lambda it: [["pgsub"]] if "= 778" in it else [])
+        with self.assertRaises(ServerError):
+            self.copier().run()
+        self.assertEqual(len(self.server.told('DROP PUBLICATION "pgsub"')), 2)
+
+    def test_what_somebody_else_has_made_since_stays(self) -> None:
+        self.killed()
+        self.server.answer("SELECT p.oid FROM pg_catalog.pg_publication p", [["999"]])
+        self.copier().run()
+        self.assertEqual(self.server.told("DROP PUBLICATION") + self.server.told("CREATE PUBLICATION"), [])
+
+    def test_what_somebody_else_may_use_stays(self) -> None:
+        self.killed()
+        self.server.answer("SELECT s.slot_name FROM", [["other"]])
+        self.copier().run()
+        self.assertEqual(self.server.told("DROP PUBLICATION") + self.server.told("CREATE PUBLICATION"), [])
+
+
 class Counting(unittest.TestCase):
     def test_causes_are_counted_apart(self) -> None:
         tries = Tries()
@@ -395,6 +472,19 @@ class Slots(Copying):
 
     def options(self, **options: object) -> Options:
         return Options(store=self.store, publication=["pgsub"], create="permanent", no_copy=True, **options)  # type: ignore[arg-type]
+
+    def test_what_is_published_is_remembered(self) -> None:
+        remembered = Remembered(self.store)
+        create_slot(self.options(), lambda: None, remembered)
+        again = Remembered(self.store)
+        self.assertEqual((again.made, again.publications()), ({"pgsub": 777}, ["pgsub"]))
+
+    def test_a_slot_goes_where_nothing_comes_of_it(self) -> None:
+        self.patch(copying, "read_catalog", mock.Mock(side_effect=Stopped))
+        with self.assertRaises(Stopped):
+            create_slot(self.options(), lambda: None, Remembered(self.store))
+        self.assertEqual(self.server.told("DROP_REPL"), ['DROP_REPLICATION_SLOT "pgsub"'])
+        self.assertEqual(len(self.server.told('DROP PUBLICATION "pgsub"')), 1)
 
     def test_made(self) -> None:
         create_slot(self.options(), lambda: None)
@@ -447,6 +537,12 @@ class Waiting(Quiet):
             " (x, database y); the prepared transaction gid'1 (app, database other) for 700 s",
         )
         self.assertEqual(self.server.opened, self.server.closed)
+
+    def test_locks(self) -> None:
+        self.server.answer("pg_blocking_pids(4711)", [["8", "app", "shop", "12"]])
+        with mock.patch.object(waiting, "FIRST", 0):
+            waiting.Waiting("", "pgsub", lambda: None, lambda it: waiting.what_blocks(it, 4711)).check()
+        self.assertEqual(self.said, ["process 8 (app, database shop) for 12 s"])
 
     def test_a_standby(self) -> None:
         self.server.answer("pg_is_in_recovery", [["t"]])

@@ -16,6 +16,8 @@ VIA_ROOT = dataclasses.replace(PGSUB, via_root=True)
 WHOLE = Part(None, None, True)
 ROOT = a_table(10, "root", kind="p")
 TREE = (Partition(10, 0, "public.root", False), Partition(11, 10, "public.p1", True))
+FILES = (*TREE[:1], Partition(11, 10, "public.p1", True, node=11), Partition(12, 10, "public.p2", True, node=12))
+ANEW = tuple(dataclasses.replace(it, node=it.node and it.node + 100) for it in FILES)
 NEW = Partition(12, 10, "public.p2", True)
 MADE = dataclasses.replace(NEW, made=True)
 SUB = Partition(13, 10, "public.sub", False, made=True)
@@ -62,8 +64,14 @@ CASES: list[Case] = [
      a_catalog(ROOT, partitions=(*TREE, dataclasses.replace(SUB, made=False), dataclasses.replace(MADE, parent=13))),
      [PUBLICATION], "was attached"),
     ("detached", a_catalog(ROOT, partitions=TREE), a_catalog(ROOT, partitions=TREE[:1]), [PUBLICATION], "detached or dropped"),
+    ("truncated", a_catalog(ROOT, partitions=FILES), a_catalog(ROOT, partitions=(*FILES[:2], ANEW[2])), [PUBLICATION], "public.p2 (12)"),
+    ("truncated all", a_catalog(ROOT, partitions=FILES), a_catalog(ROOT, partitions=ANEW), [], ""),
+    ("truncated the only one", a_catalog(ROOT, partitions=FILES[:2]), a_catalog(ROOT, partitions=ANEW[:2]), [PUBLICATION], "truncated"),
+    ("files that weren't known", a_catalog(ROOT, partitions=TREE), a_catalog(ROOT, partitions=FILES[:2]), [], ""),
     ("a root comes with its partitions", a_catalog(), a_catalog(ROOT, partitions=TREE), [PUBLICATION], "public.root (10) joined"),
     # partitions under their own names
+    ("truncated, under its own name", a_catalog(a_table(11, "p1"), partitions=FILES[:2]),
+     a_catalog(a_table(11, "p1"), partitions=ANEW[:2]), [], ""),
     ("made as one, under its own name", a_catalog(partitions=TREE), a_catalog(a_table(12, "p2"), partitions=(*TREE, MADE)), [""], "new"),
     ("attached, under its own name", a_catalog(partitions=TREE), a_catalog(a_table(12, "p2"), partitions=(*TREE, NEW)),
      [PUBLICATION], "joined"),

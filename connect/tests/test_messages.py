@@ -99,7 +99,7 @@ class Fuzz(unittest.TestCase):
 
     def test_rows(self) -> None:
         random_ = random.Random(32)
-        for number in range(3000):
+        for number in range(800):
             width, wild = random_.randrange(1, 6), number % 3 > 0
             rows = [[self.value(random_, wild) for _ in range(width)] for _ in range(random_.randrange(1, 7))]
             lines = [b"\t".join(map(copy_text, row)) + b"\n" for row in rows]

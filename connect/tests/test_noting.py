@@ -30,8 +30,7 @@ class Case(unittest.TestCase):
         self.noting = Noting(self.progress, self.remembered)
 
     def note(self, *payloads: bytes) -> None:
-        for payload in payloads:
-            self.noting.note(payload)
+        self.noting.note_all(payloads)
         self.noting.show()
 
     def found(self) -> dict[str, list[str]]:
@@ -108,6 +107,8 @@ class Rejected(Case):
         self.note(insert(1), insert(1))
         self.assertEqual(self.noting.largest(), (77, 3 * len(insert(1))))
         self.note(commit(500, 508), vectors.start(8, True), insert(1, 8))
+        self.assertEqual(self.noting.largest(), (77, 3 * len(insert(1)) + len(commit(500, 508))), "it may be what is stored now")
+        self.noting.confirm(508, 0)
         self.assertEqual(self.noting.largest(), (8, len(insert(1, 8))))
         self.note(vectors.stop(), vectors.start(9, True), insert(1, 9), vectors.stop(), vectors.start(8, False), insert(1, 8))
         self.assertEqual(self.noting.largest(), (8, 2 * len(insert(1, 8)) + len(vectors.stop())))

@@ -50,7 +50,7 @@ class File(Case):
     def test_as_it_was(self) -> None:
         shape, part = a_shape([(1, "\u20ac", 4_000_000_001, -1)], "i"), Part("(a > 'x')", (1, 3), True)
         odd = a_table(4_000_000_000, 'we"ird \u00e4\n', shape, schema="s.x", part=part)
-        tree = (Partition(10, 0, "public.root", False), Partition(11, 10, "public.p", True))
+        tree = (Partition(10, 0, "public.root", False), Partition(11, 10, "public.p", True, node=77))
         types = {5: {"name": "mood", "6": "sad"}}
         first = a_catalog(T, odd, lsn=1 << 40, highest=7, partitions=tree, types=types, names=["pgsub", "other"])
         self.remembered.begin_copy(first, 1 << 41)

@@ -59,7 +59,7 @@ class Found(Case):
                 self.compare(self.watch(), a_catalog(T, U, lsn=300))
             self.assertEqual(again, said)
             self.assertEqual(list(self.progress.found), ["publication"])
-            self.assertIn("found", self.progress.shown(0.0))
+            self.assertIn("found", self.progress.shown(0.0, 0.0))
 
     def test_accepted(self) -> None:
         with logged():

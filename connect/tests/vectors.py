@@ -9,11 +9,14 @@ from unittest import mock
 
 from pgsub_connect.catalog import Catalog, Column, Part, Partition, Publication, Shape, Table
 
+from .fake_server import with_level
+
+
 @contextlib.contextmanager
 def logged() -> Iterator[list[str]]:
     """The lines that are logged meanwhile."""
     lines: list[str] = []
-    with mock.patch("pgsub_connect.log.line", lines.append):
+    with mock.patch("pgsub_connect.log.line", lambda level, text: lines.append(with_level(level, text))):
         yield lines
 
 

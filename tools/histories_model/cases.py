@@ -5,7 +5,7 @@ import random
 from . import tables as model
 from . import wire
 from .damage import byte_damage, damaged_tail, frame_damage, frames_of
-from .followed import Followed, without_clocks
+from .followed import Followed, exit_status, without_clocks
 from .history import Maker
 from .reader import MAX_BYTES, MAX_FRAME, Reader
 from .shown import Shown
@@ -202,6 +202,12 @@ def damage(rng, delivery):
     return sessions, False
 
 
+def limit_words(rng, read):
+    """Gives a reader limits that a history may pass, and returns the words that ask for them."""
+    read.max_bytes, read.max_frame = rng.randint(0, 3000), rng.randint(40, 600)
+    return ["--max-buffered", str(read.max_bytes), f"--max-frame={read.max_frame}"]
+
+
 def followed(case, program):
     """A history that comes to `follow` on standard input: the statuses that it writes, and what its file then holds."""
     rng = random.Random(case)
@@ -218,12 +224,14 @@ def followed(case, program):
         return
     store, read = program.path_of("copy.db"), Reader(version)
     words = ["--store", store, *version_words(rng, version)]
+    if rng.random() < 0.2:
+        words += limit_words(rng, read)
     at = rng.randint(0, len(content)) if rng.random() < 0.3 else len(content)
     for number, part in enumerate((content[:at], content[at:]) if at < len(content) else (content,)):
         read = read.restarted()
         written = Followed(read).follow(part).written
         file = program.file(f"input.{number}", part)
-        compare("following", program, ["follow", *words], read.status(), written, stop_line(read.fault), file)
+        compare("following", program, ["follow", *words], exit_status(read.fault), written, stop_line(read.fault), file)
     compare("what the file holds", program, ["dump", "--store", store], 0, model.dump(read.tables, read.position), b"")
 
 

@@ -11,6 +11,17 @@ PIECE = 65536
 STATUS = struct.Struct(">cIcQQQqB")
 
 
+# The exit status of each fault that isn't the stream's.
+STATUSES = {
+    "spool 1 SpoolFull": 10, "wire 3 TooLarge": 11, "store 8 Refused": 13, "store 10 NotAStore": 13, "memory": 14, "read": 15,
+}
+
+
+def exit_status(fault):
+    """The exit status of a `follow` that ended with this fault, or with none."""
+    return 0 if fault is None else STATUSES.get(fault, 1)
+
+
 def status(fields):
     """The frame of a status whose clock is 0."""
     return STATUS.pack(b"d", STATUS.size - 1, b"r", *fields, 0, 0)

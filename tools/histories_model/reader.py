@@ -196,6 +196,7 @@ class Reader:
 
     def __init__(self, version):
         self.version = version
+        self.max_frame, self.max_bytes = MAX_FRAME, MAX_BYTES
         self.tables = {}
         self.position = self.confirmed = 0
         self.fault = None
@@ -204,6 +205,7 @@ class Reader:
     def restarted(self):
         """A new subscriber over the rows and the position that this one has stored."""
         new = type(self)(self.version)
+        new.max_frame, new.max_bytes = self.max_frame, self.max_bytes
         new.tables, new.position, new.confirmed = self.tables, self.position, self.position
         return new
 
@@ -248,7 +250,7 @@ class Reader:
             length = struct.unpack_from(">I", content, at + 1)[0]
             if length < 4 or length > 2147483647 or letter == ord("c") and length != 4:
                 raise wire_fault(2)
-            if length - 4 > MAX_FRAME:
+            if length - 4 > self.max_frame:
                 raise wire_fault(3)
             if len(content) - at - 1 < length:
                 break
@@ -321,7 +323,7 @@ class Reader:
             self.hold(label, fields[1], 8 + length - (4 if self.place == "block" else 0))
 
     def hold(self, label, it, cost):
-        if cost + self.held > MAX_BYTES:
+        if cost + self.held > self.max_bytes:
             raise Fault("spool 1 SpoolFull")
         self.held += cost
         self.spools[self.top].append((label, it, cost))

@@ -1,97 +1,120 @@
-"""A PostgreSQL server of its own in a folder, on a unix socket."""
+"""A PostgreSQL server of its own in a folder, on a unix socket that only its account and root can reach."""
+
+from __future__ import annotations
 
 import contextlib
-import glob
 import os
 import pwd
-import re
 import shutil
 import subprocess
 import tempfile
+from collections.abc import Mapping
+from pathlib import Path
 
-from connector.libpq import Connection, ServerError
+import psycopg
+
+from .errors import Unusable
+from .patience import Patience
+from .installed import Installation
+from .sessions import Session
 
 SETTINGS = {
     "wal_level": "logical",
     "listen_addresses": "",
+    "unix_socket_permissions": "0700",
     "fsync": "off",
     "logical_decoding_work_mem": "64kB",
     "max_wal_senders": "20",
     "max_replication_slots": "20",
     "max_connections": "60",
+    "max_prepared_transactions": "5",
     "wal_sender_timeout": "6s",
     "deadlock_timeout": "100ms",
     "log_min_messages": "warning",
 }
 
 
-def programs():
-    """The folder of the newest server's programs."""
-    found = glob.glob("/usr/lib/postgresql/*/bin/pg_ctl") + glob.glob("/usr/local/pgsql/bin/pg_ctl")
-    in_path = shutil.which("pg_ctl")
-    if in_path:
-        found.append(os.path.realpath(in_path))
-    if not found:
-        raise SystemExit("live: there is no PostgreSQL server: apt-get install postgresql-15")
-    return os.path.dirname(max(found, key=lambda it: [int(number) for number in re.findall(r"\d+", it)]))
-
-
 class Cluster:
-    """The server. A server doesn't run as root: then it runs as `user`."""
+    """The server. A server doesn't run as root: then it runs as the account of its installation."""
 
-    def __init__(self, pq, folder, user, settings=()):
-        self.pq = pq
-        self.folder = tempfile.mkdtemp(prefix="server-", dir=folder)
-        self.data = os.path.join(self.folder, "data")
-        self.bin = programs()
-        self.owner = user if os.getuid() == 0 else None
-        self.user = user if self.owner else pwd.getpwuid(os.getuid()).pw_name
-        if self.owner:
-            entry = pwd.getpwnam(user)
-            os.chown(self.folder, entry.pw_uid, entry.pw_gid)
-        os.chmod(self.folder, 0o755)
-        self.call("initdb", "-D", self.data, "-A", "trust", "-U", self.user, "-E", "UTF8", "--locale=C.UTF-8", "--no-sync")
-        lines = {**SETTINGS, "unix_socket_directories": self.folder, **dict(settings)}
-        with open(os.path.join(self.data, "postgresql.conf"), "a", encoding="utf-8") as file:
-            file.writelines(f"{name} = '{value}'\n" for name, value in lines.items())
+    def __init__(
+        self, installed: Installation, folder: Path, settings: Mapping[str, str] = {}, encoding: str = "UTF8",
+        files: Path | None = None,
+    ) -> None:
+        """Makes a new one, or one of another server's files."""
+        self.installed, self.port = installed, 5432
+        self.folder = Path(tempfile.mkdtemp(prefix="server-", dir=installed.work_folder(folder)))
+        self.data, self.log = self.folder / "data", self.folder / "log"
+        self.user = installed.account.name if installed.account else pwd.getpwuid(os.getuid()).pw_name
+        if installed.account:
+            os.chown(self.folder, installed.account.uid, installed.account.gid)
+        if files is None:
+            self.prepare({**SETTINGS, **settings}, encoding)
+        else:
+            subprocess.run(["cp", "-a", files, self.data], check=True)
+            self.configure({"unix_socket_directories": self.installed.inside(self.folder), **settings})
 
-    def call(self, program, *words):
-        as_user = {"user": self.owner, "group": pwd.getpwnam(self.owner).pw_gid, "extra_groups": []} if self.owner else {}
-        done = subprocess.run(
-            ["nice", "-n", "5", os.path.join(self.bin, program), *words], cwd=self.folder, stdin=subprocess.DEVNULL,
-            stdout=subprocess.PIPE, stderr=subprocess.STDOUT, check=False, **as_user,
-        )
-        if done.returncode:
-            raise SystemExit(f"live: {program}: {done.stdout.decode(errors='replace')}")
+    def prepare(self, settings: Mapping[str, str], encoding: str) -> None:
+        words = ["-A", "trust", "-U", self.user, "-E", encoding, "--locale=C" if encoding != "UTF8" else "--locale=C.UTF-8"]
+        self.call("initdb", "-D", self.installed.inside(self.data), *words, "--no-sync")
+        self.configure({"unix_socket_directories": self.installed.inside(self.folder), **settings})
+        if self.installed.root != Path("/"):
+            # (a root folder has no memory of its own to share)
+            self.configure({"dynamic_shared_memory_type": "mmap"})
 
-    def start(self):
-        self.call("pg_ctl", "-D", self.data, "-l", os.path.join(self.folder, "log"), "-w", "-t", "120", "start")
+    def configure(self, settings: Mapping[str, str]) -> None:
+        """Adds settings to the server's file, of which the last ones count."""
+        with open(self.data / "postgresql.conf", "a", encoding="utf-8") as file:
+            file.writelines(f"{name} = '{value}'\n" for name, value in settings.items())
 
-    def stop(self, mode):
-        self.call("pg_ctl", "-D", self.data, "-w", "-t", "120", "-m", mode, "stop")
+    def call(self, program: str, *words: str) -> str:
+        return self.installed.call(program, *words, log=self.folder / "called")
 
-    def dsn(self, database="shop"):
-        return f"host={self.folder} user={self.user} dbname={database}"
+    def control(self, *words: str) -> None:
+        self.call("pg_ctl", "-D", self.installed.inside(self.data), "-w", "-t", "120", *words)
 
-    def connect(self, database="shop", name="live"):
-        return Connection(self.pq, self.dsn(database), name=name, quiet=True)
+    def start(self) -> None:
+        self.control("-l", self.installed.inside(self.log), "start")
 
-    def run(self, *commands, database="shop"):
-        connection = self.connect(database)
-        try:
-            for command in commands:
-                connection.run(command)
-        finally:
-            connection.close()
+    def stop(self, mode: str = "fast") -> None:
+        self.control("-m", mode, "stop")
 
-    def value(self, query, database="shop"):
-        connection = self.connect(database)
-        try:
-            return connection.value(query)
-        finally:
-            connection.close()
+    def promote(self) -> None:
+        """Starts it as a standby and makes a primary of it, with a timeline of its own."""
+        signal = self.data / "standby.signal"
+        signal.touch()
+        if self.installed.account:
+            os.chown(signal, self.installed.account.uid, self.installed.account.gid)
+        self.start()
+        self.control("promote")
 
-    def remove(self):
-        with contextlib.suppress(SystemExit, ServerError):
+    def dsn(self, database: str = "shop", user: str = "") -> str:
+        limit = round(10 * Patience.factor)
+        return f"host={self.folder} port={self.port} user={user or self.user} dbname={database} connect_timeout={limit}"
+
+    def dsn_inside(self, database: str = "shop") -> str:
+        """A connection string for another server of the same installation."""
+        return self.dsn(database).replace(str(self.folder), self.installed.inside(self.folder))
+
+    def connect(self, database: str = "shop") -> Session:
+        return Session(self.dsn(database))
+
+    def run(self, *commands: str, database: str = "shop") -> None:
+        with self.connect(database) as session:
+            session.run(*commands)
+
+    def value(self, query: str, database: str = "shop") -> str:
+        with self.connect(database) as session:
+            return session.value(query)
+
+    def log_end(self) -> str:
+        return self.value("SELECT pg_current_wal_insert_lsn()", "postgres")
+
+    def said(self) -> str:
+        """The server's log."""
+        return self.log.read_text(encoding="utf-8", errors="replace") if self.log.exists() else ""
+
+    def remove(self) -> None:
+        with contextlib.suppress(Unusable, psycopg.Error):
             self.stop("immediate")
         shutil.rmtree(self.folder, ignore_errors=True)

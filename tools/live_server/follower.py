@@ -1,73 +1,88 @@
-"""The connector as a child that is started again whenever it ends, and what a store holds beside what the server has."""
+"""The connector as a child that is started again whenever it ends."""
 
-import collections
+from __future__ import annotations
+
 import contextlib
-import json
 import os
 import signal
 import subprocess
 import threading
 import time
+from collections.abc import Callable, Sequence
+from pathlib import Path
 
-from connector.copying import ESCAPED, ESCAPES
-from connector.libpq import ServerError
-from connector.publishing import published_tables
-from connector.server import settle
+import psycopg
 
-# statuses after which a supervisor may start the connector again: the server isn't there
-AGAIN = (4,)
+from .cluster import Cluster
+from .errors import Failed
+from .patience import Patience
 
-
-class Failed(Exception):
-    """Something is not as it has to be."""
+# The statuses after which a supervisor starts the connector again: something is in the way only for now.
+AGAIN = (7,)
 
 
-def children(pid):
-    try:
-        with open(f"/proc/{pid}/task/{pid}/children", encoding="ascii") as file:
-            return [int(it) for it in file.read().split()]
-    except (FileNotFoundError, ProcessLookupError):
-        return []
+def nothing() -> None:
+    """Checks nothing."""
+
+
+def filters_of(pid: int) -> list[int]:
+    """The filters that a connector runs. While it starts, it has other children, which look for libpq."""
+    found = []
+    with contextlib.suppress(FileNotFoundError, ProcessLookupError):
+        for child in Path(f"/proc/{pid}/task/{pid}/children").read_text(encoding="ascii").split():
+            if b"\0follow\0" in Path(f"/proc/{child}/cmdline").read_bytes():
+                found.append(int(child))
+    return found
 
 
 class Supervisor(threading.Thread):
     """Keeps the connector running, as a service manager would."""
 
-    def __init__(self, words, log):
+    child: subprocess.Popen[bytes]
+
+    def __init__(self, words: Sequence[str | Path], log: Path) -> None:
         super().__init__(daemon=True)
-        self.words = words
-        self.log = log
-        self.child = None
-        self.ended = threading.Event()
+        self.words, self.log = list(words), log
+        self.begun, self.ended = threading.Event(), threading.Event()
         self.killed = False
-        self.failure = None
+        self.failure = ""
         self.starts = 0
 
-    def run(self):
+    def run(self) -> None:
         while not self.ended.is_set() and not self.failure:
             with open(self.log, "ab") as log:
                 self.killed = False
                 self.child = subprocess.Popen(self.words, stdout=log, stderr=log, stdin=subprocess.DEVNULL)
                 self.starts += 1
+                self.begun.set()
                 status = self.child.wait()
             if not self.ended.is_set() and not self.killed and status not in AGAIN:
                 self.failure = f"the connector ended with status {status}"
             self.ended.wait(0.3)
 
-    def kill_connector(self):
+    def begin(self) -> None:
+        self.start()
+        self.begun.wait()
+
+    def kill_connector(self) -> bool:
+        """Kills the connector. Returns whether one ran."""
+        if self.killed or self.child.poll() is not None:
+            return False
         self.killed = True
         self.child.send_signal(signal.SIGKILL)
+        return True
 
-    def kill_filter(self):
+    def kill_filter(self) -> bool:
+        """Kills the filter. Returns whether one ran."""
         killed = False
-        for pid in children(self.child.pid):
+        for pid in filters_of(self.child.pid):
             with contextlib.suppress(ProcessLookupError):
                 os.kill(pid, signal.SIGKILL)
                 killed = True
         return killed
 
-    def finish(self):
-        """Ends the connector in the orderly way; its status."""
+    def finish(self) -> None:
+        """Ends the connector in the orderly way."""
         self.ended.set()
         self.child.send_signal(signal.SIGTERM)
         try:
@@ -76,76 +91,39 @@ class Supervisor(threading.Thread):
             self.child.kill()
             raise Failed("the connector didn't end within 120 seconds of SIGTERM") from None
         self.join(10)
-        return status
+        if status:
+            raise Failed(f"the connector ended with status {status} after SIGTERM: {self.last_said()}")
 
-    def check(self):
+    def kill(self) -> None:
+        """Ends what still runs."""
+        self.ended.set()
+        if self.begun.is_set() and self.child.poll() is None:
+            self.child.kill()
+
+    def last_said(self) -> str:
+        with open(self.log, "rb") as log:
+            return log.read()[-2000:].decode(errors="replace")
+
+    def check(self) -> None:
         if self.failure:
-            with open(self.log, "rb") as log:
-                said = log.read()[-2000:].decode(errors="replace")
-            raise Failed(f"{self.failure}\n{said}")
+            raise Failed(f"{self.failure}\n{self.last_said()}")
 
 
-def wait_until(supervisor, cluster, condition, seconds, what):
+def wait_until(condition: Callable[[], bool], what: str, seconds: float = 60, check: Callable[[], None] = nothing) -> None:
+    """Waits for a condition. A server that isn't there meanwhile is no fault."""
+    seconds *= Patience.factor
     until = time.monotonic() + seconds
     while True:
-        supervisor.check()
-        with contextlib.suppress(ServerError):
+        check()
+        with contextlib.suppress(psycopg.Error):
             if condition():
                 return
         if time.monotonic() > until:
-            raise Failed(f"{what} took more than {seconds} seconds")
+            raise Failed(f"{what} took more than {seconds:.0f} seconds")
         time.sleep(0.05)
 
 
-def is_confirmed(cluster, slot, lsn):
+def is_confirmed(cluster: Cluster, slot: str, lsn: str, database: str = "shop") -> bool:
     """Whether the server has been told that everything up to an LSN is stored."""
-    return cluster.value(
-        f"SELECT confirmed_flush_lsn >= '{lsn}' FROM pg_replication_slots WHERE slot_name = '{slot}'"
-    ) == "t"
-
-
-def unescaped(text):
-    if text == b"\\N":
-        return None
-    return ESCAPED.sub(lambda found: ESCAPES.get(found[1], found[1]), text).decode() if b"\\" in text else text.decode()
-
-
-def rows_of_server(cluster, publication):
-    """The rows of each published table, with their numbers."""
-    connection = cluster.connect()
-    rows = {}
-    try:
-        settle(connection)
-        for table in published_tables(connection, publication):
-            found = collections.Counter(
-                tuple(map(unescaped, line.rstrip(b"\n").split(b"\t"))) if table.columns else ()
-                for line in connection.copied_rows(table.query())
-            )
-            if found:
-                rows[table.namespace, table.name] = found
-    finally:
-        connection.close()
-    return rows
-
-
-def rows_of_store(program, store):
-    """The rows that a store holds, and its position."""
-    done = subprocess.run([program, "dump", "--store", store], capture_output=True, check=False)
-    if done.returncode:
-        raise Failed(f"dump: status {done.returncode}: {done.stderr.decode(errors='replace')}")
-    *lines, last = done.stdout.decode().splitlines()
-    rows = {}
-    for line in lines:
-        namespace, name, values, count = json.loads(line)
-        rows.setdefault((namespace, name), collections.Counter())[tuple(values)] += count
-    return rows, last.removeprefix("position ")
-
-
-def compare(expected, found):
-    """Fails at the first table that differs."""
-    for table in sorted({*expected, *found}):
-        ours, theirs = found.get(table, collections.Counter()), expected.get(table, collections.Counter())
-        if ours != theirs:
-            lacks, has = list((theirs - ours).items())[:3], list((ours - theirs).items())[:3]
-            raise Failed(f"{'.'.join(table)}: lacks {str(lacks)[:600]}, has {str(has)[:600]}")
-    return sum(sum(rows.values()) for rows in found.values())
+    query = f"SELECT confirmed_flush_lsn >= '{lsn}' FROM pg_replication_slots WHERE slot_name = '{slot}'"
+    return cluster.value(query, database) == "t"

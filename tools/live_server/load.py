@@ -1,10 +1,16 @@
 """Transactions of every kind, at random, by several threads at once."""
 
+from __future__ import annotations
+
+import contextlib
 import random
 import threading
 import time
 
-from connector.libpq import ServerError
+import psycopg
+
+from .cluster import Cluster
+from .sessions import Session
 
 SCHEMA = (
     "CREATE TABLE keyed (id int PRIMARY KEY, name text, note text)",
@@ -38,20 +44,25 @@ EXTERNAL = "(SELECT string_agg(md5(random()::text || it), '') FROM generate_seri
 class Mix:
     """Makes statements."""
 
-    def __init__(self, rng, truncates=True):
+    def __init__(self, rng: random.Random, truncates: bool = True) -> None:
         self.rng, self.truncates = rng, truncates
 
-    def key(self):
+    def attempt(self, session: Session) -> None:
+        """Runs a statement that changes few rows. One that the server rejects is no fault."""
+        with contextlib.suppress(psycopg.Error):
+            session.run(self.one())
+
+    def key(self) -> int:
         return self.rng.randint(1, 2000)
 
-    def word(self):
+    def word(self) -> str:
         words = ("", "it''s", "a\tb", "back\\\\slash", "Ünïcödé 漢字 🐘", "\\\\N", "x" * 200, "line\nbreak")
         return self.rng.choice((*words, *(f"word {self.rng.randint(1, 60)}" for _ in words)))
 
-    def big(self):
+    def big(self) -> str:
         return EXTERNAL.format(self.rng.choice((80, 200, 600)))
 
-    def one(self):
+    def one(self) -> str:
         """A statement that changes few rows."""
         rng, key, word = self.rng, self.key(), self.word()
         return rng.choice((
@@ -90,11 +101,12 @@ class Mix:
             f"SELECT pg_logical_emit_message({rng.choice(('true', 'false'))}, 'live', 'a message')",
         ))
 
-    def many(self):
+    def many(self) -> str:
         """A statement that changes many rows, above what the server decodes in memory."""
         rng, key, count = self.rng, self.key(), self.rng.randint(300, 1500)
         return rng.choice((
-            f"INSERT INTO keyed SELECT it, md5(it::text), NULL FROM generate_series({key}, {key + count}) it ON CONFLICT DO NOTHING",
+            f"INSERT INTO keyed SELECT it, md5(it::text), NULL FROM generate_series({key}, {key + count}) it"
+            " ON CONFLICT DO NOTHING",
             f"INSERT INTO keyed SELECT it, 'again', NULL FROM generate_series({key}, {key + count}) it"
             " ON CONFLICT (id) DO UPDATE SET name = 'again'",
             f"UPDATE keyed SET note = md5(id::text) WHERE id BETWEEN {key} AND {key + count}",
@@ -102,28 +114,30 @@ class Mix:
             f"INSERT INTO wide SELECT it, 'many', repeat('0123456789', 300), it, NULL, now(), NULL, NULL"
             f" FROM generate_series({key}, {key + count // 4}) it ON CONFLICT DO NOTHING",
             f"DELETE FROM wide WHERE id > {key}",
-            f"INSERT INTO indexed SELECT it, 'b', it / 7.0, NULL FROM generate_series({key}, {key + count}) it ON CONFLICT DO NOTHING",
+            f"INSERT INTO indexed SELECT it, 'b', it / 7.0, NULL FROM generate_series({key}, {key + count}) it"
+            " ON CONFLICT DO NOTHING",
             f"DELETE FROM indexed WHERE a > {key}",
             f"INSERT INTO whole SELECT 'copies', it % 5, NULL FROM generate_series(1, {count}) it",
             f"DELETE FROM whole WHERE n > {rng.randint(0, 4)}",
             f"INSERT INTO inserts SELECT it, 'many' FROM generate_series(1, {count}) it",
             f"INSERT INTO parted SELECT it, 'many' FROM generate_series({key}, {key + count}) it ON CONFLICT DO NOTHING",
             f"DELETE FROM parted WHERE id > {key}",
-            f"INSERT INTO altered (id, word) SELECT it, 'many' FROM generate_series({key}, {key + count // 4}) it ON CONFLICT DO NOTHING",
+            f"INSERT INTO altered (id, word) SELECT it, 'many' FROM generate_series({key}, {key + count // 4}) it"
+            " ON CONFLICT DO NOTHING",
         ))
 
-    def truncation(self):
+    def truncation(self) -> str:
         if not self.truncates:
             return self.one()
         tables = self.rng.sample(TABLES, self.rng.choice((1, 1, 2, 3)))
         return f"TRUNCATE {', '.join(tables)}{self.rng.choice(('', ' RESTART IDENTITY', ' CASCADE'))}"
 
-    def some(self):
+    def some(self) -> list[str]:
         """A few statements."""
         rng = self.rng
         return [self.many() if rng.random() < 0.25 else self.one() for _ in range(rng.choice((1, 1, 2, 4, 8)))]
 
-    def nested(self, depth=0):
+    def nested(self, depth: int = 0) -> list[str]:
         """Statements with subtransactions, of which some are rolled back."""
         rng, statements = self.rng, []
         for _ in range(rng.randint(1, 4)):
@@ -134,7 +148,7 @@ class Mix:
                 statements.append(rng.choice((f"ROLLBACK TO {name}", f"RELEASE {name}")))
         return statements
 
-    def transaction(self):
+    def transaction(self) -> list[str]:
         luck = self.rng.random()
         if luck < 0.35:
             return [self.one()]
@@ -152,70 +166,111 @@ class Mix:
 class Worker(threading.Thread):
     """Runs transactions until it is told to end; where the server is gone, it waits."""
 
-    def __init__(self, cluster, seed, pause):
+    def __init__(self, cluster: Cluster, seed: str, pause: float) -> None:
         super().__init__(daemon=True)
         self.cluster, self.rng, self.pause = cluster, random.Random(seed), pause
         self.ended = threading.Event()
         self.committed = 0
-        self.connection = None
+        self.session: Session | None = None
         self.truncates = True
 
-    def run(self):
+    def run(self) -> None:
         while not self.ended.is_set():
             try:
-                self.connection = self.connection or self.cluster.connect()
-                self.once()
-            except ServerError as error:
+                self.session = self.session or self.cluster.connect()
+                self.once(self.session)
+            except psycopg.Error as error:
                 self.recover(error)
             self.ended.wait(self.rng.expovariate(1) * self.pause)
-        if self.connection:
-            self.connection.close()
+        if self.session:
+            self.session.close()
 
-    def once(self):
+    def once(self, session: Session) -> None:
         statements = Mix(self.rng, self.truncates).transaction()
-        for statement in statements:
-            self.connection.run(statement)
+        session.run(*statements)
         self.committed += statements[-1] != "ROLLBACK"
 
-    def recover(self, error):
+    def recover(self, error: psycopg.Error) -> None:
         """Rolls back, or drops a connection that is lost."""
         try:
-            self.connection.run("ROLLBACK")
+            if self.session is None:
+                raise error
+            self.session.run("ROLLBACK")
             # deadlocks, taken keys and tables that an ALTER holds are part of it
-            if not error.sqlstate.startswith(("40", "23", "55", "57", "42P01", "42703", "42804", "0A")):
+            if not (error.sqlstate or "").startswith(("40", "23", "55", "57", "42P01", "42703", "42804", "0A")):
                 print(f"live: {error.sqlstate} {error}", flush=True)
-        except (ServerError, AttributeError):
-            if self.connection:
-                self.connection.close()
-            self.connection = None
+        except psycopg.Error:
+            if self.session:
+                self.session.close()
+            self.session = None
             time.sleep(0.2)
 
 
 class Altering(Worker):
     """Alters a table's columns and replica identity between the changes of others."""
 
-    def __init__(self, cluster, seed, pause):
+    def __init__(self, cluster: Cluster, seed: str, pause: float) -> None:
         super().__init__(cluster, seed, pause)
-        self.column = 0
+        self.number = 0
 
-    def once(self):
+    def once(self, session: Session) -> None:
         rng = self.rng
-        self.column += 1
-        columns = [
-            name for (name,) in self.connection.rows(
-                "SELECT attname FROM pg_attribute WHERE attrelid = 'altered'::regclass AND attnum > 3 AND NOT attisdropped"
-            )
-        ]
-        alterations = [f"ADD COLUMN c{self.column}_{rng.randint(0, 9999)} int"]
+        self.number += 1
+        columns = session.column(
+            "SELECT attname FROM pg_attribute WHERE attrelid = 'altered'::regclass AND attnum > 3 AND NOT attisdropped"
+        )
+        alterations = [f"ADD COLUMN c{self.number}_{rng.randint(0, 9999)} int"]
         if columns:
             alterations += [f"DROP COLUMN {rng.choice(columns)}", f"ALTER COLUMN {rng.choice(columns)} TYPE bigint"]
-        alterations += [f"REPLICA IDENTITY {rng.choice(('FULL', 'DEFAULT'))}", f"ALTER word TYPE varchar({80 + self.column})"]
-        self.connection.run("SET lock_timeout = '2s'")
-        self.connection.run(f"ALTER TABLE altered {rng.choice(alterations)}")
+        alterations += [f"REPLICA IDENTITY {rng.choice(('FULL', 'DEFAULT'))}", f"ALTER word TYPE varchar({80 + self.number})"]
+        session.run("SET lock_timeout = '2s'", f"ALTER TABLE altered {rng.choice(alterations)}")
         self.committed += 1
 
 
-def final_statements():
+class Mixed:
+    """Several workers, and one that alters a table."""
+
+    def __init__(self, cluster: Cluster, seed: str, workers: int, pause: float) -> None:
+        self.cluster, self.seed = cluster, seed
+        self.workers: list[Worker] = [Worker(cluster, f"{seed} {it}", pause) for it in range(workers)]
+        self.workers.append(Altering(cluster, f"{seed} alter", 20 * pause))
+        self.is_running = False
+
+    def fill(self, rows: int) -> None:
+        """Makes rows that are there before anything is followed."""
+        mix = Mix(random.Random(f"before {self.seed}"))
+        self.cluster.run(
+            f"INSERT INTO kept SELECT it, E'tab\\t and \\\\ back', md5(it::text) FROM generate_series(1, {rows // 2}) it",
+            f"INSERT INTO whole SELECT 'before', it % 100, repeat('x', it % 50) FROM generate_series(1, {rows // 4}) it",
+            f"INSERT INTO keyed SELECT it, md5(it::text), NULL FROM generate_series(100000, {100000 + rows // 4}) it",
+            f"INSERT INTO kept SELECT -it, NULL, {EXTERNAL.format(60000)} FROM generate_series(2, 4) it",
+        )
+        with self.cluster.connect() as session:
+            for _ in range(300):
+                mix.attempt(session)
+
+    def truncate(self, truncates: bool) -> None:
+        """Says whether tables are truncated from now on."""
+        for it in self.workers:
+            it.truncates = truncates
+
+    def begin(self) -> None:
+        self.is_running = True
+        for it in self.workers:
+            it.start()
+
+    def end(self) -> int:
+        if self.is_running:
+            self.is_running = False
+            for it in self.workers:
+                it.ended.set()
+            for it in self.workers:
+                it.join(60)
+            self.cluster.run(*final_statements())
+        return sum(it.committed for it in self.workers)
+
+
+def final_statements() -> tuple[str, ...]:
     """One more change of each table, so that the stream has its last shape."""
     return (
         "INSERT INTO keyed VALUES (-1, 'last', NULL) ON CONFLICT (id) DO UPDATE SET name = 'again'",

@@ -1,17 +1,17 @@
 -- Commands that are built up, and what their matches give.
-use Rattle.std.proofs.Common.{◌≡◌, ◌∙◌, ◌||◌, ◌↔◌, ℕ, true, false, refl, nat_eq, sym, ap, ap₂, subst, arith, true≢false, List, Option, Some, None, Result, Ok, Err, unwrap_or, Bor}
+use Rattle.std.proofs.Common.{◌≡◌, ◌∙◌, ◌||◌, ◌↔◌, ◌≤◌, ◌<◌, ◌^◌, ℕ, true, false, refl, nat_eq, sym, ap, ap₂, subst, arith, true≢false, List, Option, Some, None, Result, Ok, Err, unwrap_or, Bor}
 use Rattle.std.specs.Option.{option_map, is_some}
 use Rattle.std.proofs.lemmas.Bool.{eqb-true}
 use Rattle.std.specs.Str.Parse.{IsNumeral, ParsesUnsigned, digits_value, without_leading_plus}
 use Rattle.clap.specs.Words.{AddsArg, AddsSubcommand, App, ReadsOne, Rule, rule_of, with_rule, with_subcommand}
 use Rattle.clap.specs.declared.builder.arg.Arg.{Arg}
 use Rattle.clap.specs.declared.builder.command.Command.{Command}
-use Rattle.pgcommand.specs.Asked.{IsCommand, ReadsAsOne}
+use Rattle.pgcommand.specs.Asked.{IsCommand, ReadsAsOne, ReadsUpTo}
 
-none≢some : {X : Type 0} {x : X} → None ≡ Some x → ⊥
+pub none≢some : {X : Type 0} {x : X} → None ≡ Some x → ⊥
 none≢some e = true≢false (sym (ap is_some e))
 
-some-inj : {X : Type 0} {x y : X} → Some x ≡ Some y → x ≡ y
+pub some-inj : {X : Type 0} {x y : X} → Some x ≡ Some y → x ≡ y
 some-inj {X} {x} {y} e = ap (λ (o : Option X). unwrap_or o x) e
 
 pub with_arg : (old new : Command) (a : Arg) (x : App) (r : Rule) → IsCommand x old → rule_of a ≡ r → a.global ≡ false → AddsArg old a new → IsCommand (with_rule x r) new
@@ -54,3 +54,14 @@ is_one r n P is both =
 pub none_is_not_one : (r : Option ℕ) (P : Type 0) → r ≡ None → ((r ≡ Some 1) ↔ P) → (false ≡ true) ↔ P
 none_is_not_one r P is both =
     (λ e. absurd (true≢false (sym e)), λ h. absurd (none≢some (sym is ∙ both.1 h)))
+
+-- a number that is read by its text is what the text reads as, where that is at most so much
+pub reads_up_to : (E : Type 0) (G : List ℕ → Result ℕ E → Type 0) (k most : ℕ) (t : Option (List ℕ)) (r : Option ℕ) → most < 2 ^ k
+    → ((u : List ℕ) (x : Result ℕ E) → G u x → ParsesUnsigned k 10 u x) → ((u : List ℕ) → t ≡ Some u → ReadsOne G u r)
+    → (n : ℕ) → ((m : ℕ) → r ≡ Some m → m ≤ most → n ≡ m) → ReadsUpTo most t n
+reads_up_to E G k most t (Some m) below only value n is text same numeral small =
+    let parsed = only text (Ok m) (value text same) in
+    is m refl (rw parsed.1 small) ∙ parsed.1
+reads_up_to E G k most t None below only value n is text same numeral small =
+    let failed = value text same in
+    absurd (only text (Err failed.0) failed.1 (numeral, omega (arith, small, below)))

@@ -1,5 +1,5 @@
 -- What the words of a command line ask for.
-use Rattle.std.specs.Prelude.{◌≡◌, ◌≢◌, ◌↔◌, ◌⊎◌, List, [], ◌∷◌, Some, true, codes, string_bytes, Bool, false, Option, unwrap_or, option_map, pos, String}
+use Rattle.std.specs.Prelude.{◌≡◌, ◌≢◌, ◌≤◌, ◌↔◌, ◌⊎◌, ℕ, List, [], ◌∷◌, Some, true, codes, string_bytes, Bool, false, Option, unwrap_or, option_map, pos, String}
 use Rattle.std.specs.declared.alloc.Global.{Global}
 use Rattle.std.specs.Str.Parse.{IsNumeral, digits_value, without_leading_plus}
 use Rattle.clap.specs.declared.builder.command.Command.{Command}
@@ -9,7 +9,8 @@ use Rattle.clap.specs.Simple.{on_top}
 use Rattle.clap.specs.declared.error.Error.{Error}
 use Rattle.clap.specs.declared.error.kind.ErrorKind.TheVariants.{OutOfMemory}
 use Rattle.clap.specs.declared.builder.action.ArgAction.TheVariants.{SetTrue}
-use Rattle.clap.specs.declared.builder.value_parser.ValueParser.TheVariants.{Signed}
+use Rattle.clap.specs.declared.builder.value_parser.ValueParser.TheVariants.{Signed, Unsigned}
+use Rattle.pgcommand.specs.declared.limits.Limits.{Limits}
 use Rattle.pgcommand.specs.declared.task.Task.{Task}
 use Rattle.pgcommand.specs.declared.task.Task.TheVariants.{Show, Apply, Dump, Follow, Same, Resume, Lsn}
 use Rattle.pgcommand.specs.declared.fault.CommandFault.{CommandFault}
@@ -40,17 +41,33 @@ progress_rule = record (new_rule (codes "progress")) { long = Some (codes "progr
 abbrev pub store_rule : Bool → Rule
 store_rule required = record (new_rule (codes "store")) { long = Some (codes "store"); value_names = 1; required = required }
 
+abbrev pub max_buffered_rule : Rule
+max_buffered_rule = record (new_rule (codes "max-buffered")) {
+  long = Some (codes "max-buffered");
+  value_names = 1;
+  parser = Some (Unsigned 0 18446744073709551615);
+  defaults = codes "67108864" ∷ [];
+}
+
+abbrev pub max_frame_rule : Rule
+max_frame_rule = record (new_rule (codes "max-frame")) {
+  long = Some (codes "max-frame");
+  value_names = 1;
+  parser = Some (Signed (pos 0) (pos 2147483643));
+  defaults = codes "16777216" ∷ [];
+}
+
 abbrev pub show_app : App
 show_app = with_rule (with_rule (new_app (codes "show")) proto_rule) (word_rule (codes "FILE"))
 
 abbrev pub apply_app : App
-apply_app = with_rule (with_rule (with_rule (with_rule (with_rule (new_app (codes "apply")) proto_rule) raw_rule) progress_rule) (store_rule false)) (word_rule (codes "FILE"))
+apply_app = with_rule (with_rule (with_rule (with_rule (with_rule (with_rule (with_rule (new_app (codes "apply")) proto_rule) raw_rule) progress_rule) (store_rule false)) max_buffered_rule) max_frame_rule) (word_rule (codes "FILE"))
 
 abbrev pub dump_app : App
 dump_app = with_rule (new_app (codes "dump")) (store_rule true)
 
 abbrev pub follow_app : App
-follow_app = with_rule (with_rule (new_app (codes "follow")) proto_rule) (store_rule true)
+follow_app = with_rule (with_rule (with_rule (with_rule (new_app (codes "follow")) proto_rule) max_buffered_rule) max_frame_rule) (store_rule true)
 
 abbrev pub same_app : App
 same_app = with_rule (with_rule (with_rule (new_app (codes "same")) proto_rule) (word_rule (codes "LEFT"))) (word_rule (codes "RIGHT"))
@@ -84,6 +101,16 @@ ReadsAsOne value = (text : Text) × (value ≡ Some text) × IsNumeral 10 (witho
 abbrev pub IsVersion : List Row → Version → Type 0
 IsVersion rows version = (version ≡ One) ↔ ReadsAsOne (one_of (codes "proto") rows)
 
+-- The number that the value of an option reads as, where that is at most so much. Each option has a default value, and another text is a
+-- fault of the words.
+abbrev pub ReadsUpTo : ℕ → Option Text → ℕ → Type 0
+ReadsUpTo most value n =
+    (text : Text) → value ≡ Some text → IsNumeral 10 (without_leading_plus text) → digits_value 10 (without_leading_plus text) ≤ most → n ≡ digits_value 10 (without_leading_plus text)
+
+pub record IsLimits (rows : List Row) (limits : Limits) : Type 0 where
+  pub buffered : ReadsUpTo 18446744073709551615 (one_of (codes "max-buffered") rows) limits.max_buffered
+  pub frame : ReadsUpTo 2147483643 (one_of (codes "max-frame") rows) limits.max_frame
+
 -- whether the flag of this name is given
 abbrev pub IsFlag : Text → List Row → Bool → Type 0
 IsFlag name rows flag = (one_of name rows ≡ Some (codes "true") → flag ≡ true) × (one_of name rows ≡ Some (codes "false") → flag ≡ false)
@@ -94,9 +121,9 @@ NamesStore rows store = option_map string_bytes store ≡ first_of (codes "store
 
 abbrev pub IsAsked : Text → List Row → Task → Type 0
 IsAsked name rows (Show version file) = (name ≡ codes "show") × IsVersion rows version × (string_bytes file ≡ text_in (codes "FILE") rows)
-IsAsked name rows (Apply version raw progress store file) = (name ≡ codes "apply") × IsVersion rows version × IsFlag (codes "raw") rows raw × IsFlag (codes "progress") rows progress × NamesStore rows store × (string_bytes file ≡ text_in (codes "FILE") rows)
+IsAsked name rows (Apply version limits raw progress store file) = (name ≡ codes "apply") × IsVersion rows version × IsLimits rows limits × IsFlag (codes "raw") rows raw × IsFlag (codes "progress") rows progress × NamesStore rows store × (string_bytes file ≡ text_in (codes "FILE") rows)
 IsAsked name rows (Dump store) = (name ≡ codes "dump") × (string_bytes store ≡ text_in (codes "store") rows)
-IsAsked name rows (Follow version store) = (name ≡ codes "follow") × IsVersion rows version × (string_bytes store ≡ text_in (codes "store") rows)
+IsAsked name rows (Follow version limits store) = (name ≡ codes "follow") × IsVersion rows version × IsLimits rows limits × (string_bytes store ≡ text_in (codes "store") rows)
 IsAsked name rows (Same version left right) = (name ≡ codes "same") × IsVersion rows version × (string_bytes left ≡ text_in (codes "LEFT") rows) × (string_bytes right ≡ text_in (codes "RIGHT") rows)
 IsAsked name rows (Resume file) = (name ≡ codes "resume") × (string_bytes file ≡ text_in (codes "FILE") rows)
 IsAsked name rows (Lsn text) = (name ≡ codes "lsn") × (string_bytes text ≡ text_in (codes "TEXT") rows)

@@ -1,11 +1,24 @@
 //! The command line as `clap` reads it.
 
-ghost use Rattle.std.specs.Prelude.{◌≡◌, IfOk, false};
+ghost use Rattle.std.specs.Prelude.{◌≡◌, IfOk, codes, false};
 ghost use Rattle.clap.specs.Words.{new_app, rule_of};
-ghost use Rattle.pgcommand.specs.Asked.{IsCommand, word_rule, proto_rule, raw_rule, progress_rule, store_rule, show_app, apply_app, dump_app, follow_app, same_app, resume_app, lsn_app, bare_app, pgsub_app};
+ghost use Rattle.pgcommand.specs.Asked.{IsCommand, word_rule, proto_rule, raw_rule, progress_rule, store_rule, max_buffered_rule, max_frame_rule, show_app, apply_app, dump_app, follow_app, same_app, resume_app, lsn_app, bare_app, pgsub_app};
 
 use clap::{Arg, ArgAction, Command, value_parser};
 use std::alloc::{AllocError, Global};
+
+/// What `follow --help` says of how it ends.
+const FOLLOW_STATUSES: &str = "Exit statuses:
+   0  the stream ended
+   1  the stream is rejected
+   2  usage error
+   3  the file is no store
+  10  the buffered items of open transactions would cost more than --max-buffered
+  11  a frame is longer than --max-frame
+  12  the store can't be opened, as while another process has it open
+  13  the store failed to take a commit
+  14  memory has run out
+  15  standard input or output failed";
 
 /// The version of the program, as `--version` prints it.
 pub const VERSION: &str = "0.1.0";
@@ -65,6 +78,32 @@ fn store<'a>(alloc: Global, required: bool, help: &'a str) -> Arg<'a>
         .help(help)
 }
 
+/// `--max-buffered BYTES`.
+fn max_buffered<'a>(alloc: Global) -> Arg<'a>
+    ensures rule { rule_of result ≡ max_buffered_rule }
+    ensures local { result.global ≡ false }
+{
+    Arg::new(alloc, "max-buffered")
+        .long("max-buffered")
+        .value_name("BYTES")
+        .help("The most that the buffered changes of all open transactions may cost")
+        .value_parser(value_parser!(u64))
+        .default_value("67108864")
+}
+
+/// `--max-frame BYTES`.
+fn max_frame<'a>(alloc: Global) -> Arg<'a>
+    ensures rule { rule_of result ≡ max_frame_rule }
+    ensures local { result.global ≡ false }
+{
+    Arg::new(alloc, "max-frame")
+        .long("max-frame")
+        .value_name("BYTES")
+        .help("The longest payload of a frame that is accepted, at most 2147483643")
+        .value_parser(value_parser!(u32).range(0..=2147483643))
+        .default_value("16777216")
+}
+
 /// A command without arguments.
 fn named<'a>(alloc: Global, name: &'a str, about: &'a str) -> Command<'a>
     ensures { IsCommand (new_app name.entry.now) result }
@@ -100,6 +139,8 @@ fn apply_command<'a>(alloc: Global) -> Result<Command<'a>, AllocError>
         false,
         "Keep rows and position in this file and go on from what it holds; it is made where it isn't there",
     ))?
+    .arg(max_buffered(alloc))?
+    .arg(max_frame(alloc))?
     .arg(word(alloc, "FILE", "The recording"))
 }
 
@@ -114,20 +155,30 @@ fn dump_command<'a>(alloc: Global) -> Result<Command<'a>, AllocError>
     .arg(store(alloc, true, "The file in which `apply --store` keeps them"))
 }
 
-fn follow_command<'a>(alloc: Global) -> Result<Command<'a>, AllocError>
-    ensures { IfOk result (IsCommand follow_app) }
+/// The command `follow` without arguments.
+fn bare_follow<'a>(alloc: Global) -> Command<'a>
+    ensures { IsCommand (new_app (codes "follow")) result }
 {
     named(
         alloc,
         "follow",
         "Follow a server whose frames come on standard input, and write statuses to standard output",
     )
-    .arg(proto(alloc))?
-    .arg(store(
-        alloc,
-        true,
-        "Keep rows and position in this file and go on from what it holds; it is made where it isn't there",
-    ))
+    .after_help(FOLLOW_STATUSES)
+}
+
+fn follow_command<'a>(alloc: Global) -> Result<Command<'a>, AllocError>
+    ensures { IfOk result (IsCommand follow_app) }
+{
+    bare_follow(alloc)
+        .arg(proto(alloc))?
+        .arg(max_buffered(alloc))?
+        .arg(max_frame(alloc))?
+        .arg(store(
+            alloc,
+            true,
+            "Keep rows and position in this file and go on from what it holds; it is made where it isn't there",
+        ))
 }
 
 fn same_command<'a>(alloc: Global) -> Result<Command<'a>, AllocError>

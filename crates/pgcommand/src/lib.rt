@@ -5,7 +5,7 @@
 //! ```text
 //! let words: Vec<String> = std::env::args(&rt)?.collect(alloc)?;
 //! match command_of(alloc, words.as_slice()) {
-//!     Ok(Task::Apply { version, raw, store: None, file }) => apply(version, raw, file.as_str()),
+//!     Ok(Task::Apply { version, limits, raw, store: None, file, .. }) => apply(version, limits, raw, file.as_str()),
 //!     Ok(_) => ..,
 //!     // help and `--version` are such errors too: they go to standard output, with status 0
 //!     Err(CommandFault::Usage(error)) if error.use_stderr() => {
@@ -23,12 +23,14 @@ ghost use Rattle.pgcommand.specs.Asked.{IsRefusalOf, IsTaskOf};
 
 mod commands;
 pub mod fault;
+pub mod limits;
 pub mod task;
 
 pub use commands::VERSION;
 use commands::program;
 pub use fault::CommandFault;
 use fault::usage_fault;
+pub use limits::Limits;
 use std::alloc::Global;
 pub use task::Task;
 use task::task_of;

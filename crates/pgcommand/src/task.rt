@@ -2,13 +2,15 @@
 
 ghost use Rattle.std.specs.Prelude.{◌≡◌, ◌↔◌, IfOk, Option, true, codes, string_bytes};
 ghost use Rattle.clap.specs.Words.{found_of, one_of, rows_of};
-ghost use Rattle.pgcommand.specs.Asked.{IsAsked, IsCommandName, IsFlag, NamesStore, ReadsAsOne, IsVersion, text_in};
+ghost use Rattle.pgcommand.specs.Asked.{IsAsked, IsCommandName, IsFlag, IsLimits, NamesStore, ReadsAsOne, ReadsUpTo, IsVersion, text_in};
 
+use crate::limits::Limits;
 use clap::ArgMatches;
 use pgorder::Version;
 use std::alloc::{AllocError, Global};
 
-/// What the program is asked for. `version` is that of the logical replication protocol, 2 by default.
+/// What the program is asked for. `version` is that of the logical replication protocol, 2 by default, and `limits` those of the stream
+/// that is applied, `Limits::DEFAULT` by default.
 #[derive(Debug, Drop)]
 pub enum Task {
     /// Print one line for each frame of a recording.
@@ -20,6 +22,7 @@ pub enum Task {
     /// file `store`, if one is named. With `progress`, standard error is told meanwhile how far it is.
     Apply {
         version: Version,
+        limits: Limits,
         raw: bool,
         progress: bool,
         store: Option<String>,
@@ -33,6 +36,7 @@ pub enum Task {
     /// file `store`.
     Follow {
         version: Version,
+        limits: Limits,
         store: String,
     },
     /// Compare the rows and positions that two recordings lead to.
@@ -71,6 +75,39 @@ fn version_of(found: &ArgMatches<'_>) -> Version
     }
 }
 
+/// The value of `--max-buffered`.
+fn max_buffered_of(found: &ArgMatches<'_>) -> u64
+    ensures { ReadsUpTo 18446744073709551615
+        (one_of (codes "max-buffered") (rows_of (found_of found.now))) result }
+{
+    match found.get_one::<u64>("max-buffered") {
+        Some(bytes) => bytes,
+        None => Limits::DEFAULT.max_buffered,
+    }
+}
+
+/// The value of `--max-frame`.
+fn max_frame_of(found: &ArgMatches<'_>) -> u32
+    ensures { ReadsUpTo 2147483643 (one_of (codes "max-frame") (rows_of (found_of found.now)))
+        result }
+{
+    match found.get_one::<u32>("max-frame") {
+        Some(bytes) => bytes,
+        None => Limits::DEFAULT.max_frame,
+    }
+}
+
+fn limits_of(found: &ArgMatches<'_>) -> Limits
+    ensures { IsLimits (rows_of (found_of found.now)) result }
+{
+    let max_buffered = max_buffered_of(found);
+    let max_frame = max_frame_of(found);
+    Limits {
+        max_buffered,
+        max_frame,
+    }
+}
+
 /// Whether the flag of this name is given.
 fn flag_of(found: &ArgMatches<'_>, name: &str) -> bool
     ensures { IsFlag name.now (rows_of (found_of found.now)) result }
@@ -104,6 +141,7 @@ fn apply_of(alloc: Global, found: &ArgMatches<'_>) -> Result<Task, AllocError>
     let file = value_of(alloc, found, "FILE")?;
     Ok(Task::Apply {
         version: version_of(found),
+        limits: limits_of(found),
         raw: flag_of(found, "raw"),
         progress: flag_of(found, "progress"),
         store,
@@ -132,6 +170,7 @@ pub(crate) fn task_of(alloc: Global, name: &str, found: &ArgMatches<'_>) -> Resu
             let store = value_of(alloc, found, "store")?;
             Task::Follow {
                 version: version_of(found),
+                limits: limits_of(found),
                 store,
             }
         }

@@ -8,11 +8,12 @@ ghost use Rattle.clap.specs.Values.{kind_of};
 ghost use Rattle.clap.specs.declared.error.kind.ErrorKind.TheVariants as kind;
 
 use crate::new_store::make_file;
-use pgcommand::{CommandFault, Task, command_of};
+use pgcommand::{CommandFault, Limits, Task, command_of};
 use pgfollow::{Clock, Link};
 use pgorder::Version;
 use pgstore::Store;
 use pgsub_cli::fault::RunFault;
+use pgsub_cli::following::tell_unfollowed;
 use pgsub_cli::reporting::Reporter;
 use pgsub_cli::storing::{Incoming, read_input, store_fault, tell_stopped, tell_unopened};
 use pgsub_cli::{run, run_follow, run_opened, store_path};
@@ -32,6 +33,12 @@ const USAGE: u8 = 2;
 
 /// The status of a fault of a file.
 const FILE: u8 = 3;
+
+/// The status where memory has run out.
+const MEMORY: u8 = 1;
+
+/// That of `follow` there.
+const FOLLOW_MEMORY: u8 = 14;
 
 /// The words of the command line, the program's name first. None where they aren't UTF-8.
 fn words(rt: &HostRuntime) -> Result<Option<Vec<String>>, AllocError> {
@@ -77,6 +84,14 @@ fn files_of(rt: &HostRuntime, task: &Task) -> (Option<File>, Option<File>) {
             (left, opened(rt, right.as_str()))
         }
         Task::Dump { .. } | Task::Follow { .. } | Task::Lsn { .. } => (None, None),
+    }
+}
+
+/// The limits of what a task applies.
+fn limits_of(task: &Task) -> Limits {
+    match task {
+        Task::Apply { limits, .. } | Task::Follow { limits, .. } => *limits,
+        _ => Limits::DEFAULT,
     }
 }
 
@@ -155,7 +170,16 @@ fn run_over(rt: &HostRuntime, task: &Task, path: &str) -> u8 {
             let mut out = rt.stdout();
             let reporter = reporter_of(rt, task, &input);
             let told = reporter.as_ref();
-            let (status, store) = run_opened(rt.alloc(), store, input, told, &mut out, &mut err);
+            let limits = limits_of(task);
+            let (status, store) = run_opened(
+                rt.alloc(),
+                store,
+                limits,
+                input,
+                told,
+                &mut out,
+                &mut err,
+            );
             let _ = store.into_connection().close();
             status
         }
@@ -188,10 +212,10 @@ impl Clock for SystemClock<'_> {
 
 /// Follows a server over the store in the file at a path: its bytes come from standard input, and statuses go to standard output. At the
 /// end the log goes into the store's own file.
-fn run_live(rt: &HostRuntime, version: Version, path: &str) -> u8 {
+fn run_live(rt: &HostRuntime, limits: Limits, version: Version, path: &str) -> u8 {
     let mut err = rt.stderr();
     if let Err(fault) = make_file(rt, path) {
-        return tell_unopened(rt.alloc(), fault, &mut err);
+        return tell_unfollowed(rt.alloc(), fault, &mut err);
     }
     match Store::open_from(rt.alloc(), rt, path, Unknown) {
         Ok(store) => {
@@ -200,6 +224,7 @@ fn run_live(rt: &HostRuntime, version: Version, path: &str) -> u8 {
             let (status, store) = run_follow(
                 rt.alloc(),
                 store,
+                limits,
                 version,
                 &mut link,
                 &mut clock,
@@ -208,7 +233,7 @@ fn run_live(rt: &HostRuntime, version: Version, path: &str) -> u8 {
             let _ = store.into_connection().close();
             status
         }
-        Err(fault) => tell_unopened(rt.alloc(), fault, &mut err),
+        Err(fault) => tell_unfollowed(rt.alloc(), fault, &mut err),
     }
 }
 
@@ -224,7 +249,8 @@ fn run_in_memory(rt: &HostRuntime, task: &Task) -> u8 {
             let mut out = rt.stdout();
             let reporter = reporter_of(rt, task, &input);
             let told = reporter.as_ref();
-            run_opened(rt.alloc(), store, input, told, &mut out, &mut err).0
+            let limits = limits_of(task);
+            run_opened(rt.alloc(), store, limits, input, told, &mut out, &mut err).0
         }
         Err(fault) => {
             let stopped = RunFault::Stream(store_fault(fault));
@@ -233,31 +259,45 @@ fn run_in_memory(rt: &HostRuntime, task: &Task) -> u8 {
     }
 }
 
-/// Runs the task that the words ask for.
-fn run_words(rt: &HostRuntime, words: &[String]) -> Result<u8, AllocError> {
+/// Tells that there is no memory for the task that the words ask for. Returns the exit status.
+fn tell_memory(rt: &HostRuntime, words: &[String]) -> u8 {
+    let _ = eprintln!(rt; "pgsub: memory");
+    match words.get(1) {
+        Some(name) if name.as_str() == "follow" => FOLLOW_MEMORY,
+        _ => MEMORY,
+    }
+}
+
+/// Runs the task that the words ask for. Returns the exit status.
+fn run_words(rt: &HostRuntime, words: &[String]) -> u8 {
     let task = match command_of(rt.alloc(), words) {
         Ok(task) => task,
-        Err(CommandFault::Usage(error)) => return Ok(tell_usage(rt, &error)),
-        Err(CommandFault::Memory) => return Err(AllocError),
+        Err(CommandFault::Usage(error)) => return tell_usage(rt, &error),
+        Err(CommandFault::Memory) => return tell_memory(rt, words),
     };
-    if let Task::Follow { version, store } = &task {
-        return Ok(run_live(rt, *version, store.as_str()));
+    if let Task::Follow {
+        version,
+        limits,
+        store,
+    } = &task
+    {
+        return run_live(rt, *limits, *version, store.as_str());
     }
     if let Some(path) = store_path(&task) {
-        return Ok(run_over(rt, &task, path));
+        return run_over(rt, &task, path);
     }
     if let Task::Apply { progress: true, .. } = &task {
-        return Ok(run_in_memory(rt, &task));
+        return run_in_memory(rt, &task);
     }
     let (left, right) = files_of(rt, &task);
     let (mut out, mut err) = (rt.stdout(), rt.stderr());
-    Ok(run(rt.alloc(), &task, left, right, &mut out, &mut err))
+    run(rt.alloc(), &task, left, right, &mut out, &mut err)
 }
 
 /// The exit status of the program, which it runs.
 fn status(rt: &HostRuntime) -> Result<u8, AllocError> {
     match words(rt)? {
-        Some(words) => run_words(rt, words.as_slice()),
+        Some(words) => Ok(run_words(rt, words.as_slice())),
         None => {
             let _ = eprintln!(rt; "error: the command line is not UTF-8");
             Ok(USAGE)
@@ -270,7 +310,7 @@ fn main(rt: HostRuntime) -> ExitCode {
         Ok(status) => ExitCode::from(status),
         Err(AllocError) => {
             let _ = eprintln!(rt; "pgsub: memory");
-            ExitCode::from(1)
+            ExitCode::from(MEMORY)
         }
     }
 }

@@ -5,9 +5,10 @@
 
 use pgstore::StoreFault;
 use std::alloc::AllocError;
-use std::fs::OpenOptions;
+use std::fs::{File, OpenOptions};
 use std::io::Write;
 use std::os::unix::fs::OpenOptionsExt;
+use std::path::Path;
 use std::{fs, io};
 
 /// The first bytes of an empty database with pages of 1,024 bytes and a write-ahead log: its header, and that of a page without cells.
@@ -22,8 +23,8 @@ const HEADERS: &[u8] = b"SQLite format 3\0\
 /// The rest of the page.
 const REST: &[u8] = &[0; 916];
 
-/// The mode of the file, as the SQL library and SQLite make one: the group and others never write to it.
-const MODE: u32 = 0o644;
+/// The mode of the file: others than its owner read the copied rows only where he lets them.
+const MODE: u32 = 0o600;
 
 /// The path with something behind it.
 fn beside(rt: &HostRuntime, path: &str, end: &str) -> Result<String, AllocError> {
@@ -42,6 +43,17 @@ fn write_new(rt: &HostRuntime, path: &str) -> io::Result<()> {
     file.write_all(HEADERS)?;
     file.write_all(REST)?;
     file.sync_all()
+}
+
+/// Writes to the disk which files the folder of a path holds. Where that can't be done, a crash may lose a file that is new.
+fn sync_folder(rt: &HostRuntime, path: &str) {
+    let folder = match Path::new(path).parent() {
+        Some(folder) if !folder.as_str().is_empty() => folder,
+        _ => Path::new("."),
+    };
+    if let Ok(folder) = File::open(rt, folder) {
+        let _ = folder.sync_all();
+    }
 }
 
 /// Makes such a database at the path, if neither it nor its log is there. It comes whole or not at all, and never in the place of a
@@ -69,5 +81,6 @@ pub(crate) fn make_file(rt: &HostRuntime, path: &str) -> Result<(), StoreFault> 
         let _ = fs::hard_link(rt, part.as_str(), path);
     }
     let _ = fs::remove_file(rt, part.as_str());
+    sync_folder(rt, path);
     Ok(())
 }

@@ -15,6 +15,7 @@ use Rattle.pgsub_core.specs.Following.{AreFed, Becomes, FedSessionsAreFollowed, 
 use Rattle.pgsub_cli.specs.DumpText.{dump_of, resumed_of}
 use Rattle.pgsub_cli.specs.Fed.{FeedsFile, ShowsFile, ShowsProgress}
 use Rattle.pgsub_cli.specs.Limits.{clock}
+use Rattle.pgcommand.specs.declared.limits.Limits.{Limits}
 use Rattle.pgorder.specs.declared.Version.{Version}
 use Rattle.pgsub_core.specs.declared.session.Session.{Session}
 use Rattle.pgsub_cli.specs.Followed.{Leaves, Shows, lines_of, new_subscriber}
@@ -28,9 +29,9 @@ pub if_ok : {T E : Type 0} (r : Result T E) (P Q : T → Type 0) → IfOk r P �
 if_ok (Ok x) P Q h go = go x h
 if_ok (Err e) P Q h go = tt
 
-pub prints_same : (version : Version) (fed sessions : List Session) (stopped told : Option Fault) (lines : List ℕ) → fed ≡ sessions → stopped ≡ told → PrintsApplied version fed stopped lines → PrintsApplied version sessions told lines
-prints_same version fed sessions stopped told lines same is prints =
-    subst (λ (o : Option Fault). PrintsApplied version sessions o lines) is (subst (λ (ss : List Session). PrintsApplied version ss stopped lines) same prints)
+pub prints_same : (limits : Limits) (version : Version) (fed sessions : List Session) (stopped told : Option Fault) (lines : List ℕ) → fed ≡ sessions → stopped ≡ told → PrintsApplied limits version fed stopped lines → PrintsApplied limits version sessions told lines
+prints_same limits version fed sessions stopped told lines same is prints =
+    subst (λ (o : Option Fault). PrintsApplied limits version sessions o lines) is (subst (λ (ss : List Session). PrintsApplied limits version ss stopped lines) same prints)
 
 module _ {C : Type 0} (holds : C → Tables → Type 0) (place : C → ℕ) where
   abbrev pub TellsFed : (Subscribed → List ℕ) → SubscriberValue C → List (List ℕ) → SubscriberValue C → Option Fault → List ℕ → Type 0
@@ -73,14 +74,14 @@ module _ {C : Type 0} (holds : C → Tables → Type 0) (place : C → ℕ) wher
       (a.0, a.1, lines_of_fed lines_of old mid new (a.0 ∷ []) (fault_of_feeding stopped) lines a.2 stays same shows)
 
   -- of a new subscriber
-  pub lines_of_new : (tells : Subscribed → List ℕ) (old new : SubscriberValue C) (version : Version) (sessions : List (List ℕ)) (stopped : Option Fault) (lines : List ℕ) → FedSessionsAreFollowed
-      → holds old.applied.store map.empty → seen place old map.empty ≡ new_subscriber version → TellsFed tells old sessions new stopped lines
-      → (state : Subscribed) × Leaves version sessions stopped state × (lines ≡ tells state)
-  lines_of_new tells old new version sessions stopped lines followed empty is told =
+  pub lines_of_new : (tells : Subscribed → List ℕ) (old new : SubscriberValue C) (limits : Limits) (version : Version) (sessions : List (List ℕ)) (stopped : Option Fault) (lines : List ℕ) → FedSessionsAreFollowed
+      → holds old.applied.store map.empty → seen place old map.empty ≡ new_subscriber limits version → TellsFed tells old sessions new stopped lines
+      → (state : Subscribed) × Leaves limits version sessions stopped state × (lines ≡ tells state)
+  lines_of_new tells old new limits version sessions stopped lines followed empty is told =
       let a = told map.empty empty in
       let state = seen place new a.0 in
-      let fed : AreFed clock (new_subscriber version) sessions state stopped = subst (λ (s : Subscribed). AreFed clock s sessions state stopped) is a.2.0 in (
+      let fed : AreFed clock (new_subscriber limits version) sessions state stopped = subst (λ (s : Subscribed). AreFed clock s sessions state stopped) is a.2.0 in (
         state,
-        record { fed = fed; followed = λ history all_complete sent. followed clock history sessions all_complete (new_subscriber version) state stopped sent fed },
+        record { fed = fed; followed = λ history all_complete sent. followed clock history sessions all_complete (new_subscriber limits version) state stopped sent fed },
         a.2.1,
       )

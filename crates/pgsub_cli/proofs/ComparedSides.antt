@@ -15,7 +15,7 @@ use Rattle.pgsub_core.specs.SubscriberValue.{SubscriberValue, seen}
 use Rattle.pgsub_core.specs.Verdicts.{SideIsFollowed, SideFails}
 use Rattle.pgsub_cli.specs.Compared.{Stops, StopsAt, EndsWith, EndsOver}
 use Rattle.pgsub_cli.specs.Followed.{Leaves, new_subscriber}
-use Rattle.pgsub_cli.specs.Limits.{clock}
+use Rattle.pgsub_cli.specs.Limits.{clock, default_limits}
 use Rattle.pgsub_cli.specs.Runs.{AreComparedAs, SideStops, Uncompared, IsUncompared}
 
 stops_by : (sessions : List (List ℕ)) (old new : Subscribed) (f told : Fault) → told ≡ f → SideFails clock sessions old new f → Stops old sessions told
@@ -51,24 +51,24 @@ module _ {C D : Type 0} (holds : C → Tables → Type 0) (place : C → ℕ) (h
   right_ends Left left left' right right' sessions others f told is served read confirmed followed tables h tables' k = absurd cc
 
 module _ (version : Version) where
-  leaves : (sessions : List (List ℕ)) (state : Subscribed) (stopped : Option Fault) → SideIsFollowed clock sessions (new_subscriber version) state stopped → Leaves version sessions stopped state
+  leaves : (sessions : List (List ℕ)) (state : Subscribed) (stopped : Option Fault) → SideIsFollowed clock sessions (new_subscriber default_limits version) state stopped → Leaves default_limits version sessions stopped state
   leaves sessions state stopped s = record { fed = s.fed; followed = s.followed }
 
-  side_stops : (sessions : List Session) (f : Fault) → Stops (new_subscriber version) (bytes_of sessions) f → SideStops version sessions f
+  side_stops : (sessions : List Session) (f : Fault) → Stops (new_subscriber default_limits version) (bytes_of sessions) f → SideStops version sessions f
   side_stops sessions f (inl read) = inl read
   side_stops sessions f (inr led) = inr (led.0, leaves (bytes_of sessions) led.0 (Some f) led.1)
 
-  stops_at : (left right : List Session) (side : Side) (f : Fault) → StopsAt side (new_subscriber version) (bytes_of left) (new_subscriber version) (bytes_of right) f
+  stops_at : (left right : List Session) (side : Side) (f : Fault) → StopsAt side (new_subscriber default_limits version) (bytes_of left) (new_subscriber default_limits version) (bytes_of right) f
       → Uncompared version left right side f
   stops_at left right Left f stops = side_stops left f stops
   stops_at left right Right f stops = ((stops.0.0, leaves (bytes_of left) stops.0.0 None stops.0.1), side_stops right f stops.1)
 
-  pub compared_as : (left right : List Session) (r : Result Verdict ConvergeFault) → EndsWith (new_subscriber version) (bytes_of left) (new_subscriber version) (bytes_of right) r
+  pub compared_as : (left right : List Session) (r : Result Verdict ConvergeFault) → EndsWith (new_subscriber default_limits version) (bytes_of left) (new_subscriber default_limits version) (bytes_of right) r
       → IfOk r (AreComparedAs version left right)
   compared_as left right (Ok v) e = (e.0, e.1, leaves (bytes_of left) e.0 None e.2, leaves (bytes_of right) e.1 None e.3, e.4)
   compared_as left right (Err f) e = tt
 
-  pub uncompared : (left right : List Session) (r : Result Verdict ConvergeFault) → EndsWith (new_subscriber version) (bytes_of left) (new_subscriber version) (bytes_of right) r
+  pub uncompared : (left right : List Session) (r : Result Verdict ConvergeFault) → EndsWith (new_subscriber default_limits version) (bytes_of left) (new_subscriber default_limits version) (bytes_of right) r
       → IfErr r (IsUncompared version left right)
   uncompared left right (Ok v) e = tt
   uncompared left right (Err f) e = stops_at left right f.side f.fault e
@@ -80,10 +80,10 @@ module _ (version : Version) where
   unmade left right sessions others (Err g) f h is =
       subst (λ (e : ConvergeFault). StopsAt e.side left sessions right others e.fault) (sym h) (subst (λ (s : Side). StopsAt s left sessions right others f.fault) (sym is.0) (inl is.1))
 
-  pub ends_as_new : (left right : Subscribed) (sessions others : List (List ℕ)) (r : Result Verdict ConvergeFault) → right ≡ new_subscriber version → EndsWith left sessions right others r
-      → EndsWith left sessions (new_subscriber version) others r
+  pub ends_as_new : (left right : Subscribed) (sessions others : List (List ℕ)) (r : Result Verdict ConvergeFault) → right ≡ new_subscriber default_limits version → EndsWith left sessions right others r
+      → EndsWith left sessions (new_subscriber default_limits version) others r
   ends_as_new left right sessions others r is e = subst (λ (s : Subscribed). EndsWith left sessions s others r) is e
 
-  pub ends_of_new : (left : Subscribed) (sessions others : List (List ℕ)) (r : Result Verdict ConvergeFault) → left ≡ new_subscriber version → EndsWith left sessions (new_subscriber version) others r
-      → EndsWith (new_subscriber version) sessions (new_subscriber version) others r
-  ends_of_new left sessions others r is e = subst (λ (s : Subscribed). EndsWith s sessions (new_subscriber version) others r) is e
+  pub ends_of_new : (left : Subscribed) (sessions others : List (List ℕ)) (r : Result Verdict ConvergeFault) → left ≡ new_subscriber default_limits version → EndsWith left sessions (new_subscriber default_limits version) others r
+      → EndsWith (new_subscriber default_limits version) sessions (new_subscriber default_limits version) others r
+  ends_of_new left sessions others r is e = subst (λ (s : Subscribed). EndsWith s sessions (new_subscriber default_limits version) others r) is e

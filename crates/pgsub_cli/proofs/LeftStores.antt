@@ -1,6 +1,7 @@
 -- What a run leaves of its store, and what a crash may leave of that.
 use Rattle.std.proofs.Common.{◌≡◌, ◌≢◌, ◌≤◌, ◌∙◌, ◌++◌, inl, inr, ℕ, List, [], ◌∷◌, Option, Some, None, Result, Ok, Err, OnOk, OnErr, IfErr, refl, sym, ap, subst, arith, append-nil}
 use Rattle.std.specs.FinMap as map
+use Rattle.pgcommand.specs.declared.limits.Limits.{Limits}
 use Rattle.pgorder.specs.declared.Version.{Version}
 use Rattle.pgapply.specs.Value.{Tables}
 use Rattle.pgapply.specs.Taken as held
@@ -198,34 +199,34 @@ module _ {R C : Type 0} (gives begins : R → List ℕ → Type 0) (failed : R �
 
 module _ {R C : Type 0} (gives begins : R → List ℕ → Type 0) (failed : R → Type 0) (holds : C → Tables → Type 0) (place : C → ℕ) where
   -- what was fed to a subscriber over a store leads on from what that held
-  leads_on : FedSessionsAreFollowed → (store : C) (version : Version) (old new : SubscriberValue C) → BeginsOver place version store old → (sessions : List (List ℕ)) (stopped : Option Fault)
-      → FeedsSessions holds place clock old sessions new stopped → HoldsFed holds place version store sessions new.applied.store stopped
-  leads_on followed store version old new over sessions stopped fed tables h =
+  leads_on : FedSessionsAreFollowed → (store : C) (limits : Limits) (version : Version) (old new : SubscriberValue C) → BeginsOver place limits version store old → (sessions : List (List ℕ)) (stopped : Option Fault)
+      → FeedsSessions holds place clock old sessions new stopped → HoldsFed holds place limits version store sessions new.applied.store stopped
+  leads_on followed store limits version old new over sessions stopped fed tables h =
       let a = fed tables (subst (λ (s : C). holds s tables) (sym over.0) h) in
       let state = seen place new a.0 in
-      let so : AreFed clock (subscriber_over tables (place store) version) sessions state stopped = subst (λ (s : Subscribed). AreFed clock s sessions state stopped) (over.1 tables) a.2 in (
+      let so : AreFed clock (subscriber_over limits tables (place store) version) sessions state stopped = subst (λ (s : Subscribed). AreFed clock s sessions state stopped) (over.1 tables) a.2 in (
         state,
-        record { fed = so; followed = λ history all_complete sent. followed clock history sessions all_complete (subscriber_over tables (place store) version) state stopped sent so },
+        record { fed = so; followed = λ history all_complete sent. followed clock history sessions all_complete (subscriber_over limits tables (place store) version) state stopped sent so },
         a.1,
         refl,
       )
 
-  holds_fed : FedSessionsAreFollowed → (store : C) (version : Version) (old new : SubscriberValue C) → BeginsOver place version store old → (incoming : Incoming R)
-      → (stopped : Option Fault) × FeedsIncoming gives begins failed holds place incoming old new stopped → HoldsAfter gives begins failed holds place (Some (version, incoming)) store new.applied.store
-  holds_fed followed store version old new over (Sessions sessions) fed = (fed.0, leads_on followed store version old new over (bytes_of sessions.items) fed.0 fed.1)
-  holds_fed followed store version old new over (Raw file) fed =
-      (fed.0, fed.1.0, fed.1.1, leads_on followed store version old new over (fed.1.0 ∷ []) (fault_of_feeding fed.0) fed.1.2)
+  holds_fed : FedSessionsAreFollowed → (store : C) (limits : Limits) (version : Version) (old new : SubscriberValue C) → BeginsOver place limits version store old → (incoming : Incoming R)
+      → (stopped : Option Fault) × FeedsIncoming gives begins failed holds place incoming old new stopped → HoldsAfter gives begins failed holds place limits (Some (version, incoming)) store new.applied.store
+  holds_fed followed store limits version old new over (Sessions sessions) fed = (fed.0, leads_on followed store limits version old new over (bytes_of sessions.items) fed.0 fed.1)
+  holds_fed followed store limits version old new over (Raw file) fed =
+      (fed.0, fed.1.0, fed.1.1, leads_on followed store limits version old new over (fed.1.0 ∷ []) (fault_of_feeding fed.0) fed.1.2)
 
-  module _ (store given : C) (version : Version) (incoming : Incoming R) (input : Option (Version × Incoming R)) (is : input ≡ Some (version, incoming)) (old new : SubscriberValue C) (over : BeginsOver place version store old) (back : given ≡ new.applied.store) where
-    pub holds_after : FedSessionsAreFollowed → (stopped : Option Fault) × FeedsIncoming gives begins failed holds place incoming old new stopped → HoldsAfter gives begins failed holds place input store given
+  module _ (store given : C) (limits : Limits) (version : Version) (incoming : Incoming R) (input : Option (Version × Incoming R)) (is : input ≡ Some (version, incoming)) (old new : SubscriberValue C) (over : BeginsOver place limits version store old) (back : given ≡ new.applied.store) where
+    pub holds_after : FedSessionsAreFollowed → (stopped : Option Fault) × FeedsIncoming gives begins failed holds place incoming old new stopped → HoldsAfter gives begins failed holds place limits input store given
     holds_after followed fed =
-        subst (λ (i : Option (Version × Incoming R)). HoldsAfter gives begins failed holds place i store given) (sym is)
-        (subst (HoldsAfter gives begins failed holds place (Some (version, incoming)) store) (sym back) (holds_fed followed store version old new over incoming fed))
+        subst (λ (i : Option (Version × Incoming R)). HoldsAfter gives begins failed holds place limits i store given) (sym is)
+        (subst (HoldsAfter gives begins failed holds place limits (Some (version, incoming)) store) (sym back) (holds_fed followed store limits version old new over incoming fed))
 
     module _ (reopens : C → C → Type 0) (serves : C → Type 0) where
-      pub may_be_left : LeavesFronts gives begins failed holds place reopens serves incoming old old.applied.store new.applied.store → MayBeLeft gives begins failed holds place reopens serves input store given
+      pub may_be_left : LeavesFronts gives begins failed holds place reopens serves incoming old old.applied.store new.applied.store → MayBeLeft gives begins failed holds place reopens serves limits input store given
       may_be_left leaves =
-          subst (λ (i : Option (Version × Incoming R)). MayBeLeft gives begins failed holds place reopens serves i store given) (sym is) (
+          subst (λ (i : Option (Version × Incoming R)). MayBeLeft gives begins failed holds place reopens serves limits i store given) (sym is) (
             old,
             over,
             subst (LeavesFronts gives begins failed holds place reopens serves incoming old store) (sym back)
@@ -233,6 +234,6 @@ module _ {R C : Type 0} (gives begins : R → List ℕ → Type 0) (failed : R �
           )
 
       pub loses_nothing : StandsFed place (FeedsIncoming gives begins failed holds place incoming old) new → LeavesIncomingHistory gives begins failed holds place reopens incoming old new
-          → LosesNothing gives begins failed holds place reopens input store given
+          → LosesNothing gives begins failed holds place reopens limits input store given
       loses_nothing stands leaves =
-          subst (λ (i : Option (Version × Incoming R)). LosesNothing gives begins failed holds place reopens i store given) (sym is) (old, new, over, sym back, stands, leaves)
+          subst (λ (i : Option (Version × Incoming R)). LosesNothing gives begins failed holds place reopens limits i store given) (sym is) (old, new, over, sym back, stands, leaves)

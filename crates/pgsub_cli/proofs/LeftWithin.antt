@@ -1,5 +1,6 @@
 -- What a run over a store that is told of leaves, said of the store and the reader within.
 use Rattle.std.proofs.Common.{◌≡◌, ◌≤◌, ◌∙◌, inl, inr, ℕ, List, Option, Some, ap, sym, subst}
+use Rattle.pgcommand.specs.declared.limits.Limits.{Limits}
 use Rattle.pgorder.specs.declared.Version.{Version}
 use Rattle.pgapply.specs.Value.{Tables}
 use Rattle.pgsub_core.specs.declared.fault.Fault.{Fault}
@@ -44,14 +45,14 @@ module _ {R Q C D : Type 0} (reader : Q → R) (inner : D → C) (gives begins :
   feeds_within (Sessions xs) (Raw q) old new stopped none h = absurd none
   feeds_within (Raw r) (Sessions ys) old new stopped none h = absurd none
 
-  pub holds_within : (version : Version) (a : Incoming R) (b : Incoming Q) (old new : D) → CountsIncoming reader a b
-      → HoldsAfter (λ q. gives (reader q)) (λ q. begins (reader q)) (λ q. failed (reader q)) (λ d. holds (inner d)) (λ d. place (inner d)) (Some (version, b)) old new
-      → HoldsAfter gives begins failed holds place (Some (version, a)) (inner old) (inner new)
-  holds_within version (Sessions xs) (Sessions ys) old new same h = subst (λ ss. HoldsAfter gives begins failed holds place (Some (version, Sessions ss)) (inner old) (inner new)) same h
-  holds_within version (Raw r) (Raw q) old new same h =
+  pub holds_within : (limits : Limits) (version : Version) (a : Incoming R) (b : Incoming Q) (old new : D) → CountsIncoming reader a b
+      → HoldsAfter (λ q. gives (reader q)) (λ q. begins (reader q)) (λ q. failed (reader q)) (λ d. holds (inner d)) (λ d. place (inner d)) limits (Some (version, b)) old new
+      → HoldsAfter gives begins failed holds place limits (Some (version, a)) (inner old) (inner new)
+  holds_within limits version (Sessions xs) (Sessions ys) old new same h = subst (λ ss. HoldsAfter gives begins failed holds place limits (Some (version, Sessions ss)) (inner old) (inner new)) same h
+  holds_within limits version (Raw r) (Raw q) old new same h =
       (h.0, h.1, subst (λ file. AreRead gives begins failed file h.1 h.0) same (read_within reader inner gives begins failed holds place q h.1 h.0 h.2), h.3)
-  holds_within version (Sessions xs) (Raw q) old new none h = absurd none
-  holds_within version (Raw r) (Sessions ys) old new none h = absurd none
+  holds_within limits version (Sessions xs) (Raw q) old new none h = absurd none
+  holds_within limits version (Raw r) (Sessions ys) old new none h = absurd none
 
   -- any store may be the one within
   module _ (outer : C → D) (back : (c : C) → inner (outer c) ≡ c) (reopens : C → C → Type 0) where
@@ -71,10 +72,10 @@ module _ {R Q C D : Type 0} (reader : Q → R) (inner : D → C) (gives begins :
           )
         ]
 
-    pub left_within : (serves : C → Type 0) (version : Version) (a : Incoming R) (b : Incoming Q) (old new : D) → CountsIncoming reader a b
-        → MayBeLeft (λ q. gives (reader q)) (λ q. begins (reader q)) (λ q. failed (reader q)) (λ d. holds (inner d)) (λ d. place (inner d)) (λ d e. reopens (inner d) (inner e)) (λ d. serves (inner d)) (Some (version, b)) old new
-        → MayBeLeft gives begins failed holds place reopens serves (Some (version, a)) (inner old) (inner new)
-    left_within serves version a b old new same h = (within h.0, (ap inner h.1.0, h.1.1), fronts_within serves a b h.0 old new same h.2)
+    pub left_within : (serves : C → Type 0) (limits : Limits) (version : Version) (a : Incoming R) (b : Incoming Q) (old new : D) → CountsIncoming reader a b
+        → MayBeLeft (λ q. gives (reader q)) (λ q. begins (reader q)) (λ q. failed (reader q)) (λ d. holds (inner d)) (λ d. place (inner d)) (λ d e. reopens (inner d) (inner e)) (λ d. serves (inner d)) limits (Some (version, b)) old new
+        → MayBeLeft gives begins failed holds place reopens serves limits (Some (version, a)) (inner old) (inner new)
+    left_within serves limits version a b old new same h = (within h.0, (ap inner h.1.0, h.1.1), fronts_within serves a b h.0 old new same h.2)
 
     safely_within : (new : SubscriberValue D) (history : _) (other : C) → IsLeftSafely (λ d. holds (inner d)) (λ d. place (inner d)) history new (outer other) → IsLeftSafely holds place history (within new) other
     safely_within new history other left =
@@ -94,10 +95,10 @@ module _ {R Q C D : Type 0} (reader : Q → R) (inner : D → C) (gives begins :
     history_within (Sessions xs) (Raw q) old new none h = absurd none
     history_within (Raw r) (Sessions ys) old new none h = absurd none
 
-    pub loses_within : (version : Version) (a : Incoming R) (b : Incoming Q) (old new : D) → CountsIncoming reader a b
-        → LosesNothing (λ q. gives (reader q)) (λ q. begins (reader q)) (λ q. failed (reader q)) (λ d. holds (inner d)) (λ d. place (inner d)) (λ d e. reopens (inner d) (inner e)) (Some (version, b)) old new
-        → LosesNothing gives begins failed holds place reopens (Some (version, a)) (inner old) (inner new)
-    loses_within version a b old new same (begun, ended, over, is, stands, leaves) = (
+    pub loses_within : (limits : Limits) (version : Version) (a : Incoming R) (b : Incoming Q) (old new : D) → CountsIncoming reader a b
+        → LosesNothing (λ q. gives (reader q)) (λ q. begins (reader q)) (λ q. failed (reader q)) (λ d. holds (inner d)) (λ d. place (inner d)) (λ d e. reopens (inner d) (inner e)) limits (Some (version, b)) old new
+        → LosesNothing gives begins failed holds place reopens limits (Some (version, a)) (inner old) (inner new)
+    loses_within limits version a b old new same (begun, ended, over, is, stands, leaves) = (
       within begun,
       within ended,
       (ap inner over.0, over.1),

@@ -11,3 +11,4 @@ mod LeftStores
 mod LeftWithin
 mod WithinLines
 pub mod Ended
+mod FollowStatuses

@@ -1,5 +1,6 @@
 -- What a run over a store that is told of comes to, said of the store and the reader within.
 use Rattle.std.proofs.Common.{ℕ, List, Option, Some, None, Result, Ok, Err, subst, inl, inr}
+use Rattle.pgcommand.specs.declared.limits.Limits.{Limits}
 use Rattle.pgorder.specs.declared.Version.{Version}
 use Rattle.pgapply.specs.Value.{Tables}
 use Rattle.pgsub_core.specs.declared.fault.Fault.{Fault}
@@ -42,12 +43,12 @@ module _ {R Q C D : Type 0} (reader : Q → R) (inner : D → C) (gives begins :
   read_within file bytes (Some fault.Closed) h = h
   read_within file bytes (Some fault.Memory) h = h
 
-  pub prints_within : (version : Version) (a : Incoming R) (b : Incoming Q) (old new : D) (stopped : Option Fault) (lines : List ℕ) → CountsIncoming reader a b
-      → PrintsOver (λ q. gives (reader q)) (λ q. begins (reader q)) (λ q. failed (reader q)) (λ d. holds (inner d)) (λ d. place (inner d)) (Some (version, b)) old new stopped lines
-      → PrintsOver gives begins failed holds place (Some (version, a)) (inner old) (inner new) stopped lines
-  prints_within version (Sessions xs) (Sessions ys) old new stopped lines same h =
-      subst (λ sessions. PrintsKept holds place version (inner old) (bytes_of sessions.items) (inner new) stopped lines) same h
-  prints_within version (Raw r) (Raw q) old new stopped lines same h =
+  pub prints_within : (limits : Limits) (version : Version) (a : Incoming R) (b : Incoming Q) (old new : D) (stopped : Option Fault) (lines : List ℕ) → CountsIncoming reader a b
+      → PrintsOver (λ q. gives (reader q)) (λ q. begins (reader q)) (λ q. failed (reader q)) (λ d. holds (inner d)) (λ d. place (inner d)) limits (Some (version, b)) old new stopped lines
+      → PrintsOver gives begins failed holds place limits (Some (version, a)) (inner old) (inner new) stopped lines
+  prints_within limits version (Sessions xs) (Sessions ys) old new stopped lines same h =
+      subst (λ sessions. PrintsKept holds place limits version (inner old) (bytes_of sessions.items) (inner new) stopped lines) same h
+  prints_within limits version (Raw r) (Raw q) old new stopped lines same h =
       (h.0, subst (λ file. AreRead gives begins failed file h.0 stopped) same (read_within q h.0 stopped h.1), h.2)
-  prints_within version (Sessions xs) (Raw q) old new stopped lines none h = absurd none
-  prints_within version (Raw r) (Sessions ys) old new stopped lines none h = absurd none
+  prints_within limits version (Sessions xs) (Raw q) old new stopped lines none h = absurd none
+  prints_within limits version (Raw r) (Sessions ys) old new stopped lines none h = absurd none

@@ -12,7 +12,7 @@ use Rattle.pgsub_core.specs.SubscriberValue.{SubscriberValue, seen}
 use Rattle.pgsub_core.specs.Verdicts.{IsVerdict, SideIsFollowed}
 use Rattle.pgorder.specs.declared.Version.{Version}
 use Rattle.pgsub_cli.specs.Followed.{new_subscriber}
-use Rattle.pgsub_cli.specs.Limits.{clock}
+use Rattle.pgsub_cli.specs.Limits.{clock, default_limits}
 
 -- the sessions of a side lead to a state, this fault stopping them, if one does
 abbrev pub Leads : Subscribed → List (List ℕ) → Option Fault → Type 0
@@ -42,7 +42,7 @@ module _ {C : Type 0} (holds : C → Tables → Type 0) (place : C → ℕ) wher
   -- so it ends beside a new subscriber, whatever tables the left one's store held
   abbrev pub EndsBesideNew : Version → SubscriberValue C → List (List ℕ) → List (List ℕ) → Result Verdict ConvergeFault → Type 0
   EndsBesideNew version left sessions others answered =
-      (tables : Tables) → holds left.applied.store tables → EndsWith (seen place left tables) sessions (new_subscriber version) others answered
+      (tables : Tables) → holds left.applied.store tables → EndsWith (seen place left tables) sessions (new_subscriber default_limits version) others answered
 
 module _ {C D : Type 0} (holds : C → Tables → Type 0) (place : C → ℕ) (holds' : D → Tables → Type 0) (place' : D → ℕ) where
   -- so it ends whatever tables both stores held

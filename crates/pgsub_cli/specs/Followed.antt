@@ -1,6 +1,7 @@
 -- What following sessions leaves of a new subscriber, and what is printed of it.
 use Rattle.std.specs.Prelude.{◌≡◌, ◌++◌, ℕ, List, [], ◌∷◌, Option, codes}
 use Rattle.std.specs.FinMap as map
+use Rattle.pgcommand.specs.declared.limits.Limits.{Limits}
 use Rattle.pgorder.specs.declared.Version.{Version}
 use Rattle.pgapply.specs.Dump.{dump}
 use Rattle.pgapply.specs.Value.{Tables}
@@ -13,15 +14,15 @@ use Rattle.pgsub_core.specs.Following.{AreFed, Becomes}
 use Rattle.pgsub_core.specs.SubscriberValue.{SubscriberValue, seen}
 use Rattle.pglsn.specs.Texts.{lsn_text}
 use Rattle.pgsub_cli.specs.DumpText.{dump_of, position_line}
-use Rattle.pgsub_cli.specs.Limits.{longest_payload, most_buffered, clock}
+use Rattle.pgsub_cli.specs.Limits.{clock, longest_within}
 
--- over an empty store, with the program's limits
-abbrev pub new_subscriber : Version → Subscribed
-new_subscriber version = newly map.empty 0 version longest_payload most_buffered
+-- over an empty store, within these limits
+abbrev pub new_subscriber : Limits → Version → Subscribed
+new_subscriber limits version = newly map.empty 0 version (longest_within limits) limits.max_buffered
 
 -- over a store with these tables at this position
-abbrev pub subscriber_over : Tables → ℕ → Version → Subscribed
-subscriber_over tables position version = newly tables position version longest_payload most_buffered
+abbrev pub subscriber_over : Limits → Tables → ℕ → Version → Subscribed
+subscriber_over limits tables position version = newly tables position version (longest_within limits) limits.max_buffered
 
 -- The bytes of these sessions lead from one state to another, and this fault stopped them, if one did. Of whatever history they are
 -- the sessions, they were followed.
@@ -32,8 +33,8 @@ pub record LeadsTo (old : Subscribed) (sessions : List (List ℕ)) (stopped : Op
       → IsFollowed clock history sessions all_complete old state stopped
 
 -- they leave this state of a new subscriber
-abbrev pub Leaves : Version → List (List ℕ) → Option Fault → Subscribed → Type 0
-Leaves version sessions stopped state = LeadsTo (new_subscriber version) sessions stopped state
+abbrev pub Leaves : Limits → Version → List (List ℕ) → Option Fault → Subscribed → Type 0
+Leaves limits version sessions stopped state = LeadsTo (new_subscriber limits version) sessions stopped state
 
 -- the lines of the rows and the position
 abbrev pub lines_of : Subscribed → List ℕ

@@ -1,5 +1,6 @@
 -- How a run ends that follows a server, and what its store holds then.
 use Rattle.std.specs.Prelude.{◌≡◌, ℕ, List, Option, None, Some, Result, Ok, Err}
+use Rattle.pgcommand.specs.declared.limits.Limits.{Limits}
 use Rattle.pgorder.specs.declared.Version.{Version}
 use Rattle.pgapply.specs.Value.{Tables}
 use Rattle.pgsub_core.specs.declared.fault.Fault.TheVariants as fault
@@ -20,9 +21,9 @@ ending_of (Some follow.Read) = Err (run.Stream fault.Read)
 ending_of (Some follow.Write) = Err run.CannotWrite
 ending_of (Some (follow.Stream f)) = Err (run.Stream f)
 
--- A subscriber over the one store, with the program's limits, followed a server; its store is then the other.
-abbrev pub FollowsOver : {C : Type 0} → (C → Tables → Type 0) → (C → ℕ) → (C → C → Type 0) → (C → Type 0) → Option (List ℕ) → Option (List ℕ) → ℕ → Option (List ℕ) → Option (List ℕ) → Version → C → C → Option FollowFault → Type 0
-FollowsOver {C} holds place reopens serves unread rest reads wrote wrote' version store store' ended =
+-- A subscriber over the one store, within these limits, followed a server; its store is then the other.
+abbrev pub FollowsOver : {C : Type 0} → (C → Tables → Type 0) → (C → ℕ) → (C → C → Type 0) → (C → Type 0) → Option (List ℕ) → Option (List ℕ) → ℕ → Option (List ℕ) → Option (List ℕ) → Limits → Version → C → C → Option FollowFault → Type 0
+FollowsOver {C} holds place reopens serves unread rest reads wrote wrote' limits version store store' ended =
     (old : SubscriberValue C) × (new : SubscriberValue C) × (old.applied.store ≡ store) × (new.applied.store ≡ store')
-    × ((tables : Tables) → seen place old tables ≡ subscriber_over tables (place store) version)
+    × ((tables : Tables) → seen place old tables ≡ subscriber_over limits tables (place store) version)
     × FollowsLive holds place reopens serves unread rest reads wrote wrote' old new ended

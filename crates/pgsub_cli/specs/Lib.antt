@@ -12,3 +12,4 @@ pub mod StoreAfter
 pub mod Reports
 pub mod Compared
 pub mod FollowedLive
+pub mod FollowStatus

@@ -5,6 +5,7 @@ use Rattle.std.specs.declared.alloc.Global.{Global}
 use Rattle.pglsn.specs.Texts.{ReadsAs, lsn_text}
 use Rattle.pgorder.specs.declared.Version.{Version}
 use Rattle.pgorder.specs.declared.Version.TheVariants.{Two}
+use Rattle.pgcommand.specs.declared.limits.Limits.{Limits}
 use Rattle.pgcommand.specs.declared.task.Task.{Task}
 use Rattle.pgcommand.specs.declared.task.Task.TheVariants as task
 use Rattle.pgsub_core.specs.declared.converging.ConvergeFault.{ConvergeFault}
@@ -25,6 +26,7 @@ use Rattle.pgsub_cli.specs.declared.fault.RunFault.TheVariants as run
 use Rattle.pgsub_cli.specs.declared.printed.Printed.{Printed}
 use Rattle.pgsub_cli.specs.FaultTexts.{stop_line, memory_line}
 use Rattle.pgsub_cli.specs.Followed.{Leaves, lines_of, resumed_lines_of}
+use Rattle.pgsub_cli.specs.Limits.{default_limits}
 use Rattle.pgsub_cli.specs.Recorded.{Records, IsUnread}
 use Rattle.pgsub_cli.specs.Shown.{AreShown}
 
@@ -57,27 +59,27 @@ status_of (Err run.NotAnLsn) = 2
 -- the paths of what a task reads, as the command line names them
 abbrev pub left_path : Task → List ℕ
 left_path (task.Show version file) = string_bytes file
-left_path (task.Apply version raw progress store file) = string_bytes file
+left_path (task.Apply version limits raw progress store file) = string_bytes file
 left_path (task.Dump store) = string_bytes store
-left_path (task.Follow version store) = string_bytes store
+left_path (task.Follow version limits store) = string_bytes store
 left_path (task.Same version left right) = string_bytes left
 left_path (task.Resume file) = string_bytes file
 left_path (task.Lsn text) = []
 
 abbrev pub right_path : Task → List ℕ
 right_path (task.Show version file) = []
-right_path (task.Apply version raw progress store file) = []
+right_path (task.Apply version limits raw progress store file) = []
 right_path (task.Dump store) = []
-right_path (task.Follow version store) = []
+right_path (task.Follow version limits store) = []
 right_path (task.Same version left right) = string_bytes right
 right_path (task.Resume file) = []
 right_path (task.Lsn text) = []
 
 -- the file of the store that the command line names, if it names one
 abbrev pub store_path : Task → Option (List ℕ)
-store_path (task.Apply version raw progress store file) = option_map string_bytes store
+store_path (task.Apply version limits raw progress store file) = option_map string_bytes store
 store_path (task.Dump store) = Some (string_bytes store)
-store_path (task.Follow version store) = Some (string_bytes store)
+store_path (task.Follow version limits store) = Some (string_bytes store)
 store_path _ = None
 
 -- Standard error gets the line of the fault, and nothing where there is none. Where there is no memory for that line, it gets the one
@@ -89,12 +91,12 @@ Tells takes failed left right (Err f) old new = takes old (stop_line f left righ
 -- ---- the lines on standard output
 
 -- what these sessions leave of an empty store, where this stops them
-abbrev pub PrintsApplied : Version → List Session → Option Fault → List ℕ → Type 0
-PrintsApplied version sessions stopped lines = (state : Subscribed) × Leaves version (bytes_of sessions) stopped state × (lines ≡ lines_of state)
+abbrev pub PrintsApplied : Limits → Version → List Session → Option Fault → List ℕ → Type 0
+PrintsApplied limits version sessions stopped lines = (state : Subscribed) × Leaves limits version (bytes_of sessions) stopped state × (lines ≡ lines_of state)
 
 -- the position, and what may be confirmed
 abbrev pub PrintsResumed : List Session → Option Fault → List ℕ → Type 0
-PrintsResumed sessions stopped lines = (state : Subscribed) × Leaves Two (bytes_of sessions) stopped state × (lines ≡ resumed_lines_of state)
+PrintsResumed sessions stopped lines = (state : Subscribed) × Leaves default_limits Two (bytes_of sessions) stopped state × (lines ≡ resumed_lines_of state)
 
 abbrev pub PrintsShown : Version → List Session → Option Fault → List ℕ → Type 0
 PrintsShown version sessions stopped lines = AreShown version (bytes_of sessions) lines stopped
@@ -120,10 +122,10 @@ module _ {R : Type 0} (gives begins : R → List ℕ → Type 0) (failed : R →
   AreRead file bytes (Some f) = begins file bytes
 
   -- what a file's bytes, as one session, leave of an empty store
-  abbrev pub PrintsBytes : Version → R → Option Fault → List ℕ → Type 0
-  PrintsBytes version file stopped lines =
+  abbrev pub PrintsBytes : Limits → Version → R → Option Fault → List ℕ → Type 0
+  PrintsBytes limits version file stopped lines =
       (bytes : List ℕ) × AreRead file bytes stopped
-      × (state : Subscribed) × Leaves version (bytes ∷ []) (fault_of_feeding stopped) state × (lines ≡ lines_of state)
+      × (state : Subscribed) × Leaves limits version (bytes ∷ []) (fault_of_feeding stopped) state × (lines ≡ lines_of state)
 
 abbrev pub verdict_line : Verdict → List ℕ
 verdict_line (verdict.Same p) = codes "same " ++ (lsn_text p ++ 10 ∷ [])
@@ -178,16 +180,16 @@ module _ {W : Type 0} (takes : W → List ℕ → W → Type 0) (failed : W → 
 -- what both sides' sessions leave has this verdict
 abbrev pub AreComparedAs : Version → List Session → List Session → Verdict → Type 0
 AreComparedAs version left right v =
-    (state : Subscribed) × (other : Subscribed) × Leaves version (bytes_of left) None state × Leaves version (bytes_of right) None other × IsVerdict state other v
+    (state : Subscribed) × (other : Subscribed) × Leaves default_limits version (bytes_of left) None state × Leaves default_limits version (bytes_of right) None other × IsVerdict state other v
 
 -- the sessions of a side were stopped by this, or what they leave can't be read
 abbrev pub SideStops : Version → List Session → Fault → Type 0
-SideStops version sessions f = IsReadFault f ⊎ ((state : Subscribed) × Leaves version (bytes_of sessions) (Some f) state)
+SideStops version sessions f = IsReadFault f ⊎ ((state : Subscribed) × Leaves default_limits version (bytes_of sessions) (Some f) state)
 
 -- The left one's sessions are followed and its rows read, and then the right one's.
 abbrev pub Uncompared : Version → List Session → List Session → Side → Fault → Type 0
 Uncompared version left right Left f = SideStops version left f
-Uncompared version left right Right f = ((state : Subscribed) × Leaves version (bytes_of left) None state) × SideStops version right f
+Uncompared version left right Right f = ((state : Subscribed) × Leaves default_limits version (bytes_of left) None state) × SideStops version right f
 
 abbrev pub IsUncompared : Version → List Session → List Session → ConvergeFault → Type 0
 IsUncompared version left right f = Uncompared version left right f.side f.fault
@@ -214,10 +216,10 @@ module _ {R W : Type 0} (gives begins : R → List ℕ → Type 0) (read_failed 
       ⊎ ((sessions : List Session) × Records gives file sessions × Writes takes write_failed lost (prints sessions) old new ended)
 
   -- The bytes of a file are fed as they are read, and the lines of what they leave are written.
-  abbrev pub PrintsFile : Version → Option R → W → W → Result Ending RunFault → Type 0
-  PrintsFile version None old new ended = (ended ≡ Err (run.CannotRead Left)) × (new ≡ old)
-  PrintsFile version (Some file) old new ended =
-      Writes takes write_failed IsReadFault (PrintsBytes gives begins read_failed version file) old new ended
+  abbrev pub PrintsFile : Limits → Version → Option R → W → W → Result Ending RunFault → Type 0
+  PrintsFile limits version None old new ended = (ended ≡ Err (run.CannotRead Left)) × (new ≡ old)
+  PrintsFile limits version (Some file) old new ended =
+      Writes takes write_failed IsReadFault (PrintsBytes gives begins read_failed limits version file) old new ended
 
   -- Why two recordings aren't read: both are opened first, and then the left one is read before the right one.
   abbrev pub AreUnread : Option R → Option R → RunFault → Type 0
@@ -235,10 +237,10 @@ module _ {R W : Type 0} (gives begins : R → List ℕ → Type 0) (read_failed 
   -- How each task ends that names no store. Of `show` no line is lost; the others lose theirs where the store can't be read or memory runs out.
   abbrev pub Ends : Task → Option R → Option R → W → W → Result Ending RunFault → Type 0
   Ends (task.Show version file) left right old new ended = Prints (λ f. ⊥) (PrintsShown version) left old new ended
-  Ends (task.Apply version false progress store file) left right old new ended = Prints IsReadFault (PrintsApplied version) left old new ended
-  Ends (task.Apply version true progress store file) left right old new ended = PrintsFile version left old new ended
+  Ends (task.Apply version limits false progress store file) left right old new ended = Prints IsReadFault (PrintsApplied limits version) left old new ended
+  Ends (task.Apply version limits true progress store file) left right old new ended = PrintsFile limits version left old new ended
   Ends (task.Dump store) left right old new ended = ⊥
-  Ends (task.Follow version store) left right old new ended = ⊥
+  Ends (task.Follow version limits store) left right old new ended = ⊥
   Ends (task.Same version file other) left right old new ended = Compares version left right old new ended
   Ends (task.Resume file) left right old new ended = Prints IsReadFault PrintsResumed left old new ended
   Ends (task.Lsn text) left right old new ended = WritesNumber takes write_failed (string_bytes text) old new ended

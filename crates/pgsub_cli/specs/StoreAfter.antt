@@ -2,6 +2,7 @@
 -- PostgreSQL documentation, Logical Replication, Subscription: what a store holds once a run over it has ended, however it ended, and
 -- what a crash may leave of it then. `reopens old new` says that the new store was opened on what a crash may leave of the old one.
 use Rattle.std.specs.Prelude.{◌≡◌, ◌++◌, ℕ, List, [], ◌∷◌, Option, Some, None}
+use Rattle.pgcommand.specs.declared.limits.Limits.{Limits}
 use Rattle.pgorder.specs.declared.Version.{Version}
 use Rattle.pgapply.specs.Taken.{Stays}
 use Rattle.pgapply.specs.Value.{Tables}
@@ -22,8 +23,8 @@ use Rattle.pgsub_cli.specs.Limits.{clock}
 use Rattle.pgsub_cli.specs.Runs.{AreRead, fault_of_feeding}
 
 -- a subscriber over this store, as a run begins with it
-abbrev pub BeginsOver : {C : Type 0} → (C → ℕ) → Version → C → SubscriberValue C → Type 0
-BeginsOver place version store s = (s.applied.store ≡ store) × ((tables : Tables) → seen place s tables ≡ subscriber_over tables (place store) version)
+abbrev pub BeginsOver : {C : Type 0} → (C → ℕ) → Limits → Version → C → SubscriberValue C → Type 0
+BeginsOver place limits version store s = (s.applied.store ≡ store) × ((tables : Tables) → seen place s tables ≡ subscriber_over limits tables (place store) version)
 
 -- Whatever is read of a file is the first of these bytes, and all of it is all of them.
 pub record IsReadFrom {R : Type 0} (gives begins : R → List ℕ → Type 0) (file : R) (bytes : List ℕ) : Type 0 where
@@ -63,33 +64,33 @@ module _ {R C : Type 0} (gives begins : R → List ℕ → Type 0) (failed : R �
 
 module _ {C : Type 0} (holds : C → Tables → Type 0) (place : C → ℕ) where
   -- The bytes of these sessions lead on from what the store held and its position, up to this fault, and it holds where they lead.
-  abbrev pub HoldsFed : Version → C → List (List ℕ) → C → Option Fault → Type 0
-  HoldsFed version old sessions new stopped =
+  abbrev pub HoldsFed : Limits → Version → C → List (List ℕ) → C → Option Fault → Type 0
+  HoldsFed limits version old sessions new stopped =
       (tables : Tables) → holds old tables
-      → (state : Subscribed) × LeadsTo (subscriber_over tables (place old) version) sessions stopped state × holds new state.tables × (place new ≡ state.position)
+      → (state : Subscribed) × LeadsTo (subscriber_over limits tables (place old) version) sessions stopped state × holds new state.tables × (place new ≡ state.position)
 
 module _ {R C : Type 0} (gives begins : R → List ℕ → Type 0) (failed : R → Type 0) (holds : C → Tables → Type 0) (place : C → ℕ) where
   -- However a run ended: the store holds what some front of what came leads to, and with nothing to apply what it held.
-  abbrev pub HoldsAfter : Option (Version × Incoming R) → C → C → Type 0
-  HoldsAfter None old new = Stays holds old new × (place new ≡ place old)
-  HoldsAfter (Some (version, Sessions sessions)) old new = (stopped : Option Fault) × HoldsFed holds place version old (bytes_of sessions.items) new stopped
-  HoldsAfter (Some (version, Raw file)) old new =
-      (stopped : Option Fault) × (bytes : List ℕ) × AreRead gives begins failed file bytes stopped × HoldsFed holds place version old (bytes ∷ []) new (fault_of_feeding stopped)
+  abbrev pub HoldsAfter : Limits → Option (Version × Incoming R) → C → C → Type 0
+  HoldsAfter limits None old new = Stays holds old new × (place new ≡ place old)
+  HoldsAfter limits (Some (version, Sessions sessions)) old new = (stopped : Option Fault) × HoldsFed holds place limits version old (bytes_of sessions.items) new stopped
+  HoldsAfter limits (Some (version, Raw file)) old new =
+      (stopped : Option Fault) × (bytes : List ℕ) × AreRead gives begins failed file bytes stopped × HoldsFed holds place limits version old (bytes ∷ []) new (fault_of_feeding stopped)
 
   module _ (reopens : C → C → Type 0) where
     -- Of any bytes: what a crash may leave of the store could be left before the run; or it is as one whose subscriber, begun over the
     -- store, took some front of what came, and stands no lower than the store.
-    abbrev pub MayBeLeft : (C → Type 0) → Option (Version × Incoming R) → C → C → Type 0
-    MayBeLeft serves None old new = (other : C) → reopens new other → reopens old other
-    MayBeLeft serves (Some (version, incoming)) old new =
-        (begun : SubscriberValue C) × BeginsOver place version old begun × LeavesFronts gives begins failed holds place reopens serves incoming begun old new
+    abbrev pub MayBeLeft : (C → Type 0) → Limits → Option (Version × Incoming R) → C → C → Type 0
+    MayBeLeft serves limits None old new = (other : C) → reopens new other → reopens old other
+    MayBeLeft serves limits (Some (version, incoming)) old new =
+        (begun : SubscriberValue C) × BeginsOver place limits version old begun × LeavesFronts gives begins failed holds place reopens serves incoming begun old new
 
     -- Of sessions of a history: a subscriber begun over the store was fed what came up to some fault, and its store is the new one. Of
     -- whatever history that is, whatever a crash may leave holds exactly its rows up to a position no lower than the new store's, and
     -- every transaction that changes rows and ends by what the subscriber confirms is among them.
-    abbrev pub LosesNothing : Option (Version × Incoming R) → C → C → Type 0
-    LosesNothing None old new = (other : C) → reopens new other → reopens old other
-    LosesNothing (Some (version, incoming)) old new =
-        (begun : SubscriberValue C) × (ended : SubscriberValue C) × BeginsOver place version old begun × (ended.applied.store ≡ new)
+    abbrev pub LosesNothing : Limits → Option (Version × Incoming R) → C → C → Type 0
+    LosesNothing limits None old new = (other : C) → reopens new other → reopens old other
+    LosesNothing limits (Some (version, incoming)) old new =
+        (begun : SubscriberValue C) × (ended : SubscriberValue C) × BeginsOver place limits version old begun × (ended.applied.store ≡ new)
         × StandsFed place (FeedsIncoming gives begins failed holds place incoming begun) ended
         × LeavesIncomingHistory gives begins failed holds place reopens incoming begun ended

@@ -5,6 +5,7 @@ use Rattle.sqlite.specs.Files.{over_files}
 use Rattle.sqlite_store.specs.declared.store.FileStore.{FileStore}
 use Rattle.pgmemory.specs.declared.disk.MemoryDisk.{MemoryDisk}
 use Rattle.pgmemory.specs.contracts.disk.MemoryDiskDisk.TheImpl as memory_disk
+use Rattle.pgcommand.specs.declared.limits.Limits.{Limits}
 use Rattle.pgorder.specs.declared.Version.{Version}
 use Rattle.pgtables.specs.Kept.{tables_of}
 use Rattle.pgapply.specs.Value.{Tables}
@@ -23,6 +24,6 @@ abbrev pub position_of : InMemory → ℕ
 position_of store = store.position
 
 -- a new subscriber over an empty store
-pub record IsNew (version : Version) (s : SubscriberValue InMemory) : Type 0 where
+pub record IsNew (limits : Limits) (version : Version) (s : SubscriberValue InMemory) : Type 0 where
   pub empty : holds_tables s.applied.store map.empty
-  pub state : seen position_of s map.empty ≡ new_subscriber version
+  pub state : seen position_of s map.empty ≡ new_subscriber limits version

@@ -1,5 +1,6 @@
 -- What a run over a store is fed, what it prints, and what the store holds then.
 use Rattle.std.specs.Prelude.{◌≡◌, ℕ, List, [], ◌∷◌, Bool, true, false, Option, Some, None}
+use Rattle.pgcommand.specs.declared.limits.Limits.{Limits}
 use Rattle.pgorder.specs.declared.Version.{Version}
 use Rattle.pgapply.specs.declared.rows.StoreFault.{StoreFault}
 use Rattle.pgapply.specs.declared.rows.StoreFault.TheVariants as store
@@ -43,10 +44,10 @@ module _ {C : Type 0} (holds : C → Tables → Type 0) (place : C → ℕ) wher
 
   -- The bytes of these sessions lead on from what the store held and its position, and the store holds where they lead, also where
   -- this stopped them. The lines are those of that.
-  abbrev pub PrintsKept : Version → C → List (List ℕ) → C → Option Fault → List ℕ → Type 0
-  PrintsKept version old sessions new stopped lines =
+  abbrev pub PrintsKept : Limits → Version → C → List (List ℕ) → C → Option Fault → List ℕ → Type 0
+  PrintsKept limits version old sessions new stopped lines =
       (tables : Tables) → holds old tables
-      → (state : Subscribed) × LeadsTo (subscriber_over tables (place old) version) sessions stopped state × holds new state.tables × (place new ≡ state.position) × (lines ≡ lines_of state)
+      → (state : Subscribed) × LeadsTo (subscriber_over limits tables (place old) version) sessions stopped state × holds new state.tables × (place new ≡ state.position) × (lines ≡ lines_of state)
 
 module _ {R C : Type 0} (gives begins : R → List ℕ → Type 0) (failed : R → Type 0) (holds : C → Tables → Type 0) (place : C → ℕ) where
   -- what came was fed to a subscriber, and these are the lines of what it leads to
@@ -55,8 +56,8 @@ module _ {R C : Type 0} (gives begins : R → List ℕ → Type 0) (failed : R �
   ShowsIncoming (Raw file) old new stopped lines = ShowsFile gives begins failed holds place file old new stopped lines
 
   -- by what comes, if anything does
-  abbrev pub PrintsOver : Option (Version × Incoming R) → C → C → Option Fault → List ℕ → Type 0
-  PrintsOver None old new stopped lines = PrintsHeld holds place old new stopped lines
-  PrintsOver (Some (version, Sessions sessions)) old new stopped lines = PrintsKept holds place version old (bytes_of sessions.items) new stopped lines
-  PrintsOver (Some (version, Raw file)) old new stopped lines =
-      (bytes : List ℕ) × AreRead gives begins failed file bytes stopped × PrintsKept holds place version old (bytes ∷ []) new (fault_of_feeding stopped) lines
+  abbrev pub PrintsOver : Limits → Option (Version × Incoming R) → C → C → Option Fault → List ℕ → Type 0
+  PrintsOver limits None old new stopped lines = PrintsHeld holds place old new stopped lines
+  PrintsOver limits (Some (version, Sessions sessions)) old new stopped lines = PrintsKept holds place limits version old (bytes_of sessions.items) new stopped lines
+  PrintsOver limits (Some (version, Raw file)) old new stopped lines =
+      (bytes : List ℕ) × AreRead gives begins failed file bytes stopped × PrintsKept holds place limits version old (bytes ∷ []) new (fault_of_feeding stopped) lines

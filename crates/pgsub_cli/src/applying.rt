@@ -16,7 +16,7 @@ ghost use Rattle.pgsub_cli.specs.StoreAfter.{StandsFed, LeavesFileHistory};
 
 use crate::dump::{dump_text, resume_text};
 use crate::files::Input;
-use crate::limits::CLOCK;
+use crate::limits::{CLOCK, Limits};
 use crate::printed::Printed;
 use crate::stores::new_subscriber;
 use pgapply::ReplicaStore;
@@ -165,38 +165,44 @@ fn resume_sessions<P: Spools + Drop, C: ReplicaStore + Drop>(
     })
 }
 
-/// Follows sessions from an empty store on. The lines are those of the rows and the position that the bytes of the sessions leave,
+/// Follows sessions from an empty store on, within these limits. The lines are those of the rows and the position that the bytes of the sessions leave,
 /// whatever they are and whatever stopped them; and where a well-formed server sent them of a history, the rows are those of its
 /// transactions up to the position.
 ///
 /// It fails where there is no memory for a store, or its rows can't be read.
-pub fn apply(alloc: Global, version: Version, sessions: &[Session]) -> Result<Printed, Fault>
-    ensures applied { IfOk result (λ printed. PrintsApplied version sessions.now printed.stopped
-        (string_bytes printed.lines)) }
-    ensures fault { IfErr result IsReadFault }
-{
-    stores_on_memory_disks_are_honest();
-    fed_sessions_are_followed();
-    let mut subscriber = new_subscriber(alloc, version)?;
-    apply_sessions(alloc, &mut subscriber, sessions)
-}
-
-/// Feeds the bytes of a file from an empty store on, as one session. The lines are those of the rows and the position that they
-/// leave, whatever stopped them.
-///
-/// It fails where there is no memory for a store, or its rows can't be read.
-pub fn apply_bytes<R: Input + Drop>(
+pub fn apply(
     alloc: Global,
+    limits: Limits,
     version: Version,
-    file: R,
+    sessions: &[Session],
 ) -> Result<Printed, Fault>
-    ensures applied { IfOk result (λ printed. PrintsBytes R.gives R.begins R.failed version file
+    ensures applied { IfOk result (λ printed. PrintsApplied limits version sessions.now
         printed.stopped (string_bytes printed.lines)) }
     ensures fault { IfErr result IsReadFault }
 {
     stores_on_memory_disks_are_honest();
     fed_sessions_are_followed();
-    let mut subscriber = new_subscriber(alloc, version)?;
+    let mut subscriber = new_subscriber(alloc, limits, version)?;
+    apply_sessions(alloc, &mut subscriber, sessions)
+}
+
+/// Feeds the bytes of a file from an empty store on, as one session within these limits. The lines are those of the rows and the position that they
+/// leave, whatever stopped them.
+///
+/// It fails where there is no memory for a store, or its rows can't be read.
+pub fn apply_bytes<R: Input + Drop>(
+    alloc: Global,
+    limits: Limits,
+    version: Version,
+    file: R,
+) -> Result<Printed, Fault>
+    ensures applied { IfOk result (λ printed. PrintsBytes R.gives R.begins R.failed limits version
+        file printed.stopped (string_bytes printed.lines)) }
+    ensures fault { IfErr result IsReadFault }
+{
+    stores_on_memory_disks_are_honest();
+    fed_sessions_are_followed();
+    let mut subscriber = new_subscriber(alloc, limits, version)?;
     apply_input(alloc, &mut subscriber, file)
 }
 
@@ -211,6 +217,6 @@ pub fn resume(alloc: Global, sessions: &[Session]) -> Result<Printed, Fault>
 {
     stores_on_memory_disks_are_honest();
     fed_sessions_are_followed();
-    let mut subscriber = new_subscriber(alloc, Version::Two)?;
+    let mut subscriber = new_subscriber(alloc, Limits::DEFAULT, Version::Two)?;
     resume_sessions(alloc, &mut subscriber, sessions)
 }

@@ -9,7 +9,7 @@ ghost use Rattle.pgsub_cli.specs.Runs.{AreComparedAs, IsUncompared, ending_of, v
 ghost use Rattle.pgsub_cli.specs.Stores.{IsNew};
 
 use crate::fault::Ending;
-use crate::limits::CLOCK;
+use crate::limits::{CLOCK, Limits};
 use crate::stores::{MemoryStore, new_subscriber};
 use pgapply::ReplicaStore;
 use pgorder::Version;
@@ -66,10 +66,10 @@ fn new_side(
     alloc: Global,
     version: Version,
 ) -> Result<Subscriber<ByteSpools, MemoryStore>, ConvergeFault>
-    ensures new { IfOk result (IsNew version) }
+    ensures new { IfOk result (IsNew Limits.DEFAULT version) }
     ensures fault { IfErr result (λ stopped. (stopped.side ≡ Left) × IsReadFault stopped.fault) }
 {
-    match new_subscriber(alloc, version) {
+    match new_subscriber(alloc, Limits::DEFAULT, version) {
         Ok(subscriber) => Ok(subscriber),
         Err(fault) => Err(ConvergeFault {
             side: Side::Left,

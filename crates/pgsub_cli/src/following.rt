@@ -1,20 +1,26 @@
 //! Follows a server over a store that outlasts the run, wherever that keeps what it holds.
 
-ghost use Rattle.std.specs.Prelude.{◌≡◌, ◌≤◌, ◌↔◌, [], true, false, Option, Some, IfSome};
+ghost use Rattle.std.specs.Prelude.{◌≡◌, ◌≤◌, ◌↔◌, [], true, false, Option, Some, Err, IfSome};
 ghost use Rattle.pgfollow.specs.declared.fault.FollowFault.{FollowFault};
 ghost use Rattle.pgfollow.specs.declared.fault.FollowFault.TheVariants as follow;
 ghost use Rattle.pgfollow.specs.Live.{IsOfFollowing, ended_by};
+ghost use Rattle.pgsub_core.specs.declared.fault.Fault.TheVariants.{Store};
+ghost use Rattle.pgsub_cli.specs.declared.fault.RunFault.TheVariants.{Stream};
+ghost use Rattle.pgsub_cli.specs.FollowStatus.{status_of_fault, status_of_follow, status_of_store, status_of_unfollowed};
 ghost use Rattle.pgsub_cli.specs.FollowedLive.{FollowsOver, ending_of};
-ghost use Rattle.pgsub_cli.specs.Runs.{Tells, status_of};
+ghost use Rattle.pgsub_cli.specs.Runs.{Tells};
 
 use crate::fault::{Ending, RunFault};
 use crate::files::Output;
-use crate::running::{status, tell};
+use crate::limits::Limits;
+use crate::running::tell;
 use crate::storing::subscriber_over;
-use pgapply::ReplicaStore;
+use pgapply::{ReplicaStore, StoreFault};
 use pgfollow::{Clock, FollowFault, Link, follow_live};
 use pgorder::Version;
+use pgspool::SpoolFault;
 use pgsub_core::Fault;
+use pgwire::WireFault;
 use std::alloc::Global;
 use std::io::{Read, Write};
 
@@ -30,13 +36,66 @@ fn ending(followed: Result<(), FollowFault>) -> Result<Ending, RunFault>
     }
 }
 
-/// Follows a server over an opened store, to the end of its bytes. Returns the exit status, and the store: 0 where they ended, 1 where
-/// the stream was rejected or memory ran out, 3 where a read or a write failed. Standard error gets the line of the fault.
+/// The exit status of a fault of a store that is open.
+fn store_status(fault: StoreFault) -> u8
+    ensures { result ≡ status_of_store fault }
+{
+    match fault {
+        StoreFault::Refused | StoreFault::NotAStore => 13,
+        StoreFault::Memory => 14,
+        _ => 1,
+    }
+}
+
+/// The exit status of a fault of what is followed.
+fn fault_status(fault: Fault) -> u8
+    ensures { result ≡ status_of_fault fault }
+{
+    match fault {
+        Fault::Spool(SpoolFault::SpoolFull) => 10,
+        Fault::Wire(WireFault::TooLarge) => 11,
+        Fault::Store(fault) => store_status(fault),
+        Fault::Memory | Fault::Wire(WireFault::Memory) | Fault::Spool(SpoolFault::Memory) => 14,
+        Fault::Read => 15,
+        _ => 1,
+    }
+}
+
+/// The exit status of following that ends so.
+fn follow_status(followed: Result<(), FollowFault>) -> u8
+    ensures { result ≡ status_of_follow (ended_by followed) }
+{
+    match followed {
+        Ok(()) => 0,
+        Err(FollowFault::Read | FollowFault::Write) => 15,
+        Err(FollowFault::Stream(fault)) => fault_status(fault),
+    }
+}
+
+/// Tells why a server can't be followed over a store that couldn't be opened, as `tell_unopened` does. Returns the exit status: 3 where
+/// the file is no store, 14 where memory ran out and else 12.
+pub fn tell_unfollowed<E: Output>(alloc: Global, fault: StoreFault, err: &mut E) -> u8
+    ensures status { result ≡ status_of_unfollowed fault }
+    ensures tells { Tells E.takes E.failed [] [] (Err (Stream (Store fault))) err.old err.new }
+{
+    let stopped = RunFault::Stream(Fault::Store(fault));
+    tell(alloc, Err(stopped), "", "", err);
+    match fault {
+        StoreFault::NotAStore => 3,
+        StoreFault::Memory => 14,
+        _ => 12,
+    }
+}
+
+/// Follows a server over an opened store, to the end of its bytes, within these limits. Returns the exit status, and the store. The
+/// status is 0 where the bytes ended, 1 where the stream is rejected, 10 where `max_buffered` is too low and 11 where `max_frame` is, 13
+/// where the store failed, 14 where memory ran out and 15 where a read or a write failed. Standard error gets the line of the fault.
 ///
 /// What was read, fed and written, and that all that is confirmed is stored, is as `follow_live` says.
 pub fn run_follow<R: Read + Drop, W: Write + Drop, K: Clock, C: ReplicaStore + Drop, E: Output>(
     alloc: Global,
     store: C,
+    limits: Limits,
     version: Version,
     link: &mut Link<R, W>,
     clock: &mut K,
@@ -44,19 +103,19 @@ pub fn run_follow<R: Read + Drop, W: Write + Drop, K: Clock, C: ReplicaStore + D
 ) -> (u8, C)
     requires readable { link.old.read_failed ≡ false }
     requires writable { link.old.write_failed ≡ false }
-    ensures status { result.0 ≤ 4 }
-    ensures ends { (ended : Option FollowFault) × (result.0 ≡ status_of (ending_of ended))
+    ensures status { result.0 ≤ 15 }
+    ensures ends { (ended : Option FollowFault) × (result.0 ≡ status_of_follow ended)
         × Tells E.takes E.failed [] [] (ending_of ended) err.old err.new
         × ((ended ≡ Some follow.Read) ↔ (link.new.read_failed ≡ true))
         × ((ended ≡ Some follow.Write) ↔ (link.new.write_failed ≡ true))
         × IfSome ended IsOfFollowing
         × (C.is_honest result.1 → C.serves store → FollowsOver C.holds C.place C.reopens C.serves
         (R.remaining link.old.reader) (R.remaining link.new.reader) link.new.reads
-        (W.contents link.old.writer) (W.contents link.new.writer) version store result.1 ended) }
+        (W.contents link.old.writer) (W.contents link.new.writer) limits version store result.1
+        ended) }
 {
-    let mut subscriber = subscriber_over(alloc, store, version);
+    let mut subscriber = subscriber_over(alloc, store, limits, version);
     let followed = follow_live(alloc, link, clock, &mut subscriber);
-    let ended = ending(followed);
-    tell(alloc, ended, "", "", err);
-    (status(ended), subscriber.into_store())
+    tell(alloc, ending(followed), "", "", err);
+    (follow_status(followed), subscriber.into_store())
 }

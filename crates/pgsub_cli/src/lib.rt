@@ -25,7 +25,7 @@ pub mod stores;
 pub mod storing;
 
 pub use following::run_follow;
-pub use pgcommand::Task;
+pub use pgcommand::{Limits, Task};
 pub use reporting::run_opened;
 pub use running::{run, store_path};
-pub use storing::run_store;
+pub use storing::{run_store, run_within};

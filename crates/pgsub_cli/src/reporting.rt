@@ -10,7 +10,8 @@ ghost use Rattle.pgsub_cli.specs.StoreAfter.{HoldsAfter, MayBeLeft, LosesNothing
 ghost use Rattle.pgsub_cli.specs.Storing.{PrintsOver};
 
 use crate::files::Output;
-use crate::storing::{Incoming, run_store};
+use crate::limits::Limits;
+use crate::storing::{Incoming, run_within};
 use pgapply::{DumpRow, ReplicaStore, StoreFault, Work};
 use pglsn::Lsn;
 use pgorder::Version;
@@ -271,6 +272,7 @@ fn run_reported<
 >(
     alloc: Global,
     store: C,
+    limits: Limits,
     version: Version,
     incoming: Incoming<R>,
     reporter: &RefCell<Reporter<K, P>>,
@@ -282,24 +284,31 @@ fn run_reported<
         × Writes W.takes W.failed (λ fault. C.is_honest result.1 → IsReadFault fault)
         (λ stopped lines. C.is_honest result.1 →
         PrintsOver (ReaderGives R.remaining) (ReaderBegins R.remaining) (λ _. ⊤) C.holds C.place
-        (Some (version, incoming)) store result.1 stopped lines) out.old out.new ended
+        limits (Some (version, incoming)) store result.1 stopped lines) out.old out.new ended
         × Tells E.takes E.failed [] [] ended err.old err.new }
     ensures kept { C.serves result.1 →
         HoldsAfter (ReaderGives R.remaining) (ReaderBegins R.remaining) (λ _. ⊤) C.holds C.place
-        (Some (version, incoming)) store result.1 }
+        limits (Some (version, incoming)) store result.1 }
     ensures left { C.is_honest result.1 →
         MayBeLeft (ReaderGives R.remaining) (ReaderBegins R.remaining) (λ _. ⊤) C.holds C.place
-        C.reopens C.serves (Some (version, incoming)) store result.1 }
+        C.reopens C.serves limits (Some (version, incoming)) store result.1 }
     ensures crash { C.is_honest result.1 → C.serves store →
         LosesNothing (ReaderGives R.remaining) (ReaderBegins R.remaining) (λ _. ⊤) C.holds C.place
-        C.reopens (Some (version, incoming)) store result.1 }
+        C.reopens limits (Some (version, incoming)) store result.1 }
 {
     let input = Some((version, count_bytes(incoming, reporter)));
-    let (status, told) = run_store(alloc, Reported::new(store, reporter), input, out, err);
+    let (status, told) = run_within(
+        alloc,
+        Reported::new(store, reporter),
+        limits,
+        input,
+        out,
+        err,
+    );
     (status, told.into_store())
 }
 
-/// Runs a task over an opened store, as `run_store` does, and tells a reporter meanwhile, where there is one. What is printed, what the
+/// Runs a task over an opened store, as `run_within` does, and tells a reporter meanwhile, where there is one. What is printed, what the
 /// store holds then, what a crash may leave of it, what standard error gets for a fault and the exit status are as without it.
 pub fn run_opened<
     R: Read + Drop,
@@ -311,6 +320,7 @@ pub fn run_opened<
 >(
     alloc: Global,
     store: C,
+    limits: Limits,
     input: Option<(Version, Incoming<R>)>,
     reporter: Option<&RefCell<Reporter<K, P>>>,
     out: &mut W,
@@ -321,22 +331,22 @@ pub fn run_opened<
         × Writes W.takes W.failed (λ fault. C.is_honest result.1 → IsReadFault fault)
         (λ stopped lines. C.is_honest result.1 →
         PrintsOver (ReaderGives R.remaining) (ReaderBegins R.remaining) (λ _. ⊤) C.holds C.place
-        input store result.1 stopped lines) out.old out.new ended
+        limits input store result.1 stopped lines) out.old out.new ended
         × Tells E.takes E.failed [] [] ended err.old err.new }
     ensures kept { C.serves result.1 →
         HoldsAfter (ReaderGives R.remaining) (ReaderBegins R.remaining) (λ _. ⊤) C.holds C.place
-        input store result.1 }
+        limits input store result.1 }
     ensures left { C.is_honest result.1 →
         MayBeLeft (ReaderGives R.remaining) (ReaderBegins R.remaining) (λ _. ⊤) C.holds C.place
-        C.reopens C.serves input store result.1 }
+        C.reopens C.serves limits input store result.1 }
     ensures crash { C.is_honest result.1 → C.serves store →
         LosesNothing (ReaderGives R.remaining) (ReaderBegins R.remaining) (λ _. ⊤) C.holds C.place
-        C.reopens input store result.1 }
+        C.reopens limits input store result.1 }
 {
     match (input, reporter) {
         (Some((version, incoming)), Some(reporter)) => {
-            run_reported(alloc, store, version, incoming, reporter, out, err)
+            run_reported(alloc, store, limits, version, incoming, reporter, out, err)
         }
-        (input, _) => run_store(alloc, store, input, out, err),
+        (input, _) => run_within(alloc, store, limits, input, out, err),
     }
 }

@@ -12,6 +12,7 @@ use crate::comparing::compare;
 use crate::fault::{Ending, RunFault};
 use crate::fault_text::StopLine;
 use crate::files::{Input, Output};
+use crate::limits::Limits;
 use crate::numbering::write_number;
 use crate::printed::{write_line, write_printed};
 use crate::recorded::read_sessions;
@@ -126,31 +127,33 @@ fn show_recording<R: Input + Drop, W: Output>(
 /// Applies the sessions of a recording, and prints what is stored then.
 fn apply_recording<R: Input + Drop, W: Output>(
     alloc: Global,
+    limits: Limits,
     version: Version,
     file: Option<R>,
     out: &mut W,
 ) -> Result<Ending, RunFault>
     ensures { Prints R.gives R.begins R.failed W.takes W.failed IsReadFault
-        (PrintsApplied version) file out.old out.new result }
+        (PrintsApplied limits version) file out.old out.new result }
 {
     let sessions = read_sessions(alloc, Side::Left, file)?;
-    write_printed(apply(alloc, version, sessions.as_slice()), out)
+    write_printed(apply(alloc, limits, version, sessions.as_slice()), out)
 }
 
 /// Feeds the bytes of a file, and prints what is stored then.
 fn apply_file<R: Input + Drop, W: Output>(
     alloc: Global,
+    limits: Limits,
     version: Version,
     file: Option<R>,
     out: &mut W,
 ) -> Result<Ending, RunFault>
-    ensures { PrintsFile R.gives R.begins R.failed W.takes W.failed version file out.old out.new
-        result }
+    ensures { PrintsFile R.gives R.begins R.failed W.takes W.failed limits version file out.old
+        out.new result }
 {
     let Some(file) = file else {
         return Err(RunFault::CannotRead(Side::Left));
     };
-    write_printed(apply_bytes(alloc, version, file), out)
+    write_printed(apply_bytes(alloc, limits, version, file), out)
 }
 
 /// Applies the sessions of a recording, and prints where a server would be asked to go on.
@@ -238,11 +241,16 @@ fn run_task<R: Input + Drop, W: Output>(
 {
     match task {
         Task::Show { version, .. } => show_recording(alloc, *version, left, out),
-        Task::Apply { version, raw, .. } => {
+        Task::Apply {
+            version,
+            limits,
+            raw,
+            ..
+        } => {
             if *raw {
-                apply_file(alloc, *version, left, out)
+                apply_file(alloc, *limits, *version, left, out)
             } else {
-                apply_recording(alloc, *version, left, out)
+                apply_recording(alloc, *limits, *version, left, out)
             }
         }
         Task::Same { version, .. } => compare_recordings(alloc, *version, left, right, out),

@@ -18,7 +18,7 @@ use crate::applying::{apply_input, apply_sessions};
 use crate::dump::dump_text;
 use crate::fault::{Ending, RunFault};
 use crate::files::{Input, Output};
-use crate::limits::{MAX_BUFFERED, MAX_FRAME};
+use crate::limits::{Limits, max_frame};
 use crate::printed::{Printed, write_printed};
 use crate::recorded::read_sessions;
 use crate::running::{left_path, right_path, status, tell};
@@ -88,18 +88,19 @@ fn feed_incoming<R: Input + Drop, P: Spools + Drop, C: ReplicaStore + Drop>(
     }
 }
 
-/// A subscriber over a store, with the program's spools and limits.
+/// A subscriber over a store, with the program's spools, within these limits.
 pub(crate) fn subscriber_over<C: ReplicaStore + Drop>(
     alloc: Global,
     store: C,
+    limits: Limits,
     version: Version,
 ) -> Subscriber<ByteSpools, C>
     ensures store { result.applied.store ≡ store }
     ensures state { (tables : Tables) → seen C.place result tables
-        ≡ subscriber_over tables (C.place store) version }
+        ≡ subscriber_over limits tables (C.place store) version }
 {
-    let spools = ByteSpools::new(alloc, MAX_BUFFERED);
-    Subscriber::new(alloc, store, spools, version, MAX_FRAME)
+    let spools = ByteSpools::new(alloc, limits.max_buffered);
+    Subscriber::new(alloc, store, spools, version, max_frame(limits))
 }
 
 /// A fault of a store, as that of following.
@@ -141,26 +142,28 @@ fn held_lines<C: ReplicaStore>(alloc: Global, store: &mut C) -> Result<Printed, 
 fn apply_over<R: Input + Drop, C: ReplicaStore + Drop>(
     alloc: Global,
     mut store: C,
+    limits: Limits,
     input: Option<(Version, Incoming<R>)>,
 ) -> (Result<Printed, Fault>, C)
     ensures applied { C.is_honest result.1 → IfOk result.0
-        (λ printed. PrintsOver R.gives R.begins R.failed C.holds C.place input store result.1
-        printed.stopped (string_bytes printed.lines)) }
+        (λ printed. PrintsOver R.gives R.begins R.failed C.holds C.place limits input store
+        result.1 printed.stopped (string_bytes printed.lines)) }
     ensures fault { C.is_honest result.1 → IfErr result.0 IsReadFault }
     ensures kept { C.serves result.1 →
-        HoldsAfter R.gives R.begins R.failed C.holds C.place input store result.1 }
+        HoldsAfter R.gives R.begins R.failed C.holds C.place limits input store result.1 }
     ensures left { C.is_honest result.1 →
-        MayBeLeft R.gives R.begins R.failed C.holds C.place C.reopens C.serves input store
-        result.1 }
+        MayBeLeft R.gives R.begins R.failed C.holds C.place C.reopens C.serves limits input
+        store result.1 }
     ensures crash { C.is_honest result.1 → C.serves store →
-        LosesNothing R.gives R.begins R.failed C.holds C.place C.reopens input store result.1 }
+        LosesNothing R.gives R.begins R.failed C.holds C.place C.reopens limits input store
+        result.1 }
 {
     fed_sessions_are_followed();
     let Some((version, incoming)) = input else {
         let printed = held_lines(alloc, &mut store);
         return (printed, store);
     };
-    let mut subscriber = subscriber_over(alloc, store, version);
+    let mut subscriber = subscriber_over(alloc, store, limits, version);
     let printed = feed_incoming(alloc, &mut subscriber, incoming);
     (printed, subscriber.into_store())
 }
@@ -191,7 +194,7 @@ pub fn tell_unopened<E: Output>(alloc: Global, fault: StoreFault, err: &mut E) -
 }
 
 /// Runs a task over an opened store: applies to it what comes of a recording or a file, where that is given, and prints the rows and
-/// the position that it holds then. Returns the exit status, as `run` does, and the store.
+/// the position that it holds then. What is applied is within these limits. Returns the exit status, as `run` does, and the store.
 ///
 /// There is a way in which it ends, with this status: what is printed are the lines of where the bytes lead from what the store held,
 /// also where a fault stopped them, and that is what the store holds then. With nothing to apply nothing changes. Standard error gets
@@ -201,6 +204,36 @@ pub fn tell_unopened<E: Output>(alloc: Global, fault: StoreFault, err: &mut E) -
 /// (`kept`). Whatever a crash at the end may leave of it could be left before, or has what some front of the bytes leads to (`left`).
 /// Where they are sessions of a history, that is exactly the history's rows up to a position no lower than the store's, with every
 /// transaction that is confirmed (`crash`). That holds where the store has shut, too.
+pub fn run_within<R: Input + Drop, C: ReplicaStore + Drop, W: Output, E: Output>(
+    alloc: Global,
+    store: C,
+    limits: Limits,
+    input: Option<(Version, Incoming<R>)>,
+    out: &mut W,
+    err: &mut E,
+) -> (u8, C)
+    ensures status { result.0 ≤ 4 }
+    ensures ends { (ended : Result Ending RunFault) × (result.0 ≡ status_of ended)
+        × Writes W.takes W.failed (λ fault. C.is_honest result.1 → IsReadFault fault)
+        (λ stopped lines. C.is_honest result.1 →
+        PrintsOver R.gives R.begins R.failed C.holds C.place limits input store result.1 stopped
+        lines) out.old out.new ended × Tells E.takes E.failed [] [] ended err.old err.new }
+    ensures kept { C.serves result.1 →
+        HoldsAfter R.gives R.begins R.failed C.holds C.place limits input store result.1 }
+    ensures left { C.is_honest result.1 →
+        MayBeLeft R.gives R.begins R.failed C.holds C.place C.reopens C.serves limits input
+        store result.1 }
+    ensures crash { C.is_honest result.1 → C.serves store →
+        LosesNothing R.gives R.begins R.failed C.holds C.place C.reopens limits input store
+        result.1 }
+{
+    let (printed, store) = apply_over(alloc, store, limits, input);
+    let ended = write_printed(printed, out);
+    tell(alloc, ended, "", "", err);
+    (status(ended), store)
+}
+
+/// `run_within`, within the limits of a command line that names none.
 pub fn run_store<R: Input + Drop, C: ReplicaStore + Drop, W: Output, E: Output>(
     alloc: Global,
     store: C,
@@ -212,18 +245,16 @@ pub fn run_store<R: Input + Drop, C: ReplicaStore + Drop, W: Output, E: Output>(
     ensures ends { (ended : Result Ending RunFault) × (result.0 ≡ status_of ended)
         × Writes W.takes W.failed (λ fault. C.is_honest result.1 → IsReadFault fault)
         (λ stopped lines. C.is_honest result.1 →
-        PrintsOver R.gives R.begins R.failed C.holds C.place input store result.1 stopped lines)
-        out.old out.new ended × Tells E.takes E.failed [] [] ended err.old err.new }
+        PrintsOver R.gives R.begins R.failed C.holds C.place Limits.DEFAULT input store result.1
+        stopped lines) out.old out.new ended × Tells E.takes E.failed [] [] ended err.old err.new }
     ensures kept { C.serves result.1 →
-        HoldsAfter R.gives R.begins R.failed C.holds C.place input store result.1 }
+        HoldsAfter R.gives R.begins R.failed C.holds C.place Limits.DEFAULT input store result.1 }
     ensures left { C.is_honest result.1 →
-        MayBeLeft R.gives R.begins R.failed C.holds C.place C.reopens C.serves input store
-        result.1 }
+        MayBeLeft R.gives R.begins R.failed C.holds C.place C.reopens C.serves Limits.DEFAULT
+        input store result.1 }
     ensures crash { C.is_honest result.1 → C.serves store →
-        LosesNothing R.gives R.begins R.failed C.holds C.place C.reopens input store result.1 }
+        LosesNothing R.gives R.begins R.failed C.holds C.place C.reopens Limits.DEFAULT input
+        store result.1 }
 {
-    let (printed, store) = apply_over(alloc, store, input);
-    let ended = write_printed(printed, out);
-    tell(alloc, ended, "", "", err);
-    (status(ended), store)
+    run_within(alloc, store, Limits::DEFAULT, input, out, err)
 }

@@ -20,20 +20,37 @@ fn task_text(alloc: Global, task: &Task) -> Result<String, AllocError> {
         Task::Show { version, file } => format!(in alloc; "show {version:?} {file}"),
         Task::Apply {
             version,
+            limits,
             raw,
             progress,
             store: None,
             file,
-        } => format!(in alloc; "apply {version:?} {raw} {progress} {file}"),
+        } => {
+            let (buffered, frame) = (limits.max_buffered, limits.max_frame);
+            format!(in alloc; "apply {version:?} {buffered} {frame} {raw} {progress} {file}")
+        }
         Task::Apply {
             version,
+            limits,
             raw,
             progress,
             store: Some(store),
             file,
-        } => format!(in alloc; "apply {version:?} {raw} {progress} into {store}: {file}"),
+        } => {
+            let (buffered, frame) = (limits.max_buffered, limits.max_frame);
+            format!(in alloc;
+                "apply {version:?} {buffered} {frame} {raw} {progress} into {store}: {file}"
+            )
+        }
         Task::Dump { store } => format!(in alloc; "dump {store}"),
-        Task::Follow { version, store } => format!(in alloc; "follow {version:?} {store}"),
+        Task::Follow {
+            version,
+            limits,
+            store,
+        } => {
+            let (buffered, frame) = (limits.max_buffered, limits.max_frame);
+            format!(in alloc; "follow {version:?} {buffered} {frame} {store}")
+        }
         Task::Same {
             version,
             left,
@@ -49,31 +66,75 @@ const TASKS: &[(&str, &str)] = &[
     ("pgsub show F", "show Two F"),
     ("pgsub show --proto 1 F", "show One F"),
     ("pgsub show F --proto=2", "show Two F"),
-    ("pgsub apply F", "apply Two false false F"),
-    ("pgsub apply --proto=1 --raw F", "apply One true false F"),
-    ("pgsub apply F --raw --proto 01", "apply One true false F"),
-    ("pgsub apply -- --raw", "apply Two false false --raw"),
-    ("pgsub apply -", "apply Two false false -"),
-    ("pgsub apply --store S F", "apply Two false false into S: F"),
+    ("pgsub apply F", "apply Two 67108864 16777216 false false F"),
+    (
+        "pgsub apply --proto=1 --raw F",
+        "apply One 67108864 16777216 true false F",
+    ),
+    (
+        "pgsub apply F --raw --proto 01",
+        "apply One 67108864 16777216 true false F",
+    ),
+    (
+        "pgsub apply -- --raw",
+        "apply Two 67108864 16777216 false false --raw",
+    ),
+    ("pgsub apply -", "apply Two 67108864 16777216 false false -"),
+    (
+        "pgsub apply --store S F",
+        "apply Two 67108864 16777216 false false into S: F",
+    ),
     (
         "pgsub apply F --raw --store=S --proto 1",
-        "apply One true false into S: F",
+        "apply One 67108864 16777216 true false into S: F",
     ),
-    ("pgsub apply --store= F", "apply Two false false into : F"),
+    (
+        "pgsub apply --store= F",
+        "apply Two 67108864 16777216 false false into : F",
+    ),
     (
         "pgsub apply --store F -- --store",
-        "apply Two false false into F: --store",
+        "apply Two 67108864 16777216 false false into F: --store",
     ),
-    ("pgsub apply --progress F", "apply Two false true F"),
+    (
+        "pgsub apply --progress F",
+        "apply Two 67108864 16777216 false true F",
+    ),
     (
         "pgsub apply F --raw --store S --progress",
-        "apply Two true true into S: F",
+        "apply Two 67108864 16777216 true true into S: F",
     ),
     ("pgsub dump --store S", "dump S"),
     ("pgsub dump --store=S", "dump S"),
-    ("pgsub follow --store S", "follow Two S"),
-    ("pgsub follow --proto 1 --store=S", "follow One S"),
-    ("pgsub follow --store S --proto=2", "follow Two S"),
+    ("pgsub follow --store S", "follow Two 67108864 16777216 S"),
+    (
+        "pgsub follow --proto 1 --store=S",
+        "follow One 67108864 16777216 S",
+    ),
+    (
+        "pgsub follow --store S --proto=2",
+        "follow Two 67108864 16777216 S",
+    ),
+    (
+        "pgsub apply --max-buffered 1 F",
+        "apply Two 1 16777216 false false F",
+    ),
+    (
+        "pgsub apply F --max-frame=2147483643 --max-buffered 18446744073709551615",
+        "apply Two 18446744073709551615 2147483643 false false F",
+    ),
+    (
+        "pgsub apply --max-frame 0 --store S F",
+        "apply Two 67108864 0 false false into S: F",
+    ),
+    (
+        "pgsub follow --max-frame 9 --store S",
+        "follow Two 67108864 9 S",
+    ),
+    (
+        "pgsub follow --store S --max-frame 7 --max-buffered=+008",
+        "follow Two 8 7 S",
+    ),
     ("pgsub same A B", "same Two A B"),
     ("pgsub same A --proto 1 B", "same One A B"),
     ("pgsub resume F", "resume F"),
@@ -150,6 +211,36 @@ const REJECTED: &[(&str, ErrorKind)] = &[
         "pgsub follow --store S --store T",
         ErrorKind::ArgumentConflict,
     ),
+    (
+        "pgsub follow --store S --max-frame 2147483644",
+        ErrorKind::ValueValidation,
+    ),
+    (
+        "pgsub apply --max-frame 4294967297 F",
+        ErrorKind::ValueValidation,
+    ),
+    (
+        "pgsub apply --max-buffered 18446744073709551616 F",
+        ErrorKind::ValueValidation,
+    ),
+    (
+        "pgsub apply --max-buffered 64MB F",
+        ErrorKind::ValueValidation,
+    ),
+    (
+        "pgsub apply --max-buffered=-1 F",
+        ErrorKind::ValueValidation,
+    ),
+    ("pgsub apply --max-frame= F", ErrorKind::ValueValidation),
+    (
+        "pgsub follow --store S --max-frame 1 --max-frame 2",
+        ErrorKind::ArgumentConflict,
+    ),
+    (
+        "pgsub dump --store S --max-frame 1",
+        ErrorKind::UnknownArgument,
+    ),
+    ("pgsub show --max-frame 1 F", ErrorKind::UnknownArgument),
     ("pgsub show --store S F", ErrorKind::UnknownArgument),
     ("pgsub same --store S A B", ErrorKind::UnknownArgument),
     ("pgsub resume --store S F", ErrorKind::UnknownArgument),
@@ -183,6 +274,25 @@ fn rejects_the_rest(rt: HostRuntime) -> Result<(), Fail> {
             "{line}: {found:?}"
         );
     }
+    Ok(())
+}
+
+/// The exit statuses of `follow`, as its help has them.
+const STATUSES: [&str; 10] = [
+    "   0  ", "   1  ", "   2  ", "   3  ", "  10  ", "  11  ", "  12  ", "  13  ", "  14  ",
+    "  15  ",
+];
+
+#[test]
+fn the_help_of_follow_has_its_statuses(rt: HostRuntime) -> Result<(), Fail> {
+    let Err(fault) = asked(rt.alloc(), "pgsub follow --help")? else {
+        return Err(Fail::from("no help"));
+    };
+    let text = format!(in rt.alloc(); "{fault}")?;
+    for status in STATUSES {
+        assert!(rt; text.contains(status), "{status}: {text}");
+    }
+    assert!(rt; text.contains("--max-buffered") && text.contains("--max-frame"));
     Ok(())
 }
 

@@ -1,20 +1,22 @@
 //! A server is followed over a store: what is written, what is stored, and how it ends.
 
 use crate::runs::File;
-use trial_stores::{Trial, on_memory_disks};
-use pgapply::ReplicaStore;
+use pgapply::{DumpRow, ReplicaStore, StoreFault, Work};
+use pgcommand::Limits;
 use pgfollow::{Clock, Link};
 use pglsn::Lsn;
 use pgorder::Version;
-use pgsub_cli::following::run_follow;
+use pgsub_cli::following::{run_follow, tell_unfollowed};
 use std::alloc::{AllocError, Global};
 use std::io;
 use std::io::{ErrorKind, Write};
 use std::process::Abort;
 use std::test::Fail;
+use trial_stores::{Trial, on_memory_disks};
 
-/// A transaction that ends at 0/130 and stores a row, and a keepalive of 0/180 that asks for a reply.
-const SESSION: &[u8] =
+/// A transaction that ends at 0/130 and stores a row, and a keepalive of 0/180 that asks for a reply. Its items cost 76 bytes, and its
+/// longest frame has 65.
+pub(crate) const SESSION: &[u8] =
     b"\x64\x00\x00\x00\x32\x77\x00\x00\x00\x00\x00\x00\x00\x00\x00\x00\x00\x00\x00\x00\x00\x00\x00\x00\x00\x00\x00\x00\x00\x00\x42\x00\x00\x00\x00\x00\x00\x01\x00\x00\x00\x00\x00\x00\x00\x00\x00\x00\x00\x00\x0a\x64\x00\x00\x00\x45\x77\x00\x00\x00\x00\x00\x00\x00\x00\x00\x00\x00\x00\x00\x00\x00\x00\x00\x00\x00\x00\x00\x00\x00\x00\x52\x00\x00\x40\x00\x70\x75\x62\x6c\x69\x63\x00\x74\x00\x64\x00\x02\x01\x69\x64\x00\x00\x00\x00\x17\xff\xff\xff\xff\x00\x76\x00\x00\x00\x00\x19\xff\xff\xff\xff\x64\x00\x00\x00\x31\x77\x00\x00\x00\x00\x00\x00\x00\x00\x00\x00\x00\x00\x00\x00\x00\x00\x00\x00\x00\x00\x00\x00\x00\x00\x49\x00\x00\x40\x00\x4e\x00\x02\x74\x00\x00\x00\x01\x31\x74\x00\x00\x00\x01\x61\x64\x00\x00\x00\x37\x77\x00\x00\x00\x00\x00\x00\x00\x00\x00\x00\x00\x00\x00\x00\x00\x00\x00\x00\x00\x00\x00\x00\x00\x00\x43\x00\x00\x00\x00\x00\x00\x00\x01\x00\x00\x00\x00\x00\x00\x00\x01\x30\x00\x00\x00\x00\x00\x00\x00\x00\x64\x00\x00\x00\x16\x6b\x00\x00\x00\x00\x00\x00\x01\x80\x00\x00\x00\x00\x00\x00\x00\x00\x01";
 
 /// The next one of the server: a transaction that ends at 0/230 and stores another row, and a keepalive of 0/280.
@@ -92,17 +94,14 @@ fn told_bytes(alloc: Global, told: &[u64], most: usize) -> Result<Vec<u8>, Alloc
 struct Follows<'t> {
     reader: File<'t>,
     most: usize,
+    limits: Limits,
     expected: Expected<'t>,
 }
 
-impl Trial for Follows<'_> {
+impl<R: Abort + AllocGlobal> Trial<R> for Follows<'_> {
     type Outcome = Result<(), Fail>;
 
-    fn run<C: ReplicaStore + Drop>(
-        &self,
-        rt: &(impl Abort + AllocGlobal),
-        store: C,
-    ) -> Result<(), Fail> {
+    fn run<C: ReplicaStore + Drop>(&self, rt: &R, store: C) -> Result<(), Fail> {
         let (alloc, expected) = (rt.alloc(), &self.expected);
         let writer = Writer {
             taken: Vec::new(alloc),
@@ -114,6 +113,7 @@ impl Trial for Follows<'_> {
         let (status, store) = run_follow(
             alloc,
             store,
+            self.limits,
             Version::Two,
             &mut link,
             &mut Still,
@@ -128,8 +128,9 @@ impl Trial for Follows<'_> {
     }
 }
 
-fn check(
+fn check_within(
     rt: &(impl Abort + AllocGlobal),
+    limits: Limits,
     reader: File<'_>,
     most: usize,
     expected: &Expected<'_>,
@@ -140,9 +141,19 @@ fn check(
         &Follows {
             reader,
             most,
+            limits,
             expected,
         },
     )?
+}
+
+fn check(
+    rt: &(impl Abort + AllocGlobal),
+    reader: File<'_>,
+    most: usize,
+    expected: &Expected<'_>,
+) -> Result<(), Fail> {
+    check_within(rt, Limits::DEFAULT, reader, most, expected)
 }
 
 const AMPLE: usize = 100000;
@@ -216,7 +227,7 @@ fn a_failed_read_ends_it(rt: HostRuntime) -> Result<(), Fail> {
             told,
             position,
             err: "pgsub: read\n",
-            status: 3,
+            status: 15,
         };
         check(&rt, reader, AMPLE, &expected)?;
     }
@@ -235,7 +246,7 @@ fn a_failed_write_ends_it(rt: HostRuntime) -> Result<(), Fail> {
             told: &[0, 0x130, 0x180],
             position,
             err: "pgsub: cannot write\n",
-            status: 3,
+            status: 15,
         };
         check(&rt, reader, most, &expected)?;
     }
@@ -256,4 +267,136 @@ fn a_rejected_stream_confirms_no_more(rt: HostRuntime) -> Result<(), Fail> {
         status: 1,
     };
     check(&rt, reader, AMPLE, &expected)
+}
+
+/// The least limits within which the session is followed.
+const EXACT: Limits = Limits {
+    max_buffered: 76,
+    max_frame: 65,
+};
+
+const BUFFERS_LESS: Limits = Limits {
+    max_buffered: 75,
+    max_frame: 65,
+};
+
+const SHORTER_FRAMES: Limits = Limits {
+    max_buffered: 76,
+    max_frame: 64,
+};
+
+#[test]
+fn it_follows_within_its_limits(rt: HostRuntime) -> Result<(), Fail> {
+    let followed = Expected {
+        told: &[0, 0x180, 0x180],
+        position: 0x130,
+        err: "",
+        status: 0,
+    };
+    let reader = File::of(SESSION);
+    check_within(&rt, EXACT, reader, AMPLE, &followed)
+}
+
+/// The status and the line where a limit is too low.
+fn check_too_low(
+    rt: &(impl Abort + AllocGlobal),
+    limits: Limits,
+    err: &str,
+    status: u8,
+) -> Result<(), Fail> {
+    let stopped = Expected {
+        told: &[0],
+        position: 0,
+        err,
+        status,
+    };
+    check_within(rt, limits, File::of(SESSION), AMPLE, &stopped)
+}
+
+#[test]
+fn a_limit_that_is_too_low_has_its_status(rt: HostRuntime) -> Result<(), Fail> {
+    check_too_low(&rt, BUFFERS_LESS, "pgsub: spool 1 SpoolFull\n", 10)?;
+    check_too_low(&rt, SHORTER_FRAMES, "pgsub: wire 3 TooLarge\n", 11)
+}
+
+/// A store that takes nothing.
+#[derive(Drop)]
+struct Failing {
+    alloc: Global,
+    fault: StoreFault,
+}
+
+impl ReplicaStore for Failing {
+    ghost serves = { λ _. ⊥ };
+
+    ghost is_honest = { λ _. ⊥ };
+
+    ghost holds = { λ _ _. ⊥ };
+
+    ghost place = { λ _. 0 };
+
+    ghost reopens = { λ _ _. ⊥ };
+
+    fn position(&self) -> Lsn {
+        Lsn(0)
+    }
+
+    fn take(&mut self, _end: Lsn, _work: &Work<'_>) -> Result<(), StoreFault> {
+        Err(self.fault)
+    }
+
+    fn rows(&mut self) -> Result<Vec<DumpRow>, StoreFault> {
+        Ok(Vec::new(self.alloc))
+    }
+}
+
+/// What following over a store that takes nothing tells, and its status.
+fn check_failing(
+    rt: &(impl Abort + AllocGlobal),
+    fault: StoreFault,
+    line: &str,
+    expected: u8,
+) -> Result<(), Fail> {
+    let alloc = rt.alloc();
+    let mut link = Link::new(File::of(SESSION), Vec::new(alloc));
+    let mut err = Vec::new(alloc);
+    let (status, _) = run_follow(
+        alloc,
+        Failing { alloc, fault },
+        Limits::DEFAULT,
+        Version::Two,
+        &mut link,
+        &mut Still,
+        &mut err,
+    );
+    assert!(rt; err.as_slice() == line.as_bytes(), "{err:?}");
+    assert!(rt; status == expected, "{line}: {status}");
+    Ok(())
+}
+
+#[test]
+fn a_store_that_fails_has_its_status(rt: HostRuntime) -> Result<(), Fail> {
+    for (fault, line, status) in [
+        (StoreFault::Clash, "pgsub: store 1 Clash\n", 1),
+        (StoreFault::Refused, "pgsub: store 8 Refused\n", 13),
+        (StoreFault::NotAStore, "pgsub: store 10 NotAStore\n", 13),
+        (StoreFault::Memory, "pgsub: memory\n", 14),
+    ] {
+        check_failing(&rt, fault, line, status)?;
+    }
+    Ok(())
+}
+
+#[test]
+fn a_store_that_is_not_opened_has_its_status(rt: HostRuntime) -> Result<(), Fail> {
+    for (fault, line, status) in [
+        (StoreFault::NotAStore, "pgsub: store 10 NotAStore\n", 3),
+        (StoreFault::Refused, "pgsub: store 8 Refused\n", 12),
+        (StoreFault::Memory, "pgsub: memory\n", 14),
+    ] {
+        let mut err = Vec::new(rt.alloc());
+        assert_eq!(rt; tell_unfollowed(rt.alloc(), fault, &mut err), status);
+        assert_eq!(rt; err.as_slice(), line.as_bytes());
+    }
+    Ok(())
 }

@@ -1,7 +1,7 @@
 //! What is told of a long run, and that nothing else is another one.
 
-use trial_stores::{Trial, on_memory_disks};
 use pgapply::ReplicaStore;
+use pgcommand::Limits;
 use pglsn::Lsn;
 use pgorder::Version;
 use pgsub_cli::reporting::{Progress, Reporter, run_opened};
@@ -11,6 +11,7 @@ use std::io;
 use std::process::Abort;
 use std::test::Fail;
 use std::time::{Clock, Duration};
+use trial_stores::{Trial, on_memory_disks};
 
 /// A clock that goes on by 600 milliseconds whenever it is read.
 #[derive(Drop)]
@@ -75,19 +76,23 @@ fn a_line_comes_once_a_second_at_most(rt: HostRuntime) -> Result<(), Fail> {
 /// A run of which is told how far it is.
 struct IsTold;
 
-impl Trial for IsTold {
+impl<R: Abort + AllocGlobal> Trial<R> for IsTold {
     type Outcome = Result<(), Fail>;
 
-    fn run<C: ReplicaStore + Drop>(
-        &self,
-        rt: &(impl Abort + AllocGlobal),
-        store: C,
-    ) -> Result<(), Fail> {
+    fn run<C: ReplicaStore + Drop>(&self, rt: &R, store: C) -> Result<(), Fail> {
         let alloc = rt.alloc();
         let reporter = RefCell::new(Reporter::new(alloc, new_clock(), Vec::new(alloc), None)?);
         let (mut out, mut err) = (Vec::new(alloc), Vec::new(alloc));
         let input = Some((Version::Two, Incoming::Raw(b"x".as_slice())));
-        let (status, _) = run_opened(alloc, store, input, Some(&reporter), &mut out, &mut err);
+        let (status, _) = run_opened(
+            alloc,
+            store,
+            Limits::DEFAULT,
+            input,
+            Some(&reporter),
+            &mut out,
+            &mut err,
+        );
         assert_eq!(rt; out.as_slice(), b"position 0/0\n".as_slice());
         assert_eq!(rt;
             err.as_slice(),

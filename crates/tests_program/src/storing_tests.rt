@@ -1,26 +1,25 @@
 //! What is applied to a store, and how a store that isn't opened is told.
 
-use trial_stores::{Trial, on_memory_disks};
+use crate::following_tests::SESSION;
 use pgapply::{ReplicaStore, StoreFault};
-use pgcommand::Task;
+use pgcommand::{Limits, Task};
 use pgorder::Version;
 use pgsub_cli::fault::RunFault;
-use pgsub_cli::storing::{Incoming, read_input, run_store, tell_stopped, tell_unopened};
+use pgsub_cli::storing::{
+    Incoming, read_input, run_store, run_within, tell_stopped, tell_unopened,
+};
 use pgsub_core::Side;
 use std::process::Abort;
 use std::test::Fail;
+use trial_stores::{Trial, on_memory_disks};
 
 /// The bytes of a file, which are no frames.
 struct FeedsBytes;
 
-impl Trial for FeedsBytes {
+impl<R: Abort + AllocGlobal> Trial<R> for FeedsBytes {
     type Outcome = Result<(), Fail>;
 
-    fn run<C: ReplicaStore + Drop>(
-        &self,
-        rt: &(impl Abort + AllocGlobal),
-        store: C,
-    ) -> Result<(), Fail> {
+    fn run<C: ReplicaStore + Drop>(&self, rt: &R, store: C) -> Result<(), Fail> {
         let alloc = rt.alloc();
         let file = Some(b"x".as_slice());
         let Ok(Incoming::Raw(bytes)) = read_input(alloc, true, file) else {
@@ -42,6 +41,35 @@ impl Trial for FeedsBytes {
 #[test]
 fn the_bytes_of_a_file_are_fed_to_a_store(rt: HostRuntime) -> Result<(), Fail> {
     on_memory_disks(&rt, &FeedsBytes)?
+}
+
+/// A session whose items cost more than may be buffered.
+struct BuffersLess;
+
+/// Two items cost 76 bytes.
+const BUFFERS_LESS: Limits = Limits {
+    max_buffered: 75,
+    max_frame: 65,
+};
+
+impl<R: Abort + AllocGlobal> Trial<R> for BuffersLess {
+    type Outcome = Result<(), Fail>;
+
+    fn run<C: ReplicaStore + Drop>(&self, rt: &R, store: C) -> Result<(), Fail> {
+        let alloc = rt.alloc();
+        let input = Some((Version::Two, Incoming::Raw(SESSION)));
+        let (mut out, mut err) = (Vec::new(alloc), Vec::new(alloc));
+        let (status, _) = run_within(alloc, store, BUFFERS_LESS, input, &mut out, &mut err);
+        assert_eq!(rt; out.as_slice(), b"position 0/0\n".as_slice());
+        assert_eq!(rt; err.as_slice(), b"pgsub: spool 1 SpoolFull\n".as_slice());
+        assert_eq!(rt; status, 1);
+        Ok(())
+    }
+}
+
+#[test]
+fn what_is_applied_is_within_its_limits(rt: HostRuntime) -> Result<(), Fail> {
+    on_memory_disks(&rt, &BuffersLess)?
 }
 
 #[test]

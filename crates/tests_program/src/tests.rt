@@ -2,6 +2,7 @@
 
 use crate::cases::{BEFORE, DISCONNECTION, FAULTS, NOTHING, ROW_BEFORE, TRANSACTIONS};
 use crate::comparing_tests::SAME;
+use crate::following_tests::SESSION;
 use crate::runs::{Answer, File, check, task_of};
 use pgsub_cli::running::{run, store_path};
 use std::alloc::{AllocError, Global};
@@ -282,6 +283,36 @@ fn a_recording_has_a_greatest_length(rt: HostRuntime) -> Result<(), Fail> {
             None,
             answer,
         )?;
+    }
+    Ok(())
+}
+
+#[test]
+fn a_command_line_sets_the_limits(rt: HostRuntime) -> Result<(), Fail> {
+    const STORED: &str = "[\"public\",\"t\",[\"1\",\"a\"],1]\nposition 0/130\n";
+    for (line, out, err, status) in [
+        (
+            "pgsub apply --raw --max-buffered 76 --max-frame 65 F",
+            STORED,
+            "",
+            0,
+        ),
+        (
+            "pgsub apply --raw --max-buffered 75 F",
+            "position 0/0\n",
+            "pgsub: spool 1 SpoolFull\n",
+            1,
+        ),
+        (
+            "pgsub apply --raw --max-frame 64 F",
+            "position 0/0\n",
+            "pgsub: wire 3 TooLarge\n",
+            1,
+        ),
+    ] {
+        let none: Option<File> = None;
+        let answer = Answer { out, err, status };
+        check(&rt, line, line, Some(File::of(SESSION)), none, answer)?;
     }
     Ok(())
 }

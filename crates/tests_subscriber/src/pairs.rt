@@ -148,15 +148,10 @@ struct Compares {
     pair: Pair,
 }
 
-impl PairTrial for Compares {
+impl<R: Abort + AllocGlobal> PairTrial<R> for Compares {
     type Outcome = Result<(), Fail>;
 
-    fn run<C: ReplicaStore + Drop>(
-        &self,
-        rt: &(impl Abort + AllocGlobal),
-        left: C,
-        right: C,
-    ) -> Result<(), Fail> {
+    fn run<C: ReplicaStore + Drop>(&self, rt: &R, left: C, right: C) -> Result<(), Fail> {
         let alloc = rt.alloc();
         let (version, max) = (Version::Two, MAX_FRAME);
         let left = Subscriber::new(alloc, left, ByteSpools::new(alloc, AMPLE), version, max);

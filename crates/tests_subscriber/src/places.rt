@@ -3,7 +3,6 @@
 use crate::row::Step::{At, Disconnect, Rows};
 use crate::row::{AMPLE, Row, T_1_A, T_2_G, T_3_G, T_4_G, T_5_G};
 use crate::steps::{BadSession, MAX_FRAME, NOW, bytes_of, take_steps};
-use trial_stores::{Trial, in_memory, on_memory_disks};
 use pgapply::StoreFault::{Clash, NoIdentity, UnchangedInInsert, UnknownIdentity, Width};
 use pgapply::{ReplicaStore, StoreFault};
 use pgorder::Version;
@@ -12,6 +11,7 @@ use pgsub_core::{Fault, Subscriber};
 use std::alloc::Global;
 use std::process::Abort;
 use std::test::Fail;
+use trial_stores::{Trial, in_memory, on_memory_disks};
 
 /// Changes for which a commit is rejected, each with the fault.
 static BAD: &[(&str, StoreFault)] = &[
@@ -109,14 +109,10 @@ struct RejectsAt {
     is_encoded: bool,
 }
 
-impl Trial for RejectsAt {
+impl<R: Abort + AllocGlobal> Trial<R> for RejectsAt {
     type Outcome = Result<(), Fail>;
 
-    fn run<C: ReplicaStore + Drop>(
-        &self,
-        rt: &(impl Abort + AllocGlobal),
-        store: C,
-    ) -> Result<(), Fail> {
+    fn run<C: ReplicaStore + Drop>(&self, rt: &R, store: C) -> Result<(), Fail> {
         if self.is_encoded {
             let spools = ByteSpools::new(rt.alloc(), AMPLE);
             check_over(rt, store, spools, self.count, self.bad)

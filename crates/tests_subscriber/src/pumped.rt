@@ -3,7 +3,6 @@
 use crate::row::Step::{At, Rows};
 use crate::row::{AMPLE, Row, T_1_A};
 use crate::steps::{MAX_FRAME, NOW, bytes_of, take_steps};
-use trial_stores::{Trial, in_memory};
 use pgapply::ReplicaStore;
 use pglsn::Lsn;
 use pgorder::{OrderFault, Version};
@@ -13,6 +12,7 @@ use std::io;
 use std::io::{ErrorKind, Read};
 use std::process::Abort;
 use std::test::Fail;
+use trial_stores::{Trial, in_memory};
 
 /// Gives at most so many bytes a call, and after the last one an error or the end.
 #[derive(Clone, Copy, Drop)]
@@ -103,14 +103,10 @@ struct FailsAfter<'t> {
     is_encoded: bool,
 }
 
-impl Trial for FailsAfter<'_> {
+impl<R: Abort + AllocGlobal> Trial<R> for FailsAfter<'_> {
     type Outcome = Result<(), Fail>;
 
-    fn run<C: ReplicaStore + Drop>(
-        &self,
-        rt: &(impl Abort + AllocGlobal),
-        store: C,
-    ) -> Result<(), Fail> {
+    fn run<C: ReplicaStore + Drop>(&self, rt: &R, store: C) -> Result<(), Fail> {
         if self.is_encoded {
             let spools = ByteSpools::new(rt.alloc(), AMPLE);
             fail_after(rt, store, spools, self.bytes, self.count)
@@ -144,14 +140,10 @@ fn a_reader_that_fails_after_each_byte(rt: HostRuntime) -> Result<(), Fail> {
 /// Pumps readers over a new store: one of a transaction, a byte at each call, and one of a Commit in a session of its own.
 struct ReadsToTheEnd;
 
-impl Trial for ReadsToTheEnd {
+impl<R: Abort + AllocGlobal> Trial<R> for ReadsToTheEnd {
     type Outcome = Result<(), Fail>;
 
-    fn run<C: ReplicaStore + Drop>(
-        &self,
-        rt: &(impl Abort + AllocGlobal),
-        store: C,
-    ) -> Result<(), Fail> {
+    fn run<C: ReplicaStore + Drop>(&self, rt: &R, store: C) -> Result<(), Fail> {
         let alloc = rt.alloc();
         let spools = ListSpools::new(alloc, AMPLE);
         let mut subscriber = Subscriber::new(alloc, store, spools, Version::Two, MAX_FRAME);

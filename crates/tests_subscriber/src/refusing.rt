@@ -87,14 +87,10 @@ struct TakesAll<'a> {
     sessions: &'a [Session],
 }
 
-impl Trial for TakesAll<'_> {
+impl<R: Abort + AllocGlobal> Trial<R> for TakesAll<'_> {
     type Outcome = Result<bool, Fault>;
 
-    fn run<C: ReplicaStore + Drop>(
-        &self,
-        rt: &(impl Abort + AllocGlobal),
-        store: C,
-    ) -> Result<bool, Fault> {
+    fn run<C: ReplicaStore + Drop>(&self, rt: &R, store: C) -> Result<bool, Fault> {
         if self.as_bytes {
             takes_all(rt, store, ByteSpools::new(rt.alloc(), AMPLE), self.sessions)
         } else {
@@ -115,10 +111,7 @@ fn takes_all_in_memory(
 }
 
 /// The same over disks in memory. Where a disk can't grow, the store may shut with `Refused`, and all is taken anew by other spools.
-fn takes_all_on_disks(
-    rt: &(impl Abort + AllocGlobal),
-    trial: &TakesAll<'_>,
-) -> Result<bool, Fail> {
+fn takes_all_on_disks(rt: &(impl Abort + AllocGlobal), trial: &TakesAll<'_>) -> Result<bool, Fail> {
     if let Ok(taken) = on_memory_disks(rt, trial) {
         if taken != Err(Fault::Store(StoreFault::Refused)) {
             return Ok(taken?);

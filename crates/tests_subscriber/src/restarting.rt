@@ -3,13 +3,13 @@
 use crate::row::Step::{At, Feed, Replies, Rows, Status};
 use crate::row::{AMPLE, Row, T_1_A, T_2_B};
 use crate::steps::{MAX_FRAME, take_steps};
-use trial_stores::{Trial, in_memory};
 use pgapply::ReplicaStore;
 use pgorder::Version;
 use pgspool::{ByteSpools, ListSpools};
 use pgsub_core::Subscriber;
 use std::process::Abort;
 use std::test::Fail;
+use trial_stores::{Trial, in_memory};
 
 static FIRST: Row = Row {
     shows: "the first of two subscribers",
@@ -36,14 +36,10 @@ static SECOND: Row = Row {
 /// Fills a store by one subscriber, and goes on with another over it.
 struct Restarts;
 
-impl Trial for Restarts {
+impl<R: Abort + AllocGlobal> Trial<R> for Restarts {
     type Outcome = Result<(), Fail>;
 
-    fn run<C: ReplicaStore + Drop>(
-        &self,
-        rt: &(impl Abort + AllocGlobal),
-        store: C,
-    ) -> Result<(), Fail> {
+    fn run<C: ReplicaStore + Drop>(&self, rt: &R, store: C) -> Result<(), Fail> {
         let alloc = rt.alloc();
         let spools = ByteSpools::new(alloc, AMPLE);
         let mut first = Subscriber::new(alloc, store, spools, Version::One, MAX_FRAME);

@@ -4,12 +4,12 @@ use crate::blocks::BLOCKS;
 use crate::row::Row;
 use crate::states::{STATES, VERSION_1};
 use crate::steps::{Way, check};
-use trial_stores::{Trial, in_memory, on_memory_disks};
 use crate::transactions::{BAD_CHANGES, TRANSACTIONS};
 use pgapply::ReplicaStore;
 use pgorder::Version;
 use std::process::Abort;
 use std::test::Fail;
+use trial_stores::{Trial, in_memory, on_memory_disks};
 
 /// Encoded items, a byte at a time.
 const ENCODED_IN_BYTES: Way = Way {
@@ -60,14 +60,10 @@ struct TakesRow {
     way: Way,
 }
 
-impl Trial for TakesRow {
+impl<R: Abort + AllocGlobal> Trial<R> for TakesRow {
     type Outcome = Result<(), Fail>;
 
-    fn run<C: ReplicaStore + Drop>(
-        &self,
-        rt: &(impl Abort + AllocGlobal),
-        store: C,
-    ) -> Result<(), Fail> {
+    fn run<C: ReplicaStore + Drop>(&self, rt: &R, store: C) -> Result<(), Fail> {
         check(rt, store, &self.row, self.way)
     }
 }

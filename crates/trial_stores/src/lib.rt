@@ -5,45 +5,32 @@
 
 use pgapply::{ReplicaStore, StoreFault};
 use pgstore::Store;
-use std::process::Abort;
 
 /// What is done with a new store.
-pub trait Trial {
+pub trait Trial<R> {
     /// What comes of it.
     type Outcome;
 
-    fn run<C: ReplicaStore + Drop>(
-        &self,
-        rt: &(impl Abort + AllocGlobal),
-        store: C,
-    ) -> Self::Outcome;
+    fn run<C: ReplicaStore + Drop>(&self, rt: &R, store: C) -> Self::Outcome;
 }
 
 /// What is done with two new stores.
-pub trait PairTrial {
+pub trait PairTrial<R> {
     /// What comes of it.
     type Outcome;
 
-    fn run<C: ReplicaStore + Drop>(
-        &self,
-        rt: &(impl Abort + AllocGlobal),
-        left: C,
-        right: C,
-    ) -> Self::Outcome;
+    fn run<C: ReplicaStore + Drop>(&self, rt: &R, left: C, right: C) -> Self::Outcome;
 }
 
 /// Runs a trial over a store in memory.
-pub fn in_memory<T: Trial>(
-    rt: &(impl Abort + AllocGlobal),
-    trial: &T,
-) -> Result<T::Outcome, StoreFault> {
+pub fn in_memory<R: AllocGlobal, T: Trial<R>>(rt: &R, trial: &T) -> Result<T::Outcome, StoreFault> {
     let store = Store::in_memory(rt.alloc())?;
     Ok(trial.run(rt, store))
 }
 
 /// Runs a trial over two stores in memory.
-pub fn two_in_memory<T: PairTrial>(
-    rt: &(impl Abort + AllocGlobal),
+pub fn two_in_memory<R: AllocGlobal, T: PairTrial<R>>(
+    rt: &R,
     trial: &T,
 ) -> Result<T::Outcome, StoreFault> {
     let left = Store::in_memory(rt.alloc())?;
@@ -52,8 +39,8 @@ pub fn two_in_memory<T: PairTrial>(
 }
 
 /// Runs a trial over a store on disks in memory.
-pub fn on_memory_disks<T: Trial>(
-    rt: &(impl Abort + AllocGlobal),
+pub fn on_memory_disks<R: AllocGlobal, T: Trial<R>>(
+    rt: &R,
     trial: &T,
 ) -> Result<T::Outcome, StoreFault> {
     let store = Store::on_memory_disks(rt.alloc())?;

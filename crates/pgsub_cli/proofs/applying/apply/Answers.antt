@@ -10,5 +10,5 @@ returns-clause-applied c =
     let new = c.in_ok-subscriber.ensures.new in
     let fed = c.apply_sessions.ensures.applied (c.stores_on_memory_disks_are_honest.ensures c.apply_sessions.new.subscriber.applied.store) in
     if_ok c.apply_sessions.result _ _ fed (λ printed shows.
-    lines_of_new holds_tables position_of lines_of c.in_ok-subscriber.subscriber c.apply_sessions.new.subscriber c.args.version (bytes_of c.args.sessions.now) printed.stopped (string_bytes printed.lines)
+    lines_of_new holds_tables position_of lines_of c.in_ok-subscriber.subscriber c.apply_sessions.new.subscriber c.args.limits c.args.version (bytes_of c.args.sessions.now) printed.stopped (string_bytes printed.lines)
     c.fed_sessions_are_followed.ensures.followed new.empty new.state shows)

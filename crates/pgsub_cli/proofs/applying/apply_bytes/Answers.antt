@@ -12,6 +12,6 @@ returns-clause-applied g c =
     let fed = c.apply_input.ensures.applied (c.stores_on_memory_disks_are_honest.ensures c.apply_input.new.subscriber.applied.store) in
     if_ok c.apply_input.result _ _ fed (λ printed shows.
     let told =
-    lines_of_new holds_tables position_of lines_of c.in_ok-subscriber.subscriber c.apply_input.new.subscriber c.args.version (shows.0 ∷ []) (fault_of_feeding printed.stopped) (string_bytes printed.lines)
+    lines_of_new holds_tables position_of lines_of c.in_ok-subscriber.subscriber c.apply_input.new.subscriber c.args.limits c.args.version (shows.0 ∷ []) (fault_of_feeding printed.stopped) (string_bytes printed.lines)
     c.fed_sessions_are_followed.ensures.followed new.empty new.state shows.2 in
     (shows.0, shows.1, told.0, told.1, told.2))

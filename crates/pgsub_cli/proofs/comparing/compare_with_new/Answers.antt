@@ -2,13 +2,14 @@ use Rattle.std.specs.FinMap as map
 use Rattle.pgsub_core.specs.Subscribed.{bytes_of}
 use Rattle.pgsub_core.specs.SubscriberValue.{seen}
 use Rattle.pgsub_cli.specs.Followed.{new_subscriber}
+use Rattle.pgsub_cli.specs.Limits.{default_limits}
 use Rattle.pgsub_cli.specs.Stores.{position_of}
 use Rattle.pgsub_cli.proofs.ComparedSides.{unmade, ends_as_new}
 use Rattle.pgsub_cli.proofs.comparing.compare_with_new.Goals as goal
 
 pub returns-in_err-right : goal.returns-in_err-right
 returns-in_err-right g c honest tables h =
-    unmade c.args.version (seen g.C.ReplicaStore.place c.args.left.now tables) (new_subscriber c.args.version) (bytes_of c.args.left_sessions.now) (bytes_of c.args.right_sessions.now)
+    unmade c.args.version (seen g.C.ReplicaStore.place c.args.left.now tables) (new_subscriber default_limits c.args.version) (bytes_of c.args.left_sessions.now) (bytes_of c.args.right_sessions.now)
     c.from_residual.result c.in_err-right.field-0.0 c.from_residual.ensures.1 c.in_err-right.ensures.fault
 
 pub returns : goal.returns

@@ -1,17 +1,17 @@
-use Rattle.std.proofs.Common.{◌∙◌, [], sym, ap, subst, Result}
+use Rattle.std.proofs.Common.{[], sym, subst, Result}
 use Rattle.pgfollow.specs.declared.fault.FollowFault.TheVariants as follow
 use Rattle.pgfollow.specs.Live.{IsOfFollowing, ended_by}
 use Rattle.pgsub_cli.specs.declared.fault.Ending.{Ending}
 use Rattle.pgsub_cli.specs.declared.fault.RunFault.{RunFault}
-use Rattle.pgsub_cli.specs.Runs.{Tells, status_of}
+use Rattle.pgsub_cli.specs.Runs.{Tells}
 use Rattle.pgsub_cli.proofs.Ended.{ended_as, ended_is}
 use Rattle.pgsub_cli.proofs.following.run_follow.Goals as goal
 
 pub returns-clause-ends : goal.returns-clause-ends
 returns-clause-ends g c = (
   ended_by c.follow_live-followed.result,
-  c.status.ensures.status ∙ ap status_of c.ending-ended.ensures,
-  subst (λ (x : Result Ending RunFault). Tells g.E.Output.takes g.E.Output.failed [] [] x c.args.err.now c.tell.new.err) c.ending-ended.ensures c.tell.ensures,
+  c.follow_status.ensures,
+  subst (λ (x : Result Ending RunFault). Tells g.E.Output.takes g.E.Output.failed [] [] x c.args.err.now c.tell.new.err) c.ending.ensures c.tell.ensures,
   (
     λ is. c.follow_live-followed.ensures.read.0 ((ended_is c.follow_live-followed.result follow.Read).0 is),
     λ failed. (ended_is c.follow_live-followed.result follow.Read).1 (c.follow_live-followed.ensures.read.1 failed),

@@ -1,11 +1,18 @@
 """Tables of every shape, whose rows and definitions have to be the same by the initial copy and by the stream."""
 
-import os
+from __future__ import annotations
+
 import shutil
 import sqlite3
 import tempfile
+from collections.abc import Iterator
+from pathlib import Path
+from typing import Any
 
-from .follower import Failed, rows_of_store
+from ..errors import Failed
+from ..place import Place
+from ..rows import rows_of_store
+from .case import Case
 
 TABLES = {
     "listed": "id int PRIMARY KEY, a varchar(10), m mood, p positive, n numeric(10,2), t timestamptz(3), arr int[], c char(5),"
@@ -48,27 +55,28 @@ ROWS = (
 )
 
 
-def publication():
-    names = ", ".join(name if name != "filtered" else "filtered (id, shown) WHERE (id > 5)" for name in TABLES)
+def publication(version: int) -> str:
+    filtered = "filtered (id, shown) WHERE (id > 5)" if version >= 15 else "filtered"
+    names = ", ".join(name if name != "filtered" else filtered for name in TABLES)
     return f"CREATE PUBLICATION pgsub FOR TABLE {names} WITH (publish_via_partition_root)"
 
 
-def create():
+def create(version: int) -> Iterator[str]:
     yield "CREATE TYPE mood AS ENUM ('sad', 'ok')"
     yield "CREATE DOMAIN positive AS int CHECK (value > 0)"
     for name, columns in TABLES.items():
         yield f"CREATE TABLE {name} ({columns})" + (" PARTITION BY RANGE (at)" if name == "rooted" else "")
     yield from MORE
-    yield publication()
+    yield publication(version)
 
 
-def definitions_of(store):
+def definitions_of(store: Path) -> list[Any] | None:
     """The stored definitions, read from a copy of the files; None where they aren't SQLite's."""
     with tempfile.TemporaryDirectory() as folder:
-        for it in (store, store + "-wal"):
-            if os.path.exists(it):
-                shutil.copy(it, os.path.join(folder, os.path.basename(it)))
-        connection = sqlite3.connect(os.path.join(folder, os.path.basename(store)))
+        for it in (store, Path(f"{store}-wal")):
+            if it.exists():
+                shutil.copy(it, folder)
+        connection = sqlite3.connect(Path(folder) / store.name)
         try:
             return sorted(connection.execute("SELECT * FROM rel"))
         except sqlite3.DatabaseError:
@@ -77,20 +85,21 @@ def definitions_of(store):
             connection.close()
 
 
-def check(case):
-    """Copies the rows, then has the same rows come by the stream."""
-    case.begin("copies rows and definitions as the stream has them")
-    case.cluster.run("DROP TABLE stock", *create(), *ROWS)
-    case.follow("--create")
-    copied, definitions = rows_of_store(case.options.pgsub, case.store)[0], definitions_of(case.store)
-    case.cluster.run(f"TRUNCATE {', '.join(TABLES)}", *ROWS)
-    case.follow()
-    streamed = rows_of_store(case.options.pgsub, case.store)[0]
+def same_by_stream(place: Place) -> None:
+    """Copies rows and definitions of tables of every shape as the stream has them."""
+    place.run(*create(place.options.installed.version), *ROWS)
+    place.follow("--create")
+    copied, definitions = place.rows(), definitions_of(place.store)
+    place.equal()
+    place.run(f"TRUNCATE {', '.join(TABLES)}", *ROWS)
+    place.follow()
+    streamed = rows_of_store(place.options.program, place.store)[0]
     if copied != streamed:
-        raise Failed(f"{case.name}: {copied} and {streamed}")
-    if definitions != definitions_of(case.store):
-        raise Failed(f"{case.name}: {definitions} and {definitions_of(case.store)}")
+        raise Failed(f"{copied} and {streamed}")
+    if definitions != definitions_of(place.store):
+        raise Failed(f"{definitions} and {definitions_of(place.store)}")
     if len(copied) != len(TABLES) + 1:
-        raise Failed(f"{case.name}: rows of {sorted(copied)}")
-    case.cluster.run(*(f"DROP TABLE {name} CASCADE" for name in TABLES), "DROP TYPE mood", "DROP DOMAIN positive")
-    case.end()
+        raise Failed(f"rows of {sorted(copied)}")
+
+
+CASES = (Case("tables-of-every-shape", same_by_stream),)

@@ -1,0 +1,52 @@
+"""`pgsub-connect snapshot`: a copy of a store in one file, which `pgsub dump` and `export` read."""
+
+from __future__ import annotations
+
+import os
+from typing import TYPE_CHECKING
+
+from . import log
+from .errors import FileError, Passing, Stopped
+from .placing import check_into, placed
+from .postgres import Check
+from .resting import at_rest
+from .snapshots import LOG, copy, fold, position_in, remove
+from .stored import check_store, is_store
+from .texts import lsn_text
+
+if TYPE_CHECKING:
+    from .cli import Options
+
+
+def is_snapshot(path: str) -> bool:
+    """Whether a file is a store that nobody follows into."""
+    return is_store(path) and not os.path.exists(path + ".connector") and not os.path.exists(path + LOG)
+
+
+def run(options: Options, check: Check) -> int:
+    """Copies a store; the exit status."""
+    check_into(options.store, options.into, is_snapshot, "an earlier copy of a store")
+    try:
+        with at_rest(options.store, options.into, check) as (path, is_own), placed(options.into, options.mode) as new:
+            check_store(path, options.store)
+            put(path, new, is_own, check)
+            position = position_in(new)
+    except Stopped:
+        raise Passing(f"ended before {options.into} was complete") from None
+    if position is None:
+        raise FileError(f"{options.store}: the store has no position")
+    log.info(f"{options.into}: the rows at {lsn_text(position)}")
+    return 0
+
+
+def put(path: str, new: str, is_own: bool, check: Check) -> None:
+    """Moves a copy to its new name, or copies it where that lies on another disk."""
+    if is_own:
+        try:
+            os.rename(path, new)
+            return
+        except OSError:
+            pass
+    remove(new)
+    copy(path, new, 0o600, check)
+    fold(new)

@@ -1,0 +1,99 @@
+#!/usr/bin/python3
+"""Plants bugs into copies of the connector, one at a time, and demands that the unit tests find each.
+
+usage: planted.py [NUMBER ..]
+
+Each bug is one line that is changed; the tests of the modules that may find it are run over the copy. The last line is `N passed, M failed`:
+how many bugs were found, and how many weren't. The exit status is 0 where M is 0. It takes a minute or so.
+"""
+
+from __future__ import annotations
+
+import argparse
+import concurrent.futures
+import os
+import shutil
+import subprocess
+import sys
+import tempfile
+from pathlib import Path
+from typing import NamedTuple
+
+CONNECT = Path(__file__).resolve().parent.parent
+LIMIT = 300.0
+
+
+class Bug(NamedTuple):
+    """What is planted: in which module, which text becomes which other one, and the modules of tests that look there."""
+
+    about: str
+    module: str
+    before: str
+    after: str
+    tests: tuple[str, ...]
+
+
+BUGS = (
+    Bug("a gap between store and slot is passed over", "checkpoint.py", "if slot_at > known.confirmed:", "if slot_at > known.confirmed + 4096:",
+        ("test_following", "test_checkpoint")),
+    Bug("a timeline that left too early is taken", "following.py", "if left is None or self.position > left:", "if left is None:",
+        ("test_following",)),
+    Bug("a status is sent before it is noted", "checkpoint.py", "self.write(confirmed > position and confirmed > known.confirmed, confirmed=",
+        "self.write(False, confirmed=", ("test_checkpoint", "test_following")),
+    Bug("a silent server isn't given up", "following.py", "if silent > limit:", "if silent > 60 * limit:", ("test_following",)),
+    Bug("the filter's kill in one transaction is taken for another one's", "sizes.py", "if xid != self.xid:", "if xid != self.xid or xid:",
+        ("test_sizes",)),
+    Bug("changes of a block are counted with the xid in their key", "noting.py", "key = key[:1] + key[5:]", "key = key[:5]",
+        ("test_noting",)),
+    Bug("a copy whose tables change is begun anew without end", "copying.py", "tries.note(CHANGED, error)", "pass", ("test_copying",)),
+    Bug("a publication isn't noted before it is there", "making.py", "self.note(self.begun)", "pass", ("test_copying",)),
+    Bug("a lag is 0 as long as the server can't be asked", "lag.py", "and now - self.answered < FRESH:", "and now >= self.answered:",
+        ("test_lag",)),
+    Bug("an escaped backslash isn't one in a copied value", "messages.py", 'return b"\\\\".join(pieces)', 'return b"".join(pieces)',
+        ("test_messages",)),
+    Bug("the last byte of the longest payloads is lost", "filtering.py", "head = pack_header(b\"d\", length + 4)",
+        "head = pack_header(b\"d\", min(length, 60000) + 4)", ("test_passing",)),
+    Bug("the filter gets the passwords", "filtering.py", "for name, value in os.environ.items() if name in KEPT}", "for name, value in os.environ.items()}",
+        ("test_following",)),
+)
+
+
+def found(bug: Bug) -> str:
+    """Plants a bug. Returns "" where the tests find it, and else what is wrong."""
+    with tempfile.TemporaryDirectory() as folder:
+        for name in ("pgsub_connect", "tests"):
+            shutil.copytree(CONNECT / name, Path(folder, name), ignore=shutil.ignore_patterns("__pycache__"))
+        path = Path(folder, "pgsub_connect", bug.module)
+        text = path.read_text(encoding="utf-8")
+        if text.count(bug.before) != 1:
+            return f"the line that it changes is there {text.count(bug.before)} times"
+        path.write_text(text.replace(bug.before, bug.after), encoding="utf-8")
+        tests = [f"tests.{name}" for name in bug.tests]
+        try:
+            done = subprocess.run([sys.executable, "-m", "unittest", "-f", *tests], cwd=folder, capture_output=True, timeout=LIMIT, check=False)
+        except subprocess.TimeoutExpired:
+            return ""
+        if b"ImportError" in done.stderr or b"SyntaxError" in done.stderr:
+            return done.stderr.decode(errors="replace")
+        return "" if done.returncode else "the tests pass"
+
+
+def main(words: list[str]) -> int:
+    about, _, more = (__doc__ or "").partition("\n\n")
+    parser = argparse.ArgumentParser(description=about, epilog=more, formatter_class=argparse.RawDescriptionHelpFormatter)
+    parser.add_argument("numbers", nargs="*", type=int, metavar="NUMBER", help=f"only these, from 1 to {len(BUGS)} (default: all)")
+    numbers = parser.parse_args(words).numbers or range(1, len(BUGS) + 1)
+    if not all(1 <= number <= len(BUGS) for number in numbers):
+        parser.error(f"the numbers are from 1 to {len(BUGS)}")
+    chosen = [BUGS[number - 1] for number in numbers]
+    with concurrent.futures.ThreadPoolExecutor(os.cpu_count()) as pool:
+        results = list(zip(chosen, pool.map(found, chosen), strict=True))
+    for bug, wrong in results:
+        print(f"{'NOT FOUND' if wrong else 'found'}: {bug.module}: {bug.about}{f' ({wrong})' if wrong else ''}")
+    missed = sum(bool(wrong) for _, wrong in results)
+    print(f"{len(results) - missed} passed, {missed} failed")
+    return int(missed > 0)
+
+
+if __name__ == "__main__":
+    sys.exit(main(sys.argv[1:]))

@@ -1,0 +1,351 @@
+"""A follower between a small server and a filter that stores nothing but its position."""
+
+from __future__ import annotations
+
+import errno
+import os
+import threading
+import time
+import unittest
+from collections.abc import Callable, Sequence
+from unittest import mock
+
+from pgsub_connect import following, postgres, watching
+from pgsub_connect.checkpoint import Checkpoint
+from pgsub_connect.cli import Options
+from pgsub_connect.errors import FilterFault, Passing, ServerError, Unfit
+from pgsub_connect.filtering import Filter, flushed
+from pgsub_connect.following import Follower
+from pgsub_connect.progress import Progress
+from pgsub_connect.remembered import Remembered
+from pgsub_connect.server import Server
+from pgsub_connect.snapshots import Snapshots
+
+from .fake_server import FakeServer, Quiet, Row
+from .small_server import SmallServer
+from .vectors import a_catalog, a_table, begin, commit, insert, keepalive
+
+FAKE = os.path.join(os.path.dirname(os.path.abspath(__file__)), "fake_filter.py")
+
+
+class Case(Quiet):
+    """`brain` answers as a primary of which the store has all."""
+
+    def setUp(self) -> None:
+        super().setUp()
+        self.folder = self.make_folder()
+        self.store = self.folder + "/copy.db"
+        self.brain = FakeServer()
+        self.identity: Row = ["77", "1", "0/1000000", "shop"]
+        self.standby, self.started = "f", "1000"
+        self.slots: list[Row] = [["pgoutput", "t", "f", "0"]]
+        answers: Sequence[tuple[str, Callable[[str], list[Row]]]] = (
+            ("IDENTIFY_SYSTEM", lambda _: [self.identity]), ("pg_is_in_recovery", lambda _: [[self.standby]]),
+            ("pg_postmaster_start_time", lambda _: [[self.started]]), ("s.confirmed_flush_lsn", lambda _: self.slots),
+            ("SHOW wal_sender_timeout", lambda _: [["1min"]]), ("TIMELINE_HISTORY", lambda _: [["x", "1\t0/500\treason"]]),
+            ("set_config", lambda _: [[""]]), ("pg_current_wal_insert_lsn", lambda _: [["0/800", "0/800", "16777216"]]),
+        )
+        for part, call in answers:
+            self.brain.answer(part, call)
+        self.server = SmallServer(self.folder, self.brain)
+        self.addCleanup(self.server.close)
+        for where, name, by in (
+            (postgres, "TICK", 0.02), (following, "STEP", 0.02), (following, "QUIET", 0.3),
+            (following, "SLEEP", 0.02), (following, "FIRST_DELAY", 0.02),
+        ):
+            self.patch(where, name, by)
+        self.patch(watching.Watch, "compare", lambda *_: True)
+
+    def patch(self, where: object, name: str, by: object) -> None:
+        patch = mock.patch.object(where, name, by)
+        patch.start()
+        self.addCleanup(patch.stop)
+
+    def follower(self, **options: object) -> Follower:
+        self.checkpoint = Checkpoint(self.store)
+        self.addCleanup(os.close, self.checkpoint.file)
+        if not os.path.exists(self.store):
+            with open(self.store, "w", encoding="ascii") as file:
+                file.write("0")
+        chosen = Options(store=self.store, dsn=self.server.dsn(), publication=["pgsub"], **options)  # type: ignore[arg-type]
+        child = Filter(["/usr/bin/python3", "-S", "-E", FAKE, "follow", "--store", self.store], (self.checkpoint.file,))
+        self.addCleanup(child.kill)
+        self.progress, remembered = Progress(), Remembered(self.store)
+        remembered.begin_copy(a_catalog(a_table(1, "t")), 100)
+        return Follower(chosen, self.checkpoint, child, self.progress, None, Snapshots(self.store, None, 0.0), remembered)
+
+    def run_until(self, follower: Follower, holds: Callable[[], bool], seconds: float = 20.0) -> None:
+        """Follows in a thread until something holds, and then asks for the end."""
+        raised: list[BaseException] = []
+
+        def run() -> None:
+            try:
+                follower.run()
+            except BaseException as error:
+                raised.append(error)
+
+        thread = threading.Thread(target=run)
+        thread.start()
+        until = time.monotonic() + seconds
+        while not holds() and thread.is_alive() and time.monotonic() < until:
+            time.sleep(0.005)
+        held = holds()
+        follower.stop_asked = True
+        thread.join(seconds)
+        self.assertFalse(thread.is_alive())
+        if raised:
+            raise raised[0]
+        self.assertTrue(held, self.said)
+
+    def confirmed(self) -> int:
+        return flushed(self.server.statuses[-1][1]) if self.server.statuses else 0
+
+
+class Sessions(Case):
+    def test_commits_are_confirmed_once_they_are_stored(self) -> None:
+        self.server.to_send = [begin(0x100, 7), insert(1), commit(0x100, 0x108)]
+        self.run_until(self.follower(), lambda: self.confirmed() == 0x108)
+        self.assertEqual((self.progress.passed_commits, self.progress.confirmed, self.progress.position), (1, 0x108, 0x108))
+        with open(self.store, encoding="ascii") as file:
+            self.assertEqual(file.read(), str(0x108))
+        self.assertEqual(self.checkpoint.read().position, 0x108)
+
+    def test_keepalives_cost_no_sync_each(self) -> None:
+        synced = mock.Mock(wraps=os.fdatasync)
+        self.patch(os, "fdatasync", synced)
+        follower = self.follower()
+        self.server.to_send = [keepalive(0x1000 + it) for it in range(2000)]
+        self.run_until(follower, lambda: self.confirmed() == 0x1000 + 1999)
+        self.assertLess(synced.call_count, 12)
+        self.assertGreaterEqual(self.checkpoint.read().confirmed, 0x1000 + 1999)
+
+    def test_a_keepalive_that_asks_is_answered_at_once(self) -> None:
+        self.patch(following, "QUIET", 30.0)
+        follower = self.follower()
+        follower.last_moved = time.monotonic()
+        self.server.to_send = [keepalive(0x1000, asks=True)]
+        self.run_until(follower, lambda: self.confirmed() == 0x1000)
+
+    def test_until(self) -> None:
+        for until, end in ((0x104, 0x108), ("now", 0x800)):
+            self.server.to_send = [begin(0x100, 7), insert(1), commit(0x100, 0x108), keepalive(0x800)]
+            follower = self.follower(until=until)
+            self.run_until(follower, lambda follower=follower, end=end: follower.filter.status != b"" and follower.filter.confirmed() >= end)  # type: ignore[misc]
+            self.assertTrue(follower.stop_asked)
+            self.patch(Checkpoint, "lock", lambda *_: None)
+
+    def test_silence(self) -> None:
+        """A server is asked for an answer at half of the limit, and given up at the limit."""
+        self.server.answers_asking = False
+        self.run_until(self.follower(silence=0.4), lambda: self.server.sessions >= 2)
+        self.assertIn("warning: the server said nothing for 0 seconds", [it.replace("0.4", "0") for it in self.said])
+        self.assertEqual(self.server.statuses[-1][1][-1:] in (b"\0", b"\1"), True)
+        self.assertTrue(any(body[-1:] == b"\x01" for _, body in self.server.statuses))
+
+    def test_a_quiet_server_that_answers(self) -> None:
+        began = time.monotonic()
+        self.run_until(self.follower(silence=0.3), lambda: time.monotonic() - began > 1.0)
+        self.assertEqual(self.server.sessions, 1)
+
+    def test_start_replication_that_isnt_answered(self) -> None:
+        self.server.silent = "START_REPLICATION"
+        follower = self.follower(silence=0.2)
+        follower.was_connected = True
+        self.run_until(follower, lambda: any("didn't answer" in it for it in self.said))
+
+    def test_a_signal_is_heard_within_a_second(self) -> None:
+        self.server.silent = "IDENTIFY_SYSTEM"
+        follower = self.follower()
+        self.run_until(follower, lambda: self.progress.state == "connecting")
+        began = time.monotonic()
+        follower.finish_filter()
+        self.assertLess(time.monotonic() - began, 1.0)
+
+
+class Fits(Case):
+    """What is found where a session begins."""
+
+    def connect(self, follower: Follower) -> None:
+        """Connects once, where the filter's store has nothing yet."""
+        self.addCleanup(follower.disconnect)
+        follower.filter.status = b"r" + bytes(33)
+        follower.connect()
+
+    def check(self, *, timeline: int, started: int, position: int, now: Server) -> Follower:
+        """Checks the timeline of a server, where the last session had this one and the store is there."""
+        follower = self.follower()
+        self.checkpoint.write(False, timeline=timeline, started=started, position=position)
+        follower.position = position
+        follower.filter.status = b"r" + position.to_bytes(8, "big") * 3
+        follower.connection = postgres.Connection(self.server.dsn())
+        self.addCleanup(follower.connection.close)
+        follower.check_timeline(follower.connection, now)
+        return follower
+
+    def server_now(self, timeline: int, started: int = 2000, standby: bool = False) -> Server:
+        return Server("77", timeline, 0x1000000, "shop", standby, started)
+
+    def test_timelines(self) -> None:
+        """The second one left the first at 0/500."""
+        for timeline, position, fits in ((1, 0x900, True), (2, 0x500, True), (2, 0x501, False)):
+            with self.subTest(timeline=timeline, position=position):
+                self.patch(Checkpoint, "lock", lambda *_: None)
+                if fits:
+                    self.check(timeline=1, started=1000, position=position, now=self.server_now(timeline))
+                else:
+                    with self.assertRaisesRegex(Unfit, "changes that the server hasn't"):
+                        self.check(timeline=1, started=1000, position=position, now=self.server_now(timeline))
+                    self.assertIn("history", self.checkpoint.read().found)
+
+    def test_an_older_timeline(self) -> None:
+        with self.assertRaises(Unfit):
+            self.check(timeline=3, started=1000, position=5, now=self.server_now(2))
+
+    def test_a_standby_that_was_promoted_while_it_was_followed(self) -> None:
+        """It has all that it ever sent, also what it sent on its new timeline."""
+        self.check(timeline=1, started=1000, position=0x900, now=self.server_now(2, started=1000))
+        self.assertEqual(self.checkpoint.read().found, {})
+        self.assertIn("promoted while it was followed", self.said[-1])
+
+    def test_the_timeline_is_noted_at_each_session(self) -> None:
+        self.identity[1] = "4"
+        self.connect(self.follower())
+        known = self.checkpoint.read()
+        self.assertEqual((known.timeline, known.started, known.system), (4, 1000, "77"))
+
+    def test_a_promotion_ends_the_session(self) -> None:
+        follower = self.follower()
+        self.run_until(follower, lambda: self.promoted() and self.server.sessions >= 2)
+        self.assertIn("warning: the standby was promoted: a session with the new primary is begun", self.said)
+
+    def promoted(self) -> bool:
+        if self.server.sessions == 1 and self.progress.state == "following":
+            self.progress.was_promoted = True
+        return True
+
+    def test_the_slot_is_looked_at_again_once_it_is_ours(self) -> None:
+        looks: list[list[Row]] = [[["pgoutput", "t", "f", "700"]], [["pgoutput", "t", "f", "0"]]]
+        self.brain.answer("s.confirmed_flush_lsn", lambda _: looks.pop())
+        with self.assertRaisesRegex(Unfit, "somebody else moved the slot"):
+            self.connect(self.follower())
+        self.assertIn("slot", self.checkpoint.read().found)
+        self.assertEqual(self.server.statuses, [])
+
+    def test_slots(self) -> None:
+        cases: Sequence[tuple[list[Row], str, type[Exception], str]] = (
+            ([], "f", Unfit, "the server has no slot"), ([], "t", ServerError, "a standby without the slot"),
+            ([["pgoutput", "t", "t", "0"]], "f", Unfit, "two-phase"), ([["test_decoding", "t", "f", "0"]], "f", Unfit, "not one of pgoutput"),
+            ([["pgoutput", "f", "f", "0"]], "f", Unfit, "not one of pgoutput in this database"),
+            ([["pgoutput", "t", "f", None]], "f", ServerError, "still being made"),
+        )
+        for slots, standby, error, text in cases:
+            with self.subTest(text):
+                self.patch(Checkpoint, "lock", lambda *_: None)
+                self.slots, self.standby = slots, standby
+                with self.assertRaisesRegex(Exception, text) as raised:
+                    self.connect(self.follower())
+                self.assertIs(type(raised.exception), error)
+                if isinstance(raised.exception, ServerError):
+                    self.assertFalse(raised.exception.is_lasting())
+        self.assertEqual(self.brain.told("START_REPLICATION"), [])
+
+    def test_a_standby_that_cant_be_followed_yet(self) -> None:
+        """Its slot is one that it keeps for its promotion, or it can't decode; but a slot that is lost stays so."""
+        for sqlstate, status, lasts in (("55000", "reserved", False), ("0A000", "reserved", False), ("55000", "lost", True)):
+            with self.subTest(sqlstate=sqlstate, status=status):
+                self.brain.answer("s.wal_status", [[status]])
+                follower, server = self.follower_alone(), self.server_now(1, standby=True)
+                connection = mock.Mock()
+                connection.version.return_value, connection.value.return_value = 170000, status
+                connection.run.side_effect = ServerError("no", sqlstate)
+                with self.assertRaises(ServerError) as raised:
+                    follower.start_replication(connection, server)
+                self.assertEqual(raised.exception.is_lasting(), lasts)
+                with self.assertRaises(ServerError) as raised:
+                    follower.start_replication(connection, self.server_now(1))
+                self.assertTrue(raised.exception.is_lasting())
+
+    def follower_alone(self) -> Follower:
+        self.patch(Checkpoint, "lock", lambda *_: None)
+        follower = self.follower()
+        follower.filter.status = b"r" + bytes(33)
+        return follower
+
+    def test_another_server(self) -> None:
+        for change, error, text in (
+            ({"system": "78"}, Unfit, "and not slot pgsub of shop of 77"), ({"database": "other"}, Unfit, "database other"),
+            ({"slot": "other"}, Unfit, "follows slot other"),
+        ):
+            with self.subTest(text):
+                follower = self.follower_alone()
+                self.checkpoint.write(False, **{"system": "77", "database": "shop", "slot": "pgsub", **change})
+                with self.assertRaisesRegex(error, text):
+                    follower.check_server(self.server_now(1), 0)
+
+    def test_a_log_that_ends_before_the_store(self) -> None:
+        with self.assertRaisesRegex(Unfit, "it lost changes"):
+            self.follower_alone().check_server(self.server_now(1), 0x2000000)
+        with self.assertRaisesRegex(ServerError, "a standby whose log ends") as raised:
+            self.follower_alone().check_server(self.server_now(1, standby=True), 0x2000000)
+        self.assertFalse(raised.exception.is_lasting())
+
+    def test_protocols(self) -> None:
+        for version, asked, proto, streams in (
+            (130000, 2, 1, False), (130000, 1, 1, False), (150000, 2, 2, True), (150000, 1, 1, False), (180000, 1, 2, False),
+            (180000, 2, 2, True),
+        ):
+            follower = self.follower_alone()
+            follower.proto, follower.streams, follower.filter.proto = asked, asked == 2, asked
+            with mock.patch.object(follower, "start_filter"):
+                follower.choose_protocol(version)
+            self.assertEqual((follower.proto, follower.streams), (proto, streams), (version, asked))
+            self.assertGreaterEqual(follower.filter.proto, proto)
+
+
+class Errors(Case):
+    def note(self, error: ServerError, was_connected: bool = True) -> None:
+        self.patch(Checkpoint, "lock", lambda *_: None)
+        follower = self.follower()
+        follower.was_connected = was_connected
+        follower.note_error(error)
+
+    def test_passing_ones(self) -> None:
+        for sqlstate in ("", "57P01", "57P03", "08006", "53300", "55006", "40001", "XX000"):
+            self.note(ServerError("x", sqlstate))
+        for sqlstate in ("57P03", "53300"):
+            self.note(ServerError("x", sqlstate), was_connected=False)
+
+    def test_a_server_that_was_never_there(self) -> None:
+        with self.assertRaises(Passing):
+            self.note(ServerError("no route"), was_connected=False)
+
+    def test_lasting_ones(self) -> None:
+        for sqlstate in ("28P01", "28000", "3D000", "42704", "42501", "55000", "0A000", "22023"):
+            with self.assertRaises(ServerError):
+                self.note(ServerError("x", sqlstate))
+
+    def test_what_cant_be_streamed_comes_whole(self) -> None:
+        self.patch(Checkpoint, "lock", lambda *_: None)
+        follower = self.follower()
+        follower.note_error(ServerError("could not map filenode", "XX000"))
+        self.assertFalse(follower.streams)
+
+
+class Children(Case):
+    def test_no_secrets(self) -> None:
+        with mock.patch.dict(os.environ, {"PGPASSWORD": "secret", "PGHOST": "h", "LANG": "C"}), mock.patch(
+            "subprocess.Popen", side_effect=OSError(errno.ENOENT, "No such file")
+        ) as started, self.assertRaises(FilterFault):
+            Filter(["pgsub"], ()).launch()
+        environment = started.call_args.kwargs["env"]
+        self.assertEqual([it for it in environment if it.startswith("PG")], [])
+        self.assertEqual(environment["LANG"], "C")
+
+    def test_no_process_to_be_had(self) -> None:
+        for number in (errno.EAGAIN, errno.ENOMEM):
+            with mock.patch("subprocess.Popen", side_effect=OSError(number, "x")), self.assertRaises(Passing):
+                Filter(["pgsub"], ()).launch()
+
+
+if __name__ == "__main__":
+    unittest.main()

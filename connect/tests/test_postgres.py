@@ -1,0 +1,246 @@
+"""Connections by libpq to a small server: limits, signals, several hosts, copies."""
+
+from __future__ import annotations
+
+import os
+import time
+import unittest
+from unittest import mock
+
+from pgsub_connect import postgres
+from pgsub_connect.errors import ServerError, Stopped
+from pgsub_connect.postgres import COPY_BOTH, Connection, hosts_of, parameters
+
+from . import small_server
+from .fake_server import FakeServer, Quiet
+from .small_server import SmallServer, error, message
+
+# libpq's environment is nothing to these tests.
+OTHERS = {name: value for name, value in os.environ.items() if not name.startswith("PG")}
+
+
+class StopsLater:
+    """A check that asks for the end after some calls."""
+
+    def __init__(self, calls: int) -> None:
+        self.left = calls
+
+    def __call__(self) -> None:
+        self.left -= 1
+        if self.left < 0:
+            raise Stopped
+
+
+class Case(Quiet):
+    def setUp(self) -> None:
+        super().setUp()
+        self.folder = self.make_folder()
+        self.brain = FakeServer()
+        self.server = self.start()
+        ticks = mock.patch.object(postgres, "TICK", 0.02)
+        ticks.start()
+        self.addCleanup(ticks.stop)
+        others = mock.patch.dict(os.environ, OTHERS, clear=True)
+        others.start()
+        self.addCleanup(others.stop)
+
+    def start(self, port: int = 5432, *, standby: bool = False, refusal: bytes = b"") -> SmallServer:
+        server = SmallServer(self.folder, self.brain, port=port, standby=standby, refusal=refusal)
+        self.addCleanup(server.close)
+        return server
+
+    def connect(self, dsn: str = "", check: object = postgres.never, limit: float = 10.0) -> Connection:
+        with mock.patch.object(postgres, "CONNECT_LIMIT", limit):
+            connection = Connection(dsn or self.server.dsn(), check=check)  # type: ignore[arg-type]
+        self.addCleanup(connection.close)
+        return connection
+
+
+class Queries(Case):
+    def test_values(self) -> None:
+        self.brain.answer("SELECT", [["a", None, "\u00e4"], ["", "b", "c"]])
+        connection = self.connect()
+        self.assertEqual(connection.rows("SELECT"), [["a", None, "\u00e4"], ["", "b", "c"]])
+        self.assertEqual((connection.value("SELECT"), connection.value("OTHER"), connection.version()), ("a", None, 150018))
+
+    def test_error(self) -> None:
+        self.brain.answer("SELECT", ServerError("denied", "42501"))
+        connection = self.connect()
+        with self.assertRaisesRegex(ServerError, "denied") as raised:
+            connection.rows("SELECT")
+        self.assertEqual((raised.exception.sqlstate, raised.exception.is_lasting()), ("42501", True))
+        self.brain.answer("SELECT", [["1"]])
+        self.assertEqual(connection.value("SELECT"), "1")
+
+    def test_silence_has_a_limit(self) -> None:
+        self.server.silent = "SELECT"
+        connection, began = self.connect(), time.monotonic()
+        with self.assertRaisesRegex(ServerError, "didn't answer") as raised:
+            connection.rows("SELECT", 0.1)
+        self.assertLess(time.monotonic() - began, 2.0)
+        self.assertFalse(raised.exception.is_lasting())
+
+    def test_start_replication_that_isnt_answered(self) -> None:
+        self.server.silent = "START_REPLICATION"
+        with self.assertRaisesRegex(ServerError, "didn't answer"):
+            self.connect().run("START_REPLICATION", COPY_BOTH, 0.1)
+
+    def test_the_end_is_asked_for(self) -> None:
+        """The server is told too, so that it doesn't go on."""
+        self.server.silent = "SELECT"
+        connection = self.connect()
+        connection.check = StopsLater(2)
+        with self.assertRaises(Stopped):
+            connection.rows("SELECT")
+        until = time.monotonic() + 5
+        while not self.server.canceled and time.monotonic() < until:
+            time.sleep(0.01)
+        self.assertEqual(self.server.canceled, 1)
+
+
+class Connects(Case):
+    def test_a_server_that_doesnt_answer(self) -> None:
+        self.server.lets_in = False
+        with mock.patch.object(postgres, "CONNECT_LIMIT", 2.0), self.assertRaises(Stopped):
+            self.connect(check=StopsLater(3))
+        connection = Connection.__new__(Connection)
+        connection.check, connection.limit = postgres.never, 0.1
+        with self.assertRaisesRegex(ServerError, "no answer within"):
+            connection.connect_to(parameters(self.server.dsn()))
+
+    def test_refused(self) -> None:
+        for port, sqlstate, lasts in ((5433, "28P01", True), (5434, "57P03", False), (5435, "3D000", True), (5436, "53300", False)):
+            server = self.start(port, refusal=error("no", sqlstate))
+            with self.assertRaises(ServerError) as raised:
+                self.connect(server.dsn())
+            self.assertEqual((raised.exception.sqlstate, raised.exception.is_lasting()), (sqlstate, lasts))
+        with self.assertRaises(ServerError) as raised:
+            self.connect(f"host={self.folder} port=5444 user=u")
+        self.assertEqual((raised.exception.sqlstate, raised.exception.is_lasting()), ("", False))
+
+    def hosts(self, *ports: int) -> str:
+        return f"host={','.join([self.folder] * len(ports))} port={','.join(map(str, ports))} dbname=shop user=u"
+
+    def test_several_hosts_find_the_primary(self) -> None:
+        self.start(5433, standby=True)
+        self.assertEqual(self.connect(self.hosts(5433, 5444, 5432)).raw.port, b"5432")
+
+    def test_standbys_alone_are_waited_for(self) -> None:
+        """As where the primary restarts: another try may find it."""
+        self.start(5433, standby=True)
+        with self.assertRaises(ServerError) as raised:
+            self.connect(self.hosts(5433, 5444))
+        self.assertFalse(raised.exception.is_lasting())
+        self.assertEqual(len(str(raised.exception).split("\n")) > 1, True)
+
+    def test_what_the_user_said_goes_before(self) -> None:
+        self.start(5433, standby=True)
+        self.assertEqual(self.connect(self.hosts(5433, 5432) + " target_session_attrs=any").raw.port, b"5433")
+        for dsn, wanted in (
+            ("host=a,b", "read-write"), ("host=a,b target_session_attrs=standby", "standby"), ("host=a,b target_session_attrs=any", "any"),
+        ):
+            self.assertEqual([it["target_session_attrs"] for it in hosts_of(parameters(dsn))], [wanted] * 2)
+        self.assertEqual(hosts_of(parameters("host=a")), [{"host": "a"}])
+
+    def test_strings(self) -> None:
+        self.assertEqual(parameters("shop"), {"dbname": "shop"})
+        self.assertEqual(parameters("postgresql://u:secret@h/shop")["password"], "secret")
+        with self.assertRaises(ServerError) as raised:
+            parameters("host=a password='secret")
+        self.assertNotIn("secret", str(raised.exception))
+        self.assertTrue(raised.exception.is_lasting())
+
+    def test_notices_are_told(self) -> None:
+        self.brain.answer("SELECT", [["1"]])
+        connection = self.connect()
+        with mock.patch.object(self.server.brain, "rows_for", return_value=[]), mock.patch(
+            "tests.small_server.answered", return_value=error("careful", "01000", b"N") + message(b"C", b"SET\0")
+        ):
+            connection.run("SET x")
+        self.assertEqual(self.said, ["server: ERROR:  careful"])
+
+
+class Copies(Case):
+    def test_both_ways(self) -> None:
+        self.server.to_send = [b"one", b"two" * 50000]
+        connection = self.connect()
+        connection.run("START_REPLICATION", COPY_BOTH, 5.0)
+        payloads: list[bytes] = []
+        until = time.monotonic() + 5
+        while len(payloads) < 2 and time.monotonic() < until:
+            if payload := connection.next_payload():
+                payloads.append(payload)
+            else:
+                connection.consume()
+        self.assertEqual(payloads, [b"one", b"two" * 50000])
+        connection.send(b"status\0")
+        while not self.server.statuses and time.monotonic() < until:
+            time.sleep(0.01)
+        self.assertEqual(self.server.statuses[0][1], b"status\0")
+        connection.end_copy()
+        while (payload := connection.next_payload()) == b"" and time.monotonic() < until:
+            connection.consume()
+        self.assertIsNone(payload)
+
+    def test_lots(self) -> None:
+        """By both ways to take them: up to the room, to the first long one, what is there, and then the end."""
+        sent = [b"%d" % it for it in range(100)] + [b"x" * 1000] + [b"y"] * 3
+        for quick in (True, False):
+            server = self.start(5433 + quick)
+            server.to_send = list(sent)
+            connection, lots, more, until = self.connect(server.dsn()), list[list[bytes]](), True, time.monotonic() + 10
+            connection.run("START_REPLICATION", COPY_BOTH, 5.0)
+            with mock.patch.object(postgres, "GET_COPY_DATA", postgres.GET_COPY_DATA if quick else None):
+                while sum(map(len, lots)) < len(sent) and time.monotonic() < until:
+                    found, more = connection.payloads(50, 1000)  # type: ignore[assignment]
+                    lots += [found] if found else []
+                    if not more:
+                        connection.consume()
+                connection.end_copy()
+                while more is not None and time.monotonic() < until:
+                    connection.consume()
+                    found, more = connection.payloads(50, 1000)  # type: ignore[assignment]
+            self.assertEqual([it for lot in lots for it in lot], sent)
+            self.assertTrue(all(len(it) < 1000 for lot in lots for it in lot[:-1]))
+            self.assertIsNone(more)
+
+    def test_what_came_before_the_session_broke(self) -> None:
+        body = small_server.COPY_BOTH + message(b"d", b"one") + message(b"d", b"two") + error("terminating", "57P01")
+        for quick in (True, False):
+            with mock.patch.object(small_server, "COPY_BOTH", body), mock.patch.object(
+                postgres, "GET_COPY_DATA", postgres.GET_COPY_DATA if quick else None
+            ):
+                connection, found, until = self.connect(), list[bytes](), time.monotonic() + 10
+                connection.run("START_REPLICATION", COPY_BOTH, 5.0)
+                with self.assertRaisesRegex(ServerError, "terminating") as raised:
+                    while time.monotonic() < until:
+                        found += connection.payloads(1 << 20, 1 << 16)[0]
+                        connection.consume()
+                self.assertEqual((found, raised.exception.sqlstate), ([b"one", b"two"], "57P01"))
+
+    def test_rows(self) -> None:
+        copied = b"".join(message(b"d", b"%d\tx\n" % it) for it in range(100))
+        body = message(b"H", bytes(3)) + copied + message(b"c", b"") + message(b"C", b"COPY 100\0")
+        with mock.patch("tests.small_server.answered", return_value=body):
+            blocks = list(self.connect().copied_blocks("COPY", 200))
+        self.assertEqual(b"".join(b"".join(it) for it in blocks), b"".join(b"%d\tx\n" % it for it in range(100)))
+        self.assertGreater(len(blocks), 1)
+
+    def test_an_error_in_the_midst(self) -> None:
+        body = message(b"H", bytes(3)) + message(b"d", b"1\tx\n") + error("bad bytes", "22021")
+        with mock.patch("tests.small_server.answered", return_value=body), self.assertRaisesRegex(ServerError, "bad bytes") as raised:
+            list(self.connect().copied_blocks("COPY", 200))
+        self.assertEqual(raised.exception.sqlstate, "22021")
+
+    def test_the_server_ends_a_session(self) -> None:
+        connection = self.connect()
+        connection.run("START_REPLICATION", COPY_BOTH, 5.0)
+        self.server.close()
+        with self.assertRaises(ServerError) as raised:
+            while connection.next_payload() == b"":
+                connection.consume()
+        self.assertFalse(raised.exception.is_lasting())
+
+
+if __name__ == "__main__":
+    unittest.main()

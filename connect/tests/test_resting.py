@@ -1,0 +1,264 @@
+"""A store's file at rest: held where nobody follows, copied where a log is left, asked for where a follower runs."""
+
+from __future__ import annotations
+
+import contextlib
+import fcntl
+import json
+import os
+import sqlite3
+import stat
+import tempfile
+import threading
+import time
+import unittest
+from collections.abc import Iterator
+from unittest import mock
+
+from pgsub_connect import exporting, resting, taking
+from pgsub_connect.cli import PASSING, Options, main
+from pgsub_connect.errors import FileError, Passing, Stopped
+from pgsub_connect.postgres import never
+from pgsub_connect.resting import at_rest, own_name
+from pgsub_connect.snapshots import Snapshots
+
+from .stores import Store
+from .vectors import logged
+
+# A process that isn't there.
+GONE = 4194304 + 1
+
+
+class Case(unittest.TestCase):
+    def setUp(self) -> None:
+        folder = tempfile.TemporaryDirectory()
+        self.addCleanup(folder.cleanup)
+        self.folder = folder.name
+        self.path, self.into = folder.name + "/copy.db", folder.name + "/rows.db"
+        stack = contextlib.ExitStack()
+        self.addCleanup(stack.close)
+        stack.enter_context(mock.patch("os.fsync"))
+        for it in ("resting", "snapshots"):
+            stack.enter_context(mock.patch(f"pgsub_connect.{it}.LOOK", 0.01))
+        self.store = Store(self.path)
+        self.addCleanup(self.store.close)
+        self.store.table(1, "t")
+        self.store.row(1, "1", "x")
+        self.made = {"copy.db", "copy.db.connector"}
+        self.ended = threading.Event()
+
+    def options(self) -> Options:
+        return Options(command="export", store=self.path, into=self.into)
+
+    def left(self) -> set[str]:
+        return set(os.listdir(self.folder)) - self.made
+
+    @contextlib.contextmanager
+    def locked(self) -> Iterator[None]:
+        """As while a connector runs."""
+        with open(self.path + ".connector", "w") as file:
+            fcntl.flock(file, fcntl.LOCK_EX)
+            yield
+
+    def follow(self, position: int = 0x130) -> None:
+        """What a follower does for requests."""
+        snapshots = Snapshots(self.path, None, 0.0)
+        while not self.ended.wait(0.005):
+            if snapshots.is_due(position):
+                snapshots.take(position, never)
+        snapshots.wait()
+
+    @contextlib.contextmanager
+    def followed(self, position: int = 0x130) -> Iterator[None]:
+        with self.locked():
+            thread = threading.Thread(target=self.follow, args=(position,))
+            thread.start()
+            try:
+                yield
+            finally:
+                self.ended.set()
+                thread.join()
+
+    def rows(self) -> list[tuple[object, ...]]:
+        with contextlib.closing(sqlite3.connect(self.into)) as base:
+            return base.execute("SELECT * FROM t").fetchall()
+
+
+class Held(Case):
+    def test_without_a_follower(self) -> None:
+        open(self.path + ".connector", "w").close()
+        with at_rest(self.path, self.into, never) as (path, is_copy):
+            self.assertEqual((path, is_copy), (self.path, False))
+            self.assertIsNone(resting.locked_checkpoint(self.path))
+            with self.assertRaisesRegex(sqlite3.OperationalError, "locked"):
+                self.store.base.execute("PRAGMA busy_timeout = 0")
+                self.store.row(1, "2", "y")
+        self.store.row(1, "2", "y")
+        self.assertFalse(resting.is_followed(self.path))
+
+    def test_open_elsewhere(self) -> None:
+        self.store.base.execute("BEGIN EXCLUSIVE")
+        with logged() as told:
+            self.assertEqual(main(["export", "--store", self.path, "--into", self.into]), PASSING)
+        self.assertIn("another program has it open", told[0])
+        self.store.base.execute("ROLLBACK")
+
+    def test_a_log_that_is_left(self) -> None:
+        """As after kill -9: the file alone lacks rows, and both stay as they are."""
+        self.store.base.execute("PRAGMA journal_mode = WAL")
+        self.store.base.execute("PRAGMA wal_autocheckpoint = 0")
+        self.store.row(1, "2", "y")
+        for suffix in ("", "-wal"):
+            with open(self.path + suffix, "rb") as old, open(self.folder + "/killed.db" + suffix, "wb") as new:
+                new.write(old.read())
+        options = self.options()
+        options.store = self.folder + "/killed.db"
+        before = {suffix: os.stat(options.store + suffix).st_size for suffix in ("", "-wal")}
+        with logged():
+            exporting.run(options, never)
+        self.assertEqual(self.rows(), [(1, "x"), (2, "y")])
+        self.assertEqual({suffix: os.stat(options.store + suffix).st_size for suffix in ("", "-wal")}, before)
+        self.assertEqual(self.left() - {"copy.db-wal", "copy.db-shm"}, {"killed.db", "killed.db-wal", "rows.db"})
+
+    def test_no_rights(self) -> None:
+        open(self.path + ".connector", "w").close()
+        with mock.patch("os.open", side_effect=PermissionError(13, "Permission denied")):
+            with self.assertRaisesRegex(FileError, "Permission"):
+                resting.locked_checkpoint(self.path)
+
+
+class Asked(Case):
+    def test_export(self) -> None:
+        with self.followed(), logged() as told:
+            self.assertEqual(exporting.run(self.options(), never), 0)
+        self.assertEqual(self.rows(), [(1, "x")])
+        self.assertEqual(self.left(), {"rows.db"})
+        self.assertIn("its follower is asked for a copy", told[0])
+
+    def test_snapshot(self) -> None:
+        with self.followed(), logged():
+            for _ in range(2):
+                self.assertEqual(taking.run(self.options(), never), 0)
+        self.assertEqual(self.left(), {"rows.db"})
+        self.assertTrue(taking.is_snapshot(self.into))
+
+    def test_one_after_the_other(self) -> None:
+        """Another request is there already."""
+        with open(self.path + ".request", "w") as file:
+            json.dump({"into": self.folder + "/other.db"}, file)
+        with self.followed(), logged():
+            self.assertEqual(exporting.run(self.options(), never), 0)
+        self.assertEqual(self.left(), {"rows.db", "other.db"})
+
+    def test_a_request_that_was_answered_by_an_error(self) -> None:
+        with open(self.path + ".request", "w") as file:
+            json.dump({"into": self.folder + "/other.db", "error": "No space left on device"}, file)
+        with self.followed(), logged():
+            self.assertEqual(exporting.run(self.options(), never), 0)
+        self.assertEqual(self.left(), {"rows.db"})
+
+    def test_a_follower_that_cant(self) -> None:
+        with self.followed(0x200), logged(), self.assertRaisesRegex(Passing, "follower couldn't copy it: the copy isn't at 0/200"):
+            exporting.run(self.options(), never)
+        self.assertEqual(self.left(), set())
+
+    def test_a_follower_that_ends(self) -> None:
+        """Then the store is read where it is."""
+        with contextlib.ExitStack() as stack, logged():
+            stack.enter_context(self.locked())
+            calls = iter(range(1000))
+
+            def check() -> None:
+                if next(calls) == 3:
+                    stack.close()
+
+            self.assertEqual(exporting.run(self.options(), check), 0)
+        self.assertEqual(self.rows(), [(1, "x")])
+        self.assertEqual(self.left(), {"rows.db"})
+
+    def test_a_follower_that_doesnt_answer(self) -> None:
+        with self.locked(), mock.patch.object(resting, "PATIENCE", 0.05), logged():
+            with self.assertRaisesRegex(Passing, "hasn't begun to copy it"):
+                exporting.run(self.options(), never)
+            self.assertEqual(self.left(), set())
+            with open(self.path + ".request", "w") as file:
+                json.dump({"into": self.folder + "/other.db"}, file)
+            with self.assertRaisesRegex(Passing, "another request waits"):
+                exporting.run(self.options(), never)
+        self.assertEqual(self.left(), {"copy.db.request"})
+
+    def test_ended_by_a_signal(self) -> None:
+        with self.locked(), logged(), self.assertRaises(Passing):
+            exporting.run(self.options(), mock.Mock(side_effect=[None, None, Stopped]))
+        self.assertEqual(self.left(), set())
+
+    def test_a_request_in_another_folder(self) -> None:
+        with open(self.path + ".request", "w") as file:
+            json.dump({"into": "/rows.db"}, file)
+        with self.followed():
+            until = time.monotonic() + 5
+            while "error" not in (found := resting.read_request(self.path + ".request")) and time.monotonic() < until:
+                time.sleep(0.01)
+        self.assertEqual(found, {"into": "/rows.db", "error": "the copy has to be a new file in the store's folder"})
+
+    def test_a_folder_by_another_name(self) -> None:
+        with tempfile.TemporaryDirectory() as room:
+            os.symlink(self.folder, room + "/link")
+            options = self.options()
+            options.store = room + "/link/copy.db"
+            with self.followed(), logged():
+                self.assertEqual(exporting.run(options, never), 0)
+        self.assertEqual(self.left(), {"rows.db"})
+
+
+class Taken(Case):
+    def test_without_a_follower(self) -> None:
+        options = self.options()
+        options.mode = 0o640
+        with logged() as told:
+            self.assertEqual(taking.run(options, never), 0)
+        self.assertEqual(told, [f"{self.into}: the rows at 0/130"])
+        self.assertEqual(stat.S_IMODE(os.stat(self.into).st_mode), 0o640)
+        self.assertTrue(os.path.exists(self.path))
+        self.assertEqual(self.left(), {"rows.db"})
+
+    def test_a_copy_can_be_read_in_a_folder_that_cant_be_written(self) -> None:
+        self.store.base.execute("PRAGMA journal_mode = WAL")
+        self.store.close()
+        with logged():
+            taking.run(self.options(), never)
+        with open(self.into, "rb") as file:
+            self.assertEqual(file.read(20)[18:], b"\1\1")
+
+    def test_what_isnt_an_earlier_copy(self) -> None:
+        with logged():
+            taking.run(self.options(), never)
+        for ending in ("-wal", ".connector"):
+            open(self.into + ending, "w").close()
+            with self.assertRaisesRegex(FileError, "is there and isn't an earlier copy"):
+                taking.run(self.options(), never)
+            os.unlink(self.into + ending)
+        with open(self.into, "w") as file:
+            file.write("mine")
+        with self.assertRaisesRegex(FileError, "is there and isn't an earlier copy"):
+            taking.run(self.options(), never)
+
+    def test_on_another_disk(self) -> None:
+        with self.followed(), logged(), mock.patch("os.rename", side_effect=OSError(18, "Invalid cross-device link")):
+            self.assertEqual(taking.run(self.options(), never), 0)
+        self.assertEqual(self.left(), {"rows.db"})
+
+    def test_what_killed_runs_left(self) -> None:
+        names = [f"rows.db.{GONE}", f"rows.db.{GONE}-journal", f"rows.db.{os.getppid()}", "rows.db.2x", "rows.db.new"]
+        for name in names:
+            open(f"{self.folder}/{name}", "w").close()
+        own_name(self.into)
+        self.assertEqual(self.left(), set(names))
+        for name in names:
+            os.utime(f"{self.folder}/{name}", (0, 0))
+        own_name(self.into)
+        self.assertEqual(self.left(), set(names[2:]))
+
+
+if __name__ == "__main__":
+    unittest.main()

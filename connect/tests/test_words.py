@@ -1,0 +1,204 @@
+"""The command line: what it rejects and warns of, and the statuses with which it ends."""
+
+from __future__ import annotations
+
+import contextlib
+import errno
+import io
+import os
+import pty
+import signal
+import subprocess
+import sys
+import time
+import unittest
+from collections.abc import Callable
+from unittest import mock
+
+from pgsub_connect import cli, comparing
+from pgsub_connect.cli import BUG, FILE, PASSING, REJECTED, SERVER, UNFIT, USAGE, Options, arguments, main, settle_options
+from pgsub_connect.comparing import require_published
+from pgsub_connect.dropping import ask_terminal
+from pgsub_connect.errors import FileError, FilterFault, Passing, ServerError, Stopped, Unfit, UsageError
+from pgsub_connect.filtering import FilterEnded
+from pgsub_connect.sizes import KilledTwice
+
+from .fake_server import FakeServer, Quiet, Row
+
+CONNECT = os.path.dirname(os.path.dirname(os.path.abspath(__file__)))
+
+
+class Words(Quiet):
+    def rejected(self, text: str) -> str:
+        with contextlib.redirect_stderr(io.StringIO()) as stderr, self.assertRaises(SystemExit) as ended:
+            arguments(text.split())
+        self.assertEqual(ended.exception.code, USAGE)
+        return stderr.getvalue()
+
+    def test_rejected(self) -> None:
+        for words in (
+            "follow", "record", "follow --store s --table t", "follow --store s --all-tables", "follow --store s --failover",
+            "follow --store s --create --table t --all-tables", "follow --store s --snapshot-every 5", "follow --store s --append",
+            "follow --store s --proto 3", "follow --store s --mode 0444", "follow --store s --mode x", "follow --store s --until x",
+            "follow --store s --silence 0", "follow --store s --silence -1", "follow --store s --silence nan",
+            "follow --store s --heartbeat 0", "follow --store s --heartbeat inf", "follow --store s --max-frame 2147483644",
+            "follow --store s --max-buffered 0", "follow --store s --skip 5", "follow --store s --accept x", "follow --store s --seconds 5",
+            "follow --store s --create temporary", "drop", "names", "nothing", "follow --store s --create --all-tables --keyless inserts",
+        ):
+            self.assertIn("usage: ", self.rejected(words), words)
+
+    def test_read(self) -> None:
+        words = "--store s --create --table t --table u --until 16/B374D848 --mode 640 --accept-gap --accept values --skip 0/5"
+        options = arguments(words.split())
+        self.assertEqual((options.command, options.table, options.until, options.mode), ("follow", ["t", "u"], 0x16B374D848, 0o640))
+        self.assertEqual((options.skip, options.streaming), (5, True))
+        self.assertTrue(options.accepts("gap") and options.accepts("slot") and options.accepts("values"))
+        self.assertFalse(options.accepts("history"))
+        self.assertEqual(arguments(["--record", "f", "--until", "now"]).command, "record")
+
+    def settled(self, *words: str) -> Options:
+        options = arguments(["follow", "--store", "/nonexistent/s", *words])
+        settle_options(options)
+        return options
+
+    def test_passwords_are_warned_of(self) -> None:
+        for dsn in ("password=secret", "postgresql://u:secret@h/d", "sslpassword=secret"):
+            self.settled("--dsn", dsn)
+            self.assertIn("can be read by every account", self.said.pop())
+        for dsn in ("dbname=password", "user=u", ""):
+            self.settled("--dsn", dsn)
+        self.assertEqual(self.said, [])
+
+    def test_a_file_with_the_connection_string(self) -> None:
+        path = self.make_folder() + "/dsn"
+        with open(path, "w", encoding="utf-8") as file:
+            file.write("host=h password=secret\nmore\n")
+        self.assertEqual(self.settled("--dsn-file", path).dsn, "host=h password=secret")
+        self.assertEqual(self.said, [])
+
+    def test_limits(self) -> None:
+        with mock.patch.object(cli, "default_buffered", lambda: 1 << 28):
+            self.assertEqual((self.settled().max_buffered, self.settled().max_frame), (1 << 28, 1 << 28))
+        options = self.settled("--max-buffered", "5000000000")
+        self.assertEqual((options.max_buffered, options.max_frame), (5000000000, 2147483643))
+
+
+class Ends(Quiet):
+    def test_statuses(self) -> None:
+        for error, status in (
+            (Stopped(), 0), (FilterEnded(1, "x"), REJECTED), (FilterEnded(2, "x"), USAGE), (FilterEnded(3, "x"), FILE),
+            (FilterEnded(10, "x"), REJECTED), (FilterEnded(11, "x"), REJECTED), (FilterEnded(12, "x"), PASSING),
+            (FilterEnded(13, "x"), PASSING), (FilterEnded(14, "x"), PASSING), (FilterEnded(15, "x"), PASSING),
+            (FilterEnded(-9, ""), PASSING), (KilledTwice(-9, "x"), REJECTED), (ServerError("x", "42501"), SERVER),
+            (ServerError("x", "57P03"), PASSING), (ServerError("x"), PASSING), (Unfit("x"), UNFIT), (FileError("x"), FILE),
+            (FilterFault("x"), FILE), (Passing("x"), PASSING), (UsageError("x"), USAGE), (OSError(errno.ENOSPC, "x"), PASSING),
+            (OSError(errno.EMFILE, "x"), PASSING), (OSError(errno.EACCES, "x"), FILE), (ZeroDivisionError("x"), BUG),
+        ):
+            with mock.patch.dict(cli.RUNS, {"names": mock.Mock(side_effect=error)}):
+                self.assertEqual(main(["names", "--store", "/nonexistent/s"]), status, error)
+
+    def test_a_bug_is_told_with_its_place(self) -> None:
+        def fail(_: Options) -> None:
+            raise ZeroDivisionError("\x1b[2J")
+
+        with mock.patch.dict(cli.RUNS, {"names": fail}):
+            main(["names", "--store", "/nonexistent/s"])
+        self.assertIn("test_words.py", self.said[0])
+
+    def test_version(self) -> None:
+        done = subprocess.run([CONNECT + "/pgsub-connect", "--version"], capture_output=True, check=True, timeout=60)
+        self.assertRegex(done.stdout.decode(), r"^pgsub-connect \d+\.\d+\.\d+( \([0-9a-f]{7,}.*\))?\n")
+
+    def test_signals(self) -> None:
+        """The first one asks for the end, the second one is the end."""
+        code = (
+            "import os, sys, time\nfrom pgsub_connect.cli import Start, stop_by_signals\nstart = Start()\nstop_by_signals(start)\n"
+            "print('ready', flush=True)\nwhile True:\n    time.sleep(0.01)\n"
+        )
+        with subprocess.Popen([sys.executable, "-c", code], cwd=CONNECT, stdout=subprocess.PIPE) as child:
+            assert child.stdout
+            child.stdout.readline()
+            child.send_signal(signal.SIGTERM)
+            time.sleep(0.1)
+            self.assertIsNone(child.poll())
+            child.send_signal(signal.SIGTERM)
+            self.assertEqual(child.wait(10), 128 + signal.SIGTERM)
+
+
+class Asks(Quiet):
+    """On the terminal."""
+
+    def ask(self, typed: bytes, check: Callable[[], None] = lambda: None) -> bool:
+        ours, theirs = pty.openpty()
+        self.addCleanup(os.close, ours)
+        os.write(ours, typed)
+        with os.fdopen(theirs, encoding="utf-8") as terminal, mock.patch("sys.stdin", terminal), mock.patch(
+            "pgsub_connect.dropping.TICK", 0.01
+        ), contextlib.redirect_stderr(io.StringIO()) as stderr:
+            said = ask_terminal("drop \x1b[2J?", check)
+        self.assertEqual(stderr.getvalue(), "drop \\x1b[2J? [y/N] ")
+        return said
+
+    def test_words(self) -> None:
+        for typed, yes in ((b"y\n", True), (b"YES\n", True), (b"\n", False), (b"n\n", False), (b"\x04", False)):
+            self.assertIs(self.ask(typed), yes)
+
+    def test_a_signal_is_heard(self) -> None:
+        with self.assertRaises(Stopped):
+            self.ask(b"", mock.Mock(side_effect=[None, None, Stopped]))
+
+
+class Compares(Quiet):
+    """--table beside a store that is there."""
+
+    def setUp(self) -> None:
+        super().setUp()
+        self.server = FakeServer()
+        self.listed: list[Row] = [["1", "public.t"], ["2", "public.u"]]
+        self.oids = {"t": "1", "public.u": "2", "v": "3"}
+        self.server.answer("pg_publication_rel", lambda _: self.listed)
+        self.server.answer("to_regclass", self.look_up)
+        self.server.answer("::pg_catalog.oid AS relid) s JOIN", lambda it: [
+            [oid, name] for oid, name in (("1", "public.t"), ("2", "public.u"), ("3", "public.v")) if f"SELECT {oid}::" in it
+        ])
+        patch = mock.patch.object(comparing, "Connection", self.server.connect)
+        patch.start()
+        self.addCleanup(patch.stop)
+
+    def look_up(self, command: str) -> list[Row]:
+        return [[next((oid for name, oid in self.oids.items() if f"'{name}'" in command), None)]]
+
+    def compare(self, *tables: str, **options: object) -> None:
+        chosen = Options(store="s", publication=["pgsub"], create="permanent", table=list(tables), **options)  # type: ignore[arg-type]
+        require_published(chosen, lambda: None)
+        self.assertEqual(self.server.opened, self.server.closed)
+
+    def test_the_same(self) -> None:
+        for tables in (("t", "public.u"), ("public.u (a, b) WHERE (a > 0)", "t")):
+            self.compare(*tables)
+        self.assertEqual([it for it in self.server.commands if not it.startswith("SELECT")], [], "nothing is changed, and nothing locked")
+
+    def test_different(self) -> None:
+        for tables, text in (
+            (("t",), "published too: public.u"), (("t", "public.u", "v"), "not published: public.v"), (("t", "public.u", "w"), "no such table: w"),
+        ):
+            with self.assertRaisesRegex(ServerError, f"--table isn't what the store follows: {text}") as raised:
+                self.compare(*tables)
+            self.assertTrue(raised.exception.is_lasting())
+            self.assertEqual(self.server.opened, self.server.closed)
+
+    def test_tables_that_were_left_out(self) -> None:
+        self.server.answer("SELECT DISTINCT c.oid, n.nspname, c.relname", [["3", "public", "v"]])
+        self.compare("t", "public.u", "v", keyless="leave-out")
+        with self.assertRaises(ServerError):
+            self.compare("t", "public.u", "v")
+
+    def test_all_tables(self) -> None:
+        with self.assertRaisesRegex(ServerError, "--all-tables isn't what the store follows"):
+            self.compare(all_tables=True)
+        self.server.answer("p.puballtables", [["pgsub"]])
+        self.compare(all_tables=True)
+
+
+if __name__ == "__main__":
+    unittest.main()

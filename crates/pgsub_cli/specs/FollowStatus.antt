@@ -1,0 +1,50 @@
+-- The exit status of following a server: 0 the stream ended, 1 it is rejected, 3 the file is no store, 10 the spools are full, 11 a frame
+-- is too large, 12 the store can't be opened, 13 it failed, 14 memory ran out, 15 standard input or output failed.
+use Rattle.std.specs.Prelude.{ℕ, Option, None, Some}
+use Rattle.pgwire.specs.declared.fault.WireFault.TheVariants as wire
+use Rattle.pgspool.specs.declared.spools.SpoolFault.TheVariants as spool
+use Rattle.pgapply.specs.declared.rows.StoreFault.{StoreFault}
+use Rattle.pgapply.specs.declared.rows.StoreFault.TheVariants as store
+use Rattle.pgsub_core.specs.declared.fault.Fault.{Fault}
+use Rattle.pgsub_core.specs.declared.fault.Fault.TheVariants as fault
+use Rattle.pgfollow.specs.declared.fault.FollowFault.{FollowFault}
+use Rattle.pgfollow.specs.declared.fault.FollowFault.TheVariants as follow
+
+-- of a store that is open: what a commit asks of it is the stream's fault, and the rest its own
+abbrev pub status_of_store : StoreFault → ℕ
+status_of_store store.Clash = 1
+status_of_store store.NoIdentity = 1
+status_of_store store.UnknownIdentity = 1
+status_of_store store.UnchangedInInsert = 1
+status_of_store store.Width = 1
+status_of_store store.TooManyCopies = 1
+status_of_store store.Refused = 13
+status_of_store store.NotAStore = 13
+status_of_store store.Memory = 14
+
+abbrev pub status_of_fault : Fault → ℕ
+status_of_fault (fault.Wire wire.TooLarge) = 11
+status_of_fault (fault.Wire wire.Memory) = 14
+status_of_fault (fault.Wire _) = 1
+status_of_fault (fault.Decode f) = 1
+status_of_fault (fault.Order f) = 1
+status_of_fault (fault.Relation f) = 1
+status_of_fault (fault.Spool spool.SpoolFull) = 10
+status_of_fault (fault.Spool spool.Memory) = 14
+status_of_fault (fault.Store f) = status_of_store f
+status_of_fault fault.Read = 15
+status_of_fault fault.Closed = 1
+status_of_fault fault.Memory = 14
+
+-- by what ended the following
+abbrev pub status_of_follow : Option FollowFault → ℕ
+status_of_follow None = 0
+status_of_follow (Some follow.Read) = 15
+status_of_follow (Some follow.Write) = 15
+status_of_follow (Some (follow.Stream f)) = status_of_fault f
+
+-- where the store couldn't be opened
+abbrev pub status_of_unfollowed : StoreFault → ℕ
+status_of_unfollowed store.NotAStore = 3
+status_of_unfollowed store.Memory = 14
+status_of_unfollowed _ = 12

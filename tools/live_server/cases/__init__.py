@@ -1,0 +1,1 @@
+"""What a follower may meet, by theme. Each case has a server with an empty database, and a store."""

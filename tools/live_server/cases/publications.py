@@ -1,0 +1,166 @@
+"""Publications that change beside the store."""
+
+from __future__ import annotations
+
+from ..errors import Failed
+from ..place import LOG, SERVER, USAGE, Place
+from .case import Case
+
+
+def table_joins(place: Place) -> None:
+    """A table with rows joins the publication: they are missing, which is told."""
+    place.stock()
+    place.run("CREATE TABLE old (id int PRIMARY KEY)", "INSERT INTO old VALUES (1), (2)")
+    place.follow("--create")
+    place.run("ALTER PUBLICATION pgsub ADD TABLE old")
+    place.finds("publication", "public.old", place.follow())
+    place.is_strict_about("publication")
+
+
+def table_joins_while_following(place: Place) -> None:
+    """So it is where the table joins while it is followed: its first change tells."""
+    place.stock()
+    place.run("CREATE TABLE old (id int PRIMARY KEY)", "INSERT INTO old VALUES (1), (2)")
+    child = place.start("--create")
+    place.catch_up(child)
+    place.run("ALTER PUBLICATION pgsub ADD TABLE old", "INSERT INTO old VALUES (3)")
+    child.wait_for("found: publication", 30)
+    place.finds("publication", "public.old", child.stop())
+
+
+def new_table_of_all(place: Place) -> None:
+    """A new table of a publication for all tables is followed from its first row on, and nothing is found."""
+    place.stock(published=False)
+    place.run("CREATE PUBLICATION pgsub FOR ALL TABLES")
+    place.follow("--create")
+    place.run("CREATE TABLE fresh (id int PRIMARY KEY)", "INSERT INTO fresh VALUES (1)")
+    if "public.fresh" not in place.follow("--strict"):
+        raise Failed("the new table isn't told")
+    place.equal()
+
+
+def parted(place: Place, options: str) -> None:
+    place.run(
+        "CREATE TABLE sales (id int PRIMARY KEY) PARTITION BY RANGE (id)",
+        *(f"CREATE TABLE sales{it} PARTITION OF sales FOR VALUES FROM ({it}0) TO ({it}9)" for it in (1, 2, 3)),
+        "INSERT INTO sales VALUES (11), (21), (31)", f"CREATE PUBLICATION pgsub FOR TABLE sales {options}",
+    )
+
+
+def partition_detached(place: Place) -> None:
+    """A partition is detached and dropped under its root's name: its rows stay, which is told."""
+    parted(place, "WITH (publish_via_partition_root)")
+    place.follow("--create")
+    place.run("ALTER TABLE sales DETACH PARTITION sales1", "DROP TABLE sales1", "INSERT INTO sales VALUES (22)")
+    place.finds("publication", "sales1", place.follow())
+    place.is_strict_about("publication")
+
+
+def partition_attached(place: Place) -> None:
+    """A table with rows is attached as a partition under its root's name: they are missing, which is told."""
+    parted(place, "WITH (publish_via_partition_root)")
+    place.follow("--create")
+    place.run(
+        "CREATE TABLE sales4 (id int PRIMARY KEY)", "INSERT INTO sales4 VALUES (41)",
+        "ALTER TABLE sales ATTACH PARTITION sales4 FOR VALUES FROM (40) TO (49)", "INSERT INTO sales VALUES (42)",
+    )
+    place.finds("publication", "sales4", place.follow())
+    place.is_strict_about("publication")
+
+
+def partition_truncated(place: Place) -> None:
+    """A partition is truncated under its root's name, which the server doesn't send: told."""
+    parted(place, "WITH (publish_via_partition_root)")
+    place.follow("--create")
+    place.run("TRUNCATE sales1", "INSERT INTO sales VALUES (22)")
+    place.finds("publication", "sales1", place.follow())
+
+
+def partition_made(place: Place) -> None:
+    """A new partition is followed from its first row on, and nothing is found."""
+    parted(place, "WITH (publish_via_partition_root)")
+    place.follow("--create")
+    place.run("CREATE TABLE sales5 PARTITION OF sales FOR VALUES FROM (50) TO (59)", "INSERT INTO sales VALUES (51)")
+    if "sales5" not in place.follow("--strict"):
+        raise Failed("the new partition isn't told")
+    place.equal()
+
+
+def via_root(place: Place) -> None:
+    """The rows of partitions come under another name from now on: the older ones stay as they were, which is told."""
+    parted(place, "")
+    place.follow("--create")
+    place.run("ALTER PUBLICATION pgsub SET (publish_via_partition_root)", "INSERT INTO sales VALUES (12)")
+    place.finds("publication", "partition", place.follow())
+    place.is_strict_about("publication")
+
+
+def inserts_only(place: Place) -> None:
+    """A publication leaves out Updates and Deletes: told at once, and found where it does so only later."""
+    place.stock()
+    place.follow("--create")
+    place.run("ALTER PUBLICATION pgsub SET (publish = 'insert')")
+    said = place.follow()
+    place.finds("publication", "no updates any more", said)
+    if "no updates" not in place.follow():
+        raise Failed("a publication without updates isn't told at the next start")
+
+
+def row_filter(place: Place) -> None:
+    """A row filter or a column list is altered: told."""
+    place.stock()
+    place.follow("--create")
+    place.run("ALTER PUBLICATION pgsub SET TABLE stock (sku, quantity) WHERE (sku > 1)")
+    said = place.follow()
+    place.finds("publication", "row filter", said)
+    place.is_strict_about("publication")
+
+
+def made_again(place: Place) -> None:
+    """A publication is dropped and made again: changes in between can't be read, and it says what helps."""
+    place.stock()
+    place.follow("--create")
+    place.run("DROP PUBLICATION pgsub")
+    place.change()
+    place.run("CREATE PUBLICATION pgsub FOR TABLE stock")
+    end = place.cluster.log_end()
+    if place.options.installed.version < 18:
+        said = place.ends(SERVER, 'publication "pgsub" does not exist')
+        if "made anew" not in said and "made again" not in said and "dropped" not in said:
+            raise Failed(f"it doesn't say that the publication was made again: {said}")
+        place.run(f"SELECT pg_replication_slot_advance('{place.slot}', '{end}')")
+        said = place.follow("--accept-gap")
+    else:
+        # (from 18 on the server passes over what it can't read)
+        said = place.follow()
+    place.finds("publication", "made anew", said)
+
+
+def other_tables(place: Place) -> None:
+    """`--table` beside a publication of other tables is an error, and nothing is copied."""
+    place.stock()
+    place.run("CREATE TABLE other (id int PRIMARY KEY)")
+    child = place.start("--create", "--table", "other")
+    status = child.end()
+    if status not in (USAGE, SERVER, 5) or "other" not in child.said():
+        raise Failed(f"status {status}: {child.said()}")
+    if place.files() or place.beside(f".copying{LOG}").exists():
+        raise Failed("rows were copied")
+    if place.value("SELECT count(*) FROM pg_replication_slots") != "0":
+        raise Failed("a slot is left")
+
+
+CASES = (
+    Case("table-joins", table_joins),
+    Case("table-joins-while-following", table_joins_while_following),
+    Case("new-table-of-all-tables", new_table_of_all),
+    Case("partition-detached", partition_detached),
+    Case("partition-attached", partition_attached),
+    Case("partition-truncated", partition_truncated),
+    Case("partition-made", partition_made),
+    Case("partitions-under-another-name", via_root),
+    Case("publication-of-inserts", inserts_only),
+    Case("row-filter-altered", row_filter, since=15),
+    Case("publication-made-again", made_again),
+    Case("publication-of-other-tables", other_tables),
+)

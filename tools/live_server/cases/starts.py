@@ -1,0 +1,325 @@
+"""What a start does in situations that a store, its slot and their server can be in: goes on, begins anew, or rejects."""
+
+from __future__ import annotations
+
+import shutil
+import signal
+import subprocess
+from functools import partial
+from pathlib import Path
+
+from ..errors import Failed
+from ..follower import wait_until
+from ..place import FILE, LOG, PASSING, REJECTED, SERVER, UNFIT, USAGE, Place, killed_at
+from ..rows import compare, quoted, rows_of_server, rows_of_store
+from .case import Case
+
+
+def move(source: Path, target: Path) -> None:
+    if source.exists():
+        shutil.move(source, target)
+
+
+def saved(place: Place, suffix: str) -> None:
+    """Copies the store's files."""
+    for it in place.files():
+        shutil.copy(it, f"{it}{suffix}")
+
+
+def put_back(place: Place, suffix: str) -> None:
+    """Puts copied files into the place of the store's."""
+    for it in place.files():
+        it.unlink()
+    for it in (place.store, place.beside(LOG)):
+        move(Path(f"{it}{suffix}"), it)
+
+
+def going_on(place: Place) -> None:
+    """Goes on where it ended, with more rows, and after a keepalive moved the slot."""
+    place.stock(published=False)
+    place.follow("--create", "--table", "stock")
+    place.equal()
+    for _ in range(2):
+        place.change()
+        place.follow("--create")
+        place.equal()
+    place.follow()
+    place.run("CREATE TABLE other ()", "DROP TABLE other")
+    place.follow("--no-copy")
+    place.follow()
+    place.equal()
+
+
+def backup(place: Place) -> None:
+    """Rejects a store from a backup, and takes the right one back."""
+    place.stock()
+    place.follow("--create")
+    saved(place, ".backup")
+    place.change()
+    place.follow()
+    saved(place, ".right")
+    put_back(place, ".backup")
+    place.ends(UNFIT, "this is an older one")
+    put_back(place, ".right")
+    place.follow()
+    place.equal()
+
+
+def backup_with_checkpoint(place: Place) -> None:
+    """Rejects a store that was put back with its checkpoint, until the gap is accepted."""
+    place.stock()
+    place.follow("--create")
+    saved(place, ".backup")
+    shutil.copy(place.beside(".connector"), place.beside(".connector.backup"))
+    place.change()
+    place.follow()
+    put_back(place, ".backup")
+    move(place.beside(".connector.backup"), place.beside(".connector"))
+    place.ends(UNFIT, "somebody else moved the slot")
+    place.follow("--accept-gap")
+    place.follow()
+
+
+def without_checkpoint(place: Place) -> None:
+    """Rejects a store without its checkpoint, until it is said to be of this server."""
+    place.stock()
+    place.follow("--create")
+    place.beside(".connector").unlink()
+    place.ends(UNFIT, "its checkpoint isn't there")
+    place.change()
+    place.follow("--accept-gap")
+    place.equal()
+    place.follow()
+
+
+def torn_checkpoint(place: Place) -> None:
+    """Rejects a checkpoint that another program wrote."""
+    place.stock()
+    place.follow("--create")
+    place.beside(".connector").write_bytes(b"{\"phase\": ")
+    place.ends(FILE, "not a checkpoint")
+
+
+def open_elsewhere(place: Place) -> None:
+    """Waits for a store that somebody else has open."""
+    place.stock()
+    place.follow("--create")
+    place.change()
+    words = [str(place.options.program), "follow", "--store", str(place.store)]
+    with subprocess.Popen(words, stdin=subprocess.PIPE, stdout=subprocess.PIPE) as holder:
+        assert holder.stdout
+        holder.stdout.read(1)
+        child = place.start()
+        child.wait_for("is tried again")
+        holder.communicate()
+    place.catch_up(child)
+    child.stop()
+    place.equal()
+
+
+def signals(place: Place) -> None:
+    """Ends at a signal while the server makes the slot, and leaves none."""
+    place.stock()
+    waiting = "SELECT count(*) FROM pg_stat_activity WHERE state = 'active' AND query LIKE 'CREATE_REPLICATION_SLOT %'"
+    for words in (("--create",), ("--create", "--no-copy")):
+        with place.cluster.connect() as writer:
+            writer.run("BEGIN", "INSERT INTO stock VALUES (99, 9)")
+            child = place.start(*words)
+            wait_until(lambda: place.value(waiting) == "1", "making a slot", 60, child.check)
+            child.stop(signal.SIGINT, within=5)
+            wait_until(lambda: place.value("SELECT count(*) FROM pg_replication_slots") == "0", "dropping the slot")
+    place.follow("--create")
+    place.equal()
+
+
+def snapshots(place: Place) -> None:
+    """Copies the store for readers, also while the server is away."""
+    place.stock()
+    rows = place.folder / "rows?#%41.db"
+    child = place.start("--create", "--snapshot", str(rows))
+    place.catch_up(child)
+    place.cluster.stop()
+    child.signal(signal.SIGUSR1)
+    wait_until(rows.exists, "copying the store", 60, child.check)
+    place.cluster.start()
+    compare(rows_of_server(place.cluster, "pgsub"), rows_of_store(place.options.program, rows)[0])
+    place.change()
+    place.catch_up(child)
+    child.stop()
+    place.equal()
+
+
+def odd_names(place: Place) -> None:
+    """Follows a publication with quotes and a backslash in its name."""
+    name = 'it\'s \\ an "odd" one'
+    place.stock(published=False)
+    place.run(f"CREATE PUBLICATION {quoted(name)} FOR TABLE stock")
+    place.follow("--create", "--publication", name)
+    place.change()
+    place.follow("--publication", name)
+    place.equal(name)
+
+
+def store_gone(place: Place) -> None:
+    """Rejects where the store is gone, and begins anew where its slot and checkpoint are gone too."""
+    place.stock()
+    place.ends(UNFIT, "there is no store")
+    place.follow("--create")
+    for it in place.files():
+        it.unlink()
+    place.ends(UNFIT, "is there already", "--create")
+    place.ends(UNFIT, "is gone")
+    place.run(f"SELECT pg_drop_replication_slot('{place.slot}')")
+    place.beside(".connector").unlink()
+    place.change()
+    place.follow("--create")
+    place.equal()
+
+
+def slot_gone(place: Place) -> None:
+    """Rejects where the slot is gone, or was made anew."""
+    place.stock()
+    place.follow("--create")
+    place.run(f"SELECT pg_drop_replication_slot('{place.slot}')")
+    place.ends(UNFIT, "has no slot")
+    place.change()
+    place.run(f"SELECT pg_create_logical_replication_slot('{place.slot}', 'pgoutput')")
+    place.ends(UNFIT, "somebody else moved the slot")
+
+
+def others(place: Place) -> None:
+    """Rejects another database, and a slot of another plugin."""
+    place.stock()
+    place.follow("--create")
+    place.ends(UNFIT, "the store follows slot", dsn=place.cluster.dsn("postgres"))
+    place.run(
+        f"SELECT pg_drop_replication_slot('{place.slot}')",
+        f"SELECT pg_create_logical_replication_slot('{place.slot}', 'test_decoding')",
+    )
+    place.ends(UNFIT, "is not one of pgoutput")
+
+
+def not_there(place: Place) -> None:
+    """Ends where the server isn't there at the start, where it has no such database, and at a usage error."""
+    place.ends(PASSING, "No such file", "--create", dsn="host=/nowhere dbname=shop")
+    place.ends(SERVER, "does not exist", "--create", dsn=place.cluster.dsn("nothing"))
+    place.ends(USAGE, "--table needs --create", "--table", "stock")
+
+
+def rejected(place: Place) -> None:
+    """Ends where the stream is rejected, at each start, until the slot is moved and the gap accepted."""
+    place.stock()
+    place.run("CREATE TABLE large (id int PRIMARY KEY, word text)", "ALTER PUBLICATION pgsub ADD TABLE large")
+    place.follow("--create")
+    place.run("ALTER TABLE large ALTER word SET STORAGE EXTERNAL", many(1, 20))
+    after = place.cluster.log_end()
+    for _ in range(2):
+        place.ends(REJECTED, "pgsub: spool 1 SpoolFull", "--max-buffered", "1000000")
+    place.run(f"SELECT pg_replication_slot_advance('{place.slot}', '{after}')")
+    place.ends(UNFIT, "somebody else moved the slot")
+    place.change()
+    place.follow("--accept-gap")
+    place.run("TRUNCATE large")
+    place.follow()
+    place.equal()
+
+
+def many(first: int, count: int) -> str:
+    """Inserts so many rows of 100,000 bytes."""
+    return f"INSERT INTO large SELECT it, repeat('y', 100000) FROM generate_series({first}, {first + count - 1}) it"
+
+
+def open_transactions(place: Place) -> None:
+    """Takes transactions whole where they are too much to be open at a time."""
+    place.run("CREATE TABLE large (id int PRIMARY KEY, word text)", "ALTER TABLE large ALTER word SET STORAGE EXTERNAL")
+    place.run("CREATE PUBLICATION pgsub FOR TABLE large")
+    place.follow("--create")
+    with place.cluster.connect() as first, place.cluster.connect() as second:
+        first.run("BEGIN", many(1, 20))
+        second.run("BEGIN", many(100, 20))
+        first.run("COMMIT")
+        second.run("COMMIT")
+    if "they come whole from now on" not in place.follow("--max-buffered", "3000000"):
+        raise Failed("they fitted")
+    place.equal()
+
+
+def slot_given_up(place: Place) -> None:
+    """Ends where the server gave up the slot's log."""
+    place.stock()
+    place.follow("--create")
+    place.set(max_slot_wal_keep_size="1MB")
+    for _ in range(4):
+        place.change()
+        place.run("SELECT pg_switch_wal()")
+    place.run("CHECKPOINT")
+    lost = "SELECT wal_status FROM pg_replication_slots"
+    if place.value(lost) != "lost":
+        raise Failed(f"the slot is {place.value(lost)}")
+    place.ends(SERVER, place.slot)
+
+
+def without_copy(place: Place) -> None:
+    """Begins at a slot without rows, if told to."""
+    place.stock()
+    place.run(f"SELECT pg_create_logical_replication_slot('{place.slot}', 'pgoutput')")
+    place.ends(UNFIT, "is there already", "--create")
+    place.run("INSERT INTO stock VALUES (77, 7)")
+    place.follow("--no-copy")
+    if place.rows() != {("public", "stock"): {("77", "7"): 1}}:
+        raise Failed(f"{place.rows()}")
+    place.follow()
+
+
+def cut_copy(name: str, after: bool, place: Place) -> None:
+    """Begins anew or goes on after a copy that was cut off there."""
+    place.stock()
+    killed_at(place, name, after)
+    place.change()
+    place.follow("--create")
+    place.equal()
+    if place.beside(".copying").exists():
+        raise Failed("copy.db.copying is left")
+    if place.value("SELECT count(*) FROM pg_replication_slots") != "1":
+        raise Failed("a slot is left")
+
+
+CUTS = (
+    ("before-anything-was-made", "slot_position", True),
+    ("before-the-temporary-slot", "published_tables", True),
+    ("before-the-snapshot-was-taken", "take_snapshot", False),
+    ("before-the-first-row", "Copier.copy_table", False),
+    ("with-a-part-of-the-rows", "Copier.end_part", True),
+    ("before-the-lasting-slot", "Copier.make_lasting", False),
+    ("with-all-rows-and-the-slot", "Copier.keep", False),
+    ("between-its-two-renames", "os.rename", True),
+    ("after-it-was-complete", "Copier.keep", True),
+)
+
+
+def cut(name: str, after: bool) -> partial[None]:
+    call = partial(cut_copy, name, after)
+    call.__doc__ = cut_copy.__doc__
+    return call
+
+
+CASES = (
+    Case("goes-on-where-it-ended", going_on),
+    Case("store-from-a-backup", backup),
+    Case("store-and-checkpoint-from-a-backup", backup_with_checkpoint),
+    Case("store-without-its-checkpoint", without_checkpoint),
+    Case("checkpoint-of-another-program", torn_checkpoint),
+    Case("store-open-elsewhere", open_elsewhere),
+    Case("signal-while-the-slot-is-made", signals),
+    Case("snapshot-while-the-server-is-away", snapshots),
+    Case("publication-with-an-odd-name", odd_names),
+    Case("store-is-gone", store_gone),
+    Case("slot-is-gone", slot_gone),
+    Case("another-database-or-plugin", others),
+    Case("server-is-not-there", not_there),
+    Case("transaction-above-the-limit", rejected),
+    Case("open-transactions-above-the-limit", open_transactions, since=14),
+    Case("slot-whose-log-was-given-up", slot_given_up),
+    Case("slot-without-a-copy", without_copy),
+    *(Case(f"copy-cut-off-{name}", cut(call, after)) for name, call, after in CUTS),
+)

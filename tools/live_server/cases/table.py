@@ -1,0 +1,69 @@
+"""All cases."""
+
+from __future__ import annotations
+
+import contextlib
+import os
+from collections.abc import Iterable, Sequence
+
+from ..checks import Checks
+from ..errors import Unusable
+from ..options import Options
+from ..place import Place, Shared
+from . import (
+    copying, names, privacy, publications, reaching, shapes, sideroads, silence, slots, standbys, starts, stops, timelines, values,
+    versions,
+)
+from .case import Case
+
+THEMES: dict[str, Sequence[Case]] = {
+    "starts": (*starts.CASES, *shapes.CASES),
+    "names": names.CASES,
+    "publications": publications.CASES,
+    "values": values.CASES,
+    "timelines": timelines.CASES,
+    "slots": slots.CASES,
+    "copying": copying.CASES,
+    "stops": stops.CASES,
+    "silence": silence.CASES,
+    "standbys": standbys.CASES,
+    "reaching": reaching.CASES,
+    "versions": versions.CASES,
+    "sideroads": sideroads.CASES,
+    "privacy": privacy.CASES,
+}
+
+
+def chosen(names: Sequence[str]) -> list[Case]:
+    """The cases with these names, or of these themes; all where none is named."""
+    everything = [(theme, case) for theme, cases in THEMES.items() for case in cases]
+    known = {*THEMES, *(case.name for _, case in everything)}
+    if unknown := [name for name in names if name not in known]:
+        raise Unusable(f"there is no case {unknown[0]}: --list has their names")
+    return [case for theme, case in everything if not names or theme in names or case.name in names]
+
+
+def tell() -> None:
+    """Prints the names, the servers on which each case runs, and what is expected."""
+    for theme, cases in THEMES.items():
+        print(f"{theme}:")
+        for case in cases:
+            print(f"  {case.name} ({case.needs()}): {case.about()}")
+
+
+def run_case(case: Case, options: Options, shared: Shared) -> None:
+    with contextlib.closing(Place(options, shared.fresh())) as place:
+        case.run(place)
+
+
+def run(cases: Iterable[Case], options: Options, checks: Checks) -> None:
+    """Runs cases one after the other. What a server hasn't got is passed over."""
+    shared = Shared(options)
+    try:
+        for case in cases:
+            if case.can_run(options.installed.version, os.getuid() == 0):
+                checks.run(case.name, lambda case=case: run_case(case, options, shared))  # type: ignore[misc]
+            else:
+                print(f"passed over {case.name}: it needs {case.needs()}", flush=True)
+    finally:
+        shared.close()

@@ -1,0 +1,53 @@
+"""The short run of the merge gate: a copy of rows, following, each part killed once, a comparison, and README's walkthrough."""
+
+from __future__ import annotations
+
+import dataclasses
+import time
+
+from .checks import Checks
+from .follower import wait_until
+from .killing import Run, mixed
+from .load import Mixed
+from .options import Options
+from .walking import walk
+
+
+def run(options: Options, checks: Checks) -> None:
+    # (before version 14 of the server there is no version 2)
+    run, load = mixed(dataclasses.replace(options, workers=2, pause=0.2), options.proto or 2)
+    try:
+        if checks.run("copies rows while others are written", lambda: copies(run, load)):
+            load.truncate(True)
+            follows(run, checks)
+    finally:
+        run.close()
+    checks.run("README's walkthrough with a server", lambda: walk(options))
+
+
+def copies(run: Run, load: Mixed) -> None:
+    load.truncate(False)
+    load.fill(20_000)
+    run.begin()
+    run.wait_for("0/1", 60, "the copy")
+    run.supervisor.check()
+
+
+def follows(run: Run, checks: Checks) -> None:
+    for victim in ("filter", "connector", "server"):
+        checks.run(f"goes on after its {victim} was killed", lambda: goes_on(run, victim))
+    checks.run("has the rows of the server", lambda: equal(run))
+
+
+def goes_on(run: Run, victim: str) -> None:
+    """Kills a part, and waits until what is written afterwards is confirmed."""
+    # (a filter is started anew after the copy, and after each of the other kills)
+    wait_until(lambda: run.kill(victim), f"finding a {victim} that runs", 30)
+    time.sleep(0.5)
+    end = run.cluster.log_end()
+    run.wait_for(end, 60, f"confirming {end}")
+
+
+def equal(run: Run) -> str:
+    committed = run.load.end()
+    return f"{run.compare()}; {committed} transactions"

@@ -1,0 +1,240 @@
+"""Tries a package where neither checkout nor toolchain is: it is started as root, in a copy of a machine's files.
+
+In its folder are README.md, the packages in `first` and `second`, the tar file, and the module that runs walkthroughs. The last line
+is `N passed, M failed`.
+"""
+
+import json
+import os
+import pwd
+import signal
+import subprocess
+import sys
+import time
+from collections.abc import Callable
+from pathlib import Path
+
+from documents import walkthroughs
+
+HERE = Path(__file__).resolve().parent
+USER = "newcomer"
+SERVER = Path("/tmp/server")
+ENVIRONMENT = {**os.environ, "PGHOST": str(SERVER), "DEBIAN_FRONTEND": "noninteractive"}
+SECONDS = 120.0
+
+
+class Wrong(Exception):
+    """Something isn't as it should be."""
+
+
+class Counts:
+    passed = failed = 0
+
+    def note(self, what: str, wrong: list[str]) -> None:
+        self.passed += not wrong
+        self.failed += bool(wrong)
+        print("FAILED" if wrong else "ok", what, *wrong, sep="\n  " if wrong else " ", flush=True)
+
+    def tried(self, what: str, call: Callable[[], None]) -> None:
+        try:
+            call()
+            self.note(what, [])
+        except (Wrong, OSError, ValueError, subprocess.SubprocessError) as wrong:
+            self.note(what, [f"{type(wrong).__name__}: {wrong}"])
+
+
+def run(*words: str, user: str = "root", **more: str) -> str:
+    """Runs a command as a user, and returns what it prints."""
+    before = [] if user == "root" else ["runuser", "-u", user, "--"]
+    ran = subprocess.run([*before, *words], capture_output=True, text=True, env={**ENVIRONMENT, **more}, cwd="/tmp")
+    if ran.returncode:
+        raise Wrong(f"{' '.join(words)}: status {ran.returncode}: {ran.stdout[-2000:]} {ran.stderr[-2000:]}")
+    return ran.stdout.strip()
+
+
+def bare() -> None:
+    """What a package needs isn't there, nor what one is made with."""
+    run("apt-get", "-y", "-qq", "purge", "python3-psycopg")
+    run("apt-get", "-qq", "update")
+    for command in ("rt", "pgsub", "pgsub-connect"):
+        if subprocess.run(["which", command], stdout=subprocess.DEVNULL).returncode == 0:
+            raise Wrong(f"{command} is there")
+    if subprocess.run(["/usr/bin/python3", "-c", "import psycopg"], stderr=subprocess.DEVNULL).returncode == 0:
+        raise Wrong("psycopg is there")
+
+
+def walk(counts: Counts, kind: str, user: str, folder: Path) -> None:
+    """Runs README's blocks of one kind as a user, in a process of their own."""
+    text = (HERE / "README.md").read_text(encoding="utf-8")
+    account = pwd.getpwnam(user)
+    child = os.fork()
+    if child:
+        status = os.waitstatus_to_exitcode(os.waitpid(child, 0)[1])
+        counts.passed += status // 16
+        counts.failed += status % 16
+        return
+    mine = Counts()
+    try:
+        os.initgroups(user, account.pw_gid)
+        os.setgid(account.pw_gid)
+        os.setuid(account.pw_uid)
+        environment = {**ENVIRONMENT, "HOME": account.pw_dir, "USER": user, "LOGNAME": user}
+        for block, wrong in walkthroughs.run_kind(text, kind, folder, environment):
+            mine.note(f"README.md:{block.line}, run with {kind}", wrong)
+        if not mine.passed + mine.failed:
+            mine.note(f"README.md has no block that is run with {kind}", ["none"])
+    except BaseException as wrong:  # noqa: BLE001
+        mine.note(f"README.md, {kind}", [repr(wrong)])
+    finally:
+        os._exit(min(mine.passed, 15) * 16 + min(mine.failed, 15))
+
+
+def start_server() -> None:
+    binaries = sorted(Path("/usr/lib/postgresql").glob("*/bin"))[-1]
+    SERVER.mkdir()
+    os.chown(SERVER, pwd.getpwnam("postgres").pw_uid, 0)
+    SERVER.chmod(0o755)
+    run(str(binaries / "initdb"), "-D", f"{SERVER}/data", "-A", "trust", user="postgres")
+    with open(SERVER / "data/postgresql.conf", "a") as file:
+        file.write(f"wal_level = logical\nlisten_addresses = ''\nunix_socket_directories = '{SERVER}'\nfsync = off\n")
+    log = open(SERVER / "log", "w")
+    words = ["runuser", "-u", "postgres", "--", str(binaries / "postgres"), "-D", f"{SERVER}/data"]
+    subprocess.Popen(words, stdout=log, stderr=log)
+    until = time.monotonic() + SECONDS
+    while subprocess.run([binaries / "pg_isready", "-q"], env=ENVIRONMENT).returncode:
+        if time.monotonic() > until:
+            raise Wrong("the server doesn't start")
+        time.sleep(0.2)
+    run("psql", "-q", "-c", f"CREATE ROLE {USER} LOGIN REPLICATION CREATEDB", "postgres", user="postgres")
+
+
+class Following:
+    """A follower of README's shop, started by the new user."""
+
+    def __init__(self, folder: Path) -> None:
+        self.folder = folder
+        self.log = folder / "follower.log"
+        with open(self.log, "a") as log:
+            words = ["runuser", "-u", USER, "--", "pgsub-connect", "follow", "--dsn", "dbname=shop", "--store", "copy.db"]
+            words += ["--status-file", "status.json"]
+            self.process = subprocess.Popen(words, cwd=folder, env={**ENVIRONMENT, "HOME": f"/home/{USER}"}, stderr=log)
+
+    def wait_for(self, state: str) -> dict[str, object]:
+        until = time.monotonic() + SECONDS
+        while time.monotonic() < until and self.process.poll() is None:
+            try:
+                found: dict[str, object] = json.loads((self.folder / "status.json").read_text())
+            except (OSError, ValueError):
+                found = {}
+            if found.get("state") == state:
+                return found
+            time.sleep(0.2)
+        raise Wrong(f"the follower isn't {state}: {self.log.read_text()[-2000:]}")
+
+    def stop(self) -> None:
+        pids = run("pgrep", "-u", USER, "-f", "pgsub-connect follow").split()
+        for it in pids:
+            os.kill(int(it), signal.SIGTERM)
+        if self.process.wait(SECONDS):
+            raise Wrong(f"the follower ended with status {self.process.returncode}: {self.log.read_text()[-2000:]}")
+
+
+def rows(folder: Path) -> tuple[str, str]:
+    """The rows of the server's table, and those of an export."""
+    query = "SELECT sku, quantity FROM stock ORDER BY 1"
+    server = run("psql", "-At", "-c", query, "shop", user=USER)
+    run("pgsub-connect", "export", "--store", str(folder / "copy.db"), "--into", str(folder / "rows.db"), user=USER)
+    return server, run("sqlite3", str(folder / "rows.db"), query, user=USER)
+
+
+def wait_for_rows(folder: Path) -> None:
+    until = time.monotonic() + SECONDS
+    while True:
+        server, exported = rows(folder)
+        if server == exported:
+            return
+        if time.monotonic() > until:
+            raise Wrong(f"the server has\n{server}\nand the export\n{exported}")
+        time.sleep(0.5)
+
+
+def follows(following: Following) -> None:
+    following.wait_for("following")
+    wait_for_rows(following.folder)
+
+
+def upgrade(counts: Counts, folder: Path) -> None:
+    """Installs the second build while the first one follows and the server changes. Nothing is lost."""
+    insert = "INSERT INTO stock SELECT 'G-' || count(*), count(*) FROM stock"
+    following = Following(folder)
+    counts.tried("the first build follows", lambda: follows(following))
+
+    def install() -> None:
+        run("psql", "-q", "-c", insert, "shop", user=USER)
+        run("apt-get", "-y", "-qq", "install", *(str(it) for it in (HERE / "second").iterdir()))
+        if ".later" not in run("pgsub-connect", "--version"):
+            raise Wrong("the version is the old one")
+        run("psql", "-q", "-c", insert, "shop", user=USER)
+
+    counts.tried("the second build is installed", install)
+    counts.tried("what ran goes on", lambda: wait_for_rows(folder))
+
+    def refuse() -> None:
+        for it in run("pgrep", "-u", USER, "-x", "pgsub").split():
+            os.kill(int(it), signal.SIGKILL)
+        status = following.process.wait(SECONDS)
+        if status != 7 or "install both from one package" not in following.log.read_text():
+            raise Wrong(f"status {status}: {following.log.read_text()[-2000:]}")
+
+    counts.tried("the old connector doesn't start the new program", refuse)
+    run("psql", "-q", "-c", insert, "shop", user=USER)
+    second = Following(folder)
+    counts.tried("the second build goes on from there", lambda: follows(second))
+    counts.tried("it ends when it is asked to", second.stop)
+
+
+def unpack_tar() -> None:
+    """The tar file has the same, for /usr/local."""
+    run("tar", "-C", "/usr/local", "--strip-components=1", "-xzf", *(str(it) for it in HERE.glob("*.tar.gz")))
+    told = run("/usr/local/bin/pgsub-connect", "--version")
+    if run("/usr/bin/pgsub-connect", "--version").replace(".later", "") != told:
+        raise Wrong(told)
+    run("/usr/local/bin/pgsub", "--help")
+    if "/usr/local/bin/pgsub-connect" not in Path("/usr/local/lib/systemd/system/pgsub@.service").read_text():
+        raise Wrong("the unit file names another connector")
+
+
+def check_installed() -> None:
+    for page in ("pgsub", "pgsub-connect"):
+        run("man", "-w", page)
+    run("systemd-analyze", "verify", "--man=no", "/usr/lib/systemd/system/pgsub@.service")
+    if run("getent", "passwd", "pgsub").split(":")[6] != "/usr/sbin/nologin":
+        raise Wrong("the account of the followers can log in")
+
+
+def removed() -> None:
+    run("apt-get", "-y", "-qq", "remove", "pgsub")
+    left = [it for it in ("/usr/lib/pgsub", "/usr/bin/pgsub", "/usr/bin/pgsub-connect") if os.path.lexists(it)]
+    if left:
+        raise Wrong(f"left are {', '.join(left)}")
+
+
+def main() -> int:
+    counts = Counts()
+    counts.tried("without toolchain, checkout and psycopg", bare)
+    run("useradd", "--create-home", USER)
+    walk(counts, "package", "root", HERE / "first")
+    counts.tried("manual pages, unit file and account", check_installed)
+    counts.tried("a server", start_server)
+    folder = Path(f"/home/{USER}/walk")
+    run("mkdir", str(folder), user=USER)
+    walk(counts, "server", USER, folder)
+    upgrade(counts, folder)
+    counts.tried("the tar file", unpack_tar)
+    counts.tried("removed", removed)
+    print(f"{counts.passed} passed, {counts.failed} failed")
+    return int(counts.failed > 0 or not counts.passed)
+
+
+if __name__ == "__main__":
+    sys.exit(main())

@@ -1,0 +1,89 @@
+"""What ./install puts where. The program is a script in its place, so nothing is built."""
+
+import os
+import subprocess
+import tempfile
+import unittest
+from pathlib import Path
+
+TOP = Path(__file__).resolve().parents[2]
+PROGRAM = """#!/bin/sh
+[ "$1" = --help ] && { printf 'Copies\\n\\nCommands:\\n  dump  Print it\\n\\nOptions:\\n  -h, --help  Print help\\n'; exit; }
+printf 'Print it\\n\\nOptions:\\n      --store <FILE>  The store\\n  -h, --help  Print help\\n'
+"""
+
+
+class Case(unittest.TestCase):
+    room: Path
+    root: Path
+
+    @classmethod
+    def setUpClass(cls) -> None:
+        room = tempfile.TemporaryDirectory()
+        cls.addClassCleanup(room.cleanup)
+        cls.room = Path(room.name)
+        (cls.room / "program").write_text(PROGRAM)
+        (cls.room / "program").chmod(0o755)
+        cls.root = cls.room / "root/opt/here"
+        cls.install()
+
+    @classmethod
+    def install(cls, *more: str | Path) -> None:
+        words = ("/opt/here", "--destdir", cls.room / "root", "--program", cls.room / "program", "--version", "1.2+3", *more)
+        subprocess.run([TOP / "install", *words], check=True, capture_output=True, cwd=cls.room)
+
+    def run_it(self, *words: str) -> subprocess.CompletedProcess[str]:
+        return subprocess.run([self.root / "bin/pgsub-connect", *words], capture_output=True, text=True, cwd=self.room)
+
+    def files(self) -> set[str]:
+        return {str(it.relative_to(self.root)) for it in self.root.rglob("*") if not it.is_dir()}
+
+    def test_all_of_it(self) -> None:
+        found = self.files()
+        modules = {f"lib/pgsub/pgsub_connect/{it.name}" for it in (TOP / "connect/pgsub_connect").glob("*.py")}
+        self.assertTrue(modules <= found)
+        self.assertEqual(
+            found - modules,
+            {
+                "bin/pgsub", "bin/pgsub-connect", "lib/pgsub/pgsub", "lib/pgsub/pgsub-connect", "lib/pgsub/BUILD",
+                "lib/pgsub/pgsub_connect/BUILD", "lib/systemd/system/pgsub@.service", "share/man/man1/pgsub.1.gz",
+                "share/man/man1/pgsub-connect.1.gz", "share/doc/pgsub/README.md", "share/doc/pgsub/OPERATING.md",
+                "share/doc/pgsub/CHANGELOG.md", "share/doc/pgsub/LICENSE", "share/doc/pgsub/LICENSE-MIT", "share/doc/pgsub/LICENSE-APACHE",
+            },
+        )
+        self.assertIn("ExecStart=/opt/here/bin/pgsub-connect follow", (self.root / "lib/systemd/system/pgsub@.service").read_text())
+        build = dict(it.split(" ", 1) for it in (self.root / "lib/pgsub/BUILD").read_text().splitlines())
+        self.assertEqual(set(build), {"version", "commit", "kit", "program"})
+        self.assertEqual((build["version"], build["kit"]), ("1.2+3", (TOP / "KITS").read_text().splitlines()[-1]))
+        self.assertIn("1.2+3", self.run_it("--version").stdout)
+
+    def test_again(self) -> None:
+        """Modules that are gone go, a program that runs goes on, and the connector runs no other build's."""
+        (self.root / "lib/pgsub/pgsub_connect/old.py").write_text("")
+        before = os.stat(self.root / "lib/pgsub/pgsub").st_ino
+        for name in ("pgsub.1", "pgsub-connect.1"):
+            (self.room / name).write_text("page")
+        self.install("--pages", self.room)
+        self.assertNotIn("lib/pgsub/pgsub_connect/old.py", self.files())
+        self.assertNotEqual(os.stat(self.root / "lib/pgsub/pgsub").st_ino, before)
+        (self.root / "lib/pgsub/pgsub").write_text("#!/bin/sh\necho pgsub: wire 1 UnknownFrame 7 >&2; exit 1\n")
+        words = ("follow", "--store", str(self.room / "copy.db"), "--dsn", "host=/nowhere", "--no-copy")
+        told = self.run_it(*words)
+        self.assertEqual(told.returncode, 1, told.stderr)
+        self.assertIn("UnknownFrame", told.stderr)
+        build = self.root / "lib/pgsub/BUILD"
+        self.addCleanup(build.write_text, build.read_text())
+        build.write_text("version 1.2+4\n")
+        told = self.run_it(*words)
+        self.assertEqual(told.returncode, 7, told.stderr)
+        self.assertIn("install both from one package", told.stderr)
+
+    def test_usage(self) -> None:
+        for words in (("--destdir",), ("--odd", "1"), ("/a", "/b")):
+            self.assertEqual(subprocess.run([TOP / "install", *words], capture_output=True).returncode, 2, words)
+        self.assertEqual(subprocess.run([TOP / "install", "relative"], capture_output=True).returncode, 2)
+        self.assertEqual(subprocess.run([TOP / "install", "/opt/here", "--program", "/nowhere"], capture_output=True).returncode, 1)
+
+
+if __name__ == "__main__":
+    unittest.main()

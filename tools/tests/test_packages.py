@@ -1,0 +1,63 @@
+"""What a package says of itself."""
+
+import subprocess
+import tempfile
+import unittest
+from pathlib import Path
+
+from built import TOP
+from packages import SCRIPTS, Build, Failed, least_libc, lines_of, run
+from packages.trial import check_same
+
+
+class Case(unittest.TestCase):
+    def setUp(self) -> None:
+        room = tempfile.TemporaryDirectory()
+        self.addCleanup(room.cleanup)
+        self.room = Path(room.name)
+        self.program = self.room / "pgsub"
+
+    def test_the_oldest_libc(self) -> None:
+        for content, version in ((b"", "2.17"), (b"\0GLIBC_2.2.5\0GLIBC_2.34\0GLIBC_2.4\0", "2.34")):
+            self.program.write_bytes(content)
+            self.assertEqual(least_libc(self.program), version)
+
+    def test_versions_rise(self) -> None:
+        self.program.write_bytes(b"")
+        build = Build.of_checkout(self.program)
+        self.assertRegex(build.version, r"^0\.1\.0\+\d{14}\.g[0-9a-f]+$")
+        pairs = ((build.version, build.later().version), ("0.1.0+20261125000000.gfff", "0.1.0+20261126000000.g000"))
+        for first, second in pairs:
+            subprocess.run(["dpkg", "--compare-versions", first, "lt", second], check=True)
+
+    def test_scripts_are_of_the_shell(self) -> None:
+        for script in SCRIPTS.iterdir():
+            subprocess.run(["sh", "-n", script], check=True)
+
+    def test_sums(self) -> None:
+        for name in ("a", "b"):
+            folder = self.room / name
+            folder.mkdir()
+            (folder / "file").write_text("x")
+            (folder / "SHA256SUMS").write_text(lines_of([folder / "file"]))
+        check_same(self.room / "a", self.room / "b")
+        (self.room / "a/file").write_text("y")
+        with self.assertRaisesRegex(Failed, "hasn't the sum"):
+            check_same(self.room / "a", self.room / "b")
+        (self.room / "a/SHA256SUMS").write_text("")
+        with self.assertRaisesRegex(Failed, "differ"):
+            check_same(self.room / "a", self.room / "b")
+
+    def test_a_command_that_fails(self) -> None:
+        with self.assertRaisesRegex(Failed, "false: status 1"):
+            run("false")
+
+    def test_the_unit_file(self) -> None:
+        text = (TOP / "connect/pgsub@.service").read_text()
+        wanted = ("UMask=0077", "NoNewPrivileges=yes", "ProtectSystem=strict", "RestartForceExitStatus=7", "Restart=on-abnormal")
+        for line in wanted:
+            self.assertIn(f"\n{line}\n", text)
+
+
+if __name__ == "__main__":
+    unittest.main()

@@ -1,0 +1,123 @@
+"""The script ./pgsub: when it builds, what it leaves, and what it says."""
+
+import fcntl
+import os
+import shutil
+import subprocess
+import tempfile
+import time
+import unittest
+from pathlib import Path
+
+TOP = Path(__file__).resolve().parents[2]
+KIT = "a-kit logic 1"
+# A toolchain whose program prints what its source says. It takes what is in its folder, and says so.
+RT = """#!/bin/sh
+[ "$1" = version ] && { echo "${KIT-a-kit logic 1}"; exit; }
+echo "$PWD" >> "$CALLS"
+grep -q broken src/main.rt && { echo "it is broken" >&2; exit 1; }
+mkdir -p out
+{ echo '#!/bin/sh'; echo "echo $(cat src/main.rt)" '"$@"'; } > out/pgsub
+chmod +x out/pgsub
+"""
+
+
+class Case(unittest.TestCase):
+    def setUp(self) -> None:
+        room = tempfile.TemporaryDirectory()
+        self.addCleanup(room.cleanup)
+        self.top, self.calls, self.cache = (Path(room.name, it) for it in ("checkout", "calls", "cache"))
+        (self.top / "crates/pgsub/src").mkdir(parents=True)
+        shutil.copy(TOP / "pgsub", self.top)
+        for name, text in (("KITS", f"# kits\nanother\n{KIT}\n"), ("HANDLES", "none\n"), ("crates.txt", "pgsub:\n")):
+            (self.top / name).write_text(text)
+        self.rt = Path(room.name, "rt")
+        self.rt.write_text(RT)
+        self.rt.chmod(0o755)
+        self.program = self.top / "crates/pgsub/out/pgsub"
+        self.write("first")
+
+    def write(self, text: str, age: float = -100.0) -> None:
+        path = self.top / "crates/pgsub/src/main.rt"
+        path.write_text(text)
+        os.utime(path, (time.time() + age,) * 2)
+
+    def run_it(self, *words: str, **more: str) -> tuple[int, str, str]:
+        environment = {**os.environ, "RT": str(self.rt), "CALLS": str(self.calls), "XDG_CACHE_HOME": str(self.cache), **more}
+        ran = subprocess.run([self.top / "pgsub", *words], capture_output=True, text=True, env=environment)
+        return ran.returncode, ran.stdout, ran.stderr
+
+    def room(self) -> Path:
+        """The folder in which it was built."""
+        (found,) = (self.cache / "pgsub").iterdir()
+        return found
+
+    def builds(self) -> int:
+        return len(self.calls.read_text().splitlines()) if self.calls.exists() else 0
+
+    def test_builds_where_there_is_none(self) -> None:
+        self.assertEqual(self.run_it("--is-current")[0], 1)
+        status, out, err = self.run_it("a", "b")
+        self.assertEqual((status, out), (0, "first a b\n"))
+        self.assertIn("an hour on four cores", err)
+        self.assertEqual(self.run_it("c"), (0, "first c\n", ""))
+        self.assertEqual(self.run_it("--is-current"), (0, "", ""))
+        self.assertEqual(self.builds(), 1)
+        self.assertEqual(self.calls.read_text(), f"{self.room()}/crates/pgsub\n")
+        self.assertEqual(sorted(os.listdir(self.top)), ["HANDLES", "KITS", "crates", "crates.txt", "pgsub"])
+
+    def test_an_older_program_is_run_and_told_of(self) -> None:
+        self.run_it()
+        self.write("second", 100.0)
+        status, out, err = self.run_it("a")
+        self.assertEqual((status, out), (0, "first a\n"))
+        self.assertEqual(err, "pgsub: the program is older than its sources: ./pgsub --build makes it anew\n")
+        status, out, err = self.run_it("--is-current")
+        self.assertEqual((status, out), (1, ""))
+        self.assertIn("older than", err)
+
+    def test_build(self) -> None:
+        self.run_it()
+        self.write("second", -1.0)
+        self.assertEqual(self.run_it("--build")[:2], (0, ""))
+        self.assertEqual(self.run_it("a"), (0, "second a\n", ""))
+        self.assertEqual(self.builds(), 2)
+
+    def test_what_fails_leaves_the_program(self) -> None:
+        self.run_it()
+        self.write("broken", -1.0)
+        status, _, err = self.run_it("--build")
+        self.assertEqual(status, 126)
+        self.assertIn("it is broken", err)
+        self.assertEqual(self.run_it("a")[1], "first a\n")
+        self.program.unlink()
+        self.assertEqual(self.run_it("a")[:2], (126, ""))
+
+    def test_sources_that_are_gone(self) -> None:
+        old = self.top / "crates/pgold/src"
+        old.mkdir(parents=True)
+        (old / "lib.rt").write_text("x")
+        self.run_it()
+        shutil.rmtree(old.parent)
+        self.run_it("--build")
+        self.assertEqual(os.listdir(self.room() / "crates"), ["pgsub"])
+
+    def test_another_kit(self) -> None:
+        status, _, err = self.run_it("a", KIT="a-kit logic 2")
+        self.assertEqual((status, err), (126, f"pgsub: the toolchain is a-kit logic 2, and KITS names another;{KIT}\n"))
+        self.assertFalse(self.program.exists())
+
+    def test_no_toolchain(self) -> None:
+        status, _, err = self.run_it("a", RT="/nowhere/rt")
+        self.assertEqual(status, 127)
+        self.assertIn("has to be on the path", err)
+
+    def test_two_at_a_time(self) -> None:
+        self.run_it()
+        with open(self.room() / "lock", "w") as file:
+            fcntl.flock(file, fcntl.LOCK_EX)
+            self.assertIn("another build is at work", self.run_it("--build")[2])
+
+
+if __name__ == "__main__":
+    unittest.main()
