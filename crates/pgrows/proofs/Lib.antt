@@ -1,0 +1,14 @@
+pub mod SetUp
+pub mod Entered
+pub mod Seek
+pub mod Unique
+pub mod Placed
+pub mod Found
+pub mod Edited
+pub mod Position
+pub mod Defined
+pub mod First
+pub mod Emptied
+pub mod Ordered
+pub mod Given
+pub mod Marked

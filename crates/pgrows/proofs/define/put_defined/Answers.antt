@@ -1,0 +1,36 @@
+use Rattle.std.proofs.Common.{◌≡◌, refl, sym, ap, subst, ◌∙◌, arith, rules}
+use Rattle.std.proofs.lemmas.Result.{on_ok_weaker}
+use Rattle.sqlite_trees.specs.View.{View, IsClean}
+use Rattle.sqlite_rules.proofs.ViewLemmas.{on_ok_both}
+use Rattle.pgrows.proofs.SetUp.{rel_shape, definitions_rise}
+use Rattle.pgrows.proofs.Found.{open_of, wrote_under, low_still}
+use Rattle.pgrows.proofs.Defined.{defined_by, rows_stand}
+use Rattle.pgrows.proofs.define.put_defined.Goals as goal
+
+pub put-requires-clause-table : goal.put-requires-clause-table
+put-requires-clause-table g c clean =
+    let store = c.args.store.now in
+    let unbroken = sym (c.is_broken.ensures clean) ∙ c.if-is_broken.false in
+    let up = open_of (g.S.Store.view store) (g.met.S.Store.broken_if_shut store) unbroken in
+    rel_shape (c.requires clean up).good (g.met.S.Alter.listed store unbroken) (g.met.S.Store.ordered store unbroken)
+
+pub returns-clause-made : goal.returns-clause-made
+returns-clause-made g c clean =
+    let store = c.args.store.now in
+    let was : IsClean (g.S.Store.view store) = omega (arith, c.put.ensures.quiet.clean) in
+    on_ok_weaker c.put.result (λ done.
+    let sets = done clean in
+    let up = open_of (g.S.Store.view store) (g.met.S.Store.broken_if_shut store) sets.sound in
+    let it = defined_by c.args.oid (record { namespace = c.args.namespace.now; name = c.args.name.now; letter = c.args.letter; columns = c.args.columns.now }) (g.S.Store.view store) (g.S.Store.view c.put.new.self) c.write_definition.new.row c.in_ok-write_definition.ensures (c.requires was up).good (definitions_rise (c.requires was up).good (g.met.S.Alter.listed store sets.sound) (g.met.S.Store.ordered store sets.sound)) sets in
+    record { was_open = up; is_open = ap (λ (v : View). v.is_open) sets.is ∙ up; made = it.1 }) c.put.ensures.ok
+
+pub returns-clause-rows : goal.returns-clause-rows
+returns-clause-rows g c =
+    let store = c.args.store.now in
+    on_ok_both c.put.result (λ done frame clean still.
+    let was : IsClean (g.S.Store.view store) = omega (arith, c.put.ensures.quiet.clean) in
+    let sets = done clean in
+    let up = open_of (g.S.Store.view store) (g.met.S.Store.broken_if_shut store) sets.sound in
+    let under = c.requires was up in
+    let it = defined_by c.args.oid (record { namespace = c.args.namespace.now; name = c.args.name.now; letter = c.args.letter; columns = c.args.columns.now }) (g.S.Store.view store) (g.S.Store.view c.put.new.self) c.write_definition.new.row c.in_ok-write_definition.ensures under.good (definitions_rise under.good (g.met.S.Alter.listed store sets.sound) (g.met.S.Store.ordered store sets.sound)) sets in
+    wrote_under _ _ c.args._last (frame clean) under.good under.behind it.0 (low_still c.args._last (g.S.Store.view store).committed ((g.S.Store.view store).trees 1) ((g.S.Store.view c.put.new.self).trees 1) (rows_stand (g.S.Store.view store) (g.S.Store.view c.put.new.self) c.write_definition.new.row sets) under.below)) c.put.ensures.ok c.put.ensures.frame

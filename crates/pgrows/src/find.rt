@@ -1,0 +1,48 @@
+//! Finds a row by its key.
+
+ghost use Rattle.std.specs.Prelude.{◌≡◌, false, MatchOption, IfOk, OnOk, OnErr};
+ghost use Rattle.sqlite_trees.specs.View.{IsClean, IsQuiet};
+ghost use Rattle.sqlite_exec.specs.Calls.{OnlyReads};
+ghost use Rattle.pgrows.specs.Rows.{IsFree, IsGood, Keeps, Stands, state};
+
+use crate::entry::{id_at, write_key};
+use sqlite_trees::error::StoreError;
+use sqlite_trees::store::{Alter, Direction};
+use sqlite_value::row::Row;
+
+pub(crate) const DEFINED: u32 = 0;
+
+pub(crate) const TABLE: u32 = 1;
+
+pub(crate) const INDEX: u32 = 2;
+
+pub(crate) const PLACE: u32 = 3;
+
+/// The rowid of the row that has the key.
+pub(crate) fn find<S: Alter>(
+    store: &mut S,
+    key: &mut Row,
+    found: &mut Row,
+    oid: u32,
+    ident: &[u8],
+) -> Result<Option<i64>, StoreError>
+    requires { IsClean (S.Store.view store.old) → IsGood (S.Store.view store.old) }
+    ensures found { IsClean (S.Store.view store.new) → IfOk result (λ id. MatchOption id
+        (IsFree oid ident.now ((S.Store.view store.old).trees 1))
+        (Stands oid ident.now ((S.Store.view store.old).trees 1))) }
+    ensures sound { IsClean (S.Store.view store.new) →
+        OnOk result ((S.Store.view store.old).is_broken ≡ false) }
+    ensures same { IsClean (S.Store.view store.new) →
+        OnOk result (OnlyReads (S.Store.view store.old) (S.Store.view store.new)) }
+    ensures err { IsClean (S.Store.view store.new) →
+        OnErr result (Keeps S.Store store.old store.new) }
+    ensures quiet { IsQuiet S.Store.view S.Store.faults S.Store.recovers S.Store.is_shielded
+        store.old store.new }
+{
+    write_key(key, oid, ident)?;
+    store.seek(0, INDEX, key, Direction::Forward)?;
+    if !store.next(0, found)? {
+        return Ok(None);
+    }
+    Ok(id_at(found, oid, ident))
+}

@@ -1,0 +1,13 @@
+//! The rows of a store by the trees below SQL: the same tables, the same index, the same file.
+#![tactic(auto)]
+
+mod change;
+mod define;
+mod dump;
+mod entry;
+mod find;
+mod insert;
+mod relation;
+pub mod rows;
+pub mod sink;
+mod whole;

@@ -1,0 +1,530 @@
+//! A store of trees that holds the three tables of a store.
+
+ghost use Rattle.std.specs.Prelude.{◌≡◌, ◌≢◌, ◌++◌, ◌∷◌, [], ℤ, Some, None, true, false, IsSome, IsTrue, IfOk, MatchBool, OnOk, OnErr};
+ghost use Rattle.std.specs.FinMap.{get};
+ghost use Rattle.sqlite.specs.Held as connection;
+ghost use Rattle.sqlite.specs.declared.types.Value.TheVariants.{Int};
+ghost use Rattle.sqlite.specs.State.{HasCleanDisk, Survives};
+ghost use Rattle.pgtables.specs.DumpOrder.{dump_of};
+ghost use Rattle.pgtables.specs.Kept as connected;
+ghost use Rattle.pgtables.specs.Kept.{Copies, Definition, IsKept, held_row, is_there, rel_row, with_definition, with_place, with_row, without_row, without_rows};
+ghost use Rattle.pgrows.specs.Dump.{GivesFront};
+ghost use Rattle.pgrows.specs.Rows.{Drops, GoesBack, IfServing, Keeps, Makes, Marks, Shows, database, state, tables_of, with_row_if_there};
+
+use crate::change::{put_place, remove, set};
+use crate::define::{look_up, put_defined};
+use crate::dump::give_all;
+use crate::insert::add;
+use crate::relation::clear;
+use crate::sink::RowSink;
+use crate::whole::{put, read};
+use pgtables::see_committed;
+use sqlite::Connection;
+use sqlite_trees::error::StoreError;
+use sqlite_trees::store::Alter;
+use sqlite_value::row::Row;
+use std::alloc::Global;
+use std::marker::Model;
+
+/// A store whose trees are those of the three tables, inside a transaction that is always open. A call that fails rolls nothing
+/// back: from then on each call fails until `back` goes to the newest mark, or `undo` or `commit` to the last commit.
+#[derive(Drop)]
+pub struct Rows<S: Alter> {
+    store: S,
+    key: Row,
+    found: Row,
+    row: Row,
+    // No row of the commit, of a mark or of the transaction has a rowid above it. It isn't known before the first change.
+    last: Option<i64>,
+    failed: bool,
+}
+
+impl<S: Alter> Model for Rows<S> {
+    ghost use Rattle.pgrows.specs.Rows.{IsHeld};
+
+    ghost Value = { S };
+
+    ghost coded = { S.code };
+
+    ghost view = { λ r. r.store };
+
+    ghost invariant = { λ r. IsHeld S.Store r.store r.last r.failed };
+}
+
+impl<S: Alter + Drop> Rows<S> {
+    /// The rows of the tables that a connection shows outside a transaction.
+    pub fn of_connection(alloc: Global, conn: Connection<S>) -> Rows<S>
+        requires settled { (connection.state S.Store conn).in_transaction ≡ false }
+        requires kept { connected.IfServing S.Store conn
+            (IsKept (connection.state S.Store conn).now) }
+        ensures tables { IfServing S.Store result
+            (IsTrue (connection.state S.Store conn).is_open
+            × ((state S.Store result).now ≡ (connection.state S.Store conn).now)
+            × ((state S.Store result).committed ≡ (connection.state S.Store conn).now)
+            × ((state S.Store result).marks ≡ [])) }
+        ensures survives { Survives (connection.state S.Store conn)
+            (record (state S.Store result)
+            { step_limit = (connection.state S.Store conn).step_limit }) (λ _. ⊥) }
+    {
+        see_committed(&conn);
+        Rows {
+            store: conn.into_store(),
+            key: Row::new(alloc),
+            found: Row::new(alloc),
+            row: Row::new(alloc),
+            last: None,
+            failed: false,
+        }
+    }
+}
+
+impl<S: Alter> Rows<S> {
+    /// Puts a row whose key isn't there yet. It answers false where it is there, and then nothing changes.
+    pub fn add_row(
+        &mut self,
+        oid: u32,
+        ident: &[u8],
+        body: &[u8],
+        copies: u32,
+    ) -> Result<bool, StoreError>
+        ensures added { HasCleanDisk (state S.Store self.new) →
+            IfOk result (λ is_new. is_new ≡ true →
+            (get (tables_of S.Store self.old).rows (oid ∷ ident.now) ≡ None)
+            × Makes S.Store (with_row oid ident.now (record { body = body.now; copies = copies }))
+            self.old self.new) }
+        ensures there { HasCleanDisk (state S.Store self.new) →
+            IfOk result (λ is_new. is_new ≡ false →
+            IsSome (get (tables_of S.Store self.old).rows (oid ∷ ident.now))
+            × Makes S.Store (λ t. t) self.old self.new) }
+        ensures keeps { HasCleanDisk (state S.Store self.new) →
+            Keeps S.Store self.old self.new }
+        ensures survives { Survives (state S.Store self.old) (state S.Store self.new) (λ _. ⊥) }
+    {
+        if self.failed {
+            return Err(StoreError::Broken);
+        }
+        match add(
+            &mut self.store,
+            &mut self.key,
+            &mut self.found,
+            &mut self.row,
+            self.last,
+            oid,
+            ident,
+            body,
+            copies,
+        ) {
+            Ok((is_new, last)) => {
+                self.last = Some(last);
+                Ok(is_new)
+            }
+            Err(error) => {
+                self.failed = true;
+                Err(error)
+            }
+        }
+    }
+
+    /// Puts a row in the place of the one that has its key, and answers whether there is one. Where none is, nothing changes.
+    pub fn set_row(
+        &mut self,
+        oid: u32,
+        ident: &[u8],
+        body: &[u8],
+        copies: u32,
+    ) -> Result<bool, StoreError>
+        ensures told { HasCleanDisk (state S.Store self.new) → IfOk result (λ was_there.
+            was_there ≡ is_there oid ident.now (tables_of S.Store self.old)) }
+        ensures made { HasCleanDisk (state S.Store self.new) → OnOk result
+            (Makes S.Store (with_row_if_there oid ident.now
+            (record { body = body.now; copies = copies })) self.old self.new) }
+        ensures keeps { HasCleanDisk (state S.Store self.new) →
+            Keeps S.Store self.old self.new }
+        ensures survives { Survives (state S.Store self.old) (state S.Store self.new) (λ _. ⊥) }
+    {
+        if self.failed {
+            return Err(StoreError::Broken);
+        }
+        match set(
+            &mut self.store,
+            &mut self.key,
+            &mut self.found,
+            &mut self.row,
+            self.last,
+            oid,
+            ident,
+            body,
+            copies,
+        ) {
+            Ok((was_there, last)) => {
+                self.last = Some(last);
+                Ok(was_there)
+            }
+            Err(error) => {
+                self.failed = true;
+                Err(error)
+            }
+        }
+    }
+
+    /// Puts a row in the place of the one that has its key.
+    pub fn put_row(
+        &mut self,
+        oid: u32,
+        ident: &[u8],
+        body: &[u8],
+        copies: u32,
+    ) -> Result<(), StoreError>
+        ensures made { HasCleanDisk (state S.Store self.new) → OnOk result
+            (Makes S.Store (with_row oid ident.now (record { body = body.now; copies = copies }))
+            self.old self.new) }
+        ensures keeps { HasCleanDisk (state S.Store self.new) →
+            Keeps S.Store self.old self.new }
+        ensures survives { Survives (state S.Store self.old) (state S.Store self.new) (λ _. ⊥) }
+    {
+        if self.failed {
+            return Err(StoreError::Broken);
+        }
+        match put(
+            &mut self.store,
+            &mut self.key,
+            &mut self.found,
+            &mut self.row,
+            self.last,
+            oid,
+            ident,
+            body,
+            copies,
+        ) {
+            Ok(last) => {
+                self.last = Some(last);
+                Ok(())
+            }
+            Err(error) => {
+                self.failed = true;
+                Err(error)
+            }
+        }
+    }
+
+    /// Looks the row up that has the key: it stands in `row` then. It answers false where none has it.
+    pub fn find_row(&mut self, oid: u32, ident: &[u8], row: &mut Row) -> Result<bool, StoreError>
+        ensures found { HasCleanDisk (state S.Store self.new) → IfOk result (λ found. MatchBool found
+            ((k : Copies) × (get (tables_of S.Store self.old).rows (oid ∷ ident.now) ≡ Some k)
+            × (id : ℤ) × (row.new ≡ held_row (Int id) oid ident.now k))
+            (get (tables_of S.Store self.old).rows (oid ∷ ident.now) ≡ None)) }
+        ensures made { HasCleanDisk (state S.Store self.new) → OnOk result
+            (Makes S.Store (λ t. t) self.old self.new) }
+        ensures keeps { HasCleanDisk (state S.Store self.new) →
+            Keeps S.Store self.old self.new }
+        ensures survives { Survives (state S.Store self.old) (state S.Store self.new) (λ _. ⊥) }
+    {
+        if self.failed {
+            return Err(StoreError::Broken);
+        }
+        match read(
+            &mut self.store,
+            &mut self.key,
+            &mut self.found,
+            row,
+            self.last,
+            oid,
+            ident,
+        ) {
+            Ok(found) => Ok(found),
+            Err(error) => {
+                self.failed = true;
+                Err(error)
+            }
+        }
+    }
+
+    /// Deletes the row that has the key, and answers whether there was one.
+    pub fn delete_row(&mut self, oid: u32, ident: &[u8]) -> Result<bool, StoreError>
+        ensures told { HasCleanDisk (state S.Store self.new) → IfOk result (λ was_there.
+            was_there ≡ is_there oid ident.now (tables_of S.Store self.old)) }
+        ensures made { HasCleanDisk (state S.Store self.new) → OnOk result
+            (Makes S.Store (without_row oid ident.now) self.old self.new) }
+        ensures keeps { HasCleanDisk (state S.Store self.new) →
+            Keeps S.Store self.old self.new }
+        ensures survives { Survives (state S.Store self.old) (state S.Store self.new) (λ _. ⊥) }
+    {
+        if self.failed {
+            return Err(StoreError::Broken);
+        }
+        match remove(
+            &mut self.store,
+            &mut self.key,
+            &mut self.found,
+            self.last,
+            oid,
+            ident,
+        ) {
+            Ok((was_there, last)) => {
+                self.last = Some(last);
+                Ok(was_there)
+            }
+            Err(error) => {
+                self.failed = true;
+                Err(error)
+            }
+        }
+    }
+
+    /// Deletes all rows of a relation.
+    pub fn delete_rows(&mut self, oid: u32) -> Result<(), StoreError>
+        ensures made { HasCleanDisk (state S.Store self.new) → OnOk result
+            (Makes S.Store (without_rows oid) self.old self.new) }
+        ensures keeps { HasCleanDisk (state S.Store self.new) →
+            Keeps S.Store self.old self.new }
+        ensures survives { Survives (state S.Store self.old) (state S.Store self.new) (λ _. ⊥) }
+    {
+        if self.failed {
+            return Err(StoreError::Broken);
+        }
+        match clear(
+            &mut self.store,
+            &mut self.key,
+            &mut self.found,
+            self.last,
+            oid,
+        ) {
+            Ok(last) => {
+                self.last = Some(last);
+                Ok(())
+            }
+            Err(error) => {
+                self.failed = true;
+                Err(error)
+            }
+        }
+    }
+
+    /// Looks the definition of a relation up: its row stands in `row` then. It answers false where the relation has none.
+    pub fn find_definition(&mut self, oid: u32, row: &mut Row) -> Result<bool, StoreError>
+        ensures found { HasCleanDisk (state S.Store self.new) → IfOk result (λ found. MatchBool found
+            ((d : Definition) × (get (tables_of S.Store self.old).defined oid ≡ Some d)
+            × (row.new ≡ rel_row oid d))
+            (get (tables_of S.Store self.old).defined oid ≡ None)) }
+        ensures made { HasCleanDisk (state S.Store self.new) → OnOk result
+            (Makes S.Store (λ t. t) self.old self.new) }
+        ensures keeps { HasCleanDisk (state S.Store self.new) →
+            Keeps S.Store self.old self.new }
+        ensures survives { Survives (state S.Store self.old) (state S.Store self.new) (λ _. ⊥) }
+    {
+        if self.failed {
+            return Err(StoreError::Broken);
+        }
+        match look_up(&mut self.store, row, self.last, oid) {
+            Ok(found) => Ok(found),
+            Err(error) => {
+                self.failed = true;
+                Err(error)
+            }
+        }
+    }
+
+    /// Puts a definition in place of the one that the relation has.
+    pub fn put_definition(
+        &mut self,
+        oid: u32,
+        namespace: &str,
+        name: &str,
+        letter: u32,
+        columns: &[u8],
+    ) -> Result<(), StoreError>
+        ensures made { HasCleanDisk (state S.Store self.new) → OnOk result
+            (Makes S.Store (with_definition oid
+            (record {
+              namespace = namespace.now;
+              name = name.now;
+              letter = letter;
+              columns = columns.now;
+            })) self.old self.new) }
+        ensures keeps { HasCleanDisk (state S.Store self.new) →
+            Keeps S.Store self.old self.new }
+        ensures survives { Survives (state S.Store self.old) (state S.Store self.new) (λ _. ⊥) }
+    {
+        if self.failed {
+            return Err(StoreError::Broken);
+        }
+        match put_defined(
+            &mut self.store,
+            &mut self.row,
+            self.last,
+            oid,
+            namespace,
+            name,
+            letter,
+            columns,
+        ) {
+            Ok(()) => Ok(()),
+            Err(error) => {
+                self.failed = true;
+                Err(error)
+            }
+        }
+    }
+
+    /// Puts the position.
+    pub fn put_position(&mut self, position: &[u8]) -> Result<(), StoreError>
+        ensures made { HasCleanDisk (state S.Store self.new) → OnOk result
+            (Makes S.Store (with_place position.now) self.old self.new) }
+        ensures keeps { HasCleanDisk (state S.Store self.new) →
+            Keeps S.Store self.old self.new }
+        ensures survives { Survives (state S.Store self.old) (state S.Store self.new) (λ _. ⊥) }
+    {
+        if self.failed {
+            return Err(StoreError::Broken);
+        }
+        match put_place(&mut self.store, &mut self.row, self.last, position) {
+            Ok(()) => Ok(()),
+            Err(error) => {
+                self.failed = true;
+                Err(error)
+            }
+        }
+    }
+
+    /// Marks what the transaction shows, so that `back` can go back to it.
+    pub fn mark(&mut self) -> Result<(), StoreError>
+        ensures marked { HasCleanDisk (state S.Store self.new) →
+            OnOk result (Marks (state S.Store self.old) (state S.Store self.new)) }
+        ensures keeps { HasCleanDisk (state S.Store self.new) →
+            OnErr result (Keeps S.Store self.old self.new) }
+        ensures survives { Survives (state S.Store self.old) (state S.Store self.new) (λ _. ⊥) }
+    {
+        if self.failed {
+            return Err(StoreError::Broken);
+        }
+        match self.store.savepoint() {
+            Ok(()) => Ok(()),
+            Err(error) => {
+                self.failed = true;
+                Err(error)
+            }
+        }
+    }
+
+    /// Drops the newest mark, and keeps what was changed since.
+    pub fn keep(&mut self) -> Result<(), StoreError>
+        ensures kept { HasCleanDisk (state S.Store self.new) →
+            OnOk result (Drops (state S.Store self.old) (state S.Store self.new)) }
+        ensures keeps { HasCleanDisk (state S.Store self.new) →
+            OnErr result (Keeps S.Store self.old self.new) }
+        ensures survives { Survives (state S.Store self.old) (state S.Store self.new) (λ _. ⊥) }
+    {
+        if self.failed || self.store.is_broken() {
+            return Err(StoreError::Broken);
+        }
+        match self.store.release() {
+            Ok(()) => Ok(()),
+            Err(error) => {
+                self.failed = true;
+                Err(error)
+            }
+        }
+    }
+
+    /// Goes back to the newest mark, which stays, also after a call that failed.
+    pub fn back(&mut self) -> Result<(), StoreError>
+        requires { IfServing S.Store self.old ((state S.Store self.old).marks ≢ []) }
+        ensures back { HasCleanDisk (state S.Store self.new) →
+            OnOk result (GoesBack (state S.Store self.old) (state S.Store self.new)) }
+        ensures keeps { HasCleanDisk (state S.Store self.new) →
+            Keeps S.Store self.old self.new }
+        ensures survives { Survives (state S.Store self.old) (state S.Store self.new) (λ _. ⊥) }
+    {
+        match self.store.rollback_to() {
+            Ok(()) => {
+                self.failed = false;
+                Ok(())
+            }
+            Err(error) => {
+                self.failed = true;
+                Err(error)
+            }
+        }
+    }
+
+    /// Goes back to the last commit, and drops each mark.
+    pub fn undo(&mut self)
+        ensures undone { IfServing S.Store self.new (Shows S.Store self.old self.new
+            (state S.Store self.old).committed.trees (state S.Store self.old).committed.trees) }
+        ensures survives { Survives (state S.Store self.old) (state S.Store self.new) (λ _. ⊥) }
+    {
+        self.store.rollback();
+        self.failed = false;
+    }
+
+    /// Commits what was changed, and drops each mark. Where that or an earlier call failed, it goes back to the last commit.
+    pub fn commit(&mut self) -> Result<(), StoreError>
+        ensures committed { HasCleanDisk (state S.Store self.new) → OnOk result
+            (Shows S.Store self.old self.new (state S.Store self.old).now.trees
+            (state S.Store self.old).now.trees) }
+        ensures undone { IfServing S.Store self.new (OnErr result (Shows S.Store self.old self.new
+            (state S.Store self.old).committed.trees
+            (state S.Store self.old).committed.trees)) }
+        ensures survives { Survives (state S.Store self.old) (state S.Store self.new)
+            (λ db. IsTrue (state S.Store self.old).is_open
+            × (db ≡ (state S.Store self.old).now.trees) × IsKept (database db)) }
+    {
+        if self.failed {
+            self.undo();
+            return Err(StoreError::Broken);
+        }
+        self.store.commit()
+    }
+
+    /// Gives all rows with their relation's OID, namespace and name, their bytes and how often they stand, by OID and then by the
+    /// bytes of the identity. It answers false where the sink stopped before the end. What was given is always a front of the dump.
+    pub fn each_row<T: RowSink>(&mut self, alloc: Global, sink: &mut T) -> Result<bool, StoreError>
+        ensures front { HasCleanDisk (state S.Store self.new) →
+            GivesFront (tables_of S.Store self.old) (T.RowSink.taken sink.old)
+            (T.RowSink.taken sink.new) }
+        ensures all { HasCleanDisk (state S.Store self.new) → IfOk result (λ all. all ≡ true →
+            T.RowSink.taken sink.new
+            ≡ T.RowSink.taken sink.old ++ dump_of (tables_of S.Store self.old)) }
+        ensures made { HasCleanDisk (state S.Store self.new) → OnOk result
+            (Makes S.Store (λ t. t) self.old self.new) }
+        ensures keeps { HasCleanDisk (state S.Store self.new) →
+            Keeps S.Store self.old self.new }
+        ensures survives { Survives (state S.Store self.old) (state S.Store self.new) (λ _. ⊥) }
+    {
+        if self.failed {
+            return Err(StoreError::Broken);
+        }
+        let mut definition = Row::new(alloc);
+        let mut shown = Row::new(alloc);
+        match give_all(
+            &mut self.store,
+            &mut self.found,
+            &mut self.row,
+            &mut definition,
+            &mut shown,
+            sink,
+            self.last,
+        ) {
+            Ok(all) => Ok(all),
+            Err(error) => {
+                self.failed = true;
+                Err(error)
+            }
+        }
+    }
+
+    /// What is committed are tables of a store. The call does nothing: a store of rows shows this only to a caller that asks.
+    pub fn see_kept(&self)
+        ensures { IfServing S.Store self.now (IsKept (state S.Store self.now).committed) }
+    {
+        let _store = &self.store;
+    }
+
+    /// Whether no call has failed since the last mark or commit. Then what the transaction shows are tables of a store.
+    pub fn is_sound(&self) -> bool
+        ensures sound { result ≡ true → HasCleanDisk (state S.Store self.now) →
+            IsTrue (state S.Store self.now).is_open × IsKept (state S.Store self.now).now }
+    {
+        !self.failed && !self.store.is_broken()
+    }
+}

@@ -1,0 +1,83 @@
+//! Reads the row that has a key, and puts one whether its key is there or not.
+
+ghost use Rattle.std.specs.Prelude.{◌≡◌, ◌∷◌, ℤ, Some, None, IfOk, MatchBool, OnOk};
+ghost use Rattle.std.specs.FinMap.{get};
+ghost use Rattle.sqlite.specs.State.{HasCleanDisk};
+ghost use Rattle.sqlite.specs.declared.types.Value.TheVariants.{Int};
+ghost use Rattle.sqlite_trees.specs.View.{IsClean, IsQuiet};
+ghost use Rattle.pgtables.specs.Kept.{Copies, held_row, with_row};
+ghost use Rattle.pgrows.specs.Rows.{AreRows, Keeps, Makes, state, tables_of};
+
+use crate::change::put_over;
+use crate::find::{TABLE, find};
+use crate::insert::{append, top_of};
+use sqlite_trees::error::StoreError;
+use sqlite_trees::store::Alter;
+use sqlite_value::row::Row;
+
+/// Puts a row in the place of the one that has its key, or as a new one, and answers the last rowid.
+pub(crate) fn put<S: Alter>(
+    store: &mut S,
+    key: &mut Row,
+    found: &mut Row,
+    row: &mut Row,
+    last: Option<i64>,
+    oid: u32,
+    ident: &[u8],
+    body: &[u8],
+    copies: u32,
+) -> Result<i64, StoreError>
+    requires { AreRows S.Store store.old last }
+    ensures made { IsClean (S.Store.view store.new) → OnOk result
+        (Makes S.Store (with_row oid ident.now (record { body = body.now; copies = copies }))
+        store.old store.new) }
+    ensures rows { IfOk result (λ n. AreRows S.Store store.new (Some n)) }
+    ensures keeps { HasCleanDisk (state S.Store store.new) →
+        Keeps S.Store store.old store.new }
+    ensures quiet { IsQuiet S.Store.view S.Store.faults S.Store.recovers S.Store.is_shielded
+        store.old store.new }
+{
+    let top = top_of(store, found, last)?;
+    match find(store, key, found, oid, ident)? {
+        Some(id) => {
+            put_over(store, row, id, oid, ident, body, copies)?;
+            Ok(top)
+        }
+        None => {
+            let id = append(store, key, row, top, oid, ident, body, copies)?;
+            Ok(id)
+        }
+    }
+}
+
+/// Writes the row that has the key over `row`, or answers false where none has it.
+pub(crate) fn read<S: Alter>(
+    store: &mut S,
+    key: &mut Row,
+    found: &mut Row,
+    row: &mut Row,
+    _last: Option<i64>,
+    oid: u32,
+    ident: &[u8],
+) -> Result<bool, StoreError>
+    requires { AreRows S.Store store.old _last }
+    ensures found { IsClean (S.Store.view store.new) → IfOk result (λ found. MatchBool found
+        ((k : Copies) × (get (tables_of S.Store store.old).rows (oid ∷ ident.now) ≡ Some k)
+        × (id : ℤ) × (row.new ≡ held_row (Int id) oid ident.now k))
+        (get (tables_of S.Store store.old).rows (oid ∷ ident.now) ≡ None)) }
+    ensures made { IsClean (S.Store.view store.new) → OnOk result
+        (Makes S.Store (λ t. t) store.old store.new) }
+    ensures rows { OnOk result (AreRows S.Store store.new _last) }
+    ensures keeps { HasCleanDisk (state S.Store store.new) →
+        Keeps S.Store store.old store.new }
+    ensures quiet { IsQuiet S.Store.view S.Store.faults S.Store.recovers S.Store.is_shielded
+        store.old store.new }
+{
+    if store.is_broken() {
+        return Err(StoreError::Broken);
+    }
+    match find(store, key, found, oid, ident)? {
+        Some(id) => store.get(TABLE, id, row),
+        None => Ok(false),
+    }
+}
