@@ -23,7 +23,7 @@ from .copying import Copier, create_slot, maker_of
 from .errors import FileError, FilterFault, Passing, ServerError, Stopped, Unfit, UsageError
 from .filtering import Filter, FilterEnded
 from .following import Follower
-from .limits import LONGEST_FRAME, default_buffered
+from .limits import LONGEST_FRAME, MOST_PAGES, default_buffered
 from .postgres import Check, parameters
 from .progress import Progress
 from .recording import LONGEST, Aside, Recorder, Recording
@@ -88,6 +88,7 @@ class Options:
     pgsub: str = ""
     max_buffered: int = 0
     max_frame: int = 0
+    cache: int | None = None
     mode: int = 0o600
     record: str | None = None
     append: bool = False
@@ -180,6 +181,8 @@ def add_following(parser: argparse.ArgumentParser) -> None:
         help="the most that may be buffered of open transactions (default: half of the memory, at most 1 GiB)")
     add("--max-frame", type=within(1 << 10, LONGEST_FRAME), default=0, metavar="BYTES",
         help="the longest message that is accepted (default: what may be buffered, at most 1 GiB)")
+    add("--cache", type=within(100, MOST_PAGES), metavar="PAGES",
+        help="pages of the store's file that stay in memory (default: 20000, which cost 20 MB; see `pgsub follow --help`)")
     add("--until", type=lsn_or_now, metavar="LSN|now", help="stop once all that was committed up to this LSN, or up to now, is stored")
     add("--silence", type=seconds, default=60.0, metavar="N", help="give a server up that says nothing for N seconds (default: 60)")
     add("--strict", action="store_true", help="end with status 5 where something was found that may have made the copy wrong")
@@ -393,6 +396,7 @@ def snapshot_by_signal(snapshots: Snapshots) -> None:
 def make_filter(options: Options, checkpoint: Checkpoint, path: str) -> Filter:
     words = [options.pgsub, "follow", "--store", path]
     words += ["--max-buffered", str(options.max_buffered), "--max-frame", str(options.max_frame)]
+    words += ["--cache", str(options.cache)] if options.cache else []
     return Filter(words, (checkpoint.file,), options.proto, options.mode)
 
 

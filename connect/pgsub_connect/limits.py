@@ -7,6 +7,8 @@ import os
 
 # The longest frame that PostgreSQL can send, with its length.
 LONGEST_FRAME = 2147483643
+# How many pages a store's file has at most.
+MOST_PAGES = 4294967294
 MOST = 1 << 30
 LEAST = 64 << 20
 

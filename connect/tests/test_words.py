@@ -42,6 +42,7 @@ class Words(Quiet):
             "follow --store s --proto 3", "follow --store s --mode 0444", "follow --store s --mode x", "follow --store s --until x",
             "follow --store s --silence 0", "follow --store s --silence -1", "follow --store s --silence nan",
             "follow --store s --heartbeat 0", "follow --store s --heartbeat inf", "follow --store s --max-frame 2147483644",
+            "follow --store s --cache 99", "follow --store s --cache 4294967295", "follow --store s --cache 1e3",
             "follow --store s --max-buffered 0", "follow --store s --skip 5", "follow --store s --accept x", "follow --store s --seconds 5",
             "follow --store s --create temporary", "drop", "names", "nothing", "follow --store s --create --all-tables --keyless inserts",
         ):
@@ -81,6 +82,16 @@ class Words(Quiet):
             self.assertEqual((self.settled().max_buffered, self.settled().max_frame), (1 << 28, 1 << 28))
         options = self.settled("--max-buffered", "5000000000")
         self.assertEqual((options.max_buffered, options.max_frame), (5000000000, 2147483643))
+
+    def filter_words(self, *words: str) -> list[str]:
+        options = self.settled("--max-buffered", "5000", "--pgsub", "/bin/pgsub", *words)
+        return cli.make_filter(options, mock.Mock(file=3), "/nonexistent/s").words
+
+    def test_words_of_the_filter(self) -> None:
+        words = ["/bin/pgsub", "follow", "--store", "/nonexistent/s", "--max-buffered", "5000", "--max-frame", "5000"]
+        self.assertEqual(self.filter_words(), words)
+        for pages in ("100", "4294967294"):
+            self.assertEqual(self.filter_words("--cache", pages), [*words, "--cache", pages])
 
 
 class Ends(Quiet):

@@ -92,6 +92,11 @@ def resumed(program, read, file):
     compare("what may be confirmed", program, ["resume", file], int(read.fault is not None), out, stop_line(read.fault))
 
 
+def cache_words(number):
+    """Asks each run over a file for another number of pages in memory."""
+    return ([], ["--cache", "100"], ["--cache=4000"])[number % 3]
+
+
 def stored(program, sessions, version, words, ends=None):
     """A run for each session over a store in a file, up to the first fault; the last one ends so, where that is known."""
     store = program.path_of("copy.db")
@@ -102,7 +107,7 @@ def stored(program, sessions, version, words, ends=None):
         if ends and (read.fault or number == len(sessions) - 1) and ends != (status, rows, line):
             raise AssertionError(f"two models differ: {(status, rows, line)} and {ends}")
         file = program.file(f"session.{number}.raw", content)
-        compare("a store in a file", program, ["apply", "--store", store, "--raw", *words, file], status, rows, line)
+        compare("a store in a file", program, ["apply", "--store", store, *cache_words(number), "--raw", *words, file], status, rows, line)
         if read.fault:
             break
     words = ["dump", "--store", program.copied_alone(store)]
@@ -231,7 +236,7 @@ def followed(case, program):
         read = read.restarted()
         written = Followed(read).follow(part).written
         file = program.file(f"input.{number}", part)
-        compare("following", program, ["follow", *words], exit_status(read.fault), written, stop_line(read.fault), file)
+        compare("following", program, ["follow", *words, *cache_words(number)], exit_status(read.fault), written, stop_line(read.fault), file)
     compare("what the file holds", program, ["dump", "--store", store], 0, model.dump(read.tables, read.position), b"")
 
 

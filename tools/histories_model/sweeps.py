@@ -9,6 +9,7 @@ from functools import partial
 from . import tables as model
 from . import wire, worked
 from .cases import compare, stop_line
+from .program import MEMORY
 from .reader import MAX_FRAME, Reader
 from .worked import ONE
 
@@ -276,5 +277,27 @@ def sizes():
         yield made.__name__.replace("_", " "), partial(sized, made)
 
 
+# how many pages of a store stay in memory
+
+def kept_within(pages, program):
+    """A store of which so many pages stay in memory, and afterwards more than there is memory for: then nothing is changed."""
+    store, words, file = program.path_of("copy.db"), ["--cache", str(pages)], program.file("one.raw", ONE)
+    read = Reader(2).follow([ONE])
+    apply("a store", program, ["--store", store, *words, "--raw"], file, read)
+    rows = model.dump(read.tables, read.position)
+    compare("the store", program, ["dump", "--store", store, *words], 0, rows, b"")
+    # (of 1,024 bytes each, which are all that a run may have)
+    words = ["--store", store, "--cache", str(MEMORY // 1024)]
+    for what, status in ((["apply", *words, "--raw", file], 1), (["dump", *words], 1), (["follow", *words], 14)):
+        compare("too many pages", program, what, status, b"", b"pgsub: memory\n")
+    compare("the store afterwards", program, ["dump", "--store", store], 0, rows, b"")
+
+
+def caches():
+    for pages in (100, 20000):
+        yield f"{pages} pages", partial(kept_within, pages)
+
+
 SWEEPS = {"cuts": cuts, "bytes": byte_values, "numbers": great_numbers, "orders": orders, "changes": bad_changes,
-          "foreign": foreign_frames, "rows": long_rows, "sizes": sizes}
+          "foreign": foreign_frames, "rows": long_rows, "sizes": sizes,
+          "caches": caches}

@@ -57,17 +57,25 @@ max_frame_rule = record (new_rule (codes "max-frame")) {
   defaults = codes "16777216" ∷ [];
 }
 
+abbrev pub cache_rule : Rule
+cache_rule = record (new_rule (codes "cache")) {
+  long = Some (codes "cache");
+  value_names = 1;
+  parser = Some (Signed (pos 100) (pos 4294967294));
+  defaults = codes "20000" ∷ [];
+}
+
 abbrev pub show_app : App
 show_app = with_rule (with_rule (new_app (codes "show")) proto_rule) (word_rule (codes "FILE"))
 
 abbrev pub apply_app : App
-apply_app = with_rule (with_rule (with_rule (with_rule (with_rule (with_rule (with_rule (new_app (codes "apply")) proto_rule) raw_rule) progress_rule) (store_rule false)) max_buffered_rule) max_frame_rule) (word_rule (codes "FILE"))
+apply_app = with_rule (with_rule (with_rule (with_rule (with_rule (with_rule (with_rule (with_rule (new_app (codes "apply")) proto_rule) raw_rule) progress_rule) (store_rule false)) cache_rule) max_buffered_rule) max_frame_rule) (word_rule (codes "FILE"))
 
 abbrev pub dump_app : App
-dump_app = with_rule (new_app (codes "dump")) (store_rule true)
+dump_app = with_rule (with_rule (new_app (codes "dump")) (store_rule true)) cache_rule
 
 abbrev pub follow_app : App
-follow_app = with_rule (with_rule (with_rule (with_rule (new_app (codes "follow")) proto_rule) max_buffered_rule) max_frame_rule) (store_rule true)
+follow_app = with_rule (with_rule (with_rule (with_rule (with_rule (new_app (codes "follow")) proto_rule) max_buffered_rule) max_frame_rule) (store_rule true)) cache_rule
 
 abbrev pub same_app : App
 same_app = with_rule (with_rule (with_rule (new_app (codes "same")) proto_rule) (word_rule (codes "LEFT"))) (word_rule (codes "RIGHT"))
@@ -111,6 +119,10 @@ pub record IsLimits (rows : List Row) (limits : Limits) : Type 0 where
   pub buffered : ReadsUpTo 18446744073709551615 (one_of (codes "max-buffered") rows) limits.max_buffered
   pub frame : ReadsUpTo 2147483643 (one_of (codes "max-frame") rows) limits.max_frame
 
+-- How many pages of the store's file are kept in memory. A file of SQLite has at most 4294967294.
+abbrev pub IsCache : List Row → ℕ → Type 0
+IsCache rows cache = ReadsUpTo 4294967294 (one_of (codes "cache") rows) cache
+
 -- whether the flag of this name is given
 abbrev pub IsFlag : Text → List Row → Bool → Type 0
 IsFlag name rows flag = (one_of name rows ≡ Some (codes "true") → flag ≡ true) × (one_of name rows ≡ Some (codes "false") → flag ≡ false)
@@ -121,9 +133,9 @@ NamesStore rows store = option_map string_bytes store ≡ first_of (codes "store
 
 abbrev pub IsAsked : Text → List Row → Task → Type 0
 IsAsked name rows (Show version file) = (name ≡ codes "show") × IsVersion rows version × (string_bytes file ≡ text_in (codes "FILE") rows)
-IsAsked name rows (Apply version limits raw progress store file) = (name ≡ codes "apply") × IsVersion rows version × IsLimits rows limits × IsFlag (codes "raw") rows raw × IsFlag (codes "progress") rows progress × NamesStore rows store × (string_bytes file ≡ text_in (codes "FILE") rows)
-IsAsked name rows (Dump store) = (name ≡ codes "dump") × (string_bytes store ≡ text_in (codes "store") rows)
-IsAsked name rows (Follow version limits store) = (name ≡ codes "follow") × IsVersion rows version × IsLimits rows limits × (string_bytes store ≡ text_in (codes "store") rows)
+IsAsked name rows (Apply version limits raw progress store cache file) = (name ≡ codes "apply") × IsVersion rows version × IsLimits rows limits × IsFlag (codes "raw") rows raw × IsFlag (codes "progress") rows progress × NamesStore rows store × IsCache rows cache × (string_bytes file ≡ text_in (codes "FILE") rows)
+IsAsked name rows (Dump store cache) = (name ≡ codes "dump") × IsCache rows cache × (string_bytes store ≡ text_in (codes "store") rows)
+IsAsked name rows (Follow version limits store cache) = (name ≡ codes "follow") × IsVersion rows version × IsLimits rows limits × IsCache rows cache × (string_bytes store ≡ text_in (codes "store") rows)
 IsAsked name rows (Same version left right) = (name ≡ codes "same") × IsVersion rows version × (string_bytes left ≡ text_in (codes "LEFT") rows) × (string_bytes right ≡ text_in (codes "RIGHT") rows)
 IsAsked name rows (Resume file) = (name ≡ codes "resume") × (string_bytes file ≡ text_in (codes "FILE") rows)
 IsAsked name rows (Lsn text) = (name ≡ codes "lsn") × (string_bytes text ≡ text_in (codes "TEXT") rows)

@@ -2,7 +2,7 @@
 
 ghost use Rattle.std.specs.Prelude.{◌≡◌, IfOk, codes, false};
 ghost use Rattle.clap.specs.Words.{new_app, rule_of};
-ghost use Rattle.pgcommand.specs.Asked.{IsCommand, word_rule, proto_rule, raw_rule, progress_rule, store_rule, max_buffered_rule, max_frame_rule, show_app, apply_app, dump_app, follow_app, same_app, resume_app, lsn_app, bare_app, pgsub_app};
+ghost use Rattle.pgcommand.specs.Asked.{IsCommand, word_rule, proto_rule, raw_rule, progress_rule, store_rule, cache_rule, max_buffered_rule, max_frame_rule, show_app, apply_app, dump_app, follow_app, same_app, resume_app, lsn_app, bare_app, pgsub_app};
 
 use clap::{Arg, ArgAction, Command, value_parser};
 use std::alloc::{AllocError, Global};
@@ -19,6 +19,11 @@ const FOLLOW_STATUSES: &str = "Exit statuses:
   13  the store failed to take a commit
   14  memory has run out
   15  standard input or output failed";
+
+/// What `--help` says of `--cache`.
+const CACHE: &str =
+    "Pages of the store's file that stay in memory, from 100 to all that a file can have: 20000 cost \
+    20 MB, or 80 MB where another program made the file, and a large commit as much again";
 
 /// The version of the program, as `--version` prints it.
 pub const VERSION: &str = "0.1.0";
@@ -76,6 +81,24 @@ fn store<'a>(alloc: Global, required: bool, help: &'a str) -> Arg<'a>
         .value_name("FILE")
         .required(required)
         .help(help)
+}
+
+/// `--cache PAGES`.
+///
+/// A page that `pgsub` makes has 1,024 bytes, and one that SQLite makes 4,096. A change needs some ten pages, those on its ways through
+/// three trees: with fewer than 100 most would be read again for each. No file has more pages than the greatest value.
+///
+/// SQLite documentation, Implementation Limits For SQLite, Maximum Number Of Pages In A Database File.
+fn cache<'a>(alloc: Global) -> Arg<'a>
+    ensures rule { rule_of result ≡ cache_rule }
+    ensures local { result.global ≡ false }
+{
+    Arg::new(alloc, "cache")
+        .long("cache")
+        .value_name("PAGES")
+        .help(CACHE)
+        .value_parser(value_parser!(u32).range(100..=4294967294))
+        .default_value("20000")
 }
 
 /// `--max-buffered BYTES`.
@@ -139,6 +162,7 @@ fn apply_command<'a>(alloc: Global) -> Result<Command<'a>, AllocError>
         false,
         "Keep rows and position in this file and go on from what it holds; it is made where it isn't there",
     ))?
+    .arg(cache(alloc))?
     .arg(max_buffered(alloc))?
     .arg(max_frame(alloc))?
     .arg(word(alloc, "FILE", "The recording"))
@@ -152,7 +176,8 @@ fn dump_command<'a>(alloc: Global) -> Result<Command<'a>, AllocError>
         "dump",
         "Print the rows and the position that a file holds",
     )
-    .arg(store(alloc, true, "The file in which `apply --store` keeps them"))
+    .arg(store(alloc, true, "The file in which `apply --store` keeps them"))?
+    .arg(cache(alloc))
 }
 
 /// The command `follow` without arguments.
@@ -178,7 +203,8 @@ fn follow_command<'a>(alloc: Global) -> Result<Command<'a>, AllocError>
             alloc,
             true,
             "Keep rows and position in this file and go on from what it holds; it is made where it isn't there",
-        ))
+        ))?
+        .arg(cache(alloc))
 }
 
 fn same_command<'a>(alloc: Global) -> Result<Command<'a>, AllocError>

@@ -32,8 +32,8 @@ pub use fault::CommandFault;
 use fault::usage_fault;
 pub use limits::Limits;
 use std::alloc::Global;
-pub use task::Task;
 use task::task_of;
+pub use task::{DEFAULT_CACHE, Task};
 
 /// Returns the task that the words ask for.
 ///

@@ -2,15 +2,19 @@
 
 ghost use Rattle.std.specs.Prelude.{◌≡◌, ◌↔◌, IfOk, Option, true, codes, string_bytes};
 ghost use Rattle.clap.specs.Words.{found_of, one_of, rows_of};
-ghost use Rattle.pgcommand.specs.Asked.{IsAsked, IsCommandName, IsFlag, IsLimits, NamesStore, ReadsAsOne, ReadsUpTo, IsVersion, text_in};
+ghost use Rattle.pgcommand.specs.Asked.{IsAsked, IsCache, IsCommandName, IsFlag, IsLimits, NamesStore, ReadsAsOne, ReadsUpTo, IsVersion, text_in};
 
 use crate::limits::Limits;
 use clap::ArgMatches;
 use pgorder::Version;
 use std::alloc::{AllocError, Global};
 
-/// What the program is asked for. `version` is that of the logical replication protocol, 2 by default, and `limits` those of the stream
-/// that is applied, `Limits::DEFAULT` by default.
+/// How many pages of a store's file are kept in memory by default.
+pub const DEFAULT_CACHE: u32 = 20_000;
+
+/// What the program is asked for. `version` is that of the logical replication protocol, 2 by default, `limits` those of the stream
+/// that is applied, `Limits::DEFAULT` by default, and `cache` how many pages of the file `store` are kept in memory, `DEFAULT_CACHE` by
+/// default.
 #[derive(Debug, Drop)]
 pub enum Task {
     /// Print one line for each frame of a recording.
@@ -26,11 +30,13 @@ pub enum Task {
         raw: bool,
         progress: bool,
         store: Option<String>,
+        cache: u32,
         file: String,
     },
     /// Print the rows and the position that are kept in a file.
     Dump {
         store: String,
+        cache: u32,
     },
     /// Follow a server: its bytes come from standard input, and statuses go to standard output. Rows and position are kept in the
     /// file `store`.
@@ -38,6 +44,7 @@ pub enum Task {
         version: Version,
         limits: Limits,
         store: String,
+        cache: u32,
     },
     /// Compare the rows and positions that two recordings lead to.
     Same {
@@ -108,6 +115,16 @@ fn limits_of(found: &ArgMatches<'_>) -> Limits
     }
 }
 
+/// The value of `--cache`.
+fn cache_of(found: &ArgMatches<'_>) -> u32
+    ensures { IsCache (rows_of (found_of found.now)) result }
+{
+    match found.get_one::<u32>("cache") {
+        Some(pages) => pages,
+        None => DEFAULT_CACHE,
+    }
+}
+
 /// Whether the flag of this name is given.
 fn flag_of(found: &ArgMatches<'_>, name: &str) -> bool
     ensures { IsFlag name.now (rows_of (found_of found.now)) result }
@@ -145,6 +162,7 @@ fn apply_of(alloc: Global, found: &ArgMatches<'_>) -> Result<Task, AllocError>
         raw: flag_of(found, "raw"),
         progress: flag_of(found, "progress"),
         store,
+        cache: cache_of(found),
         file,
     })
 }
@@ -163,15 +181,20 @@ pub(crate) fn task_of(alloc: Global, name: &str, found: &ArgMatches<'_>) -> Resu
             }
         }
         "apply" => apply_of(alloc, found)?,
-        "dump" => Task::Dump {
-            store: value_of(alloc, found, "store")?,
-        },
+        "dump" => {
+            let store = value_of(alloc, found, "store")?;
+            Task::Dump {
+                store,
+                cache: cache_of(found),
+            }
+        }
         "follow" => {
             let store = value_of(alloc, found, "store")?;
             Task::Follow {
                 version: version_of(found),
                 limits: limits_of(found),
                 store,
+                cache: cache_of(found),
             }
         }
         "same" => {

@@ -8,7 +8,7 @@ ghost use Rattle.clap.specs.Values.{kind_of};
 ghost use Rattle.clap.specs.declared.error.kind.ErrorKind.TheVariants as kind;
 
 use crate::new_store::make_file;
-use pgcommand::{CommandFault, Limits, Task, command_of};
+use pgcommand::{CommandFault, DEFAULT_CACHE, Limits, Task, command_of};
 use pgfollow::{Clock, Link};
 use pgorder::Version;
 use pgstore::Store;
@@ -95,6 +95,15 @@ fn limits_of(task: &Task) -> Limits {
     }
 }
 
+/// How many pages of its store's file a task keeps in memory.
+fn cache_of(task: &Task) -> usize {
+    let pages = match task {
+        Task::Apply { cache, .. } | Task::Dump { cache, .. } | Task::Follow { cache, .. } => *cache,
+        _ => DEFAULT_CACHE,
+    };
+    pages as usize
+}
+
 /// What a task applies to its store, None where it prints what the file at this path holds. That one has to be there.
 fn input_of(
     rt: &HostRuntime,
@@ -165,7 +174,7 @@ fn run_over(rt: &HostRuntime, task: &Task, path: &str) -> u8 {
     if let Err(fault) = make_file(rt, path) {
         return tell_unopened(rt.alloc(), fault, &mut err);
     }
-    match Store::open_from(rt.alloc(), rt, path, Unknown) {
+    match Store::open_with(rt.alloc(), rt, path, cache_of(task), Unknown) {
         Ok(store) => {
             let mut out = rt.stdout();
             let reporter = reporter_of(rt, task, &input);
@@ -210,14 +219,14 @@ impl Clock for SystemClock<'_> {
     }
 }
 
-/// Follows a server over the store in the file at a path: its bytes come from standard input, and statuses go to standard output. At the
-/// end the log goes into the store's own file.
-fn run_live(rt: &HostRuntime, limits: Limits, version: Version, path: &str) -> u8 {
+/// Follows a server over the store in the file at a path, of which so many pages are kept in memory: its bytes come from standard input,
+/// and statuses go to standard output. At the end the log goes into the store's own file.
+fn run_live(rt: &HostRuntime, limits: Limits, version: Version, path: &str, cache: usize) -> u8 {
     let mut err = rt.stderr();
     if let Err(fault) = make_file(rt, path) {
         return tell_unfollowed(rt.alloc(), fault, &mut err);
     }
-    match Store::open_from(rt.alloc(), rt, path, Unknown) {
+    match Store::open_with(rt.alloc(), rt, path, cache, Unknown) {
         Ok(store) => {
             let mut link = Link::new(rt.stdin(), rt.stdout());
             let mut clock = SystemClock { rt };
@@ -279,9 +288,10 @@ fn run_words(rt: &HostRuntime, words: &[String]) -> u8 {
         version,
         limits,
         store,
+        ..
     } = &task
     {
-        return run_live(rt, *limits, *version, store.as_str());
+        return run_live(rt, *limits, *version, store.as_str(), cache_of(&task));
     }
     if let Some(path) = store_path(&task) {
         return run_over(rt, &task, path);

@@ -53,7 +53,7 @@ pub fn store_path(task: &Task) -> Option<&str>
 {
     match task {
         Task::Apply { store, .. } => store.as_deref(),
-        Task::Dump { store } | Task::Follow { store, .. } => Some(store.as_str()),
+        Task::Dump { store, .. } | Task::Follow { store, .. } => Some(store.as_str()),
         _ => None,
     }
 }
@@ -64,7 +64,7 @@ pub(crate) fn left_path(task: &Task) -> &str
 {
     match task {
         Task::Show { file, .. } | Task::Apply { file, .. } | Task::Resume { file } => file.as_str(),
-        Task::Dump { store } | Task::Follow { store, .. } => store.as_str(),
+        Task::Dump { store, .. } | Task::Follow { store, .. } => store.as_str(),
         Task::Same { left, .. } => left.as_str(),
         Task::Lsn { .. } => "",
     }

@@ -24,10 +24,13 @@ fn task_text(alloc: Global, task: &Task) -> Result<String, AllocError> {
             raw,
             progress,
             store: None,
+            cache,
             file,
         } => {
             let (buffered, frame) = (limits.max_buffered, limits.max_frame);
-            format!(in alloc; "apply {version:?} {buffered} {frame} {raw} {progress} {file}")
+            format!(in alloc;
+                "apply {version:?} {buffered} {frame} {raw} {progress} {cache} {file}"
+            )
         }
         Task::Apply {
             version,
@@ -35,21 +38,23 @@ fn task_text(alloc: Global, task: &Task) -> Result<String, AllocError> {
             raw,
             progress,
             store: Some(store),
+            cache,
             file,
         } => {
             let (buffered, frame) = (limits.max_buffered, limits.max_frame);
             format!(in alloc;
-                "apply {version:?} {buffered} {frame} {raw} {progress} into {store}: {file}"
+                "apply {version:?} {buffered} {frame} {raw} {progress} into {store} {cache}: {file}"
             )
         }
-        Task::Dump { store } => format!(in alloc; "dump {store}"),
+        Task::Dump { store, cache } => format!(in alloc; "dump {store} {cache}"),
         Task::Follow {
             version,
             limits,
             store,
+            cache,
         } => {
             let (buffered, frame) = (limits.max_buffered, limits.max_frame);
-            format!(in alloc; "follow {version:?} {buffered} {frame} {store}")
+            format!(in alloc; "follow {version:?} {buffered} {frame} {store} {cache}")
         }
         Task::Same {
             version,
@@ -66,74 +71,96 @@ const TASKS: &[(&str, &str)] = &[
     ("pgsub show F", "show Two F"),
     ("pgsub show --proto 1 F", "show One F"),
     ("pgsub show F --proto=2", "show Two F"),
-    ("pgsub apply F", "apply Two 67108864 16777216 false false F"),
+    (
+        "pgsub apply F",
+        "apply Two 67108864 16777216 false false 20000 F",
+    ),
     (
         "pgsub apply --proto=1 --raw F",
-        "apply One 67108864 16777216 true false F",
+        "apply One 67108864 16777216 true false 20000 F",
     ),
     (
         "pgsub apply F --raw --proto 01",
-        "apply One 67108864 16777216 true false F",
+        "apply One 67108864 16777216 true false 20000 F",
     ),
     (
         "pgsub apply -- --raw",
-        "apply Two 67108864 16777216 false false --raw",
+        "apply Two 67108864 16777216 false false 20000 --raw",
     ),
-    ("pgsub apply -", "apply Two 67108864 16777216 false false -"),
+    (
+        "pgsub apply -",
+        "apply Two 67108864 16777216 false false 20000 -",
+    ),
     (
         "pgsub apply --store S F",
-        "apply Two 67108864 16777216 false false into S: F",
+        "apply Two 67108864 16777216 false false into S 20000: F",
     ),
     (
         "pgsub apply F --raw --store=S --proto 1",
-        "apply One 67108864 16777216 true false into S: F",
+        "apply One 67108864 16777216 true false into S 20000: F",
     ),
     (
         "pgsub apply --store= F",
-        "apply Two 67108864 16777216 false false into : F",
+        "apply Two 67108864 16777216 false false into  20000: F",
     ),
     (
         "pgsub apply --store F -- --store",
-        "apply Two 67108864 16777216 false false into F: --store",
+        "apply Two 67108864 16777216 false false into F 20000: --store",
     ),
     (
         "pgsub apply --progress F",
-        "apply Two 67108864 16777216 false true F",
+        "apply Two 67108864 16777216 false true 20000 F",
     ),
     (
         "pgsub apply F --raw --store S --progress",
-        "apply Two 67108864 16777216 true true into S: F",
+        "apply Two 67108864 16777216 true true into S 20000: F",
     ),
-    ("pgsub dump --store S", "dump S"),
-    ("pgsub dump --store=S", "dump S"),
-    ("pgsub follow --store S", "follow Two 67108864 16777216 S"),
+    ("pgsub dump --store S", "dump S 20000"),
+    ("pgsub dump --store=S", "dump S 20000"),
+    (
+        "pgsub follow --store S",
+        "follow Two 67108864 16777216 S 20000",
+    ),
     (
         "pgsub follow --proto 1 --store=S",
-        "follow One 67108864 16777216 S",
+        "follow One 67108864 16777216 S 20000",
     ),
     (
         "pgsub follow --store S --proto=2",
-        "follow Two 67108864 16777216 S",
+        "follow Two 67108864 16777216 S 20000",
     ),
     (
         "pgsub apply --max-buffered 1 F",
-        "apply Two 1 16777216 false false F",
+        "apply Two 1 16777216 false false 20000 F",
     ),
     (
         "pgsub apply F --max-frame=2147483643 --max-buffered 18446744073709551615",
-        "apply Two 18446744073709551615 2147483643 false false F",
+        "apply Two 18446744073709551615 2147483643 false false 20000 F",
     ),
     (
         "pgsub apply --max-frame 0 --store S F",
-        "apply Two 67108864 0 false false into S: F",
+        "apply Two 67108864 0 false false into S 20000: F",
     ),
     (
         "pgsub follow --max-frame 9 --store S",
-        "follow Two 67108864 9 S",
+        "follow Two 67108864 9 S 20000",
     ),
     (
         "pgsub follow --store S --max-frame 7 --max-buffered=+008",
-        "follow Two 8 7 S",
+        "follow Two 8 7 S 20000",
+    ),
+    (
+        "pgsub apply --store S --cache 100 F",
+        "apply Two 67108864 16777216 false false into S 100: F",
+    ),
+    (
+        "pgsub apply F --cache=4294967294",
+        "apply Two 67108864 16777216 false false 4294967294 F",
+    ),
+    ("pgsub dump --cache 2000 --store S", "dump S 2000"),
+    (
+        "pgsub follow --max-frame 7 --cache=+0200 --store S --max-buffered 8",
+        "follow Two 8 7 S 200",
     ),
     ("pgsub same A B", "same Two A B"),
     ("pgsub same A --proto 1 B", "same One A B"),
@@ -241,6 +268,34 @@ const REJECTED: &[(&str, ErrorKind)] = &[
         ErrorKind::UnknownArgument,
     ),
     ("pgsub show --max-frame 1 F", ErrorKind::UnknownArgument),
+    (
+        "pgsub dump --store S --cache 99",
+        ErrorKind::ValueValidation,
+    ),
+    (
+        "pgsub follow --store S --cache 0",
+        ErrorKind::ValueValidation,
+    ),
+    (
+        "pgsub follow --store S --cache 4294967295",
+        ErrorKind::ValueValidation,
+    ),
+    // (100 in 32 bits)
+    (
+        "pgsub apply --cache 4294967396 F",
+        ErrorKind::ValueValidation,
+    ),
+    ("pgsub apply --cache 20MB F", ErrorKind::ValueValidation),
+    ("pgsub apply --cache=-100 F", ErrorKind::ValueValidation),
+    ("pgsub apply --cache= F", ErrorKind::ValueValidation),
+    ("pgsub dump --store S --cache", ErrorKind::InvalidValue),
+    (
+        "pgsub follow --store S --cache 200 --cache 200",
+        ErrorKind::ArgumentConflict,
+    ),
+    ("pgsub show --cache 200 F", ErrorKind::UnknownArgument),
+    ("pgsub same --cache 200 A B", ErrorKind::UnknownArgument),
+    ("pgsub resume --cache 200 F", ErrorKind::UnknownArgument),
     ("pgsub show --store S F", ErrorKind::UnknownArgument),
     ("pgsub same --store S A B", ErrorKind::UnknownArgument),
     ("pgsub resume --store S F", ErrorKind::UnknownArgument),
@@ -293,6 +348,25 @@ fn the_help_of_follow_has_its_statuses(rt: HostRuntime) -> Result<(), Fail> {
         assert!(rt; text.contains(status), "{status}: {text}");
     }
     assert!(rt; text.contains("--max-buffered") && text.contains("--max-frame"));
+    Ok(())
+}
+
+#[test]
+fn the_help_tells_what_a_cache_costs(rt: HostRuntime) -> Result<(), Fail> {
+    for line in [
+        "pgsub apply --help",
+        "pgsub dump --help",
+        "pgsub follow --help",
+    ] {
+        let Err(fault) = asked(rt.alloc(), line)? else {
+            return Err(Fail::from("no help"));
+        };
+        let text = format!(in rt.alloc(); "{fault}")?;
+        assert!(rt;
+            text.contains("--cache <PAGES>") && text.contains("20000 cost 20 MB"),
+            "{text}"
+        );
+    }
     Ok(())
 }
 

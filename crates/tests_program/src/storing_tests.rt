@@ -2,7 +2,7 @@
 
 use crate::following_tests::SESSION;
 use pgapply::{ReplicaStore, StoreFault};
-use pgcommand::{Limits, Task};
+use pgcommand::{DEFAULT_CACHE, Limits, Task};
 use pgorder::Version;
 use pgsub_cli::fault::RunFault;
 use pgsub_cli::storing::{
@@ -101,7 +101,8 @@ fn a_store_that_is_not_opened_is_told(rt: HostRuntime) -> Result<(), Fail> {
         assert_eq!(rt; err.as_slice(), line.as_bytes());
     }
     let store = String::from_str(alloc, "copy.db")?;
-    let task = Task::Dump { store };
+    let cache = DEFAULT_CACHE;
+    let task = Task::Dump { store, cache };
     let mut err = Vec::new(alloc);
     let fault = RunFault::CannotRead(Side::Left);
     assert_eq!(rt; tell_stopped(alloc, &task, fault, &mut err), 3);

@@ -4,4 +4,6 @@ use Rattle.pgcommand.proofs.commands.dump_command.Goals as goal
 
 pub returns : goal.returns
 returns c =
-    IfOk-weaker c.arg.result _ _ (λ r h. with_arg _ r _ _ _ c.named.ensures c.store.ensures.rule c.store.ensures.local h) c.arg.ensures
+    IfOk-weaker c.arg-2.result _ _ (λ r h. with_arg _ r _ _ _
+    (with_arg _ _ _ _ _ c.named.ensures c.store.ensures.rule c.store.ensures.local c.in_ok-arg.ensures)
+    c.cache.ensures.rule c.cache.ensures.local h) c.arg-2.ensures
