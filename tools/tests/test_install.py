@@ -6,6 +6,8 @@ import tempfile
 import unittest
 from pathlib import Path
 
+from documents import checks
+
 TOP = Path(__file__).resolve().parents[2]
 PROGRAM = """#!/bin/sh
 [ "$1" = --help ] && { printf 'Copies\\n\\nCommands:\\n  dump  Print it\\n\\nOptions:\\n  -h, --help  Print help\\n'; exit; }
@@ -40,15 +42,17 @@ class Case(unittest.TestCase):
 
     def test_all_of_it(self) -> None:
         found = self.files()
-        modules = {f"lib/pgsub/pgsub_connect/{it.name}" for it in (TOP / "connect/pgsub_connect").glob("*.py")}
-        self.assertTrue(modules <= found)
+        copied = {f"lib/pgsub/pgsub_connect/{it.name}" for it in (TOP / "connect/pgsub_connect").glob("*.py")}
+        copied |= {f"share/doc/pgsub/{it.relative_to(TOP)}" for folder in ("docs", "examples") for it in (TOP / folder).rglob("*") if it.is_file()}
+        self.assertTrue(copied <= found)
         self.assertEqual(
-            found - modules,
+            found - copied,
             {
                 "bin/pgsub", "bin/pgsub-connect", "lib/pgsub/pgsub", "lib/pgsub/pgsub-connect", "lib/pgsub/BUILD",
                 "lib/pgsub/pgsub_connect/BUILD", "lib/systemd/system/pgsub@.service", "share/man/man1/pgsub.1.gz",
-                "share/man/man1/pgsub-connect.1.gz", "share/doc/pgsub/README.md", "share/doc/pgsub/OPERATING.md",
-                "share/doc/pgsub/CHANGELOG.md", "share/doc/pgsub/LICENSE", "share/doc/pgsub/LICENSE-MIT", "share/doc/pgsub/LICENSE-APACHE",
+                "share/man/man1/pgsub-connect.1.gz", "share/doc/pgsub/README.md", "share/doc/pgsub/CHANGELOG.md",
+                "share/doc/pgsub/SECURITY.md", "share/doc/pgsub/KITS", "share/doc/pgsub/first.pgx", "share/doc/pgsub/LICENSE",
+                "share/doc/pgsub/LICENSE-MIT", "share/doc/pgsub/LICENSE-APACHE",
             },
         )
         self.assertIn("ExecStart=/opt/here/bin/pgsub-connect follow", (self.root / "lib/systemd/system/pgsub@.service").read_text())
@@ -56,6 +60,11 @@ class Case(unittest.TestCase):
         self.assertEqual(set(build), {"version", "commit", "kit", "program"})
         self.assertEqual((build["version"], build["kit"]), ("1.2+3", (TOP / "KITS").read_text().splitlines()[-1]))
         self.assertIn("1.2+3", self.run_it("--version").stdout)
+
+    def test_links_of_the_documents(self) -> None:
+        tree = checks.Tree(self.root / "share/doc/pgsub")
+        self.assertIn("docs/OPERATING.md", tree.documents())
+        self.assertEqual([it for file in tree.documents() for it in checks.check_links(tree, file)], [])
 
     def test_again(self) -> None:
         """Modules that are gone go, a program that runs goes on, and the connector runs no other build's."""
