@@ -58,7 +58,8 @@ class Case(unittest.TestCase):
         self.assertIn("ExecStart=/opt/here/bin/pgsub-connect follow", (self.root / "lib/systemd/system/pgsub@.service").read_text())
         build = dict(it.split(" ", 1) for it in (self.root / "lib/pgsub/BUILD").read_text().splitlines())
         self.assertEqual(set(build), {"version", "commit", "kit", "program"})
-        self.assertEqual((build["version"], build["kit"]), ("1.2+3", (TOP / "KITS").read_text().splitlines()[-1]))
+        self.assertEqual(build["version"], "1.2+3")
+        self.assertLessEqual(set(build["kit"].split(";")), set((TOP / "KITS").read_text().splitlines()))
         self.assertIn("1.2+3", self.run_it("--version").stdout)
 
     def test_links_of_the_documents(self) -> None:
