@@ -44,6 +44,8 @@ class Words(Quiet):
             "follow --store s --heartbeat 0", "follow --store s --heartbeat inf", "follow --store s --max-frame 2147483644",
             "follow --store s --max-buffered 0", "follow --store s --skip 5", "follow --store s --accept x", "follow --store s --seconds 5",
             "follow --store s --create temporary", "drop", "names", "nothing", "follow --store s --create --all-tables --keyless inserts",
+            "follow --store s --record f --start 0/5", "follow --store s --record f --streaming", "record --record f --store s",
+            "record --record f --no-copy", "record --record f --strict", "record --record f --table t", "record --create --until now",
         ):
             self.assertIn("usage: ", self.rejected(words), words)
 
@@ -55,6 +57,8 @@ class Words(Quiet):
         self.assertTrue(options.accepts("gap") and options.accepts("slot") and options.accepts("values"))
         self.assertFalse(options.accepts("history"))
         self.assertEqual(arguments(["--record", "f", "--until", "now"]).command, "record")
+        options = arguments("record --record f --create temporary --table t --transactions 3".split())
+        self.assertEqual((options.create, options.table, options.transactions, options.streaming), ("temporary", ["t"], 3, False))
 
     def settled(self, *words: str) -> Options:
         options = arguments(["follow", "--store", "/nonexistent/s", *words])
