@@ -31,8 +31,8 @@ class Case(unittest.TestCase):
 
     @classmethod
     def install(cls, *more: str | Path) -> None:
-        words = ("/opt/here", "--destdir", cls.room / "root", "--program", cls.room / "program", "--version", "1.2+3", *more)
-        subprocess.run([TOP / "install", *words], check=True, capture_output=True, cwd=cls.room)
+        words = ["/opt/here", "--destdir", str(cls.room / "root"), "--program", str(cls.room / "program"), "--version", "1.2+3", *map(str, more)]
+        subprocess.run([str(TOP / "install"), *words], check=True, capture_output=True, cwd=cls.room)
 
     def run_it(self, *words: str) -> subprocess.CompletedProcess[str]:
         return subprocess.run([self.root / "bin/pgsub-connect", *words], capture_output=True, text=True, cwd=self.room)
