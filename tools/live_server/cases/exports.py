@@ -128,14 +128,14 @@ class Load:
                 self.moves += 1
                 source, target = self.moves % 20, (self.moves * 7 + 3) % 20
                 # (each tenth one is streamed in parts)
-                more = 2000 if self.moves % 10 == 0 else 1
+                more = 700 if self.moves % 10 == 0 else 1
                 session.run(
                     "BEGIN", f"UPDATE account SET amount = amount - 5 WHERE id = {source}",
                     f"INSERT INTO padding SELECT {self.moves}, it FROM generate_series(1, {more}) it",
                     f"UPDATE account SET amount = amount + 5 WHERE id = {target}",
                     f"INSERT INTO move VALUES ({self.moves}, {source}, {target}, {more})", "COMMIT",
                 )
-                time.sleep(0.005)
+                time.sleep(0.03)
 
 
 def check_whole(base: sqlite3.Connection) -> tuple[int, int]:
@@ -167,7 +167,7 @@ def under_load(place: Place) -> None:
     load, found = Load(place), list[tuple[int, int]]()
     load.thread.start()
     try:
-        for number in range(8):
+        for number in range(5):
             time.sleep(0.5)
             with contextlib.closing(export(place, place.folder / f"rows{number % 2}.db")) as base:
                 found.append(check_whole(base))
