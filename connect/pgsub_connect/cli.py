@@ -418,6 +418,9 @@ class Start:
 def follow(options: Options) -> None:
     start = Start()
     stop_by_signals(start)
+    if not (options.create or options.no_copy or any(os.path.exists(options.store + it) for it in ("", ".connector"))):
+        # (before there is a file that would stay)
+        raise no_store(options)
     checkpoint = Checkpoint(options.store, options.mode, start.check)
     progress = Progress()
     recording = Aside(Recording(options.record, True, options.bytes, options.mode)) if options.record else None
@@ -456,6 +459,10 @@ def follow(options: Options) -> None:
             reporter.finish()
 
 
+def no_store(options: Options) -> Unfit:
+    return Unfit(f"there is no store {options.store}: --create makes it, with publication and slot; see --help")
+
+
 def begin(options: Options, checkpoint: Checkpoint, copier: Copier, remembered: Remembered, check: Check) -> None:
     """What a start does where there is no store."""
     known = checkpoint.known
@@ -464,7 +471,7 @@ def begin(options: Options, checkpoint: Checkpoint, copier: Copier, remembered: 
     if known.phase == known_of.FOLLOWING and not options.accepts("gap"):
         raise Unfit(f"{options.store} is gone, and the slot {known.slot} went on: remove {checkpoint.path} to begin anew")
     if not options.create and not options.no_copy:
-        raise Unfit(f"there is no store {options.store}: --create makes it, with publication and slot; see --help")
+        raise no_store(options)
     if options.create:
         create_slot(options, check, remembered)
     else:

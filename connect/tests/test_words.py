@@ -101,6 +101,12 @@ class Ends(Quiet):
             with mock.patch.dict(cli.RUNS, {"names": mock.Mock(side_effect=error)}):
                 self.assertEqual(main(["names", "--store", "/nonexistent/s"]), status, error)
 
+    def test_no_store_leaves_no_file(self) -> None:
+        folder = self.make_folder()
+        self.assertEqual(main(["follow", "--store", f"{folder}/copy.db"]), UNFIT)
+        self.assertIn("there is no store", self.said[0])
+        self.assertEqual(os.listdir(folder), [])
+
     def test_a_bug_is_told_with_its_place(self) -> None:
         def fail(_: Options) -> None:
             raise ZeroDivisionError("\x1b[2J")
