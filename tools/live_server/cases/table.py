@@ -11,16 +11,18 @@ from ..errors import Unusable
 from ..options import Options
 from ..place import Place, Shared
 from . import (
-    copying, exports, names, privacy, publications, reaching, shapes, sideroads, silence, slots, standbys, starts, stops, timelines, values,
+    copying, names, privacy, publications, reaching, shapes, sideroads, silence, slots, standbys, starts, stops, timelines, values,
     versions,
 )
 from .case import Case
+from .exports import CASES as EXPORTS
 
 THEMES: dict[str, Sequence[Case]] = {
     "starts": (*starts.CASES, *shapes.CASES),
     "names": names.CASES,
     "publications": publications.CASES,
     "values": values.CASES,
+    "exports": EXPORTS,
     "timelines": timelines.CASES,
     "slots": slots.CASES,
     "copying": copying.CASES,
@@ -31,7 +33,6 @@ THEMES: dict[str, Sequence[Case]] = {
     "versions": versions.CASES,
     "sideroads": sideroads.CASES,
     "privacy": privacy.CASES,
-    "exports": exports.CASES,
 }
 
 
