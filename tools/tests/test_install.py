@@ -58,8 +58,9 @@ class Case(unittest.TestCase):
         self.assertIn("ExecStart=/opt/here/bin/pgsub-connect follow", (self.root / "lib/systemd/system/pgsub@.service").read_text())
         build = dict(it.split(" ", 1) for it in (self.root / "lib/pgsub/BUILD").read_text().splitlines())
         self.assertEqual(set(build), {"version", "commit", "kit", "program"})
+        kits = [it for it in (TOP / "KITS").read_text().splitlines() if not it.startswith("#")]
         self.assertEqual(build["version"], "1.2+3")
-        self.assertLessEqual(set(build["kit"].split(";")), set((TOP / "KITS").read_text().splitlines()))
+        self.assertIn(build["kit"], [*kits, ";".join(kits)])
         self.assertIn("1.2+3", self.run_it("--version").stdout)
 
     def test_links_of_the_documents(self) -> None:
