@@ -4,6 +4,7 @@ import re
 from pathlib import Path
 
 USE = re.compile(r"^use (\w+)::(\{[^}]*\}|\w+);", re.M)
+INLINE = re.compile(r"\b(\w+)::(\w+)")
 EXPORT = re.compile(r"^pub use [\w:]+::(?:\{([^}]*)\}|(\w+));", re.M)
 OWN = re.compile(r"^pub (?:const )?(?:fn|struct|enum|trait|type|const|mod) (\w+)", re.M)
 
@@ -21,9 +22,10 @@ def exports_of(root: str) -> set[str]:
 
 
 def wrong_imports(crates: Path, program: str) -> list[str]:
-    """The imports of a program's text from the repository's crates that aren't there."""
+    """What a program's text names of the repository's crates and isn't there."""
     wrong = []
-    for crate, listed in USE.findall(program):
+    plain = USE.sub("", "\n".join(it for it in program.splitlines() if not it.lstrip().startswith(("//", "ghost"))))
+    for crate, listed in USE.findall(program) + INLINE.findall(plain):
         root = crates / crate / "src/lib.rt"
         if root.is_file():
             exported = exports_of(root.read_text(encoding="utf-8"))

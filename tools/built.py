@@ -10,7 +10,8 @@ PROGRAM = TOP / "crates/pgsub/out/pgsub"
 
 def add_program(parser: argparse.ArgumentParser) -> None:
     """Adds the option `--program PATH` to a tool."""
-    parser.add_argument("--program", type=Path, default=PROGRAM, metavar="PATH", help=f"the program to run (default: {PROGRAM.relative_to(TOP)})")
+    told = f"the program to run (default: {PROGRAM.relative_to(TOP)})"
+    parser.add_argument("--program", type=Path, default=PROGRAM, metavar="PATH", help=told)
 
 
 def check_program(parser: argparse.ArgumentParser, path: Path) -> Path:

@@ -1,3 +1,15 @@
-"""Follows a PostgreSQL server: carries the change stream of a slot to `pgsub follow`, and the program's statuses back."""
+"""Follows a PostgreSQL server: carries the change stream of a slot to `pgsub follow`, and the program's statuses back.
+
+| What | Modules |
+|---|---|
+| command line | `cli`, `errors`, `log`, `texts`, `limits`, `builds` |
+| following | `following`, `filtering`, `noting`, `checkpoint`, `skipping`, `sizes`, `recording` |
+| publication, slot and first rows | `making`, `publishing`, `comparing`, `copying`, `messages`, `waiting` |
+| the server | `postgres`, `server`, `catalog`, `facts` |
+| what may make the copy wrong | `watching`, `remembered`, `differences` |
+| how it goes | `progress`, `asking`, `lag`, `reporting`, `metrics` |
+| copies for readers | `snapshots`, `resting`, `taking`, `exporting`, `stored`, `values`, `naming`, `placing` |
+| other subcommands | `checking`, `dropping`, `probing` |
+"""
 
 VERSION = "0.1.0"

@@ -190,8 +190,8 @@ def add_following(parser: argparse.ArgumentParser) -> None:
     add("--accept-gap", dest="accept", action="append_const", const="gap",
         help="go on although changes between the store and the slot may be missing")
     add("--skip", type=lsn, default=0, metavar="LSN", help="pass over the changes of the commit with this final LSN")
-    add("--create", nargs="?", const="permanent", choices=("permanent", "temporary"),
-        help="where the store isn't there yet: make publication and slot, and copy the rows that are there (temporary: only to record)")
+    add("--create", action="store_const", const="permanent",
+        help="where the store isn't there yet: make publication and slot, and copy the rows that are there")
     add_copying(parser)
     add = parser.add_argument_group("watching").add_argument
     add("--status-file", metavar="FILE", help="replace this file each second by a JSON object that says how it goes")
@@ -199,17 +199,30 @@ def add_following(parser: argparse.ArgumentParser) -> None:
     add("--snapshot", metavar="FILE",
         help="copy the store to this file for readers, which can't open the store itself: at SIGUSR1, and as --snapshot-every says")
     add("--snapshot-every", type=float, default=0.0, metavar="N", help="replace the snapshot each N seconds (default: at SIGUSR1 alone)")
+    add = parser.add_argument_group("recording").add_argument
+    add("--record", metavar="FILE", help="add the sessions to this recording, a .pgx file")
+    add_longest(add)
 
 
-def add_copying(parser: argparse.ArgumentParser) -> None:
-    """Options on what --create makes."""
-    add = parser.add_argument_group("the initial copy").add_argument
+def add_publishing(add: Callable[..., object]) -> None:
+    """Options on the publication and the slot that --create makes."""
     add("--table", action="append", default=[], help="with --create: a table to publish, may be repeated (default: those that are there)")
     add("--all-tables", action="store_true", help="with --create: publish all tables, also those that are made later")
     add("--keyless", choices=("refuse", "leave-out", "inserts"), default="refuse",
         help="what becomes of tables without a usable replica identity (default: refuse; inserts: only their Inserts are published)")
     add("--failover", action="store_true", help="with --create: a slot that is synchronized to standbys (PostgreSQL 17)")
+
+
+def add_copying(parser: argparse.ArgumentParser) -> None:
+    """Options on what --create makes."""
+    add = parser.add_argument_group("the initial copy").add_argument
+    add_publishing(add)
     add("--no-copy", action="store_true", help="begin a new store where the slot is, without the rows from before")
+
+
+def add_longest(add: Callable[..., object]) -> None:
+    add("--bytes", type=within(1, 1 << 62), default=LONGEST, metavar="N",
+        help=f"stop before the recording is longer than N bytes (default: {LONGEST}, which is pgsub's limit)")
 
 
 def add_checking(parser: argparse.ArgumentParser) -> None:
@@ -225,14 +238,13 @@ def add_dropping(parser: argparse.ArgumentParser) -> None:
 
 
 def add_recording(parser: argparse.ArgumentParser) -> None:
-    """Options on a recording."""
+    """Options on a recording alone."""
     add = parser.add_argument_group("recording").add_argument
-    add("--record", metavar="FILE", help="record the sessions in a .pgx file (without --store: one session, without confirming it)")
-    add("--append", action="store_true", help="add to the recording, after a line `--` (with --store always)")
-    add("--bytes", type=within(1, 1 << 62), default=LONGEST, metavar="N",
-        help=f"stop before the recording is longer than N bytes (default: {LONGEST}, which is pgsub's limit)")
-    add = parser.add_argument_group("recording without --store").add_argument
+    add("--record", metavar="FILE", help="the recording to write, a .pgx file of one session, which isn't confirmed")
+    add("--append", action="store_true", help="add to the recording, after a line `--`")
+    add_longest(add)
     add("--start", type=lsn, default=0, metavar="LSN", help="where to start (default: where the slot is)")
+    add("--until", type=lsn_or_now, metavar="LSN|now", help="stop once all that was committed up to this LSN, or up to now, is recorded")
     add("--seconds", type=float, metavar="N", help="stop after N seconds")
     add("--transactions", type=int, metavar="N", help="stop after N commits")
     add("--confirm", type=lsn, default=0, metavar="LSN",
@@ -240,6 +252,10 @@ def add_recording(parser: argparse.ArgumentParser) -> None:
     add("--streaming", action="store_true", help="stream large transactions while they run (--proto 2)")
     add("--binary", action="store_true", help="ask for values in binary format")
     add("--messages", action="store_true", help="ask for the messages of pg_logical_emit_message")
+    add = parser.add_argument_group("publication and slot").add_argument
+    add("--create", nargs="?", const="permanent", choices=("permanent", "temporary"),
+        help="make them; a temporary slot goes at the end")
+    add_publishing(add)
 
 
 def add_names(parser: argparse.ArgumentParser) -> None:
@@ -261,8 +277,8 @@ def add_exporting(parser: argparse.ArgumentParser) -> None:
 
 # Each subcommand: what adds its options.
 COMMANDS: dict[str, tuple[str, Sequence[Callable[[argparse.ArgumentParser], None]]]] = {
-    "follow": ("follow into a store", (add_server, add_following, add_recording)),
-    "record": ("only record", (add_server, add_following, add_recording)),
+    "follow": ("follow into a store", (add_server, add_following)),
+    "record": ("only record", (add_server, add_recording)),
     "check": ("tell what following needs of the server, and change nothing", (add_server, add_copying, add_checking)),
     "drop": ("drop slot, publications and files", (add_server, add_dropping)),
     "export": ("make ordinary tables of SQLite from the rows of a store, or of a copy of one", (add_reading, add_exporting)),
@@ -304,21 +320,14 @@ def check(parser: argparse.ArgumentParser, options: Options) -> None:
     if options.command == "follow" and not options.store:
         parser.error("--store is needed")
     if options.command == "record" and not options.record:
-        parser.error("--store or --record is needed")
+        parser.error("--record is needed")
     if options.streaming and options.proto != 2:
         parser.error("--streaming needs --proto 2")
     if options.table and options.all_tables:
         parser.error("--table and --all-tables exclude each other")
     if options.all_tables and options.keyless != "refuse":
         parser.error("of a publication for all tables no table can be left out: --keyless needs a list")
-    if options.command == "record":
-        options.store = ""
-    if options.store:
-        if options.create == "temporary":
-            parser.error("--create temporary is for recording without --store")
-        for name in ("start", "seconds", "transactions", "confirm", "binary", "messages", "streaming"):
-            if getattr(options, name):
-                parser.error(f"--{name} is for recording without --store")
+    if options.command == "follow":
         options.streaming = options.proto == 2
 
 
@@ -413,6 +422,9 @@ class Start:
 def follow(options: Options) -> None:
     start = Start()
     stop_by_signals(start)
+    if not (options.create or options.no_copy or any(os.path.exists(options.store + it) for it in ("", ".connector"))):
+        # (before there is a file that would stay)
+        raise no_store(options)
     checkpoint = Checkpoint(options.store, options.mode, start.check)
     progress = Progress()
     recording = Aside(Recording(options.record, True, options.bytes, options.mode)) if options.record else None
@@ -451,6 +463,10 @@ def follow(options: Options) -> None:
             reporter.finish()
 
 
+def no_store(options: Options) -> Unfit:
+    return Unfit(f"there is no store {options.store}: --create makes it, with publication and slot; see --help")
+
+
 def begin(options: Options, checkpoint: Checkpoint, copier: Copier, remembered: Remembered, check: Check) -> None:
     """What a start does where there is no store."""
     known = checkpoint.known
@@ -459,7 +475,7 @@ def begin(options: Options, checkpoint: Checkpoint, copier: Copier, remembered: 
     if known.phase == known_of.FOLLOWING and not options.accepts("gap"):
         raise Unfit(f"{options.store} is gone, and the slot {known.slot} went on: remove {checkpoint.path} to begin anew")
     if not options.create and not options.no_copy:
-        raise Unfit(f"there is no store {options.store}: --create makes it, with publication and slot; see --help")
+        raise no_store(options)
     if options.create:
         create_slot(options, check, remembered)
     else:

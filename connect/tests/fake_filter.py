@@ -73,6 +73,9 @@ def said(store: str) -> list[str]:
 
 
 def main(words: list[str]) -> int:
+    if "--help" in words:
+        print(__doc__)
+        return 0
     store = words[words.index("--store") + 1]
     says = said(store)
     fake = Fake(store)

@@ -5,7 +5,10 @@ from __future__ import annotations
 import contextlib
 import sqlite3
 import struct
+import tempfile
+import unittest
 from collections.abc import Sequence
+from unittest import mock
 
 from .vectors import ID, NAME, Described
 
@@ -60,3 +63,23 @@ class Store:
     def close(self) -> None:
         with contextlib.suppress(sqlite3.Error):
             self.base.close()
+
+
+class StoreCase(unittest.TestCase):
+    """A test over a store in a folder of its own, and a file beside it that is to be made."""
+
+    def setUp(self) -> None:
+        folder = tempfile.TemporaryDirectory()
+        self.addCleanup(folder.cleanup)
+        self.folder = folder.name
+        self.path, self.into = folder.name + "/copy.db", folder.name + "/rows.db"
+        # (the disk of a test machine may be slow)
+        self.patch("os.fsync")
+        self.store = Store(self.path)
+        self.addCleanup(self.store.close)
+
+    def patch(self, name: str, *value: object) -> None:
+        """Puts something else in the place of what has this name, until the test ends."""
+        patched = mock.patch(name, *value)
+        patched.start()
+        self.addCleanup(patched.stop)

@@ -3,8 +3,12 @@
 from __future__ import annotations
 
 import os
+import re
 import stat
+import unittest
+from pathlib import Path
 
+import pgsub_connect
 from pgsub_connect.checkpoint import Checkpoint
 from pgsub_connect.cli import arguments, settle_options
 from pgsub_connect.remembered import replace_file
@@ -23,3 +27,10 @@ class Modes(Quiet):
             replace_file(f"{store}.tables", b"", options.mode)
             for name in ("connector", "tables"):
                 self.assertEqual(stat.S_IMODE(os.stat(f"{store}.{name}").st_mode), mode, name)
+
+
+class Modules(unittest.TestCase):
+    def test_each_is_listed_once(self) -> None:
+        listed = re.findall(r"`(\w+)`", (pgsub_connect.__doc__ or "").partition("|---|")[2])
+        there = {it.stem for it in Path(pgsub_connect.__file__).parent.glob("*.py")} - {"__init__", "__main__"}
+        self.assertEqual(sorted(listed), sorted(there))

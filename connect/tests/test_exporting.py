@@ -6,7 +6,6 @@ import contextlib
 import os
 import sqlite3
 import stat
-import tempfile
 import tracemalloc
 import unittest
 from collections.abc import Sequence
@@ -20,7 +19,7 @@ from pgsub_connect.exporting import run
 from pgsub_connect.postgres import never
 from pgsub_connect.remembered import Relation, Remembered
 
-from .stores import Store, spelled
+from .stores import StoreCase, spelled
 from .vectors import ID, NAME, a_catalog, a_shape, a_table, logged
 
 TYPES = {
@@ -29,19 +28,7 @@ TYPES = {
 }
 
 
-class Case(unittest.TestCase):
-    def setUp(self) -> None:
-        folder = tempfile.TemporaryDirectory()
-        self.addCleanup(folder.cleanup)
-        self.folder = folder.name
-        self.path, self.into = folder.name + "/copy.db", folder.name + "/rows.db"
-        # (the disk of a test machine may be slow)
-        syncing = mock.patch("os.fsync")
-        syncing.start()
-        self.addCleanup(syncing.stop)
-        self.store = Store(self.path)
-        self.addCleanup(self.store.close)
-
+class Case(StoreCase):
     def options(self, **more: Any) -> Options:
         return Options(command="export", store=self.path, into=self.into, **more)
 

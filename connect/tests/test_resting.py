@@ -22,26 +22,18 @@ from pgsub_connect.postgres import never
 from pgsub_connect.resting import at_rest, own_name
 from pgsub_connect.snapshots import Snapshots
 
-from .stores import Store
+from .stores import StoreCase
 from .vectors import logged
 
 # A process that isn't there.
 GONE = 4194304 + 1
 
 
-class Case(unittest.TestCase):
+class Case(StoreCase):
     def setUp(self) -> None:
-        folder = tempfile.TemporaryDirectory()
-        self.addCleanup(folder.cleanup)
-        self.folder = folder.name
-        self.path, self.into = folder.name + "/copy.db", folder.name + "/rows.db"
-        stack = contextlib.ExitStack()
-        self.addCleanup(stack.close)
-        stack.enter_context(mock.patch("os.fsync"))
+        super().setUp()
         for it in ("resting", "snapshots"):
-            stack.enter_context(mock.patch(f"pgsub_connect.{it}.LOOK", 0.01))
-        self.store = Store(self.path)
-        self.addCleanup(self.store.close)
+            self.patch(f"pgsub_connect.{it}.LOOK", 0.01)
         self.store.table(1, "t")
         self.store.row(1, "1", "x")
         self.made = {"copy.db", "copy.db.connector"}

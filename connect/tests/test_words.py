@@ -45,6 +45,8 @@ class Words(Quiet):
             "follow --store s --cache 99", "follow --store s --cache 4294967295", "follow --store s --cache 1e3",
             "follow --store s --max-buffered 0", "follow --store s --skip 5", "follow --store s --accept x", "follow --store s --seconds 5",
             "follow --store s --create temporary", "drop", "names", "nothing", "follow --store s --create --all-tables --keyless inserts",
+            "follow --store s --record f --start 0/5", "follow --store s --record f --streaming", "record --record f --store s",
+            "record --record f --no-copy", "record --record f --strict", "record --record f --table t", "record --create --until now",
         ):
             self.assertIn("usage: ", self.rejected(words), words)
 
@@ -56,6 +58,8 @@ class Words(Quiet):
         self.assertTrue(options.accepts("gap") and options.accepts("slot") and options.accepts("values"))
         self.assertFalse(options.accepts("history"))
         self.assertEqual(arguments(["--record", "f", "--until", "now"]).command, "record")
+        options = arguments("record --record f --create temporary --table t --transactions 3".split())
+        self.assertEqual((options.create, options.table, options.transactions, options.streaming), ("temporary", ["t"], 3, False))
 
     def settled(self, *words: str) -> Options:
         options = arguments(["follow", "--store", "/nonexistent/s", *words])
@@ -107,6 +111,12 @@ class Ends(Quiet):
         ):
             with mock.patch.dict(cli.RUNS, {"names": mock.Mock(side_effect=error)}):
                 self.assertEqual(main(["names", "--store", "/nonexistent/s"]), status, error)
+
+    def test_no_store_leaves_no_file(self) -> None:
+        folder = self.make_folder()
+        self.assertEqual(main(["follow", "--store", f"{folder}/copy.db"]), UNFIT)
+        self.assertIn("there is no store", self.said[0])
+        self.assertEqual(os.listdir(folder), [])
 
     def test_a_bug_is_told_with_its_place(self) -> None:
         def fail(_: Options) -> None:

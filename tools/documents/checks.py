@@ -27,6 +27,7 @@ WHOLE = 15000
 SKIPPED = {".git", "out", "__pycache__", "differences"}
 # a name with one of these at its end is a file of the tree, wherever it lies
 KINDS = (".md", ".rt", ".antt", ".py", ".svg", ".txt", ".edit", ".toml", ".service", ".rattle", ".sh")
+GROUP = re.compile(r"^- \*\*(\w+)\*\*")
 PATH = re.compile(r"(?<![\w/.:~$-])\.?[\w.*{}-]+(?:/[\w.*{}-]+)*/?")
 URL = re.compile(r"\b[a-z]+://[^\s)>`]+")
 # each of these words stands for any name
@@ -234,6 +235,32 @@ def check_statement(tree: Tree) -> list[str]:
     modules = re.findall(r"^(\w+)\.specs\.([\w.]+): \d", ran.stdout, re.M)
     named = {span for line in texts.lines_of(tree.text("docs/PROOFS.md")) for span in texts.spans_of(line.text)}
     return [f"docs/PROOFS.md doesn't name {crate}/{module}" for crate, module in modules if f"{crate}/{module}" not in named]
+
+
+def groups_of(crates: str) -> dict[str, list[str]]:
+    """The crates of each group in crates.txt, where a comment `# NAME: ..` begins one."""
+    groups: dict[str, list[str]] = {}
+    for line in crates.splitlines():
+        name, colon, _ = line.partition(":")
+        if colon and name.startswith("# "):
+            groups[name[2:]] = []
+        elif colon and groups:
+            groups[[*groups][-1]].append(name)
+    return groups
+
+
+def check_groups(tree: Tree) -> list[str]:
+    """ARCHITECTURE's list repeats the groups of crates.txt, in their order; `tests_..` stands for the crates of tests."""
+    file, told = "docs/ARCHITECTURE.md", {}
+    groups = groups_of(tree.text("crates.txt"))
+    known = {crate for crates in groups.values() for crate in crates}
+    for line in texts.lines_of(tree.text(file)):
+        found = GROUP.match(line.text)
+        if found and found[1].lower() in groups:
+            told[found[1].lower()] = [it for it in texts.spans_of(line.text) if it in known]
+    grouped = {name: [it for it in crates if not it.startswith("tests_")] for name, crates in groups.items()}
+    wrong = [f"{file}: the group {name} has {told.get(name)}, and in crates.txt {crates}" for name, crates in grouped.items() if told.get(name) != crates]
+    return wrong or ([] if [*told] == [*groups] else [f"{file}: the groups come in another order than in crates.txt"])
 
 
 def check_copies(tree: Tree) -> list[str]:

@@ -85,9 +85,9 @@ def run_all(made, options, folder):
 def add_options(parser):
     """The options that all tools have which run cases."""
     add_program(parser)
-    parser.add_argument("--jobs", type=int, default=1, help="how many run at once (default 1)")
-    parser.add_argument("--keep", default="differences", help="where the files of cases that differ go (default: differences)")
-    parser.add_argument("--stop-after", type=int, default=10, metavar="N", help="stop after N differences (default 10)")
+    parser.add_argument("--jobs", type=int, default=1, metavar="N", help="how many run at once (default: 1)")
+    parser.add_argument("--keep", default="differences", metavar="FOLDER", help="where the files of cases that differ go (default: differences)")
+    parser.add_argument("--stop-after", type=int, default=10, metavar="N", help="stop after N differences (default: 10)")
 
 
 def checked_options(parser, options, runs_program=True):

@@ -27,7 +27,8 @@ class Imports(unittest.TestCase):
             source.mkdir(parents=True)
             (source / "lib.rt").write_text(ROOT)
             program = "use low::{Store, Gone,\n    read};\nuse low::hidden;\nuse std::io;\nghost use Rattle.low.specs.A.{B};\n"
-            self.assertEqual(wrong_imports(Path(room), program), ["low has no Gone", "low has no hidden"])
+            program += "// low::told\nfn f() { low::read(low::add()) }\n"
+            self.assertEqual(wrong_imports(Path(room), program), ["low has no Gone", "low has no hidden", "low has no add"])
 
 
 if __name__ == "__main__":

@@ -70,6 +70,22 @@ class Options(Made):
         self.assertEqual(self.wrong("check_options", "the option `--none`"), ["--none has an option --none"])
 
 
+class Groups(Made):
+    def groups_wrong(self, text: str) -> list[str]:
+        self.write("crates.txt", "# The crates.\n\n# wire: bytes\nlow: std\nhigh: low\n\n# tests: of others\ntests_low: low\ntrial: low\n")
+        self.write("docs/ARCHITECTURE.md", text)
+        return checks.check_groups(checks.Tree(self.top))
+
+    def test_the_same(self) -> None:
+        self.assertEqual(self.groups_wrong("- **Wire**: `low` (bytes), `high` (the trait `Reader`).\n- **Tests**: `tests_..` and `trial`.\n"), [])
+
+    def test_others(self) -> None:
+        tests = "- **Tests**: `trial`.\n"
+        for first in ("- **Wire**: `low`.\n", "- **Wire**: `high`, `low`.\n", "", "- **Wire**: `low`, `high`, `trial`.\n"):
+            self.assertEqual(len(self.groups_wrong(first + tests)), 1, first)
+        self.assertEqual(len(self.groups_wrong(tests + "- **Wire**: `low`, `high`.\n")), 1)
+
+
 class Words(unittest.TestCase):
     def test_words_are_those_of_wc(self) -> None:
         self.assertEqual(texts.words_of("one  two\n| three-four |\n\u00a0".encode()), 6)

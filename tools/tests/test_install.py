@@ -6,6 +6,8 @@ import tempfile
 import unittest
 from pathlib import Path
 
+from documents import checks
+
 TOP = Path(__file__).resolve().parents[2]
 PROGRAM = """#!/bin/sh
 [ "$1" = --help ] && { printf 'Copies\\n\\nCommands:\\n  dump  Print it\\n\\nOptions:\\n  -h, --help  Print help\\n'; exit; }
@@ -29,8 +31,8 @@ class Case(unittest.TestCase):
 
     @classmethod
     def install(cls, *more: str | Path) -> None:
-        words = ("/opt/here", "--destdir", cls.room / "root", "--program", cls.room / "program", "--version", "1.2+3", *more)
-        subprocess.run([TOP / "install", *words], check=True, capture_output=True, cwd=cls.room)
+        words = ["/opt/here", "--destdir", str(cls.room / "root"), "--program", str(cls.room / "program"), "--version", "1.2+3", *map(str, more)]
+        subprocess.run([str(TOP / "install"), *words], check=True, capture_output=True, cwd=cls.room)
 
     def run_it(self, *words: str) -> subprocess.CompletedProcess[str]:
         return subprocess.run([self.root / "bin/pgsub-connect", *words], capture_output=True, text=True, cwd=self.room)
@@ -40,15 +42,17 @@ class Case(unittest.TestCase):
 
     def test_all_of_it(self) -> None:
         found = self.files()
-        modules = {f"lib/pgsub/pgsub_connect/{it.name}" for it in (TOP / "connect/pgsub_connect").glob("*.py")}
-        self.assertTrue(modules <= found)
+        copied = {f"lib/pgsub/pgsub_connect/{it.name}" for it in (TOP / "connect/pgsub_connect").glob("*.py")}
+        copied |= {f"share/doc/pgsub/{it.relative_to(TOP)}" for folder in ("docs", "examples") for it in (TOP / folder).rglob("*") if it.is_file()}
+        self.assertTrue(copied <= found)
         self.assertEqual(
-            found - modules,
+            found - copied,
             {
                 "bin/pgsub", "bin/pgsub-connect", "lib/pgsub/pgsub", "lib/pgsub/pgsub-connect", "lib/pgsub/BUILD",
                 "lib/pgsub/pgsub_connect/BUILD", "lib/systemd/system/pgsub@.service", "share/man/man1/pgsub.1.gz",
-                "share/man/man1/pgsub-connect.1.gz", "share/doc/pgsub/README.md", "share/doc/pgsub/OPERATING.md",
-                "share/doc/pgsub/CHANGELOG.md", "share/doc/pgsub/LICENSE", "share/doc/pgsub/LICENSE-MIT", "share/doc/pgsub/LICENSE-APACHE",
+                "share/man/man1/pgsub-connect.1.gz", "share/doc/pgsub/README.md", "share/doc/pgsub/CHANGELOG.md",
+                "share/doc/pgsub/SECURITY.md", "share/doc/pgsub/KITS", "share/doc/pgsub/first.pgx", "share/doc/pgsub/LICENSE",
+                "share/doc/pgsub/LICENSE-MIT", "share/doc/pgsub/LICENSE-APACHE",
             },
         )
         self.assertIn("ExecStart=/opt/here/bin/pgsub-connect follow", (self.root / "lib/systemd/system/pgsub@.service").read_text())
@@ -58,6 +62,11 @@ class Case(unittest.TestCase):
         self.assertEqual(build["version"], "1.2+3")
         self.assertIn(build["kit"], [*kits, ";".join(kits)])
         self.assertIn("1.2+3", self.run_it("--version").stdout)
+
+    def test_links_of_the_documents(self) -> None:
+        tree = checks.Tree(self.root / "share/doc/pgsub")
+        self.assertIn("docs/OPERATING.md", tree.documents())
+        self.assertEqual([it for file in tree.documents() for it in checks.check_links(tree, file)], [])
 
     def test_again(self) -> None:
         """Modules that are gone go, a program that runs goes on, and the connector runs no other build's."""

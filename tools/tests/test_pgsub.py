@@ -66,6 +66,14 @@ class Case(unittest.TestCase):
         self.assertEqual(self.calls.read_text(), f"{self.room()}/crates/pgsub\n")
         self.assertEqual(sorted(os.listdir(self.top)), ["HANDLES", "KITS", "crates", "crates.txt", "pgsub"])
 
+    def test_help_builds_nothing(self) -> None:
+        for word in ("--help", "-h"):
+            status, out, err = self.run_it(word)
+            self.assertEqual((status, err, self.builds()), (0, "", 0))
+            self.assertIn("./pgsub --build", out)
+        self.run_it("a")
+        self.assertEqual(self.run_it("--help"), (0, "first --help\n", ""))
+
     def test_an_older_program_is_run_and_told_of(self) -> None:
         self.run_it()
         self.write("second", 100.0)

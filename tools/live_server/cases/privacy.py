@@ -35,30 +35,27 @@ def modes(place: Place, *words: str) -> dict[str, int]:
     return {**found, **{it.name: it.stat().st_mode & 0o777 for it in place.folder.iterdir() if it.is_file() and it != place.log}}
 
 
-def private(place: Place) -> None:
-    """Makes all files so that their owner alone reads them, whatever the umask."""
+def check_modes(place: Place, umask: int, wanted: int, *words: str) -> None:
+    """Follows under a umask, and fails unless each file has this mode."""
     place.stock()
-    before = os.umask(0)
+    before = os.umask(umask)
     try:
-        found = modes(place)
+        found = modes(place, *words)
     finally:
         os.umask(before)
-    wrong = {name: oct(mode) for name, mode in found.items() if mode != 0o600}
+    wrong = {name: oct(mode) for name, mode in found.items() if mode != wanted}
     if wrong or len(found) < 4:
         raise Failed(f"modes of {len(found)} files: {wrong}")
+
+
+def private(place: Place) -> None:
+    """Makes all files so that their owner alone reads them, whatever the umask."""
+    check_modes(place, 0, 0o600)
 
 
 def shared(place: Place) -> None:
     """Makes the store's files with the mode that was asked for, whatever the umask."""
-    place.stock()
-    before = os.umask(0o077)
-    try:
-        found = modes(place, "--mode", "640")
-    finally:
-        os.umask(before)
-    wrong = {name: oct(mode) for name, mode in found.items() if mode != 0o640}
-    if wrong or len(found) < 4:
-        raise Failed(f"modes of {len(found)} files: {wrong}")
+    check_modes(place, 0o077, 0o640, "--mode", "640")
 
 
 def filter_environment(place: Place) -> None:

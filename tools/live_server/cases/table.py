@@ -15,12 +15,14 @@ from . import (
     versions,
 )
 from .case import Case
+from .exports import CASES as EXPORTS
 
 THEMES: dict[str, Sequence[Case]] = {
     "starts": (*starts.CASES, *shapes.CASES),
     "names": names.CASES,
     "publications": publications.CASES,
     "values": values.CASES,
+    "exports": EXPORTS,
     "timelines": timelines.CASES,
     "slots": slots.CASES,
     "copying": copying.CASES,

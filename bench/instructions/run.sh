@@ -1,0 +1,35 @@
+#!/usr/bin/env bash
+# Counts the instructions of `pgsub apply --store` for a change, and of `pgsub dump` for a row: bench/run instructions [--program PATH]
+#
+# They don't vary with what else the machine does. What 12,000 changes take beyond 2,000 is divided by their difference: start and end
+# are left out. Each `apply` prints the rows at its end, as `dump` does. PATH is the program (default: crates/pgsub/out/pgsub). Needs valgrind.
+source "$(dirname "$0")/../common.sh"
+program="$top/crates/pgsub/out/pgsub"
+[ "${1-}" != --program ] || program="${2:?a path}"
+[ -x "$program" ] || { echo "instructions: there is no program $program" >&2; exit 1; }
+command -v valgrind > /dev/null || { echo "instructions: valgrind is needed" >&2; exit 1; }
+
+# count COMMAND..: the instructions that it takes; nothing where it doesn't print the rows to their end
+count() {
+    valgrind --tool=cachegrind --cache-sim=no --cachegrind-out-file=/dev/null "$@" 2> "$work/told" > "$work/rows"
+    if tail -n 1 "$work/rows" | grep -q '^position '; then
+        awk '/ refs:/ { gsub(",", ""); print $NF }' "$work/told"
+    fi
+}
+
+# counts KIND EACH CHANGES: the instructions of `apply` and of `dump` on a session
+counts() {
+    local store="$work/$1.$2.$3.db"
+    python3 "$top/bench/subscriber/generate.py" "$1" "$work/session" --changes "$3" --each "$2"
+    echo "$(count "$program" apply --raw --store "$store" "$work/session") $(count "$program" dump --store "$store")"
+}
+
+echo "| Session | apply, a change | dump, a row |"
+echo "|---|---|---|"
+# (the kind, how many a transaction)
+for session in "inserts 1" "inserts 10" "inserts 100" "inserts 1000" "updates 100"; do
+    read -r kind each <<< "$session"
+    echo "$(counts "$kind" "$each" 2000) $(counts "$kind" "$each" 12000)" | awk -v kind="$kind" -v each="$each" '
+        NF == 4 { printf "| %s, %d a transaction | %d | %d |\n", kind, each, ($3 - $1) / 10000, ($4 - $2) / (kind == "updates" ? 2500 : 10000) }
+        NF != 4 { print "instructions: a run failed" > "/dev/stderr"; exit 1 }'
+done
