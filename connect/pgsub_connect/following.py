@@ -242,6 +242,8 @@ class Follower:
         self.heartbeat = min(options.heartbeat, timeout / 3) if timeout else options.heartbeat
         self.start_replication(connection, server)
         self.check_slot()
+        # (what comes later isn't what was accepted)
+        options.accept = []
         self.was_connected = True
         self.progress.sessions += 1
         log.info(f"following slot {options.slot} from {lsn_text(max(at, slot_at))}")

@@ -213,6 +213,21 @@ class Fits(Case):
         known = self.checkpoint.read()
         self.assertEqual((known.timeline, known.started, known.system), (4, 1000, "77"))
 
+    def test_a_history_is_accepted_once(self) -> None:
+        """Another history that comes in the same run is another one."""
+        self.identity[1] = "2"
+        follower = self.follower(accept=["history"])
+        self.checkpoint.write(False, phase="following", timeline=1, started=1, position=0x900)
+        follower.position = 0x900
+        self.connect(follower)
+        self.assertEqual(self.checkpoint.read().timeline, 2)
+        follower.disconnect()
+        self.identity[1], self.started = "3", "3000"
+        self.brain.answer("TIMELINE_HISTORY", [["x", "1\t0/500\treason\n2\t0/600\treason"]])
+        with self.assertRaisesRegex(Unfit, "changes that the server hasn't"):
+            self.connect(follower)
+        self.assertIn("history", self.checkpoint.read().found)
+
     def test_a_promotion_ends_the_session(self) -> None:
         follower = self.follower()
         self.run_until(follower, lambda: self.promoted() and self.server.sessions >= 2)

@@ -9,7 +9,7 @@ from unittest import mock
 
 from pgsub_connect import postgres
 from pgsub_connect.errors import ServerError, Stopped
-from pgsub_connect.postgres import COPY_BOTH, Connection, hosts_of, parameters
+from pgsub_connect.postgres import COPY_BOTH, Connection, addresses_of, connect_limit, hosts_of, parameters
 
 from . import small_server
 from .fake_server import FakeServer, Quiet
@@ -141,6 +141,25 @@ class Connects(Case):
         ):
             self.assertEqual([it["target_session_attrs"] for it in hosts_of(parameters(dsn))], [wanted] * 2)
         self.assertEqual(hosts_of(parameters("host=a")), [{"host": "a"}])
+
+    def test_several_hosts_of_which_libpq_chooses(self) -> None:
+        """Of a list no name is looked up here: libpq tries one host after the other, and may begin anew."""
+        dsn = "host=localhost,nowhere.invalid port=5444,5445 target_session_attrs=prefer-standby"
+        settings = parameters(dsn)
+        self.assertEqual((hosts_of(settings), addresses_of(settings, postgres.never)), ([settings], [settings]))
+
+    def test_limits_of_connecting(self) -> None:
+        """As libpq has them: two seconds at least, 0 for none, and the environment's where the DSN says nothing."""
+        for said, variable, limit in (
+            ("", None, 10.0), ("5", None, 5.0), ("1", None, 2.0), ("0", None, 3600.0), ("-1", "5", 3600.0), ("", "7", 7.0), ("3", "7", 3.0),
+        ):
+            with self.subTest(said=said, variable=variable), mock.patch.dict(
+                os.environ, {} if variable is None else {"PGCONNECT_TIMEOUT": variable}
+            ):
+                self.assertEqual(connect_limit(said), limit)
+        with self.assertRaises(ServerError) as raised:
+            self.connect(f"{self.server.dsn()} connect_timeout=soon")
+        self.assertTrue(raised.exception.is_lasting())
 
     def test_strings(self) -> None:
         self.assertEqual(parameters("shop"), {"dbname": "shop"})
