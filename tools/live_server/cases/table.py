@@ -11,7 +11,7 @@ from ..errors import Unusable
 from ..options import Options
 from ..place import Place, Shared
 from . import (
-    copying, names, privacy, publications, reaching, shapes, sideroads, silence, slots, standbys, starts, stops, timelines, values,
+    copying, names, operating, privacy, publications, reaching, shapes, sideroads, silence, slots, standbys, starts, stops, timelines, values,
     versions,
 )
 from .case import Case
@@ -31,6 +31,7 @@ THEMES: dict[str, Sequence[Case]] = {
     "versions": versions.CASES,
     "sideroads": sideroads.CASES,
     "privacy": privacy.CASES,
+    "operating": operating.CASES,
 }
 
 
