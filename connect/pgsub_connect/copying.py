@@ -29,7 +29,7 @@ from .making import REFUSED, Look, Maker, Wanted, has_publication
 from .messages import InsertHeads, begin, commit, frame, inserts, relation
 from .postgres import QUICK, Check, Connection, never
 from .publishing import Table, are_so_named, estimated_rows, published_tables, stored_in
-from .server import Server, identify, settle, slot_position
+from .server import Server, identify, settle, slot_position, tell_plain_text
 from .snapshots import sync_folder
 from .texts import counted, identifier, literal, lsn_text, parse_lsn
 from .waiting import Waiting, what_blocks
@@ -168,6 +168,8 @@ class Copier:
         self.plain = self.replication = None
         self.progress.state = "copying"
         self.replication = replication = Connection(options.dsn, replication=True, name=options.slot, check=self.check_stop)
+        if not self.was_connected:
+            tell_plain_text(replication)
         self.was_connected = True
         settle(replication)
         server = identify(replication)

@@ -17,7 +17,7 @@ from .postgres import COPY_BOTH, Connection
 from .progress import Progress
 from .recording import Aside
 from .remembered import Remembered
-from .server import Server, identify, is_lost, left_at, log_end, sender_timeout, settle, slot_position
+from .server import Server, identify, is_lost, left_at, log_end, sender_timeout, settle, slot_position, tell_plain_text
 from .skipping import Skipping
 from .snapshots import Snapshots
 from .texts import counted, identifier, lsn_text, replication_literal
@@ -217,7 +217,8 @@ class Follower:
         connection = Connection(options.dsn, replication=True, name=options.slot, check=self.check_stop)
         self.connection = connection
         settle(connection)
-        self.tell_plain_text(connection)
+        if not self.was_connected:
+            tell_plain_text(connection)
         server = identify(connection)
         self.progress.note_server(connection.version(), server.timeline)
         self.progress.server_started, self.progress.is_standby = server.started, server.is_standby
@@ -259,11 +260,6 @@ class Follower:
             if server.is_standby and error.sqlstate.startswith(NOT_AT_STANDBYS) and not is_lost(connection, self.options.slot):
                 raise ServerError(f"the server is a standby: {error}") from None
             raise
-
-    def tell_plain_text(self, connection: Connection) -> None:
-        """Warns once of a connection that others on the way can read."""
-        if not self.was_connected and not connection.is_encrypted() and not connection.is_local():
-            log.warning("the connection isn't encrypted: sslmode=verify-full makes it so, and checks the server's name")
 
     def choose_protocol(self, version: int) -> None:
         """Chooses the version of the protocol, and has the filter read it.

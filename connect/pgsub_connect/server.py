@@ -4,6 +4,7 @@ from __future__ import annotations
 
 import dataclasses
 
+from . import log
 from .errors import IN_USE, ServerError, Unfit
 from .postgres import QUICK, Connection
 from .texts import literal, parse_lsn
@@ -47,6 +48,12 @@ def settle(connection: Connection) -> None:
     settings = {**SETTINGS, **{name: "0" for name, since in LATER.items() if connection.version() >= since}}
     calls = (f"pg_catalog.set_config({literal(name)}, {literal(value)}, false)" for name, value in settings.items())
     connection.rows(f"SELECT {', '.join(calls)}", QUICK)
+
+
+def tell_plain_text(connection: Connection) -> None:
+    """Warns of a connection that others on the way can read."""
+    if not connection.is_encrypted() and not connection.is_local():
+        log.warning("the connection isn't encrypted: sslmode=verify-full makes it so, and checks the server's name")
 
 
 def identify(connection: Connection) -> Server:

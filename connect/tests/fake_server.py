@@ -25,6 +25,7 @@ class FakeServer:
         self.commands: list[str] = []
         self.lines: list[bytes] = []
         self.opened = self.closed = 0
+        self.is_local = True
 
     def answer(self, part: str, answer: Answer) -> None:
         self.answers.insert(0, (part, answer))
@@ -103,7 +104,7 @@ class FakeConnection:
         return False
 
     def is_local(self) -> bool:
-        return True
+        return self.server.is_local
 
     def close(self) -> None:
         self.server.closed += 1

@@ -123,6 +123,12 @@ class Copying(Quiet):
 
 
 class Sent(Copying):
+    def test_plain_text_is_warned_of_before_rows_are_read(self) -> None:
+        self.server.is_local = False
+        self.copier().run()
+        warnings = [it for it in self.said if "the connection isn't encrypted" in it]
+        self.assertEqual((len(warnings), self.said[0]), (1, warnings[0]))
+
     def test_transactions(self) -> None:
         self.copier().run()
         rows = inserts(self.server.lines, InsertHeads(STOCK, 1))

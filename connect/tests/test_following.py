@@ -228,6 +228,18 @@ class Fits(Case):
             self.connect(follower)
         self.assertIn("history", self.checkpoint.read().found)
 
+    def test_plain_text_is_warned_of_once(self) -> None:
+        """And not by a run whose copy has warned of it."""
+        for warned, times in ((False, 1), (True, 0)):
+            self.said.clear()
+            follower = self.follower_alone()
+            follower.was_connected = warned
+            with mock.patch.object(postgres.Connection, "is_local", return_value=False):
+                for _ in range(2):
+                    self.connect(follower)
+                    follower.disconnect()
+            self.assertEqual(sum("the connection isn't encrypted" in it for it in self.said), times)
+
     def test_a_promotion_ends_the_session(self) -> None:
         follower = self.follower()
         self.run_until(follower, lambda: self.promoted() and self.server.sessions >= 2)
