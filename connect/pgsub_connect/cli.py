@@ -48,9 +48,9 @@ The server needs wal_level = logical. The user needs the attribute REPLICATION, 
 for --create the right to create a publication (of all tables: to be a superuser). A slot keeps the server's log until it is
 confirmed or dropped: SELECT pg_drop_replication_slot('NAME').
 
-exit status: 0 ended as asked; 1 the filter rejected the stream, or was killed twice in one transaction; 2 usage error; 3 a file can't be used; 4 the server rejected
-a command for good; 5 the store and the slot don't fit together, or the copy may be wrong; 6 a bug; 7 something is in the way
-only for now, such as a server that isn't there: start it again
+exit status: 0 ended as asked; 1 the filter rejected the stream, or was killed twice in one transaction; 2 usage error; 3 a file
+can't be used; 4 the server rejected a command for good; 5 the store and the slot don't fit together, or the copy may be wrong; 6 a
+bug; 7 something is in the way only for now, such as a server that isn't there: start it again
 """
 TOP = os.path.dirname(os.path.dirname(os.path.dirname(os.path.realpath(__file__))))
 REJECTED, USAGE, FILE, SERVER, UNFIT, BUG, PASSING = 1, 2, 3, 4, 5, 6, 7
@@ -468,6 +468,7 @@ def record(options: Options) -> None:
     stop_by_signals(recorder)
     maker = maker_of(options, recorder.check_stop)
     try:
+        recorder.connect()
         if options.create == "temporary":
             maker.make()
         elif options.create:
@@ -475,6 +476,7 @@ def record(options: Options) -> None:
         recorder.run()
     finally:
         maker.take_back()
+        recorder.close()
 
 
 def stoppable(call: Callable[[Options, Check], int]) -> Callable[[Options], int]:

@@ -27,6 +27,9 @@ SETTINGS = {
 }
 # Settings that came later, by the version that has them first.
 LATER = {"idle_session_timeout": 140000, "transaction_timeout": 170000}
+# The first version of the server that has version 2 of the protocol, and with it streaming, binary values and messages; and the first
+# that aborts transactions in version 1 too.
+STREAMS, ABORTS_IN_VERSION_1 = 140000, 180000
 IN_MILLISECONDS = {"ms": 1, "s": 1000, "min": 60_000, "h": 3_600_000, "d": 86_400_000}
 
 
@@ -63,6 +66,11 @@ def identify(connection: Connection) -> Server:
     return Server(system, int(timeline), parse_lsn(log_end), database, standby, postmaster_start(connection))
 
 
+def tell_version_1() -> None:
+    """Tells that version 1 is taken in the place of version 2, which was asked for."""
+    log.info("the server has version 1 of the protocol alone: large transactions come whole")
+
+
 def left_at(connection: Connection, timeline: int, before: int) -> int | None:
     """The LSN at which the server's timeline left another one; None where it doesn't come from that one."""
     history = connection.rows(f"TIMELINE_HISTORY {timeline}", QUICK)[0][1] or ""
@@ -75,7 +83,7 @@ def left_at(connection: Connection, timeline: int, before: int) -> int | None:
 
 def slot_position(connection: Connection, slot: str) -> int | None:
     """The LSN from which the slot sends; None where there is no such slot."""
-    two_phase = "s.two_phase" if connection.version() >= 140000 else "false"
+    two_phase = "s.two_phase" if connection.version() >= STREAMS else "false"
     rows = connection.rows(
         f"SELECT s.plugin, s.database = pg_catalog.current_database(), {two_phase},"
         " s.confirmed_flush_lsn - '0/0'::pg_catalog.pg_lsn"
