@@ -155,9 +155,10 @@ def recorded(place: Place) -> None:
     """Records sessions without a store, which the program applies; the next recording begins where the one before did."""
     place.stock(published=False)
     place.run("DELETE FROM stock")
+    streaming = ("--streaming",) if place.options.installed.version >= 14 else ()
     for number in range(2):
         words = ("--dsn", place.dsn(), "--slot", place.slot, "--record", str(place.folder / "sessions.pgx"), "--until", "now")
-        place.subcommand("record", *words, *(("--create", "--table", "stock") if number == 0 else ("--streaming",)))
+        place.subcommand("record", *words, *(("--create", "--table", "stock") if number == 0 else streaming))
         if number == 0:
             place.change()
     done = subprocess.run([place.options.program, "apply", place.folder / "sessions.pgx"], capture_output=True, check=False)
