@@ -506,8 +506,7 @@ class Follower:
                     self.send(self.filter.status)
         except FilterEnded as ended:
             self.release()
-            if ended.is_rejection():
-                raise
+            check_end(ended)
         if self.connection:
             self.connection.end_copy()
 
@@ -521,8 +520,7 @@ class Follower:
                 self.progress.beat()
                 self.note_statuses(self.filter.serve(STEP)[2])
         except FilterEnded as ended:
-            if ended.is_rejection():
-                raise
+            check_end(ended)
 
     def disconnect(self) -> None:
         self.held = None
@@ -531,3 +529,11 @@ class Follower:
             self.connection.close()
             self.connection = None
         self.filter.end_session()
+
+
+def check_end(ended: FilterEnded) -> None:
+    """Looks at how a filter has ended that was to end. Raises where the next one would end in the same way."""
+    if ended.is_rejection():
+        raise ended
+    if ended.status:
+        log.warning(f"{ended}")

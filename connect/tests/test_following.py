@@ -14,7 +14,7 @@ from pgsub_connect import following, postgres, watching
 from pgsub_connect.checkpoint import Checkpoint
 from pgsub_connect.cli import Options
 from pgsub_connect.errors import FilterFault, Passing, ServerError, Unfit
-from pgsub_connect.filtering import Filter, flushed
+from pgsub_connect.filtering import Filter, FilterEnded, flushed
 from pgsub_connect.following import Follower
 from pgsub_connect.progress import Progress
 from pgsub_connect.remembered import Remembered
@@ -152,6 +152,20 @@ class Sessions(Case):
         follower = self.follower(silence=0.2)
         follower.was_connected = True
         self.run_until(follower, lambda: any("didn't answer" in it for it in self.said))
+
+    def test_a_filter_that_ends_badly_when_it_is_to_end(self) -> None:
+        """What may pass is told, and what won't is raised."""
+        follower = self.follower()
+        for end in (follower.finish_filter, follower.end_session_by_ourselves):
+            for status, said in ((0, []), (13, ["warning: the filter ended with status 13: pgsub: store 8 Refused"])):
+                self.said.clear()
+                ended = FilterEnded(status, "pgsub: store 8 Refused" if status else "")
+                with mock.patch.multiple(follower.filter, create=True, runs=True, takes=False, serve=mock.Mock(side_effect=ended)):
+                    end()
+                self.assertEqual(self.said, said)
+            with mock.patch.multiple(follower.filter, create=True, runs=True, takes=False, serve=mock.Mock(side_effect=FilterEnded(1, "x"))):
+                with self.assertRaises(FilterEnded):
+                    end()
 
     def test_a_signal_is_heard_within_a_second(self) -> None:
         self.server.silent = "IDENTIFY_SYSTEM"
