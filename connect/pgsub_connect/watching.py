@@ -33,7 +33,7 @@ class Watch:
         self.next_look = self.next_save = 0.0
         # when the publications were looked at last
         self.looked = time.monotonic()
-        self.is_told = False
+        self.is_told = self.is_hindered = False
 
     def begin(self) -> None:
         """Accepts what is to be accepted, and tells what else was found up to now."""
@@ -77,9 +77,9 @@ class Watch:
                 raise
             connection.run("SET lock_timeout = 0", limit=QUICK)
             self.next_look = time.monotonic() + AGAIN
-            log.warning(f"the publications can't be looked at now: {error}")
+            self.tell_hindered(error)
             return False
-        self.looked = time.monotonic()
+        self.looked, self.is_hindered = time.monotonic(), False
         self.tell_actions(now)
         if remembered.catalog is None:
             remembered.begin(now)
@@ -109,8 +109,14 @@ class Watch:
             finally:
                 connection.close()
         except ServerError as error:
-            log.warning(f"the publications can't be looked at now: {error}")
+            self.tell_hindered(error)
             return False
+
+    def tell_hindered(self, error: ServerError) -> None:
+        """Tells once why a look isn't possible, until one is: somebody may hold a lock for hours."""
+        if not self.is_hindered:
+            log.warning(f"the publications can't be looked at now: {error}")
+        self.is_hindered = True
 
     def keep(self) -> None:
         """Puts what was found on the disk, before anything more is confirmed, and tells it."""

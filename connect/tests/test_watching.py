@@ -146,6 +146,18 @@ class Looks(Case):
             self.assertTrue(watch.tend(True, never, 100))
         self.assertEqual((len(said), connection.call_count), (1, 1))
 
+    def test_why_they_fail_is_told_once(self) -> None:
+        """And again once a look between was possible."""
+        watch, now = self.watch(), a_catalog(T, lsn=200)
+        cases: list[tuple[list[Catalog | ServerError], int]] = [([ServerError("gone")] * 3, 1), ([now, ServerError("gone")], 1), ([now], 0)]
+        for outcomes, lines in cases:
+            with mock.patch("pgsub_connect.watching.Connection"), mock.patch("pgsub_connect.watching.settle"), mock.patch(
+                "pgsub_connect.watching.read_catalog", side_effect=outcomes
+            ), logged() as said:
+                for outcome in outcomes:
+                    self.assertIs(watch.look_again(never, 100), outcome is now)
+            self.assertEqual(len(said), lines)
+
     def test_a_lock_in_the_way(self) -> None:
         watch, connection = self.watch(), mock.Mock()
         with mock.patch("pgsub_connect.watching.read_catalog", side_effect=ServerError("lock timeout", "55P03")), logged() as said:
