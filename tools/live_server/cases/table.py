@@ -11,8 +11,8 @@ from ..errors import Unusable
 from ..options import Options
 from ..place import Place, Shared
 from . import (
-    copying, names, operating, privacy, publications, reaching, shapes, sideroads, silence, slots, standbys, starts, stops, timelines, values,
-    versions,
+    altering, copying, names, operating, privacy, publications, reaching, shapes, sideroads, silence, slots, standbys, starts, stops,
+    timelines, values, versions,
 )
 from .case import Case
 
@@ -32,6 +32,7 @@ THEMES: dict[str, Sequence[Case]] = {
     "sideroads": sideroads.CASES,
     "privacy": privacy.CASES,
     "operating": operating.CASES,
+    "altering": altering.CASES,
 }
 
 
