@@ -137,9 +137,10 @@ class Sessions(Case):
     def test_silence(self) -> None:
         """A server is asked for an answer at half of the limit, and given up at the limit."""
         self.server.answers_asking = False
-        self.run_until(self.follower(silence=0.4), lambda: self.server.sessions >= 2)
-        self.assertIn("warning: the server said nothing for 0 seconds", [it.replace("0.4", "0") for it in self.said])
-        self.assertEqual(self.server.statuses[-1][1][-1:] in (b"\0", b"\1"), True)
+        follower, said = self.follower(silence=0.4), "warning: the server said nothing for 0 seconds"
+        # (on a busy machine the beginning of a session may take longer)
+        follower.was_connected = True
+        self.run_until(follower, lambda: said in self.said and self.server.sessions >= 2)
         self.assertTrue(any(body[-1:] == b"\x01" for _, body in self.server.statuses))
 
     def test_a_quiet_server_that_answers(self) -> None:
