@@ -145,7 +145,7 @@ class Sessions(Case):
 
     def test_a_quiet_server_that_answers(self) -> None:
         began = time.monotonic()
-        self.run_until(self.follower(silence=0.3), lambda: time.monotonic() - began > 1.0)
+        self.run_until(self.follower(silence=0.5), lambda: time.monotonic() - began > 1.2)
         self.assertEqual(self.server.sessions, 1)
 
     def test_start_replication_that_isnt_answered(self) -> None:
