@@ -104,7 +104,8 @@ def waits_for_a_lock(place: Place, *words: str) -> None:
     with place.cluster.connect() as writer:
         writer.run("BEGIN", "LOCK TABLE stock IN ACCESS EXCLUSIVE MODE")
         child = place.start(*words)
-        child.wait_for(f"waits for the locks of process {writer.value('SELECT pg_backend_pid()')} ", 30)
+        # (before 16 the slot waits first, for the transaction that has the lock)
+        child.wait_for(f" of process {writer.value('SELECT pg_backend_pid()')} (", 30)
         writer.run("ROLLBACK")
     place.catch_up(child)
     child.stop()
