@@ -50,7 +50,8 @@ class Part(NamedTuple):
 
 @dataclasses.dataclass(frozen=True)
 class Table:
-    """A published table. `untouched`: nobody has renamed it or moved it since it was made; `unwritten`: nor written it anew."""
+    """A published table. `untouched`: nobody has renamed it or moved it since it was made; `unwritten`: nor written it anew; `node`:
+    the number of the file with its rows, 0 where that isn't known; `altered`: which transactions have made or altered its columns."""
 
     oid: int
     namespace: str
@@ -60,6 +61,8 @@ class Table:
     parts: dict[str, Part]
     untouched: bool = dataclasses.field(default=False, compare=False)
     unwritten: bool = dataclasses.field(default=False, compare=False)
+    node: int = 0
+    altered: str = ""
 
     def text(self) -> str:
         return f"{self.namespace}.{self.name} ({self.oid})"
@@ -154,6 +157,11 @@ UNTOUCHED = (
 )
 # Whether nothing has written a relation `c` anew, as TRUNCATE, SET LOGGED and others do.
 UNWRITTEN = "COALESCE(pg_catalog.pg_relation_filenode(c.oid) = c.oid, true)"
+# The transactions that have made or altered the columns of a relation `c`. VACUUM FULL, CLUSTER and TRUNCATE alter none.
+ALTERED = (
+    "(SELECT pg_catalog.string_agg(DISTINCT b.xmin::pg_catalog.text, ' ') FROM pg_catalog.pg_attribute b"
+    " WHERE b.attrelid = c.oid AND b.attnum > 0 AND NOT b.attisdropped)"
+)
 
 
 def read_tables(connection: Connection, names: list[str]) -> dict[int, Table]:
@@ -164,7 +172,8 @@ def read_tables(connection: Connection, names: list[str]) -> dict[int, Table]:
     sent = "pg_catalog.array_to_string(g.attrs::pg_catalog.int2[], ',')" if fine else "NULL"
     rows = connection.rows(
         f"SELECT p.pubname, c.oid, n.nspname, c.relname, c.relkind, c.relreplident, {row_filter}, {listed}, {sent},"
-        f" {is_whole(connection, 'c')}, {UNTOUCHED}, {UNWRITTEN} FROM pg_catalog.pg_publication p"
+        f" {is_whole(connection, 'c')}, {UNTOUCHED}, {UNWRITTEN}, pg_catalog.pg_relation_filenode(c.oid), {ALTERED}"
+        " FROM pg_catalog.pg_publication p"
         " CROSS JOIN LATERAL pg_catalog.pg_get_publication_tables(p.pubname::pg_catalog.text) g"
         " JOIN pg_catalog.pg_class c ON c.oid = g.relid JOIN pg_catalog.pg_namespace n ON n.oid = c.relnamespace"
         " LEFT JOIN pg_catalog.pg_type y ON y.oid = c.reltype"
@@ -174,7 +183,7 @@ def read_tables(connection: Connection, names: list[str]) -> dict[int, Table]:
     )
     columns = read_columns(connection, sorted({number(row[1]) for row in rows}))
     tables: dict[int, Table] = {}
-    for publication, relid, namespace, name, kind, identity, where, own, attributes, whole, untouched, unwritten in rows:
+    for publication, relid, namespace, name, kind, identity, where, own, attributes, whole, untouched, unwritten, node, altered in rows:
         oid = number(relid)
         part = Part(where, numbers(own), whole == "t")
         if oid in tables:
@@ -182,7 +191,8 @@ def read_tables(connection: Connection, names: list[str]) -> dict[int, Table]:
             continue
         shape = Shape(identity or "", sent_columns(connection, columns.get(oid, []), numbers(attributes)))
         tables[oid] = Table(
-            oid, namespace or "", name or "", kind or "", shape, {publication or "": part}, untouched == "t", unwritten == "t"
+            oid, namespace or "", name or "", kind or "", shape, {publication or "": part}, untouched == "t", unwritten == "t",
+            number(node), altered or "",
         )
     return tables
 

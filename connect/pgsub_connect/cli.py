@@ -48,9 +48,11 @@ The server needs wal_level = logical. The user needs the attribute REPLICATION, 
 for --create the right to create a publication (of all tables: to be a superuser). A slot keeps the server's log until it is
 confirmed or dropped: SELECT pg_drop_replication_slot('NAME').
 
-exit status: 0 ended as asked; 1 the filter rejected the stream, or was killed twice in one transaction; 2 usage error; 3 a file can't be used; 4 the server rejected
-a command for good; 5 the store and the slot don't fit together, or the copy may be wrong; 6 a bug; 7 something is in the way
-only for now, such as a server that isn't there: start it again
+"""
+ENDS = """\
+exit status: 0 ended as asked; 1 the filter rejected the stream, or was killed twice in one transaction; 2 usage error; 3 a file
+can't be used; 4 the server rejected a command for good; 5 the store and the slot don't fit together, or the copy may be wrong; 6 a
+bug; 7 something is in the way only for now, such as a server that isn't there: start it again
 """
 TOP = os.path.dirname(os.path.dirname(os.path.dirname(os.path.realpath(__file__))))
 REJECTED, USAGE, FILE, SERVER, UNFIT, BUG, PASSING = 1, 2, 3, 4, 5, 6, 7
@@ -291,13 +293,16 @@ COMMANDS: dict[str, tuple[str, Sequence[Callable[[argparse.ArgumentParser], None
 def arguments(words: Sequence[str]) -> Options:
     """Reads the command line. Without a subcommand it is `follow` where a store is named, and else `record`."""
     parser = argparse.ArgumentParser(
-        prog=log.PROGRAM, description=ABOUT, epilog=MORE, formatter_class=argparse.RawDescriptionHelpFormatter
+        prog=log.PROGRAM, description=ABOUT, epilog=MORE + ENDS, formatter_class=argparse.RawDescriptionHelpFormatter
     )
     parser.add_argument("--version", action=TellVersion, nargs=0, help="show the version, and the commit of a checkout")
     commands = parser.add_subparsers(dest="command", metavar="COMMAND", required=True)
     parsers = {}
     for name, (about, adds) in COMMANDS.items():
-        parsers[name] = commands.add_parser(name, help=about.partition("\n")[0], description=about, formatter_class=AsWritten)
+        parsers[name] = commands.add_parser(
+            name, help=about.partition("\n")[0], description=about, formatter_class=AsWritten,
+            epilog=ENDS if name in ("follow", "record") else None,
+        )
         for add in adds:
             add(parsers[name])
     if words and words[0] not in (*COMMANDS, "-h", "--help", "--version"):
@@ -488,6 +493,7 @@ def record(options: Options) -> None:
     stop_by_signals(recorder)
     maker = maker_of(options, recorder.check_stop)
     try:
+        recorder.connect()
         if options.create == "temporary":
             maker.make()
         elif options.create:
@@ -495,6 +501,7 @@ def record(options: Options) -> None:
         recorder.run()
     finally:
         maker.take_back()
+        recorder.close()
 
 
 def stoppable(call: Callable[[Options, Check], int]) -> Callable[[Options], int]:

@@ -29,10 +29,10 @@ from .making import REFUSED, Look, Maker, Wanted, has_publication
 from .messages import InsertHeads, begin, commit, frame, inserts, relation
 from .postgres import QUICK, Check, Connection, never
 from .publishing import Table, are_so_named, estimated_rows, published_tables, stored_in
-from .server import Server, identify, settle, slot_position
+from .server import Server, identify, settle, slot_position, tell_plain_text
 from .snapshots import sync_folder
 from .texts import counted, identifier, literal, lsn_text, parse_lsn
-from .waiting import Waiting, what_blocks
+from .waiting import Waiting, lock_text
 
 if TYPE_CHECKING:
     from .checkpoint import Checkpoint
@@ -168,6 +168,8 @@ class Copier:
         self.plain = self.replication = None
         self.progress.state = "copying"
         self.replication = replication = Connection(options.dsn, replication=True, name=options.slot, check=self.check_stop)
+        if not self.was_connected:
+            tell_plain_text(replication)
         self.was_connected = True
         settle(replication)
         server = identify(replication)
@@ -224,6 +226,8 @@ class Copier:
         """Makes the temporary slot, and a transaction under its snapshot in which no published table can be altered."""
         options = self.options
         self.plain = plain = Connection(options.dsn, name=f"{options.slot} copy", check=self.check_all)
+        # (from 16 on the server locks a table to say what is published of it)
+        plain.check = Waiting(options.dsn, options.slot, self.check_all, lock_text("the copy", plain.pid())).check
         settle(plain)
         plain.run("SET row_security = off")
         tables = published_tables(plain, options.publication)
@@ -246,6 +250,7 @@ class Copier:
             self.check_names(tables)
         except ServerError as error:
             raise ServerError(CHANGED) if error.sqlstate in GONE else error from None
+        plain.check = self.check_all
         log.info(f"copying {counted(len(tables), 'table')} as of {lsn_text(point)}")
         return temporary, point, tables
 
@@ -253,10 +258,6 @@ class Copier:
         """Locks the tables against whoever alters or truncates them."""
         if not tables:
             return
-        check, pid = plain.check, plain.pid()
-        plain.check = Waiting(
-            self.options.dsn, self.options.slot, check, lambda it: f"the copy waits for the locks of {what_blocks(it, pid)}"
-        ).check
         try:
             plain.run(f"LOCK TABLE {', '.join(table.sql_name() for table in tables)} IN ACCESS SHARE MODE")
         except ServerError as error:
@@ -264,8 +265,6 @@ class Copier:
                 raise
             text = f"{error}; to lock a table while it is read needs SELECT on all of it, and not on some columns"
             raise ServerError(text, DENIED) from None
-        finally:
-            plain.check = check
 
     def check_names(self, tables: list[Table]) -> None:
         """Checks that the tables still have their names and columns.

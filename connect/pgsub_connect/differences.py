@@ -80,7 +80,22 @@ def table_differences(oid: int, before: Catalog, now: Catalog) -> Iterator[Diffe
     elif old is not None and new is not None:
         for name in sorted(old.parts.keys() & new.parts.keys()):
             yield from part_differences(f"table {new.text()}", old.parts[name], new.parts[name])
-        yield from shape_differences(new.text(), old.shape, new.shape)
+        shapes = list(shape_differences(new.text(), old.shape, new.shape))
+        if not shapes and is_computed_anew(oid, before, now):
+            text = f"table {new.text()} was written anew, and columns of it were altered: values that were there may be others now"
+            shapes.append(Difference(VALUES, text))
+        yield from shapes
+
+
+def is_computed_anew(oid: int, before: Catalog, now: Catalog) -> bool:
+    """Whether an ALTER TABLE may have computed values of a table that has the same columns: by USING, without another type."""
+    old, new = before.tables[oid], now.tables[oid]
+    if "" in (old.altered, new.altered) or old.altered == new.altered:
+        return False
+    if new.node:
+        return old.node not in (0, new.node)
+    parts = [it for it in before.partitions.keys() & now.partitions.keys() if root_of(it, now) == oid == root_of(it, before)]
+    return any(before.partitions[it].node not in (0, now.partitions[it].node) for it in parts)
 
 
 def gone_text(table: str) -> str:

@@ -3,6 +3,7 @@
 from __future__ import annotations
 
 import contextlib
+import dataclasses
 import itertools
 import time
 from typing import TYPE_CHECKING
@@ -17,7 +18,10 @@ from .postgres import COPY_BOTH, Connection
 from .progress import Progress
 from .recording import Aside
 from .remembered import Remembered
-from .server import Server, identify, is_lost, left_at, log_end, sender_timeout, settle, slot_position
+from .server import (
+    ABORTS_IN_VERSION_1, STREAMS, Server, identify, is_lost, left_at, log_end, sender_timeout, settle, slot_position, tell_plain_text,
+    tell_version_1,
+)
 from .skipping import Skipping
 from .snapshots import Snapshots
 from .texts import counted, identifier, lsn_text, replication_literal
@@ -39,8 +43,6 @@ INTERNAL = "XX000"
 QUIET = 1.0
 # What a standby says that can't be followed: it has no such feature, or the slot is one that it only keeps for its promotion.
 NOT_AT_STANDBYS = ("0A", "55000")
-# The first version of the server that has version 2 of the protocol, and the first that aborts transactions in version 1 too.
-STREAMS, ABORTS_IN_VERSION_1 = 140000, 180000
 
 
 class Follower:
@@ -217,7 +219,8 @@ class Follower:
         connection = Connection(options.dsn, replication=True, name=options.slot, check=self.check_stop)
         self.connection = connection
         settle(connection)
-        self.tell_plain_text(connection)
+        if not self.was_connected:
+            tell_plain_text(connection)
         server = identify(connection)
         self.progress.note_server(connection.version(), server.timeline)
         self.progress.server_started, self.progress.is_standby = server.started, server.is_standby
@@ -242,11 +245,13 @@ class Follower:
         self.heartbeat = min(options.heartbeat, timeout / 3) if timeout else options.heartbeat
         self.start_replication(connection, server)
         self.check_slot()
+        # (what comes later isn't what was accepted)
+        options.accept = []
         self.was_connected = True
         self.progress.sessions += 1
         log.info(f"following slot {options.slot} from {lsn_text(max(at, slot_at))}")
         if self.recording:
-            self.recording.begin_session(connection, options, at)
+            self.recording.begin_session(connection, dataclasses.replace(options, proto=self.proto, streaming=self.is_streaming()), at)
         return connection
 
     def start_replication(self, connection: Connection, server: Server) -> None:
@@ -258,11 +263,6 @@ class Follower:
                 raise ServerError(f"the server is a standby: {error}") from None
             raise
 
-    def tell_plain_text(self, connection: Connection) -> None:
-        """Warns once of a connection that others on the way can read."""
-        if not self.was_connected and not connection.is_encrypted() and not connection.is_local():
-            log.warning("the connection isn't encrypted: sslmode=verify-full makes it so, and checks the server's name")
-
     def choose_protocol(self, version: int) -> None:
         """Chooses the version of the protocol, and has the filter read it.
 
@@ -270,7 +270,7 @@ class Follower:
         is legal and has no effect, so version 1 of them is version 2 without streaming.
         """
         if version < STREAMS and self.proto == 2:
-            log.info("the server has version 1 of the protocol alone: large transactions come whole")
+            tell_version_1()
             self.proto, self.streams = 1, False
         if version >= ABORTS_IN_VERSION_1 and self.proto == 1:
             self.proto = 2
@@ -354,11 +354,15 @@ class Follower:
             database=server.database, slot=self.options.slot, position=max(position, self.checkpoint.known.position),
         )
 
+    def is_streaming(self) -> bool:
+        """Whether large transactions are to come while they run."""
+        return self.streams and not self.skipping.is_pending
+
     def command(self, at: int) -> str:
         options = self.options
         names = ", ".join(identifier(name) for name in options.publication)
         words = [f"proto_version '{self.proto}'", f"publication_names {replication_literal(names)}"]
-        if self.streams and not self.skipping.is_pending:
+        if self.is_streaming():
             words.append("streaming 'on'")
         return f"START_REPLICATION SLOT {identifier(options.slot)} LOGICAL {lsn_text(at)} ({', '.join(words)})"
 
@@ -502,8 +506,7 @@ class Follower:
                     self.send(self.filter.status)
         except FilterEnded as ended:
             self.release()
-            if ended.is_rejection():
-                raise
+            check_end(ended)
         if self.connection:
             self.connection.end_copy()
 
@@ -517,8 +520,7 @@ class Follower:
                 self.progress.beat()
                 self.note_statuses(self.filter.serve(STEP)[2])
         except FilterEnded as ended:
-            if ended.is_rejection():
-                raise
+            check_end(ended)
 
     def disconnect(self) -> None:
         self.held = None
@@ -527,3 +529,11 @@ class Follower:
             self.connection.close()
             self.connection = None
         self.filter.end_session()
+
+
+def check_end(ended: FilterEnded) -> None:
+    """Looks at how a filter has ended that was to end. Raises where the next one would end in the same way."""
+    if ended.is_rejection():
+        raise ended
+    if ended.status:
+        log.warning(f"{ended}")

@@ -18,6 +18,7 @@ from .errors import ServerError
 from .postgres import Check, Connection
 from .publishing import EXACT, FINE, UNIQUE
 from .texts import counted, identifier, literal
+from .waiting import Waiting, lock_text
 
 REFUSED = "55000"
 INSERTS = "insert, truncate"
@@ -270,6 +271,7 @@ class Maker:
         self.connection = Connection(self.dsn, name=f"{self.name} publication", check=self.check)
         try:
             connection = self.connection
+            connection.check = Waiting(self.dsn, self.name, self.check, lock_text("the publication", connection.pid())).check
             self.path = connection.value("SELECT pg_catalog.current_setting('search_path')") or ""
             # (the follower may be the standby for which a commit would wait)
             connection.run(

@@ -25,6 +25,8 @@ LIBPQ = ctypes.PyDLL("libpq.so.5") if pq.__impl__ == "python" else None
 # After how many seconds each, at most, a host is given up, and a command that takes no time at the server.
 CONNECT_LIMIT = 10.0
 QUICK = 60.0
+# The limits that a DSN can give for a host: libpq knows none below two seconds, and takes 0 for none at all.
+LEAST_LIMIT, MOST_LIMIT = 2.0, 3600.0
 # How long a wait may go on before it looks whether the end was asked for, in seconds.
 TICK = 0.5
 DONE = (pq.ExecStatus.EMPTY_QUERY, pq.ExecStatus.COMMAND_OK, pq.ExecStatus.TUPLES_OK)
@@ -83,10 +85,20 @@ def hosts_of(settings: dict[str, str]) -> list[dict[str, str]]:
     return attempts
 
 
+def connect_limit(said: str) -> float:
+    """After how many seconds a host is given up, where a DSN or libpq's environment has this as its `connect_timeout`."""
+    text = said or os.environ.get("PGCONNECT_TIMEOUT", "")
+    try:
+        number = float(text) if text else CONNECT_LIMIT
+    except ValueError:
+        raise ServerError("connect_timeout is no number", "22023") from None
+    return min(max(number, LEAST_LIMIT), MOST_LIMIT) if number > 0 else MOST_LIMIT
+
+
 def is_resolved(settings: dict[str, str]) -> bool:
-    """Whether no name has to be looked up for these settings."""
+    """Whether no name has to be looked up for these settings, or libpq has to do it since it chooses among several hosts itself."""
     host = settings.get("host") or os.environ.get("PGHOST", "")
-    if settings.get("hostaddr") or os.environ.get("PGHOSTADDR") or not host or host.startswith(("/", "@")):
+    if settings.get("hostaddr") or os.environ.get("PGHOSTADDR") or not host or host.startswith(("/", "@")) or "," in host:
         return True
     with contextlib.suppress(ValueError):
         ipaddress.ip_address(host)
@@ -137,10 +149,7 @@ class Connection:
         settings = {**DEFAULTS, "application_name": name, **parameters(dsn), "client_encoding": "UTF8"}
         if replication:
             settings["replication"] = "database"
-        try:
-            self.limit = min(max(float(settings.pop("connect_timeout", CONNECT_LIMIT)), 2.0), 3600.0)
-        except ValueError:
-            raise ServerError("connect_timeout is no number", "22023") from None
+        self.limit = connect_limit(settings.pop("connect_timeout", ""))
         self.raw = self.connected(settings)
         self.raw.notice_handler = None if quiet else tell_notice
         self.number = self.raw.socket

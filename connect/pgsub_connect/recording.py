@@ -10,10 +10,10 @@ import time
 from typing import TYPE_CHECKING
 
 from . import log
-from .errors import Stopped
+from .errors import Stopped, UsageError
 from .filtering import COPY_DONE, header
 from .postgres import COPY_BOTH, Connection
-from .server import log_end, settle
+from .server import STREAMS, log_end, settle, tell_plain_text, tell_version_1
 from .texts import counted, identifier, lsn_text, replication_literal
 
 if TYPE_CHECKING:
@@ -61,6 +61,9 @@ class Recording:
     def flush(self) -> None:
         self.out.flush()
 
+    def close(self) -> None:
+        self.out.close()
+
 
 class Aside:
     """A recording beside a follower: where it can't be written any more, it ends, and following goes on."""
@@ -104,8 +107,8 @@ class Progress:
         """Notes a payload: XLogData (`w`) or a keepalive (`k`)."""
         self.payloads += 1
         if payload[:1] == b"k":
-            self.server_end = max(self.server_end, struct.unpack_from(">Q", payload, 1)[0])
-            self.reached = max(self.reached, self.server_end)
+            end = struct.unpack_from(">Q", payload, 1)[0]
+            self.server_end, self.reached = max(self.server_end, end), max(self.reached, end)
             self.asks = self.asks or payload[17] == 1
         elif payload[:1] == b"w":
             self.server_end = max(self.server_end, struct.unpack_from(">Q", payload, 9)[0])
@@ -118,7 +121,7 @@ class Progress:
 class Recorder:
     """Records one session without a filter, and keeps the server content meanwhile."""
 
-    connection: Connection
+    connection: Connection | None
 
     def __init__(self, options: Options, recording: Recording) -> None:
         self.options, self.recording = options, recording
@@ -126,16 +129,38 @@ class Recorder:
         self.progress = Progress()
         self.stop_asked = False
         self.last_status = 0.0
+        self.connection = None
 
     def check_stop(self) -> None:
         if self.stop_asked:
             raise Stopped
 
-    def run(self) -> None:
+    def connect(self) -> Connection:
+        """Connects, and looks for what the server's version hasn't got, before anything is made there."""
         options = self.options
         self.connection = connection = Connection(options.dsn, replication=True, name=options.slot, check=self.check_stop)
+        settle(connection)
+        tell_plain_text(connection)
+        if connection.version() < STREAMS:
+            for name in ("streaming", "binary", "messages"):
+                if getattr(options, name):
+                    raise UsageError(f"--{name} needs PostgreSQL 14, and this is {connection.parameter('server_version')}")
+            if options.proto == 2:
+                tell_version_1()
+                options.proto = 1
+        return connection
+
+    def close(self) -> None:
+        if self.connection:
+            self.connection.close()
+        self.connection = None
+        self.recording.close()
+
+    def run(self) -> None:
+        """Records a session on the connection."""
+        options, connection = self.options, self.connection
+        assert connection
         try:
-            settle(connection)
             if options.create == "temporary":
                 connection.run(f"CREATE_REPLICATION_SLOT {identifier(options.slot)} TEMPORARY LOGICAL pgoutput NOEXPORT_SNAPSHOT")
                 log.info("recording from now on: make changes now")
@@ -143,16 +168,15 @@ class Recorder:
                 self.until = log_end(connection)
             connection.run(self.command(), wanted=COPY_BOTH)
             self.recording.begin_session(connection, options, options.start)
-            self.record()
+            self.record(connection)
             if options.confirm:
-                self.send_status()
+                self.send_status(connection)
             connection.end_copy()
         finally:
             self.recording.flush()
             done = self.progress
             said = f"{counted(done.payloads, 'frame')}, {counted(done.commits, 'commit')}"
             log.info(f"{said}, the last up to {lsn_text(done.commit_end)}")
-            connection.close()
 
     def command(self) -> str:
         options = self.options
@@ -161,12 +185,12 @@ class Recorder:
         words += [f"{word} 'true'" for word in ("streaming", "binary", "messages") if getattr(options, word)]
         return f"START_REPLICATION SLOT {identifier(options.slot)} LOGICAL {lsn_text(options.start)} ({', '.join(words)})"
 
-    def send_status(self) -> None:
+    def send_status(self, connection: Connection) -> None:
         """Tells the server that it is heard. Only the second number, what is flushed, lets it forget its log."""
         confirmed = min(self.options.confirm, self.progress.commit_end)
         clock = int((time.time() - EPOCH) * 1000000)
         received = max(self.progress.server_end, confirmed)
-        self.connection.send(struct.pack(">cQQQqB", b"r", received, confirmed, confirmed, clock, 0))
+        connection.send(struct.pack(">cQQQqB", b"r", received, confirmed, confirmed, clock, 0))
         self.last_status = time.monotonic()
         self.progress.asks = False
 
@@ -178,10 +202,10 @@ class Recorder:
             return True
         return self.until is not None and progress.reached >= self.until
 
-    def take_ready(self) -> bool:
+    def take_ready(self, connection: Connection) -> bool:
         """Records what has come. Returns false once the session is over or enough is recorded."""
         while not self.is_enough():
-            payload = self.connection.next_payload()
+            payload = connection.next_payload()
             if payload is None:
                 self.recording.write_frame(COPY_DONE)
                 return False
@@ -190,22 +214,22 @@ class Recorder:
             self.recording.write_payload(payload)
             self.progress.note(payload)
             if self.progress.asks:
-                self.send_status()
+                self.send_status(connection)
         return False
 
-    def record(self) -> None:
-        socket = self.connection.socket()
+    def record(self, connection: Connection) -> None:
+        socket = connection.socket()
         self.last_status = time.monotonic()
         deadline = self.last_status + self.options.seconds if self.options.seconds is not None else None
-        while self.take_ready():
+        while self.take_ready(connection):
             now = time.monotonic()
             if deadline is not None and now >= deadline:
                 return
             wait = self.options.heartbeat - (now - self.last_status)
             if wait <= 0:
-                self.send_status()
+                self.send_status(connection)
                 self.recording.flush()
             if deadline is not None:
                 wait = min(wait, deadline - now)
             select.select([socket], [], [], min(max(wait, 0.01), 0.5))
-            self.connection.consume()
+            connection.consume()

@@ -224,9 +224,9 @@ class Remembered:
         table = catalog.tables.get(oid)
         # What led to what was there at the last look is told by that. Before, each message is one step after the other.
         before = table.shape if table is not None and lsn > catalog.lsn else sent.shape if sent else None
-        if before is not None:
-            for kind, text in shape_differences(relation.text(), before, relation.shape):
-                self.find(kind, lsn, text)
+        told = list(shape_differences(relation.text(), before, relation.shape)) if before is not None else []
+        for kind, text in told:
+            self.find(kind, lsn, text)
         if lsn > catalog.lsn or oid not in self.held:
             rename = self.rename if lsn > catalog.lsn else self.rename_earlier
             text = rename(relation.namespace, relation.name, oid, lsn)
@@ -239,7 +239,9 @@ class Remembered:
             numbers = {it.name: it.number for it in table.shape.columns}
             columns = tuple(it._replace(number=numbers.get(it.name, 0)) for it in relation.shape.columns)
             catalog.tables[oid] = dataclasses.replace(
-                table, namespace=relation.namespace, name=relation.name, shape=Shape(relation.shape.identity, columns)
+                table, namespace=relation.namespace, name=relation.name, shape=Shape(relation.shape.identity, columns),
+                # (the next look isn't to tell it in other words)
+                altered="" if told else table.altered,
             )
 
     def note_again(self, oid: int, lsn: int) -> None:
@@ -409,7 +411,7 @@ def catalog_written(catalog: Catalog) -> dict[str, Any]:
         "tables": [
             {
                 "oid": it.oid, "schema": it.namespace, "name": it.name, "kind": it.kind, "identity": it.shape.identity,
-                "columns": it.shape.columns, "parts": it.parts,
+                "columns": it.shape.columns, "parts": it.parts, "node": it.node, "altered": it.altered,
             }
             for it in catalog.tables.values()
         ],
@@ -436,12 +438,16 @@ def partition_of(oid: int, parent: int, name: str, leaf: bool, node: int = 0) ->
 
 
 def table_of(said: dict[str, Any]) -> Table:
+    """A table; an earlier version of this program didn't keep when its columns were altered."""
     parts = {
         name: Part(row_filter, None if listed is None else tuple(listed), bool(whole))
         for name, (row_filter, listed, whole) in said["parts"].items()
     }
     shape = shape_of(said["identity"], said["columns"])
-    return Table(int(said["oid"]), str(said["schema"]), str(said["name"]), str(said["kind"]), shape, parts)
+    return Table(
+        int(said["oid"]), str(said["schema"]), str(said["name"]), str(said["kind"]), shape, parts,
+        node=int(said.get("node", 0)), altered=str(said.get("altered", "")),
+    )
 
 
 def shape_of(identity: str, columns: list[Any]) -> Shape:

@@ -4,6 +4,7 @@ from __future__ import annotations
 
 import dataclasses
 
+from . import log
 from .errors import IN_USE, ServerError, Unfit
 from .postgres import QUICK, Connection
 from .texts import literal, parse_lsn
@@ -26,6 +27,9 @@ SETTINGS = {
 }
 # Settings that came later, by the version that has them first.
 LATER = {"idle_session_timeout": 140000, "transaction_timeout": 170000}
+# The first version of the server that has version 2 of the protocol, and with it streaming, binary values and messages; and the first
+# that aborts transactions in version 1 too.
+STREAMS, ABORTS_IN_VERSION_1 = 140000, 180000
 IN_MILLISECONDS = {"ms": 1, "s": 1000, "min": 60_000, "h": 3_600_000, "d": 86_400_000}
 
 
@@ -49,11 +53,22 @@ def settle(connection: Connection) -> None:
     connection.rows(f"SELECT {', '.join(calls)}", QUICK)
 
 
+def tell_plain_text(connection: Connection) -> None:
+    """Warns of a connection that others on the way can read."""
+    if not connection.is_encrypted() and not connection.is_local():
+        log.warning("the connection isn't encrypted: sslmode=verify-full makes it so, and checks the server's name")
+
+
 def identify(connection: Connection) -> Server:
     """Asks a replication connection whose it is."""
     system, timeline, log_end, database = (it or "" for it in connection.rows("IDENTIFY_SYSTEM", QUICK)[0])
     standby = connection.value("SELECT pg_catalog.pg_is_in_recovery()", QUICK) == "t"
     return Server(system, int(timeline), parse_lsn(log_end), database, standby, postmaster_start(connection))
+
+
+def tell_version_1() -> None:
+    """Tells that version 1 is taken in the place of version 2, which was asked for."""
+    log.info("the server has version 1 of the protocol alone: large transactions come whole")
 
 
 def left_at(connection: Connection, timeline: int, before: int) -> int | None:
@@ -68,7 +83,7 @@ def left_at(connection: Connection, timeline: int, before: int) -> int | None:
 
 def slot_position(connection: Connection, slot: str) -> int | None:
     """The LSN from which the slot sends; None where there is no such slot."""
-    two_phase = "s.two_phase" if connection.version() >= 140000 else "false"
+    two_phase = "s.two_phase" if connection.version() >= STREAMS else "false"
     rows = connection.rows(
         f"SELECT s.plugin, s.database = pg_catalog.current_database(), {two_phase},"
         " s.confirmed_flush_lsn - '0/0'::pg_catalog.pg_lsn"

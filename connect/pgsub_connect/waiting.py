@@ -56,17 +56,26 @@ def slot_text(connection: Connection) -> str:
 
 
 def what_blocks(connection: Connection, pid: int) -> str:
-    """Who has the locks for which another process of the server waits."""
+    """Who has the locks for which another process of the server waits; "" where it waits for none."""
     rows = connection.rows(
         f"SELECT a.pid, a.usename, a.datname, {SECONDS.format('a.xact_start')} FROM pg_catalog.pg_stat_activity a"
         f" WHERE a.pid = ANY (pg_catalog.pg_blocking_pids({pid})) ORDER BY a.xact_start LIMIT {MOST}"
     )
-    texts = [f"process {other} ({user}, database {database}){for_how_long(age)}" for other, user, database, age in rows]
-    return "; ".join(texts) if texts else "somebody who has left them by now"
+    return "; ".join(f"process {other} ({user}, database {database}){for_how_long(age)}" for other, user, database, age in rows)
+
+
+def lock_text(what: str, pid: int) -> Callable[[Connection], str]:
+    """What says for whose locks a process of the server waits, which is at work on this."""
+
+    def text(connection: Connection) -> str:
+        others = what_blocks(connection, pid)
+        return f"{what} waits for the locks of {others}" if others else ""
+
+    return text
 
 
 class Waiting:
-    """Is asked each half second while something is waited for. `text` says what that is."""
+    """Is asked each half second while something is waited for. `text` says what that is, "" where nothing is to be said."""
 
     def __init__(self, dsn: str, slot: str, check_stop: Check, text: Callable[[Connection], str] = slot_text) -> None:
         self.dsn, self.slot, self.check_stop, self.text = dsn, slot, check_stop, text
@@ -80,8 +89,10 @@ class Waiting:
         try:
             connection = Connection(self.dsn, name=f"{self.slot} status", quiet=True, check=self.check_stop)
             try:
-                log.info(self.text(connection))
+                text = self.text(connection)
             finally:
                 connection.close()
         except ServerError as error:
-            log.info(f"what is waited for can't be told: {error}")
+            text = f"what is waited for can't be told: {error}"
+        if text:
+            log.info(text)

@@ -18,8 +18,8 @@ if TYPE_CHECKING:
     from .cli import Options
 
 # After how many seconds the file is written where nothing in it is urgent, the publications are looked at again, and that is tried
-# again where it failed.
-LATER, LOOK, AGAIN = 60.0, 1.0, 10.0
+# again where it failed; and after how many they are looked at where no message says that anything has changed.
+LATER, LOOK, AGAIN, AT_LEAST = 60.0, 1.0, 10.0, 600.0
 # For how many milliseconds a look waits for a lock. From 16 on the server opens each table for it.
 PATIENCE = 500
 LOCK_TIMEOUT = "55P03"
@@ -31,7 +31,9 @@ class Watch:
     def __init__(self, options: Options, checkpoint: Checkpoint, progress: Progress, remembered: Remembered) -> None:
         self.options, self.checkpoint, self.progress, self.remembered = options, checkpoint, progress, remembered
         self.next_look = self.next_save = 0.0
-        self.is_told = False
+        # when the publications were looked at last
+        self.looked = time.monotonic()
+        self.is_told = self.is_hindered = False
 
     def begin(self) -> None:
         """Accepts what is to be accepted, and tells what else was found up to now."""
@@ -75,8 +77,9 @@ class Watch:
                 raise
             connection.run("SET lock_timeout = 0", limit=QUICK)
             self.next_look = time.monotonic() + AGAIN
-            log.warning(f"the publications can't be looked at now: {error}")
+            self.tell_hindered(error)
             return False
+        self.looked, self.is_hindered = time.monotonic(), False
         self.tell_actions(now)
         if remembered.catalog is None:
             remembered.begin(now)
@@ -106,8 +109,14 @@ class Watch:
             finally:
                 connection.close()
         except ServerError as error:
-            log.warning(f"the publications can't be looked at now: {error}")
+            self.tell_hindered(error)
             return False
+
+    def tell_hindered(self, error: ServerError) -> None:
+        """Tells once why a look isn't possible, until one is: somebody may hold a lock for hours."""
+        if not self.is_hindered:
+            log.warning(f"the publications can't be looked at now: {error}")
+        self.is_hindered = True
 
     def keep(self) -> None:
         """Puts what was found on the disk, before anything more is confirmed, and tells it."""
@@ -127,9 +136,13 @@ class Watch:
         self.checkpoint.note_found(kind, lsn)
 
     def tend(self, wants_look: bool, check: Check, position: int) -> bool:
-        """Called after each lot of payloads, before anything of them is confirmed. Returns whether a look is still wanted."""
+        """Called after each lot of payloads, before anything of them is confirmed. Returns whether a look is still wanted.
+
+        Much of what is altered isn't told by any message, so a long session looks now and then.
+        """
         self.keep()
         now = time.monotonic()
+        wants_look = wants_look or now - self.looked >= AT_LEAST
         if wants_look and now >= self.next_look:
             wants_look = not self.look_again(check, position)
             self.next_look = now + (AGAIN if wants_look else LOOK)

@@ -25,6 +25,9 @@ class FakeServer:
         self.commands: list[str] = []
         self.lines: list[bytes] = []
         self.opened = self.closed = 0
+        self.is_local = True
+        # the connections that are open
+        self.open: list[FakeConnection] = []
 
     def answer(self, part: str, answer: Answer) -> None:
         self.answers.insert(0, (part, answer))
@@ -59,6 +62,7 @@ class FakeConnection:
         self.server = server
         self.check: Callable[[], None] = lambda: None
         self.ends = os.pipe()
+        server.open.append(self)
 
     def rows(self, command: str, limit: float = 0) -> list[Row]:
         return self.server.rows_for(command)
@@ -103,10 +107,11 @@ class FakeConnection:
         return False
 
     def is_local(self) -> bool:
-        return True
+        return self.server.is_local
 
     def close(self) -> None:
         self.server.closed += 1
+        self.server.open.remove(self)
         for end in self.ends:
             os.close(end)
 

@@ -44,11 +44,12 @@ def answered(rows: list[Row]) -> bytes:
 
 
 class SmallServer:
-    """Listens in a folder. `silent`: a query with this in it has no answer; `lets_in`: whether it answers those who connect."""
+    """Listens in a folder. `silent`: a query with this in it has no answer; `lets_in`: whether it answers those who connect;
+    `version`: which one it says that it is."""
 
     def __init__(self, folder: str, brain: FakeServer, *, port: int = 5432, standby: bool = False, refusal: bytes = b"") -> None:
         self.folder, self.brain, self.port, self.standby, self.refusal = folder, brain, port, standby, refusal
-        self.silent, self.lets_in = "", True
+        self.silent, self.lets_in, self.version = "", True, "15.18"
         # what a session sends once it copies, and what it was told then: when, and the payload
         self.to_send: list[bytes] = []
         self.statuses: list[tuple[float, bytes]] = []
@@ -96,7 +97,7 @@ class SmallServer:
             if self.refusal:
                 peer.sendall(self.refusal)
                 return
-            said = {"server_version": "15.18", "client_encoding": "UTF8", "default_transaction_read_only": "off"}
+            said = {"server_version": self.version, "client_encoding": "UTF8", "default_transaction_read_only": "off"}
             said["in_hot_standby"] = "on" if self.standby else "off"
             peer.sendall(message(b"R", bytes(4)))
             for name, value in said.items():

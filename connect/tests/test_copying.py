@@ -3,6 +3,7 @@
 from __future__ import annotations
 
 import os
+import time
 import unittest
 from collections.abc import Callable, Sequence
 from typing import cast
@@ -122,7 +123,37 @@ class Copying(Quiet):
         return Copier(chosen, self.checkpoint, cast(Filter, self.filter), self.progress, self.remembered)
 
 
+class Locks(Copying):
+    """From 16 on a server locks the tables to say what is published of them, and any does to publish them."""
+
+    def check_at(self, part: str) -> list[str]:
+        """Lets a command take long, and returns what is told of it."""
+
+        def wait(_: str) -> list[Row]:
+            with mock.patch("time.monotonic", return_value=time.monotonic() + waiting.FIRST):
+                for connection in list(self.server.open):
+                    connection.check()
+            return []
+
+        self.server.answer("pg_blocking_pids(4711)", [["8", "app", "shop", "12"]])
+        self.server.answer(part, wait)
+        self.copier().run()
+        return [it for it in self.said if "waits for" in it]
+
+    def test_of_a_publication(self) -> None:
+        self.assertEqual(self.check_at("CREATE PUBLICATION"), ["the publication waits for the locks of process 8 (app, database shop) for 12 s"])
+
+    def test_of_rows(self) -> None:
+        self.assertIn("the copy waits for the locks of process 8 (app, database shop) for 12 s", self.check_at("LOCK TABLE"))
+
+
 class Sent(Copying):
+    def test_plain_text_is_warned_of_before_rows_are_read(self) -> None:
+        self.server.is_local = False
+        self.copier().run()
+        warnings = [it for it in self.said if "the connection isn't encrypted" in it]
+        self.assertEqual((len(warnings), self.said[0]), (1, warnings[0]))
+
     def test_transactions(self) -> None:
         self.copier().run()
         rows = inserts(self.server.lines, InsertHeads(STOCK, 1))
@@ -541,8 +572,14 @@ class Waiting(Quiet):
     def test_locks(self) -> None:
         self.server.answer("pg_blocking_pids(4711)", [["8", "app", "shop", "12"]])
         with mock.patch.object(waiting, "FIRST", 0):
-            waiting.Waiting("", "pgsub", lambda: None, lambda it: waiting.what_blocks(it, 4711)).check()
-        self.assertEqual(self.said, ["process 8 (app, database shop) for 12 s"])
+            waiting.Waiting("", "pgsub", lambda: None, waiting.lock_text("the copy", 4711)).check()
+        self.assertEqual(self.said, ["the copy waits for the locks of process 8 (app, database shop) for 12 s"])
+
+    def test_what_takes_long_without_a_lock(self) -> None:
+        self.server.answer("pg_blocking_pids(4711)", [])
+        with mock.patch.object(waiting, "FIRST", 0):
+            waiting.Waiting("", "pgsub", lambda: None, waiting.lock_text("the copy", 4711)).check()
+        self.assertEqual((self.said, self.server.opened, self.server.closed), ([], 1, 1))
 
     def test_a_standby(self) -> None:
         self.server.answer("pg_is_in_recovery", [["t"]])

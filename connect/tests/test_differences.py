@@ -5,7 +5,7 @@ from __future__ import annotations
 import dataclasses
 import unittest
 
-from pgsub_connect.catalog import Catalog, Part, Partition
+from pgsub_connect.catalog import Catalog, Part, Partition, Table
 from pgsub_connect.differences import NAMES, PUBLICATION, VALUES, Difference, differences, shape_differences
 
 from .vectors import ID, NAME, PGSUB, a_catalog, a_shape, a_table
@@ -24,6 +24,13 @@ SUB = Partition(13, 10, "public.sub", False, made=True)
 MOOD = {"name": "public.mood", "501": "sad", "502": "ok"}
 PAIR = {"name": "public.pair", "#1": "23 -1", "#2": "25 -1"}
 COLUMNS = [ID, NAME]
+
+
+
+def altered(table: Table, node: int, by: str) -> Table:
+    """A table whose rows are in this file, and whose columns these transactions have made."""
+    return dataclasses.replace(table, node=node, altered=by)
+
 
 # what it is, what was there, what is there, the kinds of what is said, a word of the first text
 Case = tuple[str, Catalog, Catalog, list[str], str]
@@ -95,6 +102,16 @@ CASES: list[Case] = [
     ("a modifier", a_catalog(T), a_catalog(a_table(1, "t", a_shape([ID, (0, "name", 25, 8)]))), [VALUES], "another type"),
     ("an identity", a_catalog(T), a_catalog(a_table(1, "t", a_shape([(1, "id", 23, -1), (1, "name", 25, -1)], "f"))),
      [VALUES], "all columns"),
+    ("values computed anew", a_catalog(altered(T, 1, "700")), a_catalog(altered(T, 2, "700 800")), [VALUES], "public.t (1) was written anew"),
+    ("written anew", a_catalog(altered(T, 1, "700")), a_catalog(altered(T, 2, "700")), [], ""),
+    ("columns altered", a_catalog(altered(T, 1, "700")), a_catalog(altered(T, 1, "700 800")), [], ""),
+    ("not known before", a_catalog(T), a_catalog(altered(T, 1, "700")), [], ""),
+    ("told by its type", a_catalog(altered(T, 1, "700")), a_catalog(altered(a_table(1, "t", a_shape([ID, (0, "name", 1043, 24)])), 2, "8")),
+     [VALUES], "another type"),
+    ("values of partitions computed anew", a_catalog(altered(ROOT, 0, "700"), partitions=FILES),
+     a_catalog(altered(ROOT, 0, "800"), partitions=ANEW), [VALUES], "public.root (10) was written anew"),
+    ("columns of a root altered", a_catalog(altered(ROOT, 0, "700"), partitions=FILES),
+     a_catalog(altered(ROOT, 0, "800"), partitions=FILES), [], ""),
     ("a key", a_catalog(T), a_catalog(a_table(1, "t", a_shape([ID, (1, "name", 25, -1)]))), [VALUES], "id, name"),
     ("a key that goes", a_catalog(T), a_catalog(a_table(1, "t", a_shape([(0, "id", 23, -1), NAME]))), [VALUES], "no column"),
 ]

@@ -3,6 +3,7 @@
 from __future__ import annotations
 
 import collections
+import dataclasses
 import os
 import tempfile
 import unittest
@@ -118,6 +119,19 @@ class Passes(Case):
         self.assertEqual(self.recorded(), framed(*pair))
         self.assertEqual(list(self.follower.noting.ends), [0x218])
         self.assertIn("skipped: transaction 7, final LSN 0/210, 1 change of public.t (1)", said[0])
+
+    def test_the_recording_says_which_version_is_asked_for(self) -> None:
+        """That of the session, which isn't always the one that was said."""
+        follower = self.follower
+        follower.proto, follower.streams = 1, False
+        self.assertIn("proto_version '1', publication_names", follower.command(0))
+        chosen = dataclasses.replace(follower.options, proto=follower.proto, streaming=follower.is_streaming())
+        connection = mock.Mock()
+        connection.parameter.return_value = "13.9"
+        self.recording.begin_session(connection, chosen, 0x100)
+        self.recording.flush()
+        with open(self.recording.path, encoding="ascii") as file:
+            self.assertIn("# protocol version 1, from 0/100", file.read())
 
     def test_whole_transactions_while_it_is_to_come(self) -> None:
         with logged():

@@ -3,13 +3,15 @@
 from __future__ import annotations
 
 import os
+import socket
+import threading
 import time
 import unittest
 from unittest import mock
 
 from pgsub_connect import postgres
 from pgsub_connect.errors import ServerError, Stopped
-from pgsub_connect.postgres import COPY_BOTH, Connection, hosts_of, parameters
+from pgsub_connect.postgres import COPY_BOTH, Connection, addresses_of, connect_limit, hosts_of, parameters
 
 from . import small_server
 from .fake_server import FakeServer, Quiet
@@ -141,6 +143,47 @@ class Connects(Case):
         ):
             self.assertEqual([it["target_session_attrs"] for it in hosts_of(parameters(dsn))], [wanted] * 2)
         self.assertEqual(hosts_of(parameters("host=a")), [{"host": "a"}])
+
+    def test_several_hosts_of_which_libpq_chooses(self) -> None:
+        """Of a list no name is looked up here: libpq tries one host after the other, and may begin anew."""
+        dsn = "host=localhost,nowhere.invalid port=5444,5445 target_session_attrs=prefer-standby"
+        settings = parameters(dsn)
+        self.assertEqual((hosts_of(settings), addresses_of(settings, postgres.never)), ([settings], [settings]))
+
+    def test_names_are_looked_up(self) -> None:
+        """Each address is tried, and keeps the name: for TLS, and for ~/.pgpass. A signal is heard meanwhile."""
+        settings, ended = parameters("host=db.example port=5444"), threading.Event()
+        self.addCleanup(ended.set)
+        found = [(0, 0, 0, "", (address, 0)) for address in ("::1", "127.0.0.1", "::1")]
+        with mock.patch("socket.getaddrinfo", return_value=found):
+            attempts = addresses_of(settings, postgres.never)
+        self.assertEqual([(it["host"], it["hostaddr"]) for it in attempts], [("db.example", "::1"), ("db.example", "127.0.0.1")])
+        for text in ("host=127.0.0.1", "host=::1", "host=/tmp", "hostaddr=10.0.0.1 host=db.example", "service=shop", ""):
+            self.assertEqual(addresses_of(parameters(text), postgres.never), [parameters(text)])
+        with mock.patch("socket.getaddrinfo", side_effect=socket.gaierror(-2, "Name or service not known")):
+            with self.assertRaisesRegex(ServerError, "db.example can't be looked up: Name or service") as raised:
+                addresses_of(settings, postgres.never)
+        self.assertFalse(raised.exception.is_lasting())
+        began = time.monotonic()
+        with mock.patch("socket.getaddrinfo", side_effect=lambda *_, **__: [][: ended.wait(20)]):
+            with self.assertRaises(Stopped):
+                addresses_of(settings, StopsLater(3))
+            with mock.patch.object(postgres, "CONNECT_LIMIT", 0.1), self.assertRaisesRegex(ServerError, "no answer within"):
+                addresses_of(settings, postgres.never)
+        self.assertLess(time.monotonic() - began, 2.0)
+
+    def test_limits_of_connecting(self) -> None:
+        """As libpq has them: two seconds at least, 0 for none, and the environment's where the DSN says nothing."""
+        for said, variable, limit in (
+            ("", None, 10.0), ("5", None, 5.0), ("1", None, 2.0), ("0", None, 3600.0), ("-1", "5", 3600.0), ("", "7", 7.0), ("3", "7", 3.0),
+        ):
+            with self.subTest(said=said, variable=variable), mock.patch.dict(
+                os.environ, {} if variable is None else {"PGCONNECT_TIMEOUT": variable}
+            ):
+                self.assertEqual(connect_limit(said), limit)
+        with self.assertRaises(ServerError) as raised:
+            self.connect(f"{self.server.dsn()} connect_timeout=soon")
+        self.assertTrue(raised.exception.is_lasting())
 
     def test_strings(self) -> None:
         self.assertEqual(parameters("shop"), {"dbname": "shop"})

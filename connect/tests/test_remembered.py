@@ -210,6 +210,21 @@ class LooksAndMessages(Case):
         self.remembered.look(a_catalog(dataclasses.replace(T, shape=WIDER), lsn=300))
         self.assertEqual(self.remembered.found, {})
 
+    def test_values_computed_anew(self) -> None:
+        """ALTER TABLE .. TYPE .. USING shows in a look alone where the type is the same, and else is told by the message."""
+        before = dataclasses.replace(T, node=1, altered="700")
+        self.remembered.begin_copy(a_catalog(before), 100)
+        self.again().look(a_catalog(dataclasses.replace(T, node=2, altered="700 800"), lsn=200))
+        self.assertIn("was written anew", self.found("values")[0])
+        self.remembered.begin_copy(a_catalog(before), 100)
+        self.note(1, "t", 200, [ID, (0, "name", 1043, 24)])
+        self.again().accept(["values"])
+        shape = a_shape([ID, (0, "name", 1043, 24)])
+        self.remembered.look(a_catalog(dataclasses.replace(T, shape=shape, node=2, altered="700 800"), lsn=300))
+        self.assertEqual(self.remembered.found, {})
+        self.remembered.look(a_catalog(dataclasses.replace(T, shape=shape, node=3, altered="700 900"), lsn=400))
+        self.assertEqual(len(self.found("values")), 1)
+
     def test_there_and_back_between_two_looks(self) -> None:
         self.remembered.begin_copy(a_catalog(T), 100)
         self.remembered.look(a_catalog(T, lsn=300))

@@ -124,12 +124,39 @@ class Looks(Case):
             connection.return_value.close.assert_called_once()
             self.assertTrue(watch.tend(True, never, 100), "not twice within a second")
 
+    def test_now_and_then(self) -> None:
+        """No message tells that a partition was detached, or a row filter altered."""
+        with mock.patch("pgsub_connect.watching.AT_LEAST", 5.0), mock.patch("time.monotonic") as clock, mock.patch(
+            "pgsub_connect.watching.Connection"
+        ) as connection, mock.patch("pgsub_connect.watching.settle"), mock.patch(
+            "pgsub_connect.watching.read_catalog", return_value=a_catalog(T, U, lsn=200)
+        ), logged() as said:
+            clock.return_value = 100.0
+            watch = self.watch()
+            for at, looks in ((100.0, 0), (104.9, 0), (105.0, 1), (109.9, 1), (110.0, 2)):
+                clock.return_value = at
+                self.assertFalse(watch.tend(False, never, 100))
+                self.assertEqual(connection.call_count, looks, at)
+        self.assertIn("found: publication at 0/C8: table public.u (2) joined", said[0])
+
     def test_that_fail_are_tried_again(self) -> None:
         watch = self.watch()
         with mock.patch("pgsub_connect.watching.Connection", side_effect=ServerError("gone")) as connection, logged() as said:
             self.assertTrue(watch.tend(True, never, 100))
             self.assertTrue(watch.tend(True, never, 100))
         self.assertEqual((len(said), connection.call_count), (1, 1))
+
+    def test_why_they_fail_is_told_once(self) -> None:
+        """And again once a look between was possible."""
+        watch, now = self.watch(), a_catalog(T, lsn=200)
+        cases: list[tuple[list[Catalog | ServerError], int]] = [([ServerError("gone")] * 3, 1), ([now, ServerError("gone")], 1), ([now], 0)]
+        for outcomes, lines in cases:
+            with mock.patch("pgsub_connect.watching.Connection"), mock.patch("pgsub_connect.watching.settle"), mock.patch(
+                "pgsub_connect.watching.read_catalog", side_effect=outcomes
+            ), logged() as said:
+                for outcome in outcomes:
+                    self.assertIs(watch.look_again(never, 100), outcome is now)
+            self.assertEqual(len(said), lines)
 
     def test_a_lock_in_the_way(self) -> None:
         watch, connection = self.watch(), mock.Mock()

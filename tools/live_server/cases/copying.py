@@ -91,10 +91,21 @@ def some_columns(place: Place) -> None:
 def locked(place: Place) -> None:
     """What a copy waits for is told after some seconds: here the lock of a session."""
     place.stock()
+    waits_for_a_lock(place, "--create")
+
+
+def locked_publication(place: Place) -> None:
+    """So it is with the publication."""
+    place.stock(published=False)
+    waits_for_a_lock(place, "--create", "--table", "stock")
+
+
+def waits_for_a_lock(place: Place, *words: str) -> None:
     with place.cluster.connect() as writer:
         writer.run("BEGIN", "LOCK TABLE stock IN ACCESS EXCLUSIVE MODE")
-        child = place.start("--create")
-        child.wait_for("waits for", 30)
+        child = place.start(*words)
+        # (before 16 the slot waits first, for the transaction that has the lock)
+        child.wait_for(f" of process {writer.value('SELECT pg_backend_pid()')} (", 30)
         writer.run("ROLLBACK")
     place.catch_up(child)
     child.stop()
@@ -110,4 +121,5 @@ CASES = (
     Case("copy-whose-slot-is-lost", slot_lost),
     Case("role-that-reads-some-columns", some_columns),
     Case("copy-that-waits-for-a-lock", locked),
+    Case("publication-that-waits-for-a-lock", locked_publication),
 )

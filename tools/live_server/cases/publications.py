@@ -150,6 +150,45 @@ def other_tables(place: Place) -> None:
         raise Failed("a slot is left")
 
 
+def of_schema(place: Place) -> None:
+    """A table that is made in a published schema is followed from its first row on; one that is moved there lacks its rows: told."""
+    place.run(
+        "CREATE SCHEMA sales", "CREATE TABLE sales.stock (id int PRIMARY KEY)", "INSERT INTO sales.stock VALUES (1)",
+        "CREATE TABLE old (id int PRIMARY KEY)", "INSERT INTO old VALUES (1), (2)", "CREATE PUBLICATION pgsub FOR TABLES IN SCHEMA sales",
+    )
+    place.follow("--create")
+    place.run("CREATE TABLE sales.fresh (id int PRIMARY KEY)", "INSERT INTO sales.fresh VALUES (1)")
+    if "sales.fresh" not in place.follow("--strict"):
+        raise Failed("the new table isn't told")
+    place.equal()
+    place.run("ALTER TABLE old SET SCHEMA sales", "INSERT INTO sales.old VALUES (3)")
+    place.finds("publication", "sales.old", place.follow())
+    place.is_strict_about("publication")
+
+
+def several(place: Place) -> None:
+    """Several publications are copied and followed as one: a row comes where one of their filters has it, and comes once."""
+    place.run(
+        "CREATE TABLE stock (id int PRIMARY KEY, word text)", "INSERT INTO stock SELECT it, 'old' FROM generate_series(1, 10) it",
+        "CREATE TABLE sales (id int PRIMARY KEY) PARTITION BY RANGE (id)",
+        "CREATE TABLE sales1 PARTITION OF sales FOR VALUES FROM (10) TO (20)", "INSERT INTO sales VALUES (11), (12)",
+        "CREATE PUBLICATION few FOR TABLE stock WHERE (id < 3)", "CREATE PUBLICATION pgsub FOR TABLE stock WHERE (id > 8)",
+        "CREATE PUBLICATION roots FOR TABLE sales WITH (publish_via_partition_root)", "CREATE PUBLICATION leaves FOR TABLE sales1",
+    )
+    words = [it for name in ("few", "pgsub", "roots", "leaves") for it in ("--publication", name)]
+    place.follow("--create", *words)
+    for changes in ((), ("UPDATE stock SET id = id + 100 WHERE id IN (2, 5)", "DELETE FROM stock WHERE id = 9", "INSERT INTO sales VALUES (13)")):
+        place.run(*changes)
+        place.follow("--strict")
+        with place.cluster.connect() as session:
+            expected = {
+                ("public", "stock"): {(it, word): 1 for it, word in session.rows("SELECT id::text, word FROM stock WHERE id < 3 OR id > 8")},
+                ("public", "sales"): {(it,): 1 for it in session.column("SELECT id::text FROM sales")},
+            }
+        if place.rows() != expected:
+            raise Failed(f"{place.rows()} in place of {expected}")
+
+
 CASES = (
     Case("table-joins", table_joins),
     Case("table-joins-while-following", table_joins_while_following),
@@ -163,4 +202,6 @@ CASES = (
     Case("row-filter-altered", row_filter, since=15),
     Case("publication-made-again", made_again),
     Case("publication-of-other-tables", other_tables),
+    Case("publication-of-a-schema", of_schema, since=15),
+    Case("several-publications", several, since=15),
 )

@@ -11,7 +11,7 @@ from typing import Any
 
 from ..errors import Failed
 from ..place import Place
-from ..rows import rows_of_store
+from ..rows import literal, quoted, rows_of_store
 from .case import Case
 
 TABLES = {
@@ -102,4 +102,32 @@ def same_by_stream(place: Place) -> None:
         raise Failed(f"rows of {sorted(copied)}")
 
 
-CASES = (Case("tables-of-every-shape", same_by_stream),)
+ODD_NAMES = ('we"ird', "it's", "back\\slash", "new\nline", "Großes Ä", "tab\t, comma", "{brace}", "%s", "select", " ")
+
+
+def odd_names(place: Place) -> None:
+    """So it is with any names of schemas, tables and columns, and where a backslash is an escape in the server's strings."""
+    listed = []
+    for number, name in enumerate(ODD_NAMES):
+        schema, table, column = quoted(name), quoted(ODD_NAMES[number - 1]), quoted(ODD_NAMES[number - 2])
+        place.run(
+            f"CREATE SCHEMA {schema}", f"CREATE TABLE {schema}.{table} ({column} text PRIMARY KEY, id int)",
+            f"INSERT INTO {schema}.{table} VALUES ({literal(name)}, {number}), (E'\\\\N', 100), ('', 200)",
+        )
+        filtered = f" WHERE ({column} <> 'a\\b')" if place.options.installed.version >= 15 else ""
+        listed.append(f"{schema}.{table}{filtered}")
+    place.run(f"CREATE PUBLICATION pgsub FOR TABLE {', '.join(listed)}", "ALTER DATABASE shop SET standard_conforming_strings = off")
+    place.follow("--create", "--strict")
+    if place.equal() != 3 * len(ODD_NAMES):
+        raise Failed(f"{place.rows()}")
+    for number, name in enumerate(ODD_NAMES):
+        column = quoted(ODD_NAMES[number - 2])
+        place.run(f"UPDATE {quoted(name)}.{quoted(ODD_NAMES[number - 1])} SET {column} = {column} || 'x', id = id + 1")
+    place.follow("--strict")
+    place.equal()
+
+
+CASES = (
+    Case("tables-of-every-shape", same_by_stream),
+    Case("names-of-every-kind", odd_names),
+)

@@ -50,10 +50,14 @@ def unheard(place: Place) -> None:
     """Goes on where nobody reads its standard error any more."""
     place.stock()
     child = place.started([sys.executable, "-c", UNHEARD, *place.words("--create")])
-    place.catch_up(child)
-    place.run("SELECT pg_terminate_backend(active_pid) FROM pg_replication_slots WHERE active")
-    place.change()
-    place.catch_up(child)
+    followed = "SELECT count(*) FROM pg_stat_replication JOIN pg_replication_slots ON pid = active_pid WHERE state = 'streaming'"
+    for _ in range(2):
+        wait_until(lambda: place.value(followed) == "1", "following", 60, child.check)
+        place.change()
+        end = place.cluster.log_end()
+        place.run("SELECT pg_logical_emit_message(true, 'live', 'end')")
+        wait_until(lambda end=end: place.has_confirmed(end), f"confirming {end}", 60, child.check)  # type: ignore[misc]
+        place.run("SELECT pg_terminate_backend(active_pid) FROM pg_replication_slots WHERE active")
     child.stop()
     place.equal()
 

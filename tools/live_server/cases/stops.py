@@ -200,12 +200,12 @@ def interrupted_twice(place: Place) -> None:
     place.stock()
     child = place.start("--create")
     place.catch_up(child)
-    for pid in child.filters():
+    filters = child.filters()
+    for pid in filters:
         os.kill(pid, signal.SIGSTOP)
     child.signal(signal.SIGTERM)
     time.sleep(1)
     child.signal(signal.SIGTERM)
-    filters = child.filters()
     status = child.end(10)
     for pid in filters:
         os.kill(pid, signal.SIGKILL)

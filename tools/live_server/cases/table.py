@@ -11,8 +11,8 @@ from ..errors import Unusable
 from ..options import Options
 from ..place import Place, Shared
 from . import (
-    copying, names, privacy, publications, reaching, shapes, sideroads, silence, slots, standbys, starts, stops, timelines, values,
-    versions,
+    altering, copying, names, operating, privacy, publications, reaching, shapes, sideroads, silence, slots, standbys, starts, stops,
+    timelines, values, versions,
 )
 from .case import Case
 from .exports import CASES as EXPORTS
@@ -33,6 +33,8 @@ THEMES: dict[str, Sequence[Case]] = {
     "versions": versions.CASES,
     "sideroads": sideroads.CASES,
     "privacy": privacy.CASES,
+    "operating": operating.CASES,
+    "altering": altering.CASES,
 }
 
 

@@ -60,6 +60,28 @@ def values_written_anew(place: Place) -> None:
     place.is_strict_about("values")
 
 
+def values_computed_anew(place: Place) -> None:
+    """So it is where the type stays the same, of a table with partitions too; and what only moves rows isn't told."""
+    place.run(
+        "CREATE TABLE price (id int PRIMARY KEY, cents int)", "INSERT INTO price VALUES (1, 100), (2, 200)",
+        "CREATE TABLE parted (id int PRIMARY KEY, cents int) PARTITION BY RANGE (id)",
+        "CREATE TABLE part1 PARTITION OF parted FOR VALUES FROM (1) TO (9)", "INSERT INTO parted VALUES (1, 100)",
+        "CREATE PUBLICATION pgsub FOR TABLE price, parted WITH (publish_via_partition_root)",
+    )
+    place.follow("--create")
+    for commands in (
+        ("VACUUM FULL price", "CLUSTER price USING price_pkey", "ANALYZE price, parted", "REINDEX TABLE price"),
+        ("ALTER TABLE price ALTER id SET STATISTICS 7", "ALTER TABLE price ALTER cents SET DEFAULT 3", "INSERT INTO price VALUES (4)"),
+    ):
+        place.run(*commands)
+        place.follow("--strict")
+        place.equal()
+    for name in ("price", "parted"):
+        place.run(f"ALTER TABLE {name} ALTER cents TYPE int USING cents * 10", f"INSERT INTO {name} VALUES (3, 3)")
+        place.finds("values", f"public.{name}", place.follow())
+        place.is_strict_about("values")
+
+
 def key_type(place: Place) -> None:
     """The type of a key is altered while it is followed: told with the next change of the table."""
     place.stock()
@@ -134,6 +156,7 @@ CASES = (
     Case("settings-that-change-texts", text_settings),
     Case("limit-of-time-on-transactions", transaction_timeout, since=17),
     Case("values-written-anew", values_written_anew),
+    Case("values-computed-anew", values_computed_anew),
     Case("type-of-a-key-altered", key_type),
     Case("enumeration-label-renamed", label_renamed),
     Case("replica-identity-altered", identity_altered),

@@ -1,0 +1,155 @@
+"""Recordings without a store: what is written, when it is enough, and what the server is told."""
+
+from __future__ import annotations
+
+import itertools
+import os
+import time
+import unittest
+from unittest import mock
+
+from pgsub_connect import cli
+from pgsub_connect.cli import Options
+from pgsub_connect.errors import UsageError
+from pgsub_connect.filtering import COPY_DONE, flushed
+from pgsub_connect.postgres import Connection
+from pgsub_connect.recording import Recorder, Recording
+
+from .fake_server import FakeServer, Quiet
+from .small_server import SmallServer
+from .test_passing import framed
+from .vectors import begin, commit, insert, keepalive
+
+PAIR = [begin(0x100, 7), insert(1), commit(0x100, 0x108)]
+NEXT = [begin(0x200, 8), insert(1), commit(0x200, 0x208)]
+
+
+class Case(Quiet):
+    def setUp(self) -> None:
+        super().setUp()
+        self.folder = self.make_folder()
+        self.path = self.folder + "/r.pgx"
+        self.brain = FakeServer()
+        self.brain.answer("set_config", [[""]])
+        self.brain.answer("pg_current_wal_insert_lsn", [["0/800", "0/800", "16777216"]])
+        self.ports = itertools.count(5432)
+        self.server = self.start()
+
+    def start(self, *payloads: bytes, version: str = "15.18") -> SmallServer:
+        """A server for one session, which sends these."""
+        server = SmallServer(self.folder, self.brain, port=next(self.ports))
+        self.addCleanup(server.close)
+        server.to_send, server.version = list(payloads), version
+        return server
+
+    def record(self, *, append: bool = False, size: int = 1 << 20, **options: object) -> Recorder:
+        # (so that no fault makes it wait without end)
+        chosen = Options(dsn=self.server.dsn(), publication=["pgsub"], **{"seconds": 10.0, **options})  # type: ignore[arg-type]
+        recorder = Recorder(chosen, Recording(self.path, append, size))
+        try:
+            recorder.connect()
+            recorder.run()
+        finally:
+            recorder.close()
+        return recorder
+
+    def statuses(self, count: int) -> list[int]:
+        """What the server was told to be flushed, once it was told so often."""
+        until = time.monotonic() + 10
+        while len(self.server.statuses) < count and time.monotonic() < until:
+            time.sleep(0.01)
+        return [flushed(body) for _, body in self.server.statuses]
+
+    def lines(self) -> list[str]:
+        with open(self.path, encoding="ascii") as file:
+            return file.read().splitlines()
+
+    def frames(self) -> bytes:
+        return b"".join(bytes.fromhex(it) for it in self.lines() if it[:1] not in "#-")
+
+    def started(self) -> str:
+        return self.brain.told("START_REPLICATION")[-1]
+
+
+class Sessions(Case):
+    def test_up_to_an_lsn(self) -> None:
+        """Whole frames, and what comes after the LSN isn't looked at. Nothing is confirmed."""
+        self.server.to_send = [*PAIR, keepalive(0x180, asks=True), *NEXT]
+        self.record(until=0x208)
+        self.assertEqual(self.frames(), framed(*PAIR, keepalive(0x180, asks=True), *NEXT))
+        self.assertEqual(self.statuses(1), [0])
+        self.assertIn("protocol version 2, from 0/0", self.lines()[2])
+        self.assertEqual(self.said[-1], "7 frames, 2 commits, the last up to 0/208")
+
+    def test_up_to_now(self) -> None:
+        """A keepalive tells that all is there, where nothing more was committed."""
+        self.server.to_send = [*PAIR, keepalive(0x800)]
+        self.record(until="now")
+        self.assertEqual(self.frames(), framed(*PAIR, keepalive(0x800)))
+
+    def test_so_many_commits(self) -> None:
+        self.server.to_send = [*PAIR, *NEXT]
+        self.record(transactions=1)
+        self.assertEqual(self.frames(), framed(*PAIR))
+
+    def test_so_many_seconds(self) -> None:
+        self.record(seconds=0.05)
+        self.assertEqual(self.frames(), b"")
+
+    def test_no_more_than_is_allowed(self) -> None:
+        self.server.to_send = [*PAIR, *NEXT]
+        self.record(size=400)
+        self.assertLess(os.stat(self.path).st_size, 401)
+        self.assertTrue(framed(*PAIR, *NEXT).startswith(self.frames()))
+        self.assertIn("warning: the recording ends here: 400 bytes are not to be passed (--bytes)", self.said)
+
+    def test_the_server_ends_it(self) -> None:
+        with mock.patch.object(Connection, "next_payload", side_effect=[PAIR[0], None]):
+            self.record()
+        self.assertEqual(self.frames(), framed(PAIR[0]) + COPY_DONE)
+
+    def test_appended(self) -> None:
+        for append in (False, True):
+            self.server = self.start(*PAIR, keepalive(0x800))
+            self.record(append=append, until="now")
+        self.assertEqual(self.lines().count("--"), 1)
+        self.assertEqual(self.frames(), 2 * framed(*PAIR, keepalive(0x800)))
+
+    def test_confirmed_at_the_end(self) -> None:
+        """Not above the last commit that was recorded."""
+        for confirm, told in ((0x104, 0x104), (0x500, 0x108)):
+            self.server = self.start(*PAIR)
+            self.record(transactions=1, confirm=confirm)
+            self.assertEqual(self.statuses(1), [told])
+
+
+class Versions(Case):
+    def test_of_the_protocol(self) -> None:
+        for version, asked, taken in (("13.9", 2, 1), ("13.9", 1, 1), ("15.18", 2, 2), ("15.18", 1, 1)):
+            self.server.version = version
+            self.record(proto=asked, seconds=0.01)
+            self.assertIn(f"proto_version '{taken}'", self.started())
+            self.assertIn(f"# protocol version {taken}", self.lines()[2])
+            self.assertEqual(any("version 1 of the protocol alone" in it for it in self.said), asked != taken)
+            self.said.clear()
+
+    def test_what_a_server_hasnt_got_is_told_before_anything_is_made(self) -> None:
+        self.server.version = "13.9"
+        for name in ("streaming", "binary", "messages"):
+            options = Options(
+                command="record", dsn=self.server.dsn(), publication=["pgsub"], create="permanent", record=self.path, **{name: True}  # type: ignore[arg-type]
+            )
+            with mock.patch.object(cli, "create_slot") as made, mock.patch.object(cli, "stop_by_signals"):
+                with self.assertRaisesRegex(UsageError, f"--{name} needs PostgreSQL 14, and this is 13.9"):
+                    cli.record(options)
+            made.assert_not_called()
+        self.assertEqual(self.brain.told("START_REPLICATION"), [])
+
+    def test_plain_text_is_warned_of(self) -> None:
+        with mock.patch.object(Connection, "is_local", return_value=False):
+            self.record(seconds=0.01)
+        self.assertIn("warning: the connection isn't encrypted", self.said[0])
+
+
+if __name__ == "__main__":
+    unittest.main()

@@ -1,0 +1,141 @@
+"""Random commands at the server: afterwards the copy has its rows, or it was told what may be wrong with it."""
+
+from __future__ import annotations
+
+import random
+import time
+
+import psycopg
+
+from ..child import Child
+from ..errors import Failed
+from ..place import OK, REJECTED, SERVER, UNFIT, Place
+from .case import Case
+
+ROUNDS = 8
+# How many commands there are at most between two looks at the rows, and how many are tried for it: most of them the server rejects.
+MOST, TRIED = 6, 60
+BEGIN = (
+    "DROP SCHEMA IF EXISTS public CASCADE", "DROP SCHEMA IF EXISTS other CASCADE", "CREATE SCHEMA public", "CREATE SCHEMA other",
+    "CREATE TYPE mood AS ENUM ('sad', 'ok', 'fine')", "CREATE TYPE pair AS (x int, y text)",
+    "CREATE TABLE keyed (id int PRIMARY KEY, a int, b text, m mood, p pair, l mood[])",
+    "CREATE TABLE whole (id int, a int, b text)", "ALTER TABLE whole REPLICA IDENTITY FULL",
+    "CREATE TABLE parted (id int PRIMARY KEY, a int) PARTITION BY RANGE (id)",
+    "CREATE TABLE part1 PARTITION OF parted FOR VALUES FROM (0) TO (100)",
+    "CREATE TABLE part2 PARTITION OF parted FOR VALUES FROM (100) TO (200)",
+    "INSERT INTO keyed SELECT it, it, 'w' || it, 'sad', ROW (it, 'y')::pair, '{sad,ok}' FROM generate_series(1, 8) it",
+    "INSERT INTO whole SELECT it, it, 'w' || it FROM generate_series(1, 5) it", "INSERT INTO parted SELECT it * 20, it FROM generate_series(0, 9) it",
+)
+PUBLICATIONS = (
+    "FOR ALL TABLES", "FOR ALL TABLES WITH (publish_via_partition_root)", "FOR TABLE keyed, whole, parted",
+    "FOR TABLE keyed, whole, parted WITH (publish_via_partition_root)", "FOR TABLES IN SCHEMA public",
+)
+TABLES = ("keyed", "whole", "keyed", "whole", "parted", "part1", "part2", "part3", "extra")
+COLUMNS, OTHERS = ("a", "b", "c", "d"), ("extra", "keyed", "whole", "old")
+COMMANDS = (
+    "UPDATE {table} SET a = a + 1", "DELETE FROM {table} WHERE id % 3 = {number} % 3", "INSERT INTO {table} (id) VALUES ({number} % 300)",
+    "TRUNCATE {table}", "VACUUM FULL {table}", "CLUSTER {table}", "DROP TABLE {table}", "ALTER TABLE {table} SET (fillfactor = 50)",
+    "ALTER TABLE {table} ADD COLUMN {column} int DEFAULT {number}", "ALTER TABLE {table} DROP COLUMN {column}",
+    "ALTER TABLE {table} ADD COLUMN {column} text DEFAULT md5(random()::text)",
+    "ALTER TABLE {table} DROP COLUMN {column}, ADD COLUMN {column} int DEFAULT 5",
+    "ALTER TABLE {table} ADD COLUMN doubled int GENERATED ALWAYS AS (id * 2) STORED",
+    "ALTER TABLE {table} RENAME COLUMN {column} TO d", "ALTER TABLE {table} ALTER {column} TYPE bigint",
+    "ALTER TABLE {table} ALTER {column} TYPE int USING length({column}::text)", "ALTER TABLE {table} ALTER id TYPE bigint",
+    "ALTER TABLE {table} ALTER {column} TYPE text USING 'z' || {column}::text", "ALTER TABLE {table} ALTER {column} SET DEFAULT NULL",
+    "ALTER TABLE {table} RENAME TO {other}", "CREATE TABLE {table} (id int PRIMARY KEY, a int, b text)",
+    "CREATE TABLE extra AS SELECT {number} AS id, 1 AS a", "CREATE TABLE part3 (id int PRIMARY KEY, a int)",
+    "CREATE TABLE part3 PARTITION OF parted FOR VALUES FROM (200) TO (300)",
+    "ALTER TABLE parted ATTACH PARTITION part3 FOR VALUES FROM (200) TO (300)",
+    "ALTER TABLE parted ATTACH PARTITION part1 FOR VALUES FROM (0) TO (100)", "ALTER TABLE parted DETACH PARTITION {table}",
+    "ALTER TABLE {table} REPLICA IDENTITY FULL", "ALTER TABLE {table} REPLICA IDENTITY DEFAULT",
+    "ALTER TYPE mood RENAME VALUE 'sad' TO 'blue'", "ALTER TYPE mood RENAME VALUE 'ok' TO 'sad'", "ALTER TYPE mood ADD VALUE 'v{number}'",
+    "ALTER TYPE pair RENAME ATTRIBUTE y TO z", "ALTER TABLE {table} SET SCHEMA other", "ALTER TABLE other.{table} SET SCHEMA public",
+    "ALTER PUBLICATION pgsub ADD TABLE {table}", "ALTER PUBLICATION pgsub DROP TABLE {table}",
+    "ALTER PUBLICATION pgsub SET (publish_via_partition_root = true)", "ALTER PUBLICATION pgsub SET (publish_via_partition_root = false)",
+    "ALTER PUBLICATION pgsub SET (publish = 'insert')", "ALTER PUBLICATION pgsub SET (publish = 'insert,update,delete')",
+    "ALTER PUBLICATION pgsub SET (publish = 'insert,update,delete,truncate')",
+    "ALTER PUBLICATION pgsub SET TABLE keyed WHERE (id > 3), whole, parted", "ALTER PUBLICATION pgsub SET TABLE keyed (id, a), whole, parted",
+    "SELECT pg_terminate_backend(pid) FROM pg_stat_activity WHERE backend_type = 'walsender'",
+)
+
+
+class Commands:
+    """What is run at the server. `done` is what it has accepted."""
+
+    def __init__(self, place: Place, rng: random.Random) -> None:
+        self.place, self.rng = place, rng
+        self.number = 1000
+        self.done: list[str] = []
+
+    def run(self, command: str) -> None:
+        """Runs a command, unless the server rejects it."""
+        try:
+            self.place.run(command)
+        except psycopg.Error:
+            return
+        self.done.append(command)
+
+    def run_some(self) -> None:
+        wanted = self.rng.randint(1, MOST)
+        for _ in range(TRIED):
+            if len(self.done) >= wanted:
+                return
+            choice, self.number = self.rng.choice, self.number + 1
+            self.run(choice(COMMANDS).format(table=choice(TABLES), column=choice(COLUMNS), other=choice(OTHERS), number=self.number))
+            time.sleep(choice((0, 0, 0.3)))
+
+    def touch_all(self) -> None:
+        """Changes each published table, so that its definition comes."""
+        names = "SELECT quote_ident(schemaname) || '.' || quote_ident(tablename) FROM pg_publication_tables WHERE pubname = 'pgsub'"
+        with self.place.cluster.connect() as session:
+            tables = session.column(names)
+        for table in tables:
+            self.number += 1
+            self.run(f"INSERT INTO {table} (id) VALUES ({self.number + 5000})")
+            self.run(f"UPDATE {table} SET id = id WHERE id = (SELECT min(id) FROM {table})")
+
+
+def begin(place: Place, rng: random.Random) -> None:
+    """Copies tables of which nothing was followed before."""
+    if place.store.exists():
+        place.subcommand("drop", "--store", str(place.store), "--dsn", place.dsn(), "--yes")
+        place.run("DROP PUBLICATION pgsub")
+    place.run(*BEGIN)
+    version = place.options.installed.version
+    place.run(f"CREATE PUBLICATION pgsub {rng.choice(PUBLICATIONS if version >= 15 else PUBLICATIONS[:-1])}")
+    place.follow("--create")
+
+
+def has_followed(place: Place, child: Child | None) -> bool:
+    """Follows until all is confirmed. Returns whether that was possible; a follower that ends tells why."""
+    for it in (child, place.start()) if child else (place.start(),):
+        try:
+            place.catch_up(it)
+            it.stop()
+        except Failed:
+            if it.is_running() or it.process.returncode not in (OK, REJECTED, SERVER, UNFIT):
+                raise
+            return False
+    return True
+
+
+def altered(place: Place) -> None:
+    """After random commands the copy has the server's rows, or what may be wrong with it was told."""
+    rng = random.Random(f"altering {place.options.seed}")
+    for _ in range(ROUNDS):
+        begin(place, rng)
+        child = place.start() if rng.random() < 0.5 else None
+        if child:
+            place.catch_up(child)
+        commands = Commands(place, rng)
+        commands.run_some()
+        commands.touch_all()
+        if not has_followed(place, child) or place.found():
+            continue
+        try:
+            place.equal()
+        except Failed as error:
+            raise Failed(f"nothing was told of {commands.done}: {error}") from None
+
+
+CASES = (Case("random-commands", altered),)
