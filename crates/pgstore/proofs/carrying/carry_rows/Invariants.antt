@@ -4,4 +4,4 @@ use Rattle.pgstore.proofs.carrying.carry_rows.Given as goal
 
 abbrev pub invariant-loop-kept : goal.invariant-loop-kept
 invariant-loop-kept g l =
-    (l.tx.conn.ghost_name ≡ l.initial.tx.conn.ghost_name) × CarriesOn g.S.Store l.initial.tx.conn.now l.tx.conn.now l.old l.def l.rows (drop l.kept-index l.rows)
+    (l.tx.conn.ghost_name ≡ l.initial.tx.conn.ghost_name) × CarriesOn g.S.Store l.initial.rows l.rows l.old l.def l.rows (drop l.kept-index l.rows)

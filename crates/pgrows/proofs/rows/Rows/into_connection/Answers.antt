@@ -1,0 +1,22 @@
+use Rattle.std.proofs.Common.{◌≡◌, IsTrue, sym, ap, subst, ◌∙◌, arith}
+use Rattle.sqlite_trees.specs.View.{View, IsClean}
+use Rattle.pgrows.proofs.Found.{open_of}
+use Rattle.pgrows.proofs.rows.Rows.into_connection.Goals as goal
+
+pub over-requires : goal.over-requires
+over-requires g c clean =
+    let before = g.S.Store.view c.self.inside.store in
+    let after = g.S.Store.view c.rollback.new.self in
+    let was : IsClean before = omega (arith, c.rollback.ensures.quiet.clean) in
+    let unbroken = sym (c.is_broken.ensures clean) ∙ c.if-is_broken.false in
+    let up = open_of after (g.met.S.Store.broken_if_shut c.rollback.new.self) unbroken in
+    let back = c.rollback.ensures.undone in
+    let kept = back.kept clean in
+    let undone = back.undone up in
+    let behind = c.self.invariant.behind was (kept.was_open up) in
+    record {
+      sound = unbroken;
+      numbered = subst IsTrue (sym back.numbered) behind.numbered;
+      clean = undone.0 ∙ sym (kept.committed up);
+      unmarked = kept.marks up;
+    }
