@@ -33,37 +33,37 @@ front_is : (a o : ℕ) (b : List ℕ) (id : Value) → prefix_cmp plain (Int (po
 front_is a o b id = rw (first_key-plain, value_cmp-Int (pos a) (pos o), then-Equal (int_cmp (pos a) (pos o)), nat_as_int a o) refl
 
 module _ (o : ℕ) (rows entries : List Row) (held : AreHeld rows) (indexed : IsIndexOf (1 ∷ 2 ∷ []) rows entries) (up : IsIndex plain entries) where
-  abbrev key : Row
+  abbrev pub key : Row
   key = front_of o
 
-  abbrev passes : Row → Bool
+  abbrev pub passes : Row → Bool
   passes e = not (is_lt (prefix_cmp plain e key))
 
-  left_is : from_key plain key entries ≡ filter passes entries
+  pub left_is : from_key plain key entries ≡ filter passes entries
   left_is = from_key-filter plain key entries (sorted_index plain entries up)
 
   pub entry_row : (e : Row) → Has entries e → (r : Row) × Has rows r × (e ≡ entry r)
   entry_row e h = has_mapped entry rows e (has_contained _ e (Contains-permutation _ _ e (IsPermutation-sym _ _ indexed) (contains_had entries e h)))
 
-  row_entry : (r : Row) → Has rows r → Has entries (entry r)
+  pub row_entry : (r : Row) → Has rows r → Has entries (entry r)
   row_entry r h = has_contained _ _ (Contains-permutation _ _ _ indexed (contains_had _ _ (mapped_has entry rows r h)))
 
-  oid_at : (r : Row) → Has rows r → column r 1 ≡ Int (pos (number_in (column r 1)))
+  pub oid_at : (r : Row) → Has rows r → column r 1 ≡ Int (pos (number_in (column r 1)))
   oid_at r h = ap (λ x. column x 1) (held.formed r h)
 
   id_at : (r : Row) → Has rows r → rowid r ≡ Int (id_in (rowid r))
   id_at r h = ap rowid (held.formed r h)
 
-  compared : (r : Row) → Has rows r → prefix_cmp plain (entry r) key ≡ nat_cmp (number_in (column r 1)) o
+  pub compared : (r : Row) → Has rows r → prefix_cmp plain (entry r) key ≡ nat_cmp (number_in (column r 1)) o
   compared r h = ap (λ x. prefix_cmp plain (entry x) key) (held.formed r h) ∙ front_is (number_in (column r 1)) o (bytes (column r 2)) (Int (id_in (rowid r)))
 
-  tied : (r : Row) → Has rows r → number_in (column r 1) ≡ o → prefix_cmp plain (entry r) key ≡ Equal
+  pub tied : (r : Row) → Has rows r → number_in (column r 1) ≡ o → prefix_cmp plain (entry r) key ≡ Equal
   tied r h is = compared r h ∙ ap (λ n. nat_cmp n o) is ∙ tied_itself nat_cmp_total o
 
-  same_oid : (r : Row) → Has rows r → prefix_cmp plain (entry r) key ≡ Equal → number_in (column r 1) ≡ o
+  pub same_oid : (r : Row) → Has rows r → prefix_cmp plain (entry r) key ≡ Equal → number_in (column r 1) ≡ o
   same_oid r h is = nat_cmp-IsAntisymmetric (number_in (column r 1)) o (sym (compared r h) ∙ is)
 
-  is_left : (r : Row) → Has rows r → number_in (column r 1) ≡ o → Has (from_key plain key entries) (entry r)
+  pub is_left : (r : Row) → Has rows r → number_in (column r 1) ≡ o → Has (from_key plain key entries) (entry r)
   is_left r h is = subst (λ l. Has l (entry r)) (sym left_is) (has_kept passes entries (entry r) (row_entry r h) (ap (λ c. not (is_lt c)) (tied r h is)))
 
   pub none_left : from_key plain key entries ≡ [] → HasNone o rows

@@ -12,3 +12,6 @@ pub mod Emptied
 pub mod Ordered
 pub mod Given
 pub mod Marked
+pub mod StoredRows
+pub mod Listed
+pub mod Reading

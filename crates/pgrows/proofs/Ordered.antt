@@ -28,10 +28,10 @@ use Rattle.pgrows.specs.Rows.{index_row}
 use Rattle.pgrows.specs.Dump.{key_at, row_at, shown_by}
 use Rattle.pgrows.proofs.Seek.{entry, nat_as_int}
 
-abbrev R : List ℕ → List ℕ → Ordering
+abbrev pub R : List ℕ → List ℕ → Ordering
 R = slice_cmp nat_cmp
 
-abbrev same_key : IsAntisymmetric R
+abbrev pub same_key : IsAntisymmetric R
 same_key = slice_cmp-IsAntisymmetric nat_cmp-IsAntisymmetric
 
 -- of two entries the lower one has the lower key, or both have the same
@@ -49,21 +49,21 @@ lower_key a a' b b' m m' h =
           ]
     ]
 
-both : (a b : Bool) → T a → T b → T (a && b)
+pub both : (a b : Bool) → T a → T b → T (a && b)
 both true b p q = q
 both false b p q = p
 
 module _ (db : Trees) (held : AreHeld (db 1)) (indexed : IsIndexOf (1 ∷ 2 ∷ []) (db 1) (db 2)) (up : IsIndex plain (db 2)) where
-  abbrev rows : List Row
+  abbrev pub rows : List Row
   rows = db 1
 
-  abbrev copies_at : Row → Copies
+  abbrev pub copies_at : Row → Copies
   copies_at e = copies_in (row_at rows e)
 
   pub entry_row : (e : Row) → Has (db 2) e → (r : Row) × Has rows r × (e ≡ entry r)
   entry_row e h = has_mapped entry rows e (has_contained _ e (Contains-permutation _ _ e (IsPermutation-sym _ _ indexed) (contains_had (db 2) e h)))
 
-  row_entry : (r : Row) → Has rows r → Has (db 2) (entry r)
+  pub row_entry : (r : Row) → Has rows r → Has (db 2) (entry r)
   row_entry r h = has_contained _ _ (Contains-permutation _ _ _ indexed (contains_had _ _ (mapped_has entry rows r h)))
 
   -- the row that an entry's rowid finds
@@ -74,13 +74,13 @@ module _ (db : Trees) (held : AreHeld (db 1)) (indexed : IsIndexOf (1 ∷ 2 ∷ 
       (λ s hs is. let at : rowid s ≡ Int (id_in (rowid s)) = ap rowid (held.formed s hs) in at ∙ ap Int (rowid_is id (id_in (rowid s)) s at is))
       held.table r h (has_own_rowid id r (ap rowid (held.formed r h)))
 
-  row_is : (r : Row) → Has rows r → row_at rows (entry r) ≡ r
+  pub row_is : (r : Row) → Has rows r → row_at rows (entry r) ≡ r
   row_is r h = ap (λ (l : List Row). unwrap_or (slice_get l 0) []) (found_by r h)
 
-  copies_are : (r : Row) → Has rows r → copies_at (entry r) ≡ copies_in r
+  pub copies_are : (r : Row) → Has rows r → copies_at (entry r) ≡ copies_in r
   copies_are r h = ap copies_in (row_is r h)
 
-  rising : (e f : Row) → Has (db 2) e → Has (db 2) f → entry_cmp plain e f ≡ Less → is_lt (R (key_at e) (key_at f)) ≡ true
+  pub rising : (e f : Row) → Has (db 2) e → Has (db 2) f → entry_cmp plain e f ≡ Less → is_lt (R (key_at e) (key_at f)) ≡ true
   rising e f he hf less =
       let r = entry_row e he in
       let s = entry_row f hf in

@@ -6,6 +6,7 @@ ghost use Rattle.sqlite.specs.Order.{column};
 ghost use Rattle.sqlite_value.specs.Value.{owned};
 ghost use Rattle.pgtables.specs.Kept.{held_row, pos_row, rel_row};
 ghost use Rattle.pgrows.specs.Rows.{IsAt, IsOf, front_of, index_row, key_of};
+ghost use Rattle.pgrows.specs.Stored.{IsWithin};
 
 use sqlite_value::row::Row;
 use sqlite_value::value::ValueRef;
@@ -144,6 +145,14 @@ pub(crate) fn id_at(entry: &Row, oid: u32, ident: &[u8]) -> Option<i64>
         ValueRef::Int(id) => Some(id),
         _ => None,
     }
+}
+
+/// Whether an entry of the index is one of the relation's.
+pub(crate) fn is_within(entry: &Row, oid: u32) -> bool
+    ensures yes { result ≡ true → IsWithin oid entry.now }
+    ensures no { IsWithin oid entry.now → result ≡ true }
+{
+    is_int(entry.get(0), i64::from(oid))
 }
 
 /// The rowid of an entry of the index, if it is one of the relation's.

@@ -1,23 +1,27 @@
 //! A store of trees that holds the three tables of a store.
 
-ghost use Rattle.std.specs.Prelude.{◌≡◌, ◌≢◌, ◌∷◌, [], ℤ, Some, None, true, false, IsSome, IsTrue, IfOk, MatchBool, OnOk, OnErr};
+ghost use Rattle.std.specs.Prelude.{◌≡◌, ◌≢◌, ◌∷◌, [], None, true, false, IsSome, IsTrue, IfOk, IfErr, IfSome, OnOk, OnErr};
 ghost use Rattle.std.specs.FinMap.{get};
 ghost use Rattle.sqlite.specs.Held as connection;
-ghost use Rattle.sqlite.specs.declared.types.Value.TheVariants.{Int};
 ghost use Rattle.sqlite.specs.State.{HasCleanDisk, Survives};
 ghost use Rattle.pgtables.specs.Kept as connected;
-ghost use Rattle.pgtables.specs.Kept.{Copies, Definition, IsKept, held_row, is_there, rel_row, with_definition, with_place, with_row, without_row, without_rows};
+ghost use Rattle.pgtables.specs.Kept.{IsKept, is_there, with_definition, with_place, with_row, without_row, without_rows};
+ghost use Rattle.pgtables.specs.Shown.{AllFit, FitsCopies, FitsDefinition, ListsRows};
+ghost use Rattle.pgrows.specs.declared.fault.ReadFault.TheVariants.{Malformed};
 ghost use Rattle.pgrows.specs.Dump.{GivesAll, GivesFront, LeavesAt};
 ghost use Rattle.pgrows.specs.Rows.{Drops, GoesBack, IfServing, IsNumbered, Keeps, Makes, Marks, Shows, database, state, tables_of, with_row_if_there};
 
 use crate::change::{put_place, remove, set};
-use crate::define::{look_up, put_defined};
+use crate::define::put_defined;
 use crate::dump::give_all;
+use crate::fault::ReadFault;
 use crate::insert::add;
+use crate::list::list;
 use crate::relation::clear;
 use crate::sink::RowSink;
-use crate::whole::{put, read};
-use pgtables::see_committed;
+use crate::stored::{find_defined, find_stored};
+use crate::whole::put;
+use pgtables::{StoredDefinition, StoredRow, see_committed};
 use sqlite::{Connection, Error, ErrorCode};
 use sqlite_trees::error::StoreError;
 use sqlite_trees::store::Alter;
@@ -30,6 +34,7 @@ use std::marker::Model;
 #[derive(Drop)]
 pub struct Rows<S: Alter> {
     store: S,
+    alloc: Global,
     key: Row,
     found: Row,
     row: Row,
@@ -69,6 +74,7 @@ impl<S: Alter + Drop> Rows<S> {
         see_committed(&conn);
         Rows {
             store: conn.into_store(),
+            alloc,
             key: Row::new(alloc),
             found: Row::new(alloc),
             row: Row::new(alloc),
@@ -224,12 +230,13 @@ impl<S: Alter> Rows<S> {
         }
     }
 
-    /// Looks the row up that has the key: it stands in `row` then. It answers false where none has it.
-    pub fn find_row(&mut self, oid: u32, ident: &[u8], row: &mut Row) -> Result<bool, StoreError>
-        ensures found { HasCleanDisk (state S.Store self.new) → IfOk result (λ found. MatchBool found
-            ((k : Copies) × (get (tables_of S.Store self.old).rows (oid ∷ ident.now) ≡ Some k)
-            × (id : ℤ) × (row.new ≡ held_row (Int id) oid ident.now k))
-            (get (tables_of S.Store self.old).rows (oid ∷ ident.now) ≡ None)) }
+    /// The row that has the key.
+    pub fn find_row(&mut self, oid: u32, ident: &[u8]) -> Result<Option<StoredRow>, ReadFault>
+        ensures found { HasCleanDisk (state S.Store self.new) →
+            IfOk result (λ row. row ≡ get (tables_of S.Store self.old).rows (oid ∷ ident.now)) }
+        ensures formed { HasCleanDisk (state S.Store self.new) →
+            IfSome (get (tables_of S.Store self.old).rows (oid ∷ ident.now)) FitsCopies →
+            IfErr result (λ fault. fault ≢ Malformed) }
         ensures made { HasCleanDisk (state S.Store self.new) → OnOk result
             (Makes S.Store (λ t. t) self.old self.new) }
         ensures keeps { HasCleanDisk (state S.Store self.new) →
@@ -237,21 +244,22 @@ impl<S: Alter> Rows<S> {
         ensures survives { Survives (state S.Store self.old) (state S.Store self.new) (λ _. ⊥) }
     {
         if self.failed {
-            return Err(StoreError::Broken);
+            return Err(ReadFault::Store(StoreError::Broken));
         }
-        match read(
+        match find_stored(
             &mut self.store,
+            self.alloc,
             &mut self.key,
             &mut self.found,
-            row,
+            &mut self.row,
             self.last,
             oid,
             ident,
         ) {
-            Ok(found) => Ok(found),
-            Err(error) => {
+            Ok(row) => Ok(row),
+            Err(fault) => {
                 self.failed = true;
-                Err(error)
+                Err(fault)
             }
         }
     }
@@ -317,12 +325,13 @@ impl<S: Alter> Rows<S> {
         }
     }
 
-    /// Looks the definition of a relation up: its row stands in `row` then. It answers false where the relation has none.
-    pub fn find_definition(&mut self, oid: u32, row: &mut Row) -> Result<bool, StoreError>
-        ensures found { HasCleanDisk (state S.Store self.new) → IfOk result (λ found. MatchBool found
-            ((d : Definition) × (get (tables_of S.Store self.old).defined oid ≡ Some d)
-            × (row.new ≡ rel_row oid d))
-            (get (tables_of S.Store self.old).defined oid ≡ None)) }
+    /// The definition that the relation has.
+    pub fn find_definition(&mut self, oid: u32) -> Result<Option<StoredDefinition>, ReadFault>
+        ensures found { HasCleanDisk (state S.Store self.new) → IfOk result (λ definition.
+            definition ≡ get (tables_of S.Store self.old).defined oid) }
+        ensures formed { HasCleanDisk (state S.Store self.new) →
+            IfSome (get (tables_of S.Store self.old).defined oid) FitsDefinition →
+            IfErr result (λ fault. fault ≢ Malformed) }
         ensures made { HasCleanDisk (state S.Store self.new) → OnOk result
             (Makes S.Store (λ t. t) self.old self.new) }
         ensures keeps { HasCleanDisk (state S.Store self.new) →
@@ -330,13 +339,45 @@ impl<S: Alter> Rows<S> {
         ensures survives { Survives (state S.Store self.old) (state S.Store self.new) (λ _. ⊥) }
     {
         if self.failed {
-            return Err(StoreError::Broken);
+            return Err(ReadFault::Store(StoreError::Broken));
         }
-        match look_up(&mut self.store, row, self.last, oid) {
-            Ok(found) => Ok(found),
-            Err(error) => {
+        match find_defined(&mut self.store, self.alloc, &mut self.row, self.last, oid) {
+            Ok(definition) => Ok(definition),
+            Err(fault) => {
                 self.failed = true;
-                Err(error)
+                Err(fault)
+            }
+        }
+    }
+
+    /// All rows of the relation, in the order of their identities.
+    pub fn rows_of(&mut self, alloc: Global, oid: u32) -> Result<Vec<StoredRow>, ReadFault>
+        ensures found { HasCleanDisk (state S.Store self.new) →
+            IfOk result (λ rows. ListsRows oid (tables_of S.Store self.old) rows.items) }
+        ensures formed { HasCleanDisk (state S.Store self.new) →
+            AllFit oid (tables_of S.Store self.old) → IfErr result (λ fault. fault ≢ Malformed) }
+        ensures made { HasCleanDisk (state S.Store self.new) → OnOk result
+            (Makes S.Store (λ t. t) self.old self.new) }
+        ensures keeps { HasCleanDisk (state S.Store self.new) →
+            Keeps S.Store self.old self.new }
+        ensures survives { Survives (state S.Store self.old) (state S.Store self.new) (λ _. ⊥) }
+    {
+        if self.failed {
+            return Err(ReadFault::Store(StoreError::Broken));
+        }
+        match list(
+            &mut self.store,
+            alloc,
+            &mut self.key,
+            &mut self.found,
+            &mut self.row,
+            self.last,
+            oid,
+        ) {
+            Ok(rows) => Ok(rows),
+            Err(fault) => {
+                self.failed = true;
+                Err(fault)
             }
         }
     }
@@ -532,6 +573,13 @@ impl<S: Alter> Rows<S> {
                 Err(error)
             }
         }
+    }
+
+    /// The store, which still shows what was changed since the last commit.
+    pub fn into_store(self) -> S
+        ensures { result ≡ self }
+    {
+        self.store
     }
 
     /// What is committed are tables of a store. The call does nothing: a store of rows shows this only to a caller that asks.

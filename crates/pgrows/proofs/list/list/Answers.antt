@@ -1,0 +1,13 @@
+use Rattle.std.proofs.Common.{◌≡◌, sym, ap, ◌∙◌, arith, rules}
+use Rattle.sqlite_trees.specs.View.{View, IsClean}
+use Rattle.pgtables.specs.Kept.{tables_in}
+use Rattle.pgrows.proofs.Found.{open_of, opened, reads_under, keeps_reads}
+use Rattle.pgrows.proofs.list.list.Goals as goal
+
+pub returns-clause-rows : goal.returns-clause-rows
+returns-clause-rows g c clean _ =
+    let store = c.args.store.now in
+    let was : IsClean (g.S.Store.view store) = omega (arith, c.read_rows.ensures.quiet.clean) in
+    let unbroken = sym (c.is_broken.ensures was) ∙ c.if-is_broken.false in
+    let up = open_of (g.S.Store.view store) (g.met.S.Store.broken_if_shut store) unbroken in
+    reads_under (g.S.Store.view store) (g.S.Store.view c.read_rows.new.store) c.args._last (c.in_ok-rows.ensures.same clean) (c.requires was up)
