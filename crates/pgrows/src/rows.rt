@@ -82,9 +82,7 @@ impl<S: Alter + Drop> Rows<S> {
             failed: false,
         }
     }
-}
 
-impl<S: Alter> Rows<S> {
     /// A connection to the tables as they were committed. The SQL library reads and checks each row once more.
     ///
     /// # Errors
@@ -101,7 +99,9 @@ impl<S: Alter> Rows<S> {
         }
         Connection::over(alloc, store)
     }
+}
 
+impl<S: Alter> Rows<S> {
     /// Puts a row whose key isn't there yet. It answers false where it is there, and then nothing changes.
     pub fn add_row(
         &mut self,

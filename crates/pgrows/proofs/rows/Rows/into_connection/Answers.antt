@@ -1,4 +1,4 @@
-use Rattle.std.proofs.Common.{◌≡◌, IsTrue, sym, ap, subst, ◌∙◌, arith}
+use Rattle.std.proofs.Common.{◌≡◌, Result, Ok, Err, IfOk, IsTrue, sym, ap, subst, ◌∙◌, arith}
 use Rattle.sqlite_trees.specs.View.{View, IsClean}
 use Rattle.pgrows.proofs.Found.{open_of}
 use Rattle.pgrows.proofs.rows.Rows.into_connection.Goals as goal
@@ -20,3 +20,15 @@ over-requires g c clean =
       clean = undone.0 ∙ sym (kept.committed up);
       unmarked = kept.marks up;
     }
+
+ok_of_both : {A E : Type 0} {P Q R : A → Type 0} (r : Result A E) → IfOk r P → IfOk r Q → ((a : A) → P a → Q a → R a) → IfOk r R
+ok_of_both (Ok a) p q go = go a p q
+ok_of_both (Err e) p q go = tt
+
+pub returns : goal.returns
+returns g c = ok_of_both c.over.result c.over.ensures.clean c.over.ensures.trees (λ conn doubts trees clean.
+    let after = g.S.Store.view c.rollback.new.self in
+    let still : IsClean after = omega (arith, doubts) in
+    let unbroken = sym (c.is_broken.ensures still) ∙ c.if-is_broken.false in
+    let up = open_of after (g.met.S.Store.broken_if_shut c.rollback.new.self) unbroken in
+    trees clean ∙ (c.rollback.ensures.undone.undone up).0 ∙ ap (λ s. (g.S.Store.view s).committed) c.self.view_is)
