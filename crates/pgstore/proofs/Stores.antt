@@ -11,10 +11,11 @@ use Rattle.sqlite.specs.Effect.{Database}
 use Rattle.sqlite.specs.Store.{Ghosts}
 use Rattle.sqlite.specs.View.{doubt}
 use Rattle.sqlite.specs.Held as connection
-use Rattle.sqlite.specs.Held.{Held}
+use Rattle.sqlite.specs.Held.{AreDatabases, Held}
 use Rattle.sqlite.specs.State.{HasCleanDisk, KeepsCommit, Survives}
 use Rattle.sqlite.proofs.StateLemmas.{survives_weaker}
 use Rattle.pglogical.specs.declared.item.RelationDef.{RelationDef}
+use Rattle.pgtables.specs.Schema.{store_schema}
 use Rattle.pgtables.specs.Kept as stored
 use Rattle.pgtables.specs.Kept.{tables_in}
 use Rattle.pgrows.specs.Rows.{IfServing, database, state}
@@ -245,3 +246,14 @@ module _ {S : Type 0} (g : Ghosts S) (old new : S) (position : ℕ) (definitions
 pub read_left : {S : Type 0} (g : Ghosts S) (old new : S) (position : ℕ) → Survives (state g old) (state g new) (λ _. ⊥) → (v : Stored) → v.position ≡ position → Keeps g (record { rows = old; position = position }) v
     → HasCleanDisk (state g new) → (db : Trees) → (state g new).may_leave db → IsAtLeast v db
 read_left g old new position s v at keeps clean db may = elim (s.crash clean db may) [ inl before ↦ keeps.left db before | inr none ↦ absurd none ]
+
+-- whatever a store may leave is a database
+pub left_databases : {S : Type 0} (g : Ghosts S) (old new : S) (position : ℕ) → (HasCleanDisk (state g old) → (v : Stored) × Keeps g (record { rows = old; position = position }) v) → Survives (state g old) (state g new) (λ _. ⊥)
+    → HasCleanDisk (state g new) → AreDatabases (state g new).may_leave
+left_databases g old new position keeps survives clean db may = elim (survives.crash clean db may) [
+  | inl before ↦
+      let k = keeps (omega (arith, survives.clean)) in
+      let it = k.1.left db before in
+      (store_schema, it.1.kept.sound)
+  | inr none ↦ absurd none
+]

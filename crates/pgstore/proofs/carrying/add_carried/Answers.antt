@@ -1,6 +1,6 @@
 use Rattle.std.proofs.Common.{sym, ap, ◌∙◌, arith, ◌+◌}
 use Rattle.pgtables.specs.Kept as stored
-use Rattle.pgtables.specs.Kept.{tables_of}
+use Rattle.pgrows.specs.Rows.{tables_of}
 use Rattle.pgstore.proofs.Acting.{on_ok, if_err, then_open}
 use Rattle.pgstore.proofs.Joining.{joined_first, joined_again, joined_not, joined_clash}
 use Rattle.pgstore.proofs.Acting.{own_fault}
@@ -17,8 +17,8 @@ returns-in_ok-put_row-in-None-clause-made g c clean =
     let found = c.in_ok-find_row.ensures.made (omega (arith, before)) in
     let none = sym (c.in_ok-find_row.ensures.found (omega (arith, before))) ∙ c.in-None.is in
     let put = c.in_ok-put_row-in-None.ensures.made clean in (
-      then_open g.S.Store c.args.rows.now c.find_row.new.rows c.put_row.new.rows _ _ found put,
-      λ row is v rows h. joined_first v c.args.def.now rows (tables_of g.S.Store c.args.rows.now) h row c.args.place.now c.args.body.now c.args.copies is (tables_of g.S.Store c.put_row.new.rows) none
+      then_open g.S.Store c.args.rows.now c.find_row.new.self c.put_row.new.self _ _ found put,
+      λ row is v rows h. joined_first v c.args.def.now rows (tables_of g.S.Store c.args.rows.now) h row c.args.place.now c.args.body.now c.args.copies is (tables_of g.S.Store c.put_row.new.self) none
           (sym c.clashes.ensures ∙ c.if-clashes.false) (put.made ∙ ap (stored.with_row c.args.def.now.oid c.args.place.now (record { body = c.args.body.now; copies = c.args.copies })) found.made),
     )
 
@@ -28,7 +28,7 @@ returns-in-Some-clause-made g c clean =
     let found = c.in_ok-find_row.ensures.made (omega (arith, before)) in
     let some = sym (c.in_ok-find_row.ensures.found (omega (arith, before))) ∙ c.in-Some.is in
     on_ok c.join_copies.result (c.join_copies.ensures.made clean) (λ join. (
-      then_open g.S.Store c.args.rows.now c.find_row.new.rows c.join_copies.new.rows _ _ found join.made,
+      then_open g.S.Store c.args.rows.now c.find_row.new.self c.join_copies.new.rows _ _ found join.made,
       λ row is v rows h. joined_again v c.args.def.now rows (tables_of g.S.Store c.args.rows.now) h row c.args.place.now c.args.body.now c.args.copies is c.in-Some.there some (tables_of g.S.Store c.join_copies.new.rows) join.bag join.few
           (join.made.made ∙ ap (stored.with_row c.args.def.now.oid c.args.place.now (record { body = c.args.body.now; copies = c.in-Some.there.copies + c.args.copies })) found.made),
     ))

@@ -1,5 +1,6 @@
 use Rattle.std.proofs.Common.{sym, subst, ◌∙◌}
-use Rattle.pgtables.specs.Kept.{tables_of, with_definition}
+use Rattle.pgtables.specs.Kept.{with_definition}
+use Rattle.pgrows.specs.Rows.{tables_of}
 use Rattle.pgstore.specs.Spelled.{IsChanging}
 use Rattle.pgstore.proofs.Acting.{on_ok, if_err}
 use Rattle.pgstore.proofs.Definitions.{found_shape, given}

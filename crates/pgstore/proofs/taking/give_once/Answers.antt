@@ -1,5 +1,5 @@
 use Rattle.std.proofs.Common.{sym, ◌∙◌}
-use Rattle.pgtables.specs.Kept.{tables_of}
+use Rattle.pgrows.specs.Rows.{tables_of}
 use Rattle.pgstore.proofs.Acting.{ok_when}
 use Rattle.pgstore.proofs.Applying.{found_given}
 use Rattle.pgstore.proofs.taking.give_once.Goals as goal
