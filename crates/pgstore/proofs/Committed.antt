@@ -12,6 +12,7 @@ use Rattle.pgrows.specs.Rows.{IfServing, Makes, Shows, database, state, tables_o
 use Rattle.pgapply.specs.declared.op.Op.{Op}
 use Rattle.pgapply.specs.declared.rows.StoreFault.{StoreFault}
 use Rattle.pgapply.specs.Value.{Tables}
+use Rattle.pgstore.specs.Sources.{Begins}
 use Rattle.pgstore.specs.Spelled.{IsStored}
 use Rattle.pgstore.specs.Acts.{FoldsOn, Goes, HasTaken, IsBegun, LeavesTaken, Places, RefusesToFold, committed_of, none_given}
 
@@ -85,3 +86,29 @@ module _ {S : Type 0} (g : Ghosts S) (old last new : S) (definitions : List Rela
         was_open = λ still. before.commit.was_open (shows clean still).was_open;
         committed = λ still. let it = shows clean still in ap database it.committed_is ∙ before.commit.committed it.was_open;
       }
+
+-- what was begun has what is committed
+module _ {S : Type 0} (g : Ghosts S) (old begun new : S) (definitions : List RelationDef) (changes : List (ℕ × Op)) (position : List ℕ) (begins : Begins g old begun) where
+  pub begun_taken : HasCleanDisk (state g begun) → HasTaken g begun new definitions changes position → HasTaken g old new definitions changes position
+  begun_taken clean taken =
+      let b = begins clean taken.was_open in
+      record {
+        was_open = b.0;
+        is_open = taken.is_open;
+        kept = taken.kept;
+        position_is = taken.position_is;
+        folds = λ v h. taken.folds v (subst (λ (d : Database). IsStored v (tables_in d.trees)) (sym b.2) h);
+      }
+
+  pub begun_crash : Survives (state g old) (state g begun) (λ _. ⊥) → Survives (state g begun) (state g new) (LeavesTaken g begun definitions changes position) → Survives (state g old) (state g new) (LeavesTaken g old definitions changes position)
+  begun_crash one two = survives_then (state g old) (state g begun) (state g new) (λ _. ⊥) (LeavesTaken g begun definitions changes position) _ (λ _ db none. absurd none)
+      (λ clean db left.
+          let was : HasCleanDisk (state g begun) = omega (arith, two.clean, clean) in
+          let b = begins was left.was_open in
+          record {
+            was_open = b.0;
+            kept = left.kept;
+            position_is = left.position_is;
+            folds = λ v h. left.folds v (subst (λ (d : Database). IsStored v (tables_in d.trees)) (sym b.2) h);
+          })
+      one two

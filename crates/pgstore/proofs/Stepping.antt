@@ -109,9 +109,3 @@ pub refuses_more : {S : Type 0} (g : Ghosts S) (a : S) (definitions : List Relat
 refuses_more g a definitions given e more fault refuses v h are =
     subst (IsFault fault) (sym (ap (fold_changes v) (values_append definitions (e ∷ []) more) ∙ fold_append (change_values definitions (e ∷ [])) (change_values definitions more) v))
     (fault_first fault (fold_changes v (change_values definitions (e ∷ []))) (λ next. fold_changes next (change_values definitions more)) (refuses v h are))
-
-pub take_more : {A : Type 0} (i : ℕ) (xs : List A) (x : A) (rest : List A) → drop i xs ≡ x ∷ rest → take (i + 1) xs ≡ take i xs ++ x ∷ []
-take_more zero [] x rest is = absurd (cc)
-take_more zero (y ∷ xs) x rest is = cc
-take_more (suc i) [] x rest is = absurd (cc)
-take_more (suc i) (y ∷ xs) x rest is = ap (λ l. y ∷ l) (take_more i xs x rest is)
