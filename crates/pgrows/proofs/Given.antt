@@ -17,52 +17,52 @@ use Rattle.sqlite_rules.specs.Edit.{id_in}
 use Rattle.pgtables.specs.Kept.{AreDefined, Definition, copies_in, number_in, tables_in}
 use Rattle.pgtables.specs.DumpOrder.{dump_of, no_definition}
 use Rattle.pgrows.specs.Rows.{IsGood}
-use Rattle.pgrows.specs.Dump.{Defines, DefinesKnown, GivesFront, row_at, shown_by}
+use Rattle.pgrows.specs.Dump.{Defines, DefinesKnown, GivesAll, GivesFront, row_at, shown_by}
 use Rattle.pgrows.proofs.SetUp.{index_shape, indexed, entries_rise}
 use Rattle.pgrows.proofs.Seek.{entry}
 use Rattle.pgrows.proofs.Defined.{looked_up}
 use Rattle.pgrows.proofs.Ordered.{dumped, entry_row}
 
 -- some entries were given, and the cursor stands behind them
-pub record IsGiving (start now : View) (before taken : List Row) (definition : Row) (known : Option ℤ) : Type 0 where
+pub record IsGiving (start now : View) (old new : List Row → Type 0) (definition : Row) (known : Option ℤ) : Type 0 where
   pub done : List Row
   pub left : List Row
   pub split : start.trees 2 ≡ done ++ left
   pub at : now.cursors 0 ≡ Some left
   pub same : OnlyReads start now
-  pub taken_is : taken ≡ before ++ map (shown_by start.trees) done
+  pub taken : (before : List Row) → old before → new (before ++ map (shown_by start.trees) done)
   pub defines : DefinesKnown start.trees definition known
 
-module _ {start : View} (good : IsGood start) (listed : IsListed (start.trees catalog_tree) start.shape start.reals) (ordered : IsOrdered start.shape start.trees) (before : List Row) where
+module _ {start : View} (good : IsGood start) (listed : IsListed (start.trees catalog_tree) start.shape start.reals) (ordered : IsOrdered start.shape start.trees) (old : List Row → Type 0) where
   all_is : map (shown_by start.trees) (start.trees 2) ≡ dump_of (tables_in start.trees)
   all_is = dumped start.trees good.kept.held (indexed good listed ordered) (entries_rise good listed ordered)
 
-  pub begins : (now : View) (key definition : Row) → key ≡ [] → now ≡ with_cursor start 0 (sought (order_of (start.shape 2)) Forward key (start.trees 2)) → IsGiving start now before before definition None
+  pub begins : (now : View) (key definition : Row) → key ≡ [] → now ≡ with_cursor start 0 (sought (order_of (start.shape 2)) Forward key (start.trees 2)) → IsGiving start now old old definition None
   begins now key definition key_is placed = record {
     done = [];
     left = start.trees 2;
     split = refl;
     at = ap (λ (v : View). v.cursors 0) placed ∙ ap (λ s. Some (from_key (order_of s) key (start.trees 2))) (index_shape good listed ordered) ∙ ap (λ k. Some (from_key plain k (start.trees 2))) key_is ∙ ap Some (from_no_key plain (start.trees 2));
     same = placed ∙ (λ i. record start { cursors = (sym placed i).cursors });
-    taken_is = sym (append-nil before);
+    taken = λ before h. subst old (sym (append-nil before)) h;
     defines = tt;
   }
 
-  module _ (now : View) (taken : List Row) (definition : Row) (known : Option ℤ) (g : IsGiving start now before taken definition known) where
-    pub front : GivesFront (tables_in start.trees) before taken
+  module _ (now : View) (new : List Row → Type 0) (definition : Row) (known : Option ℤ) (g : IsGiving start now old new definition known) where
+    pub front : GivesFront (tables_in start.trees) old new
     front = (
       map (shown_by start.trees) g.done,
       map (shown_by start.trees) g.left,
       sym all_is ∙ ap (map (shown_by start.trees)) g.split ∙ map-append (shown_by start.trees) g.done g.left,
-      g.taken_is,
+      g.taken,
     )
 
-    pub ended : (next : View) (row : Row) → Advances now next 0 row false → taken ≡ before ++ dump_of (tables_in start.trees)
-    ended next row h =
+    pub ended : (next : View) (row : Row) → Advances now next 0 row false → GivesAll (tables_in start.trees) old new
+    ended next row h before h0 =
         let none : Some g.left ≡ Some [] = sym g.at ∙ h.0 in
         let left : g.left ≡ [] = cc in
         let all : start.trees 2 ≡ g.done = g.split ∙ ap (λ l. g.done ++ l) left ∙ append-nil g.done in
-        g.taken_is ∙ ap (λ l. before ++ map (shown_by start.trees) l) (sym all) ∙ ap (λ l. before ++ l) all_is
+        subst new (ap (λ l. before ++ map (shown_by start.trees) l) (sym all) ∙ ap (λ l. before ++ l) all_is) (g.taken before h0)
 
     module _ (next : View) (row : Row) (h : Advances now next 0 row true) where
       left_is : g.left ≡ row ∷ h.0
@@ -77,15 +77,21 @@ module _ {start : View} (good : IsGood start) (listed : IsListed (start.trees ca
       pub reads_next : OnlyReads start next
       reads_next = h.2 ∙ (λ i. record (g.same i) { cursors = (with_cursor now 0 h.0).cursors }) ∙ (λ i. record start { cursors = (sym h.2 i).cursors })
 
-      pub given_one : (more : List Row) (shown next_definition : Row) (oid : ℤ) → shown ≡ shown_by start.trees row → Defines start.trees next_definition oid → more ≡ taken ++ shown ∷ [] → IsGiving start next before more next_definition (Some oid)
-      given_one more shown next_definition oid shown_is defines more_is = record {
+      -- the row is one of the dump
+      pub shown_in : Has (dump_of (tables_in start.trees)) (shown_by start.trees row)
+      shown_in = subst (λ l. Has l (shown_by start.trees row)) (sym (map-append (shown_by start.trees) g.done (row ∷ h.0)) ∙ sym (ap (map (shown_by start.trees)) split_is) ∙ all_is)
+          (has_right (map (shown_by start.trees) g.done) (map (shown_by start.trees) (row ∷ h.0)) (shown_by start.trees row) (inl refl))
+
+      pub given_one : (next_new : List Row → Type 0) (shown next_definition : Row) (oid : ℤ) → shown ≡ shown_by start.trees row → Defines start.trees next_definition oid
+          → ((rows : List Row) → new rows → next_new (rows ++ shown ∷ [])) → IsGiving start next old next_new next_definition (Some oid)
+      given_one next_new shown next_definition oid shown_is defines more = record {
         done = g.done ++ row ∷ [];
         left = h.0;
         split = split_is ∙ sym (append_assoc g.done (row ∷ []) h.0);
         at = ap (λ (v : View). v.cursors 0) h.2;
         same = reads_next;
-        taken_is = more_is ∙ ap (λ l. l ++ shown ∷ []) g.taken_is ∙ append_assoc before (map (shown_by start.trees) g.done) (shown ∷ [])
-            ∙ ap (λ l. before ++ l) (ap (λ s. map (shown_by start.trees) g.done ++ s ∷ []) shown_is ∙ sym (map-append (shown_by start.trees) g.done (row ∷ [])));
+        taken = λ before h0. subst next_new (append_assoc before (map (shown_by start.trees) g.done) (shown ∷ [])
+            ∙ ap (λ l. before ++ l) (ap (λ s. map (shown_by start.trees) g.done ++ s ∷ []) shown_is ∙ sym (map-append (shown_by start.trees) g.done (row ∷ [])))) (more _ (g.taken before h0));
         defines = defines;
       }
 

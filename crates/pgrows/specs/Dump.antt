@@ -4,6 +4,7 @@ use Rattle.std.specs.FinMap.{get}
 use Rattle.sqlite.specs.Order.{Row, column, bytes}
 use Rattle.sqlite.specs.Tree.{Trees, has_rowid}
 use Rattle.sqlite_rules.specs.Edit.{id_in}
+use Rattle.sqlite_rules.specs.Lists.{Has}
 use Rattle.pgtables.specs.Kept.{Definition, Tables, copies_in, number_in, rel_row, tables_in}
 use Rattle.pgtables.specs.DumpOrder.{dump_of, shown_at}
 
@@ -27,6 +28,14 @@ Defines db r n = (o : ℕ) × (d : Definition) × (n ≡ pos o) × (get (tables_
 abbrev pub DefinesKnown : Trees → Row → Option ℤ → Type 0
 DefinesKnown db r known = MatchOption known ⊤ (Defines db r)
 
--- what was given is a front of the dump
-abbrev pub GivesFront : Tables → List Row → List Row → Type 0
-GivesFront t old new = (done : List Row) × (left : List Row) × (dump_of t ≡ done ++ left) × (new ≡ old ++ done)
+-- what was given, behind what was taken before, is a front of the dump
+abbrev pub GivesFront : Tables → (List Row → Type 0) → (List Row → Type 0) → Type 0
+GivesFront t old new = (done : List Row) × (left : List Row) × (dump_of t ≡ done ++ left) × ((before : List Row) → old before → new (before ++ done))
+
+-- all of the dump was given
+abbrev pub GivesAll : Tables → (List Row → Type 0) → (List Row → Type 0) → Type 0
+GivesAll t old new = (before : List Row) → old before → new (before ++ dump_of t)
+
+-- it was left at a row of the dump
+abbrev pub LeavesAt : Tables → (Row → Type 0) → Type 0
+LeavesAt t left_at = (row : Row) × Has (dump_of t) row × left_at row

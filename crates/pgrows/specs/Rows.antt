@@ -137,6 +137,10 @@ module _ {S : Type 0} (g : Ghosts S) where
     IsShielded = g.is_shielded s;
   }
 
+  -- the trees are numbered as they are listed
+  abbrev pub IsNumbered : S → Type 0
+  IsNumbered s = HasCleanDisk (state s) → IsTrue (g.view s).is_numbered
+
   abbrev pub tables_of : S → Tables
   tables_of s = tables_in (g.view s).trees
 

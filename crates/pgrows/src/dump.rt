@@ -1,12 +1,11 @@
 //! All rows, in their order, each given as it is read.
 
-ghost use Rattle.std.specs.Prelude.{◌≡◌, ◌++◌, ℕ, pos, Some, true, IfOk, OnOk, OnErr};
+ghost use Rattle.std.specs.Prelude.{◌≡◌, ℕ, pos, Some, true, false, IfOk, OnOk, OnErr};
 ghost use Rattle.sqlite.specs.State.{HasCleanDisk};
 ghost use Rattle.sqlite_rules.specs.Lists.{Has};
 ghost use Rattle.sqlite_trees.specs.View.{IsClean, IsQuiet, StayLive};
 ghost use Rattle.sqlite_exec.specs.Calls.{OnlyReads};
-ghost use Rattle.pgtables.specs.DumpOrder.{dump_of};
-ghost use Rattle.pgrows.specs.Dump.{Defines, DefinesKnown, GivesFront, shown_by};
+ghost use Rattle.pgrows.specs.Dump.{Defines, DefinesKnown, GivesAll, GivesFront, LeavesAt, shown_by};
 ghost use Rattle.pgrows.specs.Rows.{AreRows, IsGood, Keeps, Makes, state, tables_of};
 
 use crate::entry::{id_of, oid_in, write_shown};
@@ -100,10 +99,12 @@ pub(crate) fn give_rows<S: Alter, T: RowSink>(
 ) -> Result<bool, StoreError>
     requires { IsClean (S.Store.view store.old) → IsGood (S.Store.view store.old) }
     ensures front { IsClean (S.Store.view store.new) → GivesFront (tables_of S.Store store.old)
-        (T.RowSink.taken sink.old) (T.RowSink.taken sink.new) }
+        (T.RowSink.has_taken sink.old) (T.RowSink.has_taken sink.new) }
     ensures all { IsClean (S.Store.view store.new) → IfOk result (λ all. all ≡ true →
-        T.RowSink.taken sink.new
-        ≡ T.RowSink.taken sink.old ++ dump_of (tables_of S.Store store.old)) }
+        GivesAll (tables_of S.Store store.old) (T.RowSink.has_taken sink.old)
+        (T.RowSink.has_taken sink.new)) }
+    ensures left { IsClean (S.Store.view store.new) → IfOk result (λ all. all ≡ false →
+        LeavesAt (tables_of S.Store store.old) (T.RowSink.has_left sink.new)) }
     ensures same { IsClean (S.Store.view store.new) →
         OnOk result (OnlyReads (S.Store.view store.old) (S.Store.view store.new)) }
     ensures err { IsClean (S.Store.view store.new) →
@@ -140,10 +141,12 @@ pub(crate) fn give_all<S: Alter, T: RowSink>(
 ) -> Result<bool, StoreError>
     requires { AreRows S.Store store.old _last }
     ensures front { IsClean (S.Store.view store.new) → GivesFront (tables_of S.Store store.old)
-        (T.RowSink.taken sink.old) (T.RowSink.taken sink.new) }
+        (T.RowSink.has_taken sink.old) (T.RowSink.has_taken sink.new) }
     ensures all { IsClean (S.Store.view store.new) → IfOk result (λ all. all ≡ true →
-        T.RowSink.taken sink.new
-        ≡ T.RowSink.taken sink.old ++ dump_of (tables_of S.Store store.old)) }
+        GivesAll (tables_of S.Store store.old) (T.RowSink.has_taken sink.old)
+        (T.RowSink.has_taken sink.new)) }
+    ensures left { IsClean (S.Store.view store.new) → IfOk result (λ all. all ≡ false →
+        LeavesAt (tables_of S.Store store.old) (T.RowSink.has_left sink.new)) }
     ensures made { IsClean (S.Store.view store.new) → OnOk result
         (Makes S.Store (λ t. t) store.old store.new) }
     ensures rows { OnOk result (AreRows S.Store store.new _last) }

@@ -1,16 +1,15 @@
 //! A store of trees that holds the three tables of a store.
 
-ghost use Rattle.std.specs.Prelude.{◌≡◌, ◌≢◌, ◌++◌, ◌∷◌, [], None, true, false, IsSome, IsTrue, IfOk, IfErr, IfSome, OnOk, OnErr};
+ghost use Rattle.std.specs.Prelude.{◌≡◌, ◌≢◌, ◌∷◌, [], None, true, false, IsSome, IsTrue, IfOk, IfErr, IfSome, OnOk, OnErr};
 ghost use Rattle.std.specs.FinMap.{get};
 ghost use Rattle.sqlite.specs.Held as connection;
 ghost use Rattle.sqlite.specs.State.{HasCleanDisk, Survives};
-ghost use Rattle.pgtables.specs.DumpOrder.{dump_of};
 ghost use Rattle.pgtables.specs.Kept as connected;
 ghost use Rattle.pgtables.specs.Kept.{IsKept, is_there, with_definition, with_place, with_row, without_row, without_rows};
 ghost use Rattle.pgtables.specs.Shown.{AllFit, FitsCopies, FitsDefinition, ListsRows};
 ghost use Rattle.pgrows.specs.declared.fault.ReadFault.TheVariants.{Malformed};
-ghost use Rattle.pgrows.specs.Dump.{GivesFront};
-ghost use Rattle.pgrows.specs.Rows.{Drops, GoesBack, IfServing, Keeps, Makes, Marks, Shows, database, state, tables_of, with_row_if_there};
+ghost use Rattle.pgrows.specs.Dump.{GivesAll, GivesFront, LeavesAt};
+ghost use Rattle.pgrows.specs.Rows.{Drops, GoesBack, IfServing, IsNumbered, Keeps, Makes, Marks, Shows, database, state, tables_of, with_row_if_there};
 
 use crate::change::{put_place, remove, set};
 use crate::define::put_defined;
@@ -23,7 +22,7 @@ use crate::sink::RowSink;
 use crate::stored::{find_defined, find_stored};
 use crate::whole::put;
 use pgtables::{StoredDefinition, StoredRow, see_committed};
-use sqlite::Connection;
+use sqlite::{Connection, Error, ErrorCode};
 use sqlite_trees::error::StoreError;
 use sqlite_trees::store::Alter;
 use sqlite_value::row::Row;
@@ -67,6 +66,7 @@ impl<S: Alter + Drop> Rows<S> {
             × ((state S.Store result).now ≡ (connection.state S.Store conn).now)
             × ((state S.Store result).committed ≡ (connection.state S.Store conn).now)
             × ((state S.Store result).marks ≡ [])) }
+        ensures numbered { IsNumbered S.Store result }
         ensures survives { Survives (connection.state S.Store conn)
             (record (state S.Store result)
             { step_limit = (connection.state S.Store conn).step_limit }) (λ _. ⊥) }
@@ -81,6 +81,25 @@ impl<S: Alter + Drop> Rows<S> {
             last: None,
             failed: false,
         }
+    }
+
+    /// A connection to the tables as they were committed. The SQL library reads and checks each row once more.
+    ///
+    /// # Errors
+    ///
+    /// Those of the SQL library, and `Closed` where a failure of the disk has shut the store, which comes back beside them.
+    pub fn into_connection(self, alloc: Global) -> Result<Connection<S>, (Error, S)>
+        ensures { IfOk result (λ conn. HasCleanDisk (connection.state S.Store conn) →
+            HasCleanDisk (state S.Store self) × IsTrue (state S.Store self).is_open
+            × ((connection.state S.Store conn).now.trees
+            ≡ (state S.Store self).committed.trees)) }
+    {
+        let mut store = self.store;
+        store.rollback();
+        if store.is_broken() {
+            return Err((Error::SqliteFailure(ErrorCode::Closed), store));
+        }
+        Connection::over(alloc, store)
     }
 }
 
@@ -492,6 +511,7 @@ impl<S: Alter> Rows<S> {
     pub fn undo(&mut self)
         ensures undone { IfServing S.Store self.new (Shows S.Store self.old self.new
             (state S.Store self.old).committed.trees (state S.Store self.old).committed.trees) }
+        ensures numbered { IsNumbered S.Store self.old → IsNumbered S.Store self.new }
         ensures survives { Survives (state S.Store self.old) (state S.Store self.new) (λ _. ⊥) }
     {
         self.store.rollback();
@@ -506,6 +526,7 @@ impl<S: Alter> Rows<S> {
         ensures undone { IfServing S.Store self.new (OnErr result (Shows S.Store self.old self.new
             (state S.Store self.old).committed.trees
             (state S.Store self.old).committed.trees)) }
+        ensures numbered { IsNumbered S.Store self.old → IsNumbered S.Store self.new }
         ensures survives { Survives (state S.Store self.old) (state S.Store self.new)
             (λ db. IsTrue (state S.Store self.old).is_open
             × (db ≡ (state S.Store self.old).now.trees) × IsKept (database db)) }
@@ -521,11 +542,13 @@ impl<S: Alter> Rows<S> {
     /// bytes of the identity. It answers false where the sink stopped before the end. What was given is always a front of the dump.
     pub fn each_row<T: RowSink>(&mut self, alloc: Global, sink: &mut T) -> Result<bool, StoreError>
         ensures front { HasCleanDisk (state S.Store self.new) →
-            GivesFront (tables_of S.Store self.old) (T.RowSink.taken sink.old)
-            (T.RowSink.taken sink.new) }
+            GivesFront (tables_of S.Store self.old) (T.RowSink.has_taken sink.old)
+            (T.RowSink.has_taken sink.new) }
         ensures all { HasCleanDisk (state S.Store self.new) → IfOk result (λ all. all ≡ true →
-            T.RowSink.taken sink.new
-            ≡ T.RowSink.taken sink.old ++ dump_of (tables_of S.Store self.old)) }
+            GivesAll (tables_of S.Store self.old) (T.RowSink.has_taken sink.old)
+            (T.RowSink.has_taken sink.new)) }
+        ensures left { HasCleanDisk (state S.Store self.new) → IfOk result (λ all. all ≡ false →
+            LeavesAt (tables_of S.Store self.old) (T.RowSink.has_left sink.new)) }
         ensures made { HasCleanDisk (state S.Store self.new) → OnOk result
             (Makes S.Store (λ t. t) self.old self.new) }
         ensures keeps { HasCleanDisk (state S.Store self.new) →

@@ -8,12 +8,18 @@ use sqlite_value::row::Row;
 pub trait RowSink {
     ghost use Rattle.sqlite.specs.Order.{Row as Shown};
 
-    // The rows that it took so far.
-    ghost taken: { Self → List Shown };
+    // Whether these are the rows that it took so far.
+    ghost has_taken: { Self → List Shown → Type 0 };
+
+    // Why it takes no more, where this row came next.
+    ghost has_left: { Self → Shown → Type 0 };
 
     /// Takes the next row, which has its relation's OID, namespace and name, its bytes, and how often it stands. It answers
     /// whether it took it: where it didn't, no more are read.
     fn take(&mut self, row: &Row) -> bool
-        ensures took { result ≡ true → taken self.new ≡ taken self.old ++ row.now ∷ [] }
-        ensures stopped { result ≡ false → taken self.new ≡ taken self.old };
+        ensures took { result ≡ true → (rows : List Shown) → has_taken self.old rows →
+            has_taken self.new (rows ++ row.now ∷ []) }
+        ensures stays { result ≡ false → (rows : List Shown) → has_taken self.old rows →
+            has_taken self.new rows }
+        ensures left { result ≡ false → has_left self.new row.now };
 }

@@ -180,7 +180,7 @@ fn run_over(rt: &HostRuntime, task: &Task, path: &str) -> u8 {
                 &mut out,
                 &mut err,
             );
-            let _ = store.into_connection().close();
+            let _ = store.close_files();
             status
         }
         Err(fault) => tell_unopened(rt.alloc(), fault, &mut err),
@@ -230,7 +230,7 @@ fn run_live(rt: &HostRuntime, limits: Limits, version: Version, path: &str) -> u
                 &mut clock,
                 &mut err,
             );
-            let _ = store.into_connection().close();
+            let _ = store.close_files();
             status
         }
         Err(fault) => tell_unfollowed(rt.alloc(), fault, &mut err),

@@ -4,7 +4,7 @@ use Rattle.sqlite.specs.Held.{state}
 use Rattle.sqlite.specs.State.{HasCleanDisk}
 use Rattle.sqlite.specs.Files.{over_files}
 use Rattle.pgstore.specs.StoreValue.{AreOf}
-use Rattle.pgstore.proofs.store.Store+FileStore+FileFrom+F.open_from.Goals as goal
+use Rattle.pgstore.proofs.store.Store+FileStore+FileFrom+F.open_with.Goals as goal
 
 pub returns-in-Ok-adopt-clause-stood : goal.returns-in-Ok-adopt-clause-stood
 returns-in-Ok-adopt-clause-stood g c honest db holds v are =

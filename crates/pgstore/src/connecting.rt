@@ -1,0 +1,70 @@
+//! The connection to a store's file.
+
+ghost use Rattle.std.specs.Prelude.{IfOk};
+ghost use Rattle.sqlite.specs.WalFiles.{image_at};
+ghost use Rattle.sqlite.specs.State.{HasCleanDisk};
+ghost use Rattle.sqlite.specs.Start.{FindsIn};
+ghost use Rattle.sqlite.specs.Files.{file_state, IsOpened};
+
+use sqlite::{Connection, Error, ErrorCode, FileFrom, FileStore, Options, Start};
+use sqlite_std_file::OpenError;
+use std::hash::{BuildHasher, RandomState};
+use std::io::ErrorKind;
+
+/// How many pages stay in memory where nobody says it. Those of a new store have 1,024 bytes, so these are 20 MB.
+pub const CACHE_PAGES: usize = 20_000;
+
+/// How long the log grows, in pages, before it is copied into the file.
+const CHECKPOINT_FRAMES: usize = 10_000;
+
+/// As many pages that were read stay in memory, and as many that were written before they go to the log.
+fn options(rt: &HostRuntime, cache: usize) -> Result<Options, Error> {
+    let Ok(state) = RandomState::new(rt) else {
+        return Err(Error::SqliteFailure(ErrorCode::CannotOpen));
+    };
+    Ok(Options {
+        cache_pages: cache,
+        spill_pages: cache,
+        checkpoint_frames: CHECKPOINT_FRAMES,
+        seed: state.hash_one(&0u8),
+    })
+}
+
+/// Why the files at a path can't be opened.
+fn path_error(error: OpenError) -> Error {
+    Error::SqliteFailure(match error {
+        OpenError::OutOfMemory => ErrorCode::OutOfMemory,
+        OpenError::Busy => ErrorCode::DatabaseBusy,
+        OpenError::Io(error) if error.kind() == ErrorKind::OutOfMemory => ErrorCode::OutOfMemory,
+        _ => ErrorCode::CannotOpen,
+    })
+}
+
+/// A connection to the file at a path, with its log beside it, as the SQL library's own call makes it, with so many pages in memory
+/// and a longer log.
+///
+/// SQLite documentation, Write-Ahead Logging, Performance Considerations.
+pub(crate) fn connect<F: Start>(
+    rt: &HostRuntime,
+    path: &str,
+    cache: usize,
+    start: F,
+) -> Result<Connection<FileStore<FileFrom<F>>>, Error>
+    ensures opened { IfOk result (λ c. HasCleanDisk (file_state c) → IsOpened c) }
+    ensures found { IfOk result (λ c. HasCleanDisk (file_state c) →
+        FindsIn (image_at F.Start) (file_state c)) }
+{
+    // That call rejects a path that SQLite takes for memory or for a URI.
+    if path == ":memory:" || path.starts_with("file:") {
+        return Err(Error::SqliteFailure(ErrorCode::CannotOpen));
+    }
+    let options = options(rt, cache)?;
+    let files = match sqlite_std_file::open(rt, path, start) {
+        Ok(files) => files,
+        Err(error) => return Err(path_error(error)),
+    };
+    match Connection::open_files_with(rt.alloc(), files, options, false) {
+        Ok(conn) => Ok(conn),
+        Err((error, _)) => Err(error),
+    }
+}
