@@ -90,7 +90,9 @@ impl<S: Alter + Drop> Rows<S> {
     /// Those of the SQL library, and `Closed` where a failure of the disk has shut the store, which comes back beside them.
     pub fn into_connection(self, alloc: Global) -> Result<Connection<S>, (Error, S)>
         ensures { IfOk result (λ conn. HasCleanDisk (connection.state S.Store conn) →
-            (connection.state S.Store conn).now.trees ≡ (state S.Store self).committed.trees) }
+            HasCleanDisk (state S.Store self) × IsTrue (state S.Store self).is_open
+            × ((connection.state S.Store conn).now.trees
+            ≡ (state S.Store self).committed.trees)) }
     {
         let mut store = self.store;
         store.rollback();

@@ -189,7 +189,7 @@ fn run_over(rt: &HostRuntime, task: &Task, path: &str) -> u8 {
                 &mut out,
                 &mut err,
             );
-            let _ = store.into_connection().close();
+            let _ = store.close_files();
             status
         }
         Err(fault) => tell_unopened(rt.alloc(), fault, &mut err),
@@ -239,7 +239,7 @@ fn run_live(rt: &HostRuntime, limits: Limits, version: Version, path: &str, cach
                 &mut clock,
                 &mut err,
             );
-            let _ = store.into_connection().close();
+            let _ = store.close_files();
             status
         }
         Err(fault) => tell_unfollowed(rt.alloc(), fault, &mut err),

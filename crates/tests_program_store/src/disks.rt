@@ -47,7 +47,10 @@ fn run_over<S: Alter + Drop>(
     run: &Run,
 ) -> Result<Connection<S>, Wrong> {
     match Store::adopt(alloc, conn) {
-        Ok(store) => Ok(check_run(alloc, store, input, run)?.into_connection()),
+        Ok(store) => match check_run(alloc, store, input, run)?.into_connection() {
+            Ok(conn) => Ok(conn),
+            Err(_) => Err(Wrong::Unclosed),
+        },
         Err(_) => Err(Wrong::Unadopted),
     }
 }
