@@ -541,12 +541,12 @@ impl<S: Alter> Rows<S> {
     /// Gives all rows with their relation's OID, namespace and name, their bytes and how often they stand, by OID and then by the
     /// bytes of the identity. It answers false where the sink stopped before the end. What was given is always a front of the dump.
     pub fn each_row<T: RowSink>(&mut self, alloc: Global, sink: &mut T) -> Result<bool, StoreError>
-        ensures front { HasCleanDisk (state S.Store self.new) →
-            GivesFront (tables_of S.Store self.old) (T.RowSink.has_taken sink.old)
-            (T.RowSink.has_taken sink.new) }
+        ensures front { HasCleanDisk (state S.Store self.new) → (start : T) →
+            GivesFront (tables_of S.Store self.old) (T.RowSink.has_taken start sink.old)
+            (T.RowSink.has_taken start sink.new) }
         ensures all { HasCleanDisk (state S.Store self.new) → IfOk result (λ all. all ≡ true →
-            GivesAll (tables_of S.Store self.old) (T.RowSink.has_taken sink.old)
-            (T.RowSink.has_taken sink.new)) }
+            (start : T) → GivesAll (tables_of S.Store self.old)
+            (T.RowSink.has_taken start sink.old) (T.RowSink.has_taken start sink.new)) }
         ensures left { HasCleanDisk (state S.Store self.new) → IfOk result (λ all. all ≡ false →
             LeavesAt (tables_of S.Store self.old) (T.RowSink.has_left sink.new)) }
         ensures made { HasCleanDisk (state S.Store self.new) → OnOk result

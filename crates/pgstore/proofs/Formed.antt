@@ -44,7 +44,7 @@ read_refuses (Err fault) read is goes = goes fault is
 
 -- ---- tuples
 
-encoded_read : (cells : List Cell) (bytes : List ℕ) → IsWireTuple cells → bytes ≡ tuple_spelling cells → tuple_at bytes ≡ Ok (cells, (length bytes, []))
+pub encoded_read : (cells : List Cell) (bytes : List ℕ) → IsWireTuple cells → bytes ≡ tuple_spelling cells → tuple_at bytes ≡ Ok (cells, (length bytes, []))
 encoded_read cells bytes fits is = ap tuple_at (is ∙ sym (append-nil (tuple_spelling cells))) ∙ tuple_again cells [] fits ∙ ap (λ n. Ok (cells, (n, []))) (ap length (sym is))
 
 pub never_unread : (cells : List Cell) (bytes : List ℕ) (f : TupleFault) → IsWireTuple cells → bytes ≡ tuple_spelling cells → tuple_at bytes ≡ Err f → ⊥

@@ -1,0 +1,195 @@
+//! Prints what a store holds, row by row as it is read.
+
+ghost use Rattle.std.specs.Prelude.{◌≡◌, ◌≢◌, ◌≤◌, ◌++◌, [], ℕ, List, Result, Ok, Some, None, true, false, IfErr, string_bytes};
+ghost use Rattle.sqlite.specs.State.{Survives};
+ghost use Rattle.pgapply.specs.Dump.{dump};
+ghost use Rattle.pgapply.specs.Stored.{IsOwnFault, Stored};
+ghost use Rattle.pgrows.specs.Rows.{state};
+ghost use Rattle.pgstore.specs.StoreValue.{Holds, IsHonest, Serves, Stays};
+ghost use Rattle.pgsub_cli.specs.declared.fault.Ending.{Ending};
+ghost use Rattle.pgsub_cli.specs.declared.fault.RunFault.{RunFault};
+ghost use Rattle.pgsub_cli.specs.declared.fault.RunFault.TheVariants.{CannotWrite};
+ghost use Rattle.pgsub_cli.specs.DumpText.{position_line};
+ghost use Rattle.pgsub_cli.specs.Dumped.{Dumps, PrintsLines};
+ghost use Rattle.pgsub_cli.specs.Lines.{IsWriting};
+ghost use Rattle.pgsub_cli.specs.Runs.{Tells, status_of};
+
+use crate::dump::{position_text, line_text};
+use crate::fault::{Ending, RunFault};
+use crate::files::Output;
+use crate::running::{status, tell};
+use crate::storing::store_fault;
+use pgapply::{DumpRow, StoreFault};
+use pglsn::Lsn;
+use pgstore::{DumpSink, Store};
+use pgsub_core::Fault;
+use sqlite::Alter;
+use std::alloc::{AllocError, Global};
+
+/// Lines are written once they have so many bytes.
+const PIECE_LEN: usize = 65_536;
+
+/// Writes a line for each row that it takes, many lines at a time.
+#[derive(Drop)]
+struct LineSink<W: Output + Drop> {
+    alloc: Global,
+    out: W,
+    lines: String,
+    fault: Option<RunFault>,
+}
+
+impl<W: Output + Drop> LineSink<W> {
+    /// Writes the lines that are kept.
+    fn write(&mut self) -> bool
+        requires { self.old.fault ≡ None }
+        ensures written { result ≡ true → (old : W) (bytes : List ℕ) →
+            IsWriting W.takes W.failed old bytes self.old.out (string_bytes self.old.lines)
+            self.old.fault →
+            IsWriting W.takes W.failed old bytes self.new.out (string_bytes self.new.lines)
+            self.new.fault }
+        ensures cleared { result ≡ true → string_bytes self.new.lines ≡ [] }
+        ensures going { result ≡ true → self.new.fault ≡ None }
+        ensures stopped { result ≡ false → (self.new.fault ≡ Some CannotWrite)
+            × W.failed self.old.out }
+    {
+        if self.out.write_lines(self.lines.as_str()).is_err() {
+            self.fault = Some(RunFault::CannotWrite);
+            return false;
+        }
+        self.lines.clear();
+        true
+    }
+
+    /// Keeps a line behind the others, and writes all once they are many.
+    fn add(&mut self, line: Result<String, AllocError>) -> bool
+        requires { self.old.fault ≡ None }
+        ensures added { result ≡ true → (text : String) × (line ≡ Ok text)
+            × ((old : W) (bytes : List ℕ) →
+            IsWriting W.takes W.failed old bytes self.old.out (string_bytes self.old.lines)
+            self.old.fault →
+            IsWriting W.takes W.failed old (bytes ++ string_bytes text) self.new.out
+            (string_bytes self.new.lines) self.new.fault) }
+        ensures stays { result ≡ false → (old : W) (bytes : List ℕ) →
+            IsWriting W.takes W.failed old bytes self.old.out (string_bytes self.old.lines)
+            self.old.fault →
+            IsWriting W.takes W.failed old bytes self.new.out (string_bytes self.new.lines)
+            self.new.fault }
+        ensures going { result ≡ true → self.new.fault ≡ None }
+        ensures stopped { result ≡ false → self.new.fault ≢ None }
+    {
+        let Ok(line) = line else {
+            self.fault = Some(RunFault::Stream(Fault::Memory));
+            return false;
+        };
+        if self.lines.push_str(line.as_str()).is_err() {
+            self.fault = Some(RunFault::Stream(Fault::Memory));
+            return false;
+        }
+        self.lines.len() < PIECE_LEN || self.write()
+    }
+
+    /// Prints the line of the position behind the others.
+    fn finish(&mut self, position: Lsn) -> Result<Ending, RunFault>
+        requires { self.old.fault ≡ None }
+        ensures { (old : W) (bytes : List ℕ) →
+            IsWriting W.takes W.failed old bytes self.old.out (string_bytes self.old.lines)
+            self.old.fault →
+            PrintsLines W.takes W.failed (bytes ++ position_line position) old self.new.out result }
+    {
+        let line = position_text(self.alloc, position);
+        if self.add(line) && self.write() {
+            return Ok(Ending::Done);
+        }
+        match self.fault {
+            Some(fault) => Err(fault),
+            None => unreachable!(),
+        }
+    }
+
+    /// Ends where the rows were read so.
+    fn end(&mut self, read: Result<bool, StoreFault>, position: Lsn) -> Result<Ending, RunFault>
+        ensures { (old : W) (bytes more : List ℕ) →
+            IsWriting W.takes W.failed old bytes self.old.out (string_bytes self.old.lines)
+            self.old.fault → IfErr read IsOwnFault →
+            (read ≡ Ok true → more ≡ position_line position) →
+            PrintsLines W.takes W.failed (bytes ++ more) old self.new.out result }
+    {
+        if let Some(fault) = self.fault {
+            return Err(fault);
+        }
+        match read {
+            Ok(true) => self.finish(position),
+            Ok(false) => Err(RunFault::Stream(Fault::Memory)),
+            Err(fault) => Err(RunFault::Stream(store_fault(fault))),
+        }
+    }
+}
+
+impl<W: Output + Drop> DumpSink for LineSink<W> {
+    ghost use Rattle.std.specs.Prelude.{◌≢◌, ◌++◌, None, string_bytes};
+    ghost use Rattle.std.specs.List.{flat_map};
+    ghost use Rattle.pgsub_cli.specs.DumpText.{row_line};
+    ghost use Rattle.pgsub_cli.specs.Lines.{IsWriting};
+
+    ghost has_taken = { λ start sink rows. IsWriting W.takes W.failed start.out
+        (string_bytes start.lines ++ flat_map row_line rows) sink.out (string_bytes sink.lines)
+        sink.fault };
+
+    ghost has_stopped = { λ sink. sink.fault ≢ None };
+
+    fn take(&mut self, row: DumpRow) -> bool {
+        if self.fault.is_some() {
+            return false;
+        }
+        self.add(line_text(self.alloc, &row))
+    }
+}
+
+/// Prints the rows of a store, as they are read, and its position. Where that stops, some front of the lines is printed.
+fn write_rows<S: Alter + Drop, W: Output + Drop>(
+    alloc: Global,
+    store: &mut Store<S>,
+    out: W,
+) -> (Result<Ending, RunFault>, W)
+    ensures dumps { IsHonest S.Store store.new → Serves S.Store store.old → (v : Stored) →
+        Holds S.Store store.old v →
+        Dumps W.takes W.failed (dump v.tables) v.position out result.1 result.0 }
+    ensures unchanged { Serves S.Store store.new → Stays S.Store store.old store.new }
+    ensures position { store.new.position ≡ store.old.position }
+    ensures crash { Survives (state S.Store store.old.rows) (state S.Store store.new.rows) (λ _. ⊥) }
+{
+    let position = store.position();
+    let sink = LineSink {
+        alloc,
+        out,
+        lines: String::new(alloc),
+        fault: None,
+    };
+    let (read, mut sink) = store.each_row(sink);
+    let ended = sink.end(read, position);
+    (ended, sink.out)
+}
+
+/// Prints the rows of a store and its position, row by row, with the memory of one row and some lines. Returns the exit status, the
+/// store and the output.
+///
+/// Nothing changes. Where reading or writing stops, some front of the lines is printed, and standard error gets the line of the fault.
+pub fn run_dump<S: Alter + Drop, W: Output + Drop, E: Output>(
+    alloc: Global,
+    mut store: Store<S>,
+    out: W,
+    err: &mut E,
+) -> (u8, Store<S>, W)
+    ensures status { result.0 ≤ 4 }
+    ensures ends { (ended : Result Ending RunFault) × (result.0 ≡ status_of ended)
+        × (IsHonest S.Store result.1 → Serves S.Store store → (v : Stored) →
+        Holds S.Store store v → Dumps W.takes W.failed (dump v.tables) v.position out result.2 ended)
+        × Tells E.takes E.failed [] [] ended err.old err.new }
+    ensures unchanged { Serves S.Store result.1 → Stays S.Store store result.1 }
+    ensures position { result.1.position ≡ store.position }
+    ensures crash { Survives (state S.Store store.rows) (state S.Store result.1.rows) (λ _. ⊥) }
+{
+    let (ended, out) = write_rows(alloc, &mut store, out);
+    tell(alloc, ended, "", "", err);
+    (status(ended), store, out)
+}
