@@ -91,7 +91,7 @@ module _ {S : Type 0} (g : Ghosts S) (a : S) (before def : RelationDef) (all : L
   carries_none = record {
     goes = goes_none g a;
     made = λ clean still. (
-      record { was_open = still; is_open = still},
+      record { was_open = still; is_open = still },
       λ v entries start h kept. record { left = entries; rows = start; kept = kept; same = refl; changing = h },
     );
   }
@@ -103,7 +103,7 @@ module _ {S : Type 0} (g : Ghosts S) (a : S) (before def : RelationDef) (all : L
       made = λ clean still.
           let step = one clean in
           let first = so_far.made (omega (arith, goes.survives.clean)) still in (
-            record { was_open = first.0.was_open; is_open = step.0.is_open},
+            record { was_open = first.0.was_open; is_open = step.0.is_open },
             λ v entries start h kept.
                 let was = first.1 v entries start h kept in
                 next v entries start step was.left was.rows was.kept was.same was.changing,

@@ -103,12 +103,12 @@ module _ {S : Type 0} (g : Ghosts S) (old begun new : S) (definitions : List Rel
   pub begun_crash : Survives (state g old) (state g begun) (λ _. ⊥) → Survives (state g begun) (state g new) (LeavesTaken g begun definitions changes position) → Survives (state g old) (state g new) (LeavesTaken g old definitions changes position)
   begun_crash one two = survives_then (state g old) (state g begun) (state g new) (λ _. ⊥) (LeavesTaken g begun definitions changes position) _ (λ _ db none. absurd none)
       (λ clean db left.
-          let was : HasCleanDisk (state g begun) = omega (arith, two.clean, clean) in
-          let b = begins was left.was_open in
-          record {
-            was_open = b.0;
-            kept = left.kept;
-            position_is = left.position_is;
-            folds = λ v h. left.folds v (subst (λ (d : Database). IsStored v (tables_in d.trees)) (sym b.2) h);
-          })
+      let was : HasCleanDisk (state g begun) = omega (arith, two.clean, clean) in
+      let b = begins was left.was_open in
+      record {
+        was_open = b.0;
+        kept = left.kept;
+        position_is = left.position_is;
+        folds = λ v h. left.folds v (subst (λ (d : Database). IsStored v (tables_in d.trees)) (sym b.2) h);
+      })
       one two

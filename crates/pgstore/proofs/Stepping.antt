@@ -86,7 +86,7 @@ module _ {S : Type 0} (g : Ghosts S) (a b c : S) (definitions : List RelationDef
     made = λ clean still.
         let next = step clean still in
         let first = one.made (omega (arith, goes.survives.clean)) next.0.was_open in (
-          record { was_open = first.0.was_open; is_open = next.0.is_open},
+          record { was_open = first.0.was_open; is_open = next.0.is_open },
           λ v h.
               let before = first.1 v h in
               let after = next.1 before.0 before.2 before.3 in (

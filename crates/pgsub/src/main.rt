@@ -105,10 +105,7 @@ fn cache_of(task: &Task) -> usize {
 }
 
 /// What a task applies to its store, None where it applies nothing.
-fn input_of(
-    rt: &HostRuntime,
-    task: &Task,
-) -> Result<Option<(Version, Incoming<File>)>, RunFault> {
+fn input_of(rt: &HostRuntime, task: &Task) -> Result<Option<(Version, Incoming<File>)>, RunFault> {
     let Task::Apply {
         version,
         raw,

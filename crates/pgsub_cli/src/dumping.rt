@@ -14,7 +14,7 @@ ghost use Rattle.pgsub_cli.specs.Dumped.{Dumps, PrintsLines};
 ghost use Rattle.pgsub_cli.specs.Lines.{IsWriting};
 ghost use Rattle.pgsub_cli.specs.Runs.{Tells, status_of};
 
-use crate::dump::{position_text, line_text};
+use crate::dump::{line_text, position_text};
 use crate::fault::{Ending, RunFault};
 use crate::files::Output;
 use crate::running::{status, tell};

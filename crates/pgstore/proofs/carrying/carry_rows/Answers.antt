@@ -26,4 +26,4 @@ loop-kept-preserved g c =
     let x = c.kept-item.result in
     let rest = at_drop_more (λ l. l) xs i x c.loop-kept-test.true ∙ ap (λ y. y ∷ drop (i + 1) xs) (sym c.kept-item.is) in
     carries_then g.S.Store c.args.rows.now c.args.old.now c.args.def.now xs c.loop-kept.rows x (drop (i + 1) xs)
-        (subst (CarriesOn g.S.Store c.args.rows.now c.loop-kept.rows c.args.old.now c.args.def.now xs) rest c.loop-kept.invariant) c.carry_row.new.rows c.in_ok-carry_row.ensures.made c.in_ok-carry_row.ensures.goes
+    (subst (CarriesOn g.S.Store c.args.rows.now c.loop-kept.rows c.args.old.now c.args.def.now xs) rest c.loop-kept.invariant) c.carry_row.new.rows c.in_ok-carry_row.ensures.made c.in_ok-carry_row.ensures.goes

@@ -20,7 +20,7 @@ returns-clause-made g c clean =
     let empties = c.in_ok-empty_table.ensures.made (omega (arith, later)) in
     on_ok c.carry_rows.result c.carry_rows.ensures.made (λ on.
     let all = carries_all g.S.Store c.empty_table.new.rows c.args.old.now c.args.def.now c.as_slice.result.now c.carry_rows.new.rows on clean empties.is_open in (
-      record { was_open = read.was_open; is_open = all.0.is_open},
+      record { was_open = read.was_open; is_open = all.0.is_open },
       λ v entries h kept. all.1 v entries empty (subst (IsChanging v c.args.def.now empty) (sym (empties.made ∙ ap (emptied c.args.def.now c.args.columns.now) read.made)) h)
           (subst (AreKeptRows c.args.old.now entries) (sym c.as_slice.ensures.value) (kept _ listed)),
     ))

@@ -11,7 +11,7 @@ use Rattle.pgstore.proofs.giving.replace_definition.Goals as goal
 
 pub returns-then-has_shape-clause-made : goal.returns-then-has_shape-clause-made
 returns-then-has_shape-clause-made g c clean = on_ok c.store_definition.result (c.store_definition.ensures.made clean) (λ put. (
-  record { was_open = put.was_open; is_open = put.is_open},
+  record { was_open = put.was_open; is_open = put.is_open },
   λ v h at.
       let t = tables_of g.S.Store c.args.rows.now in
       let f = found_shape v c.args.def.now t h c.args.op.now c.args.stored.now at (λ old is e. sym c.if-has_shape.true ∙ c.has_shape.ensures old is e) in (
@@ -25,7 +25,7 @@ returns-then-has_shape-clause-made g c clean = on_ok c.store_definition.result (
 
 pub returns-then-is_truncate-clause-made : goal.returns-then-is_truncate-clause-made
 returns-then-is_truncate-clause-made g c clean = on_ok c.empty_table.result (c.empty_table.ensures.made clean) (λ empties. (
-  record { was_open = empties.was_open; is_open = empties.is_open},
+  record { was_open = empties.was_open; is_open = empties.is_open },
   λ v h at. emptied_finds v c.args.def.now (tables_of g.S.Store c.args.rows.now) h c.args.stored.now at (λ old is e. sym c.if-has_shape.false ∙ c.has_shape.ensures old is e) c.args.op.now (sym c.is_truncate.ensures ∙ c.if-is_truncate.true)
       c.args.columns.now c.requires.columns (tables_of g.S.Store c.empty_table.new.rows) empties.made,
 ))

@@ -6,7 +6,7 @@ use Rattle.pgstore.proofs.taking.give_once.Goals as goal
 
 pub returns-then-is_last-clause-made : goal.returns-then-is_last-clause-made
 returns-then-is_last-clause-made g c clean still = (
-  record { was_open = still; is_open = still},
+  record { was_open = still; is_open = still },
   λ v h given.
       let stands = given (sym c.in_ok-last.ensures.old ∙ c.is_last.ensures.given c.if-is_last.true) in
       let found = found_given v c.args.def.now c.args.entry.now.1 (tables_of g.S.Store c.args.rows.now) h stands in

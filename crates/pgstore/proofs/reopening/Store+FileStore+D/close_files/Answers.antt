@@ -18,11 +18,14 @@ stop-requires-clause-sound g c clean db left =
 pub returns-in-Ok-clause-left : goal.returns-in-Ok-clause-left
 returns-in-Ok-clause-left g c clean image may = ∥∥₁_map (c.stop.ensures.left clean image may) (λ it.
     let after : IsClean (view c.checkpoint.new.self) = c.stop.ensures.clean clean in
-    let before : IsClean (view c.into_store-store.result) = omega (arith, c.checkpoint.ensures.quiet.clean, after) in
-    (it.0, elim (c.into_store-store.ensures.crash.crash before it.0 (c.checkpoint.ensures.quiet.outcomes it.0 it.1)) [
-      | inl left ↦ left
-      | inr none ↦ absurd none
-    ], it.2))
+    let before : IsClean (view c.into_store-store.result) = omega (arith, c.checkpoint.ensures.quiet.clean, after) in (
+      it.0,
+      elim (c.into_store-store.ensures.crash.crash before it.0 (c.checkpoint.ensures.quiet.outcomes it.0 it.1)) [
+        | inl left ↦ left
+        | inr none ↦ absurd none
+      ],
+      it.2,
+    ))
 
 pub returns-in-Err-clause-unclosed : goal.returns-in-Err-clause-unclosed
 returns-in-Err-clause-unclosed g c clean db left =
