@@ -1,5 +1,5 @@
 -- A connection whose trees are taken.
-use Rattle.std.proofs.Common.{◌≡◌, [], IsTrue, refl, sym, ap, ◌∙◌, arith}
+use Rattle.std.proofs.Common.{◌≡◌, [], IsTrue, refl, ap, ◌∙◌, arith}
 use Rattle.sqlite.specs.Effect.{Database}
 use Rattle.sqlite.specs.Store.{Ghosts}
 use Rattle.sqlite.specs.Tree.{Trees}

@@ -1,18 +1,14 @@
 -- One change after the other.
-use Rattle.pgapply.specs.Works.{IsNumbered}
-use Rattle.std.proofs.Common.{◌≡◌, ◌<◌, ◌≤◌, ◌-◌, suc, get_or, length-drop, IfOk, Result, Err, ℕ, List, [], ◌∷◌, ◌++◌, append-nil, length, take, drop, cond, Option, Some, Ok, IsTrue, refl, sym, ap, subst, ◌∙◌, inl, inr, arith}
-use Rattle.std.specs.Prelude.{slice_get, ◌==◌}
-use Rattle.std.specs.List.{AllByRecursion, AllZip}
+use Rattle.std.proofs.Common.{◌≡◌, ℕ, List, [], ◌∷◌, ◌++◌, append-nil, cond, Option, Some, Ok, IsTrue, refl, sym, ap, subst, ◌∙◌, arith}
+use Rattle.std.specs.Prelude.{slice_get}
 use Rattle.std.specs.FinMap as map
 use Rattle.std.specs.Cmp.{unsigned_Decides}
-use Rattle.std.proofs.lemmas.Bool.{cases_Bool}
 use Rattle.sqlite.specs.Store.{Ghosts}
 use Rattle.sqlite.specs.State.{HasCleanDisk}
 use Rattle.pglogical.specs.declared.item.RelationDef.{RelationDef}
 use Rattle.pgtables.specs.Kept as stored
 use Rattle.pgrows.specs.Rows.{IfServing, state, tables_of}
 use Rattle.pgapply.specs.declared.op.Op.{Op}
-use Rattle.pgapply.specs.declared.op.Op.TheVariants.{Insert}
 use Rattle.pgapply.specs.declared.rows.StoreFault.{StoreFault}
 use Rattle.pgapply.specs.Value.{Rows, Tables}
 use Rattle.pgapply.specs.Apply.{Change, ◌>>=◌, apply, fold_changes, found_rows, rows_after}
@@ -20,13 +16,12 @@ use Rattle.pgapply.specs.Stored.{IsFault}
 use Rattle.pgapply.specs.Works.{change_value, change_values, defined_by}
 use Rattle.pgapply.proofs.Working.{values_append}
 use Rattle.pglogical.specs.Spelling.{IsDefinition}
-use Rattle.pgstore.specs.Spelled.{IsGivable, IsReadable, IsChanging, IsStored}
+use Rattle.pgstore.specs.Spelled.{IsReadable, IsChanging, IsStored}
 use Rattle.pgstore.specs.Acts.{AreGiven, Changes, Finds, FoldsOn, Goes, MakesOf, Notes, Refuses, RefusesToFold, RefusesToGive}
 use Rattle.pgstore.specs.Steps.{RefusesAll, StepsAll}
 use Rattle.pgstore.proofs.Going.{goes_then}
-use Rattle.pgstore.proofs.Acting.{added_first}
-use Rattle.pgstore.proofs.Deciding.{fault_first, insert_goes}
-use Rattle.pgstore.proofs.Applying.{applied, found_given, refused_first, refused_then, was_given, given_then, fold_none, fold_one, fold_append, take_whole}
+use Rattle.pgstore.proofs.Deciding.{fault_first}
+use Rattle.pgstore.proofs.Applying.{applied, refused_first, refused_then, was_given, given_then, fold_one, fold_append}
 
 fold_first : (v next : Tables) (change : Change) (more : List Change) → apply v change ≡ Ok next → fold_changes v (change ∷ more) ≡ fold_changes next more
 unfolding fold_changes

@@ -1,4 +1,4 @@
-use Rattle.std.proofs.Common.{◌⊎◌, inl, inr, ap, subst, sym, IsTrue, arith}
+use Rattle.std.proofs.Common.{inl, inr, subst, sym, IsTrue, arith}
 use Rattle.std.proofs.Math.Logic.{∥∥₁_map}
 use Rattle.sqlite_trees.specs.View.{View, IsClean}
 use Rattle.sqlite_store.specs.FileStore.{view}

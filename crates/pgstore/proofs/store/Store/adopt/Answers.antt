@@ -1,5 +1,4 @@
 use Rattle.std.proofs.Common.{◌<◌, ◌^◌, sym, subst, arith}
-use Rattle.pgapply.specs.Stored.{Stored}
 use Rattle.pgstore.specs.Spelled.{IsStored}
 use Rattle.pgstore.proofs.Founding.{founded_as, founded_store}
 use Rattle.pgstore.proofs.Stores.{adopted_survives}
