@@ -109,3 +109,11 @@ def findings(path: Path, wanted: Contents | None = None) -> list[str]:
         return ["there is no file"]
     with at_rest(path) as base:
         return findings_of(base, wanted)
+
+
+def findings_with_log(path: Path) -> list[str]:
+    """What is wrong with a store's file and its log as a run left them that may have made no file or no tables yet."""
+    if not path.exists():
+        return []
+    with copied(path) as base:
+        return [] if is_bare(base) else findings_of(base)

@@ -150,6 +150,15 @@ class Case(unittest.TestCase):
             with sound.at_rest(path) as base:
                 self.assertEqual(sound.is_bare(base), is_bare)
 
+    def test_what_an_interrupted_run_leaves(self) -> None:
+        bare = self.room / "bare.db"
+        with stored.opened(bare) as base:
+            base.execute("PRAGMA journal_mode = WAL")
+        for path in (self.room / "other.db", bare, self.path):
+            self.assertEqual(sound.findings_with_log(path), [])
+        self.change("DELETE FROM rel")
+        self.assertEqual(len(sound.findings_with_log(self.path)), 10)
+
     def test_what_differs(self) -> None:
         for oid, relation in ((LOG, KEYED), (7, KEYED)):
             self.held.relations[oid] = relation
