@@ -155,9 +155,12 @@ class Values:
 class Maker:
     """Makes the transactions of one history, and follows the tables meanwhile so that most changes meet a row."""
 
+    # a table that has more rows gets fewer Inserts
+    few = 3
+
     def __init__(self, rng):
         self.rng = rng
-        self.values = Values(rng)
+        self.values = self.make_values()
         self.tables = {}
         self.definitions = {}
         oids = [rng.choice((16384, 1, 0, 2**31, 2**31 - 1, 2**32 - 1, rng.getrandbits(32))) + step for step in range(1, 9)]
@@ -165,10 +168,23 @@ class Maker:
         for oid in self.oids:
             self.definitions[oid] = self.values.definition(oid)
 
-    def history(self):
+    def make_values(self):
+        return Values(self.rng)
+
+    def count(self):
+        """How many transactions a history has."""
         rng = self.rng
         luck = rng.random()
-        count = rng.randint(0, 3) if luck < 0.3 else rng.randint(2, 9) if luck < 0.95 else rng.randint(10, 40)
+        return rng.randint(0, 3) if luck < 0.3 else rng.randint(2, 9) if luck < 0.95 else rng.randint(10, 40)
+
+    def sizes(self):
+        """About how many changes a transaction has, at least and at most."""
+        luck = self.rng.random()
+        return (0, 0) if luck < 0.08 else (1, 6) if luck < 0.85 else (5, 30) if luck < 0.99 else (50, 400)
+
+    def history(self):
+        rng = self.rng
+        count = self.count()
         bad_at = rng.randrange(count) if count and rng.random() < 0.3 else None
         lsn = rng.choice((0, 1, 0x100, 2**32 - 40, rng.getrandbits(40), MOST_LSN - 2**20 - rng.getrandbits(40)))
         history = []
@@ -188,8 +204,7 @@ class Maker:
         before = model.copied(self.tables) if bad else None
         definitions = dict(self.definitions)
         xid = self.free.pop()
-        luck = rng.random()
-        sizes = (0, 0) if luck < 0.08 else (1, 6) if luck < 0.85 else (5, 30) if luck < 0.99 else (50, 400)
+        sizes = self.sizes()
         self.bad = bad
         parts = self.parts(rng.randint(*sizes), 0)
         transaction = Transaction(xid, lsn, end, parts)
@@ -256,7 +271,7 @@ class Maker:
         if luck < 0.03:
             named = [self.definitions[other] for other in rng.choices(self.oids, k=rng.choice((0, 1, 1, 2, 3)))]
             return Change(b"T", named, options=rng.randint(0, 3))
-        if luck < (0.3 if len(rows) > 3 else 0.75):
+        if luck < (0.3 if len(rows) > self.few else 0.75):
             return Change(b"I", [definition], new=self.insert_row(definition, rows, careless))
         return self.change_of_row(definition, rows, careless, luck)
 
