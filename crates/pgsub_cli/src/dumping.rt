@@ -1,6 +1,6 @@
 //! Prints what a store holds, row by row as it is read.
 
-ghost use Rattle.std.specs.Prelude.{◌≡◌, ◌≢◌, ◌≤◌, ◌++◌, [], ℕ, List, Result, Ok, Some, None, true, false, IfErr, string_bytes};
+ghost use Rattle.std.specs.Prelude.{◌≡◌, ◌≢◌, ◌≤◌, ◌++◌, [], ℕ, List, Result, Ok, Some, None, true, false, IsOk, IfOk, IfErr, string_bytes};
 ghost use Rattle.sqlite.specs.State.{Survives};
 ghost use Rattle.pgapply.specs.Dump.{dump};
 ghost use Rattle.pgapply.specs.Stored.{IsOwnFault, Stored};
@@ -61,10 +61,33 @@ impl<W: Output + Drop> LineSink<W> {
     }
 
     /// Keeps a line behind the others, and writes all once they are many.
-    fn add(&mut self, line: Result<String, AllocError>) -> bool
+    fn add(&mut self, line: &str) -> bool
         requires { self.old.fault ≡ None }
-        ensures added { result ≡ true → (text : String) × (line ≡ Ok text)
-            × ((old : W) (bytes : List ℕ) →
+        ensures added { result ≡ true → (old : W) (bytes : List ℕ) →
+            IsWriting W.takes W.failed old bytes self.old.out (string_bytes self.old.lines)
+            self.old.fault →
+            IsWriting W.takes W.failed old (bytes ++ line.now) self.new.out
+            (string_bytes self.new.lines) self.new.fault }
+        ensures stays { result ≡ false → (old : W) (bytes : List ℕ) →
+            IsWriting W.takes W.failed old bytes self.old.out (string_bytes self.old.lines)
+            self.old.fault →
+            IsWriting W.takes W.failed old bytes self.new.out (string_bytes self.new.lines)
+            self.new.fault }
+        ensures going { result ≡ true → self.new.fault ≡ None }
+        ensures stopped { result ≡ false → self.new.fault ≢ None }
+    {
+        if self.lines.push_str(line).is_err() {
+            self.fault = Some(RunFault::Stream(Fault::Memory));
+            return false;
+        }
+        self.lines.len() < PIECE_LEN || self.write()
+    }
+
+    /// Keeps the line that was made, or notes that there was no memory for it.
+    fn add_made(&mut self, line: Result<String, AllocError>) -> bool
+        requires { self.old.fault ≡ None }
+        ensures made { result ≡ true → IsOk line }
+        ensures added { result ≡ true → IfOk line (λ text. (old : W) (bytes : List ℕ) →
             IsWriting W.takes W.failed old bytes self.old.out (string_bytes self.old.lines)
             self.old.fault →
             IsWriting W.takes W.failed old (bytes ++ string_bytes text) self.new.out
@@ -77,15 +100,13 @@ impl<W: Output + Drop> LineSink<W> {
         ensures going { result ≡ true → self.new.fault ≡ None }
         ensures stopped { result ≡ false → self.new.fault ≢ None }
     {
-        let Ok(line) = line else {
-            self.fault = Some(RunFault::Stream(Fault::Memory));
-            return false;
-        };
-        if self.lines.push_str(line.as_str()).is_err() {
-            self.fault = Some(RunFault::Stream(Fault::Memory));
-            return false;
+        match line {
+            Ok(line) => self.add(line.as_str()),
+            Err(AllocError) => {
+                self.fault = Some(RunFault::Stream(Fault::Memory));
+                false
+            }
         }
-        self.lines.len() < PIECE_LEN || self.write()
     }
 
     /// Prints the line of the position behind the others.
@@ -97,7 +118,7 @@ impl<W: Output + Drop> LineSink<W> {
             PrintsLines W.takes W.failed (bytes ++ position_line position) old self.new.out result }
     {
         let line = position_text(self.alloc, position);
-        if self.add(line) && self.write() {
+        if self.add_made(line) && self.write() {
             return Ok(Ending::Done);
         }
         match self.fault {
@@ -141,7 +162,7 @@ impl<W: Output + Drop> DumpSink for LineSink<W> {
         if self.fault.is_some() {
             return false;
         }
-        self.add(line_text(self.alloc, &row))
+        self.add_made(line_text(self.alloc, &row))
     }
 }
 
