@@ -83,11 +83,12 @@ class Source:
 
     def __init__(self, options: Options, known: Known, check: Check) -> None:
         self.options, self.check = options, check
-        self.closing = contextlib.ExitStack()
+        # what is closed at the end, and what is once the snapshot is taken: the slot goes with its connection
+        self.closing, self.slot = contextlib.ExitStack(), contextlib.ExitStack()
         try:
-            self.replication = self.connect(replication=True)
+            self.replication = self.connect(self.slot, replication=True)
             self.check_server(known)
-            self.plain = self.connect(replication=False)
+            self.plain = self.connect(self.closing, replication=False)
             self.plain.run("SET row_security = off")
             self.tables = published_tables(self.plain, options.publication)
             self.stored = stored_in(self.plain, self.tables)
@@ -96,9 +97,9 @@ class Source:
             self.close()
             raise
 
-    def connect(self, replication: bool) -> Connection:
+    def connect(self, closing: contextlib.ExitStack, replication: bool) -> Connection:
         connection = Connection(self.options.dsn, replication=replication, name=f"{self.options.slot} verify", check=self.check)
-        self.closing.callback(connection.close)
+        closing.callback(connection.close)
         settle(connection)
         return connection
 
@@ -150,8 +151,7 @@ class Source:
                 raise Passing(f"{CHANGED}: nothing was compared") from None
             raise
         plain.check = self.check
-        # (the slot goes)
-        self.replication.close()
+        self.slot.close()
 
     def chosen(self, names: list[str]) -> list[Table]:
         """The tables with these names, or all where none is named."""
@@ -161,4 +161,5 @@ class Source:
         return list({known[name].oid: known[name] for name in names}.values()) if names else self.tables
 
     def close(self) -> None:
+        self.slot.close()
         self.closing.close()

@@ -49,7 +49,6 @@ class Snapshots:
         if self.finishing and self.finishing.is_alive():
             return False
         if self.hold.into:
-            self.wanted = self.hold.into if self.hold.is_there else None
             return self.hold.is_there
         if self.wanted is not None:
             return True
@@ -130,7 +129,7 @@ class Snapshots:
 
     def take(self, position: int, tick: Callable[[], None]) -> None:
         """Copies the files of a store at rest, and has a thread make one file of them. `tick` is called between parts."""
-        into, self.wanted = self.wanted, None
+        into, self.wanted = self.hold.into or self.wanted, None
         self.hold.end()
         path = into or self.path
         assert path
