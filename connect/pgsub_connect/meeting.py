@@ -11,7 +11,7 @@ import time
 from typing import TYPE_CHECKING
 
 from .checkpoint import FOLLOWING, Known
-from .copying import CHANGED, GONE, check_names, create_temporary, lock_tables, take_snapshot
+from .copying import CHANGED, GONE, LOCK_TIMEOUT, check_names, create_temporary, lock_tables, take_snapshot
 from .errors import NoSlot, Passing, ServerError, Unfit
 from .holding import write_request
 from .postgres import Check, Connection
@@ -123,14 +123,15 @@ class Source:
         def check() -> None:
             waiting.check()
             if time.monotonic() > until:
-                raise NoSlot(
-                    f"the server made no slot in {seconds:g} seconds, since it waits for all transactions that run: nothing was compared,"
-                    " and following goes on. Try again, or hold the stream for longer by --hold"
-                )
+                raise no_slot(seconds)
 
+        # (a server that waits for a transaction doesn't see that whoever asked was killed)
+        self.replication.run(f"SET lock_timeout = {round(seconds * 1000)}")
         self.replication.check = check
         try:
             _, point, snapshot = create_temporary(self.replication, f"{self.options.slot[:40]}_verify")
+        except ServerError as error:
+            raise no_slot(seconds) if error.sqlstate == LOCK_TIMEOUT else error from None
         finally:
             self.replication.check = self.check
         return point, snapshot
@@ -163,3 +164,10 @@ class Source:
     def close(self) -> None:
         self.slot.close()
         self.closing.close()
+
+
+def no_slot(seconds: float) -> NoSlot:
+    return NoSlot(
+        f"the server made no slot in {seconds:g} seconds, since it waits for all transactions that run: nothing was compared, and following"
+        " goes on. Try again, or hold the stream for longer by --hold"
+    )

@@ -210,6 +210,13 @@ class Servers(Quiet):
         with self.assertRaisesRegex(NoSlot, "the server made no slot in 0.05 seconds"):
             source.make_slot(0.05)
         self.assertTrue(any("the slot waits for" in it for it in self.said))
+        self.server.answer("CREATE_REPLICATION_SLOT", ServerError("canceling statement due to lock timeout", "55P03"))
+        with self.assertRaises(NoSlot):
+            source.make_slot(2.0)
+        self.assertIn("SET lock_timeout = 2000", self.server.commands)
+        self.server.answer("CREATE_REPLICATION_SLOT", ServerError("all replication slots are in use", "53400"))
+        with self.assertRaisesRegex(ServerError, "all replication slots"):
+            source.make_slot(2.0)
 
     def test_tables_that_change_meanwhile(self) -> None:
         source = self.source()
