@@ -250,7 +250,7 @@ def published_part(place: Place) -> None:
     rows = (
         "INSERT INTO listed SELECT it, 'secret', it FROM generate_series({0}, {1}) it",
         "INSERT INTO filtered SELECT it, it FROM generate_series({0}, {1}) it", "INSERT INTO parted SELECT it, 'w' FROM generate_series({0}, {1}) it",
-        "INSERT INTO computed SELECT it, 'w' FROM generate_series({0}, {1}) it", "INSERT INTO bare DEFAULT VALUES",
+        "INSERT INTO computed (id, word) SELECT it, 'w' FROM generate_series({0}, {1}) it", "INSERT INTO bare DEFAULT VALUES",
     )
     place.run(*(it.format(1, 60) for it in rows))
     child = place.start("--create", "--publication", "pgsub", "--publication", "second")
