@@ -130,6 +130,7 @@ class Snapshots:
     def take(self, position: int, tick: Callable[[], None]) -> None:
         """Copies the files of a store at rest, and has a thread make one file of them. `tick` is called between parts."""
         into, self.wanted = self.hold.into or self.wanted, None
+        is_locked = self.hold.into is not None
         self.hold.end()
         path = into or self.path
         assert path
@@ -145,10 +146,10 @@ class Snapshots:
         except OSError as error:
             self.fail(path, into, f"{error.strerror}")
             return
-        self.finishing = threading.Thread(target=self.finish, args=(path, into, position), daemon=True)
+        self.finishing = threading.Thread(target=self.finish, args=(path, into, position, is_locked), daemon=True)
         self.finishing.start()
 
-    def finish(self, path: str, into: str | None, position: int) -> None:
+    def finish(self, path: str, into: str | None, position: int, is_locked: bool) -> None:
         """Puts the log into the copied file, which gets its name once it is whole. What was there stays until then."""
         new = path + ".new"
         try:
@@ -164,9 +165,23 @@ class Snapshots:
         except (OSError, sqlite3.Error) as error:
             self.fail(path, into, getattr(error, "strerror", None) or str(error))
             return
+        if into is not None and not self.is_waited_for(into, is_locked):
+            # (whoever gives up takes the request back first, and then removes the file)
+            remove(path)
+            return
         log.info(f"{path}: the rows at {lsn_text(found)}")
         if into is not None:
             self.answer(into, None)
+
+    def is_waited_for(self, into: str, is_locked: bool) -> bool:
+        """Whether a request is there still. One whose lock has gone goes too."""
+        asked, is_alive = self.asked_now() or ({"into": ""}, False)
+        if os.path.abspath(str(asked.get("into", into))) != into:
+            return False
+        if is_locked and not is_alive:
+            remove(self.request)
+            return False
+        return True
 
     def fail(self, path: str, into: str | None, why: str) -> None:
         for left in (path + ".new", path + ".new" + LOG, path + ".new-shm"):

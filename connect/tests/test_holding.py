@@ -12,6 +12,7 @@ import unittest
 from collections.abc import Iterator
 from unittest import mock
 
+from pgsub_connect import snapshots
 from pgsub_connect.following import Follower
 from pgsub_connect.holding import Hold, count_below
 from pgsub_connect.postgres import never
@@ -193,6 +194,25 @@ class Requests(StoreCase):
                 self.assertFalse(self.snapshots.is_due(0x130))
             self.assertEqual((self.snapshots.hold.into, os.path.exists(self.request)), (None, False))
             self.assertIn("is gone: following goes on", told[0])
+
+    def copy_it(self) -> None:
+        """Takes the copy that was asked for."""
+        self.snapshots.is_due(0x130)
+        self.say(held="0/130", point="0/140")
+        self.snapshots.is_due(0x130)
+        self.snapshots.hold.passing([keepalive(0x140)], False)
+        self.snapshots.take(0x130, never)
+
+    def test_who_asked_is_gone_while_the_file_is_made(self) -> None:
+        """Nothing of it stays."""
+        for is_taken_back in (False, True):
+            with contextlib.ExitStack() as going, logged(), mock.patch.object(snapshots, "fold", lambda _, going=going: going.close()):
+                going.enter_context(self.asked())
+                if is_taken_back:
+                    going.callback(os.unlink, self.request)
+                self.copy_it()
+                self.snapshots.wait()
+                self.assertEqual([it for it in os.listdir(self.folder) if it != "copy.db"], [])
 
     def test_who_asked_was_gone_before(self) -> None:
         self.say()
