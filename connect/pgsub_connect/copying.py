@@ -380,12 +380,13 @@ class Copier:
             raise FileError(f"{self.store}: {error.strerror}") from None
 
 
-def lock_tables(plain: Connection, tables: list[Table]) -> None:
+def lock_tables(plain: Connection, tables: list[Table], waits: bool = True) -> None:
     """Locks tables against whoever alters or truncates them."""
     if not tables:
         return
+    names = ", ".join(table.sql_name() for table in tables)
     try:
-        plain.run(f"LOCK TABLE {', '.join(table.sql_name() for table in tables)} IN ACCESS SHARE MODE")
+        plain.run(f"LOCK TABLE {names} IN ACCESS SHARE MODE{'' if waits else ' NOWAIT'}")
     except ServerError as error:
         if error.sqlstate != DENIED:
             raise

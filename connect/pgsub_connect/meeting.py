@@ -20,13 +20,13 @@ from .resting import LOOK, is_followed, own_name, put_request, read_request, rem
 from .server import identify, settle
 from .snapshots import remove
 from .texts import lsn_text
-from .waiting import Waiting, lock_text
+from .waiting import Waiting
 
 if TYPE_CHECKING:
     from .cli import Options
 
-# How long a follower may take until it holds the stream, in seconds: it may be about to connect, or to open its store. And for how
-# much longer than a slot may take it may hold it: who asked lets it go before, unless it hangs.
+# How long a follower may take until it holds the stream, in seconds: it may be about to connect, or to open its store; and so long may
+# tables be locked by others. And for how much longer than a slot may take it may hold it: who asked lets it go before, unless it hangs.
 PATIENCE, MARGIN = 60.0, 5.0
 
 
@@ -139,11 +139,10 @@ class Source:
     def see(self, snapshot: str) -> None:
         """Begins the transaction, in which no published table can be altered. Those that were meanwhile end the comparison."""
         plain = self.plain
-        plain.check = Waiting(self.options.dsn, self.options.slot, self.check, lock_text("the comparison", plain.pid())).check
         try:
             plain.run("BEGIN ISOLATION LEVEL REPEATABLE READ READ ONLY")
             take_snapshot(plain, snapshot)
-            lock_tables(plain, self.tables)
+            self.lock()
             if (published_tables(plain, self.options.publication), stored_in(plain, self.tables)) != (self.tables, self.stored):
                 raise ServerError(CHANGED)
             check_names(self.options, self.tables, self.check)
@@ -151,8 +150,28 @@ class Source:
             if str(error) == CHANGED or error.sqlstate in GONE:
                 raise Passing(f"{CHANGED}: nothing was compared") from None
             raise
-        plain.check = self.check
         self.slot.close()
+
+    def lock(self) -> None:
+        """Locks the tables. None is waited for while others are locked: that could end an application's transaction by a deadlock."""
+        until = time.monotonic() + PATIENCE
+        self.plain.run("SAVEPOINT unlocked")
+        while not self.has_locked():
+            if time.monotonic() > until:
+                raise Passing(f"published tables are locked by others for {PATIENCE:.0f} seconds: nothing was compared")
+            self.check()
+            time.sleep(LOOK)
+
+    def has_locked(self) -> bool:
+        """Locks all tables, or none where one of them is to be waited for."""
+        try:
+            lock_tables(self.plain, self.tables, waits=False)
+        except ServerError as error:
+            if error.sqlstate != LOCK_TIMEOUT:
+                raise
+            self.plain.run("ROLLBACK TO SAVEPOINT unlocked")
+            return False
+        return True
 
     def chosen(self, names: list[str]) -> list[Table]:
         """The tables with these names, or all where none is named."""

@@ -160,6 +160,7 @@ class Servers(Quiet):
         self.server.answer("pg_is_in_recovery", [["f"]])
         self.server.answer("CREATE_REPLICATION_SLOT", [["x", "0/200", "snap", "pgoutput"]])
         self.tables = [self.table]
+        self.replace("pgsub_connect.meeting.LOOK", 0.001)
         for where in ("meeting", "copying", "waiting"):
             self.replace(f"pgsub_connect.{where}.Connection", self.server.connect)
         self.replace("pgsub_connect.meeting.published_tables", lambda *_: list(self.tables))
@@ -226,6 +227,24 @@ class Servers(Quiet):
         self.tables = [self.table]
         self.server.answer("LOCK TABLE", ServerError("gone", "42P01"))
         with self.assertRaisesRegex(Passing, CHANGED):
+            source.see("snap")
+
+    def test_tables_that_others_have_locked(self) -> None:
+        """No lock is waited for while others are held."""
+        source, tries = self.source(), iter((1, 1, 0))
+
+        def locks(_: str) -> list[Row]:
+            if next(tries):
+                raise ServerError("could not obtain lock", "55P03")
+            return []
+
+        self.server.answer("LOCK TABLE", locks)
+        source.see("snap")
+        commands = [it.split()[0] for it in self.server.commands if it.startswith(("SAVEPOINT", "LOCK", "ROLLBACK"))]
+        self.assertEqual(commands, ["SAVEPOINT", "LOCK", "ROLLBACK", "LOCK", "ROLLBACK", "LOCK"])
+        self.assertTrue(all(it.endswith("NOWAIT") for it in self.server.told("LOCK TABLE")))
+        self.server.answer("LOCK TABLE", ServerError("could not obtain lock", "55P03"))
+        with mock.patch.object(meeting, "PATIENCE", 0.01), self.assertRaisesRegex(Passing, "locked by others"):
             source.see("snap")
 
     def test_rights(self) -> None:
