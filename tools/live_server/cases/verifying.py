@@ -468,6 +468,40 @@ def filter_killed(place: Place) -> None:
     place.equal()
 
 
+def synchronous(place: Place) -> None:
+    """Commits that wait for the follower may keep the slot from being made; they go on once it is given up."""
+    place.stock()
+    child = place.start("--create")
+    place.catch_up(child)
+    place.set(synchronous_standby_names=place.slot)
+    ended = threading.Event()
+
+    def change() -> None:
+        with place.cluster.connect(place.database) as session:
+            while not ended.is_set():
+                session.run("UPDATE stock SET quantity = quantity + 1")
+
+    thread = threading.Thread(target=change, daemon=True)
+    thread.start()
+    try:
+        for _ in range(3):
+            verifier = place.started(words(place, "--hold", "1"))
+            status = verifier.end()
+            if status not in (OK, NO_SLOT):
+                raise Failed(f"status {status}: {verifier.said()}")
+            before = place.value("SELECT sum(quantity) FROM stock")
+            wait_until(lambda before=before: place.value("SELECT sum(quantity) FROM stock") != before, "going on", 10)  # type: ignore[misc]
+    finally:
+        ended.set()
+        thread.join(30)
+    place.set(synchronous_standby_names="")
+    place.catch_up(child)
+    verify(place)
+    check_tidy(place)
+    child.stop()
+    place.equal()
+
+
 def nobody_follows(place: Place) -> None:
     """Says that a follower has to run."""
     place.stock()
@@ -490,5 +524,6 @@ CASES = (
     Case("verify-killed", killed),
     Case("verify-follower-killed", follower_killed),
     Case("verify-filter-killed", filter_killed),
+    Case("verify-synchronous", synchronous),
     Case("verify-without-a-follower", nobody_follows),
 )
