@@ -29,7 +29,7 @@ from .making import REFUSED, Look, Maker, Wanted, has_publication
 from .messages import InsertHeads, begin, commit, frame, inserts, relation
 from .postgres import QUICK, Check, Connection, never
 from .publishing import Table, are_so_named, estimated_rows, published_tables, stored_in
-from .server import Server, identify, settle, slot_position, tell_plain_text
+from .server import Server, identify, settle, settle_for_slot, slot_position, tell_plain_text
 from .snapshots import sync_folder
 from .texts import counted, identifier, literal, lsn_text, parse_lsn
 from .waiting import Waiting, lock_text
@@ -412,6 +412,7 @@ def check_names(options: Options, tables: list[Table], check: Check) -> None:
 def create_temporary(replication: Connection, name: str) -> tuple[str, int, str]:
     """Makes a temporary slot with a name that begins so; its name, its consistent point and its snapshot."""
     temporary = f"{name}_{secrets.token_hex(4)}"
+    settle_for_slot(replication)
     command = f"CREATE_REPLICATION_SLOT {identifier(temporary)} TEMPORARY LOGICAL pgoutput EXPORT_SNAPSHOT"
     _, point, snapshot, _ = replication.rows(command)[0]
     return temporary, parse_lsn(point or ""), snapshot or ""
@@ -463,6 +464,7 @@ def create_slot(options: Options, check: Check, remembered: Remembered | None = 
         maker.make()
         options.publication = maker.publications
         if slot_at is None:
+            settle_for_slot(connection)
             connection.check = Waiting(options.dsn, options.slot, check).check
             connection.run(f"CREATE_REPLICATION_SLOT {identifier(options.slot)} LOGICAL pgoutput NOEXPORT_SNAPSHOT")
             connection.check, is_made = check, True

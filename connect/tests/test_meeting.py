@@ -186,6 +186,13 @@ class Servers(Quiet):
         places = [self.server.index(it) for it in steps]
         self.assertEqual(places, sorted(places))
 
+    def test_a_server_that_crashes_where_a_slot_is_made(self) -> None:
+        """It is kept from that by what it may hold in memory."""
+        for version, expected in ((150018, []), (180006, ["SET logical_decoding_work_mem = '1GB'"])):
+            self.server.server_version = version
+            self.source().make_slot(1.0)
+            self.assertEqual(self.server.told("logical_decoding_work_mem"), expected)
+
     def test_another_server(self) -> None:
         for identity in (["78", "1", "0/1", "shop"], ["77", "1", "0/1", "other"], ["77", "2", "0/1", "shop"]):
             self.identity = list(identity)
