@@ -9,6 +9,7 @@
 | what may make the copy wrong | `watching`, `remembered`, `differences` |
 | how it goes | `progress`, `asking`, `lag`, `reporting`, `metrics` |
 | copies for readers | `snapshots`, `resting`, `taking`, `exporting`, `stored`, `values`, `naming`, `placing` |
+| copy and server compared | `verifying`, `digests`, `meeting`, `holding` |
 | other subcommands | `checking`, `dropping`, `probing` |
 """
 

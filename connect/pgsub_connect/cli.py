@@ -14,13 +14,13 @@ import traceback
 from collections.abc import Callable, Sequence
 from typing import Any, Protocol
 
-from . import VERSION, builds, checking, dropping, exporting, log, probing, taking
+from . import VERSION, builds, checking, dropping, exporting, log, probing, taking, verifying
 from . import checkpoint as known_of
 from .asking import Asker
 from .checkpoint import Checkpoint
 from .comparing import require_published
 from .copying import Copier, create_slot, maker_of
-from .errors import FileError, FilterFault, Passing, ServerError, Stopped, Unfit, UsageError
+from .errors import FileError, FilterFault, NoSlot, Passing, ServerError, Stopped, Unfit, UsageError
 from .filtering import Filter, FilterEnded
 from .following import Follower
 from .limits import LONGEST_FRAME, MOST_PAGES, default_buffered
@@ -54,8 +54,11 @@ exit status: 0 ended as asked; 1 the filter rejected the stream, or was killed t
 can't be used; 4 the server rejected a command for good; 5 the store and the slot don't fit together, or the copy may be wrong; 6 a
 bug; 7 something is in the way only for now, such as a server that isn't there: start it again
 """
+COMPARED = """\
+exit status: 0 equal; 1 the copy differs; 8 the server made no slot in time, so nothing was compared; 2 to 7 as those of `follow`
+"""
 TOP = os.path.dirname(os.path.dirname(os.path.dirname(os.path.realpath(__file__))))
-REJECTED, USAGE, FILE, SERVER, UNFIT, BUG, PASSING = 1, 2, 3, 4, 5, 6, 7
+REJECTED, USAGE, FILE, SERVER, UNFIT, BUG, PASSING, NO_SLOT = 1, 2, 3, 4, 5, 6, 7, 8
 KINDS = ("history", "slot", "names", "publication", "values", "gap", "all")
 
 
@@ -107,6 +110,8 @@ class Options:
     yes: bool = False
     into: str = ""
     text: bool = False
+    show: int = 20
+    hold: float = 10.0
 
     def accepts(self, kind: str) -> bool:
         """Whether what may be wrong in this way was said to be taken as it is."""
@@ -150,14 +155,20 @@ def within(least: int, most: int) -> Callable[[str], int]:
     return number
 
 
-def seconds(text: str) -> float:
-    try:
-        number = float(text)
-    except ValueError:
-        number = 0.0
-    if not 0.1 <= number <= 86400.0:
-        raise argparse.ArgumentTypeError(f"{text!r} is no number of seconds from 0.1 to 86400")
-    return number
+def within_seconds(most: float) -> Callable[[str], float]:
+    def seconds(text: str) -> float:
+        try:
+            number = float(text)
+        except ValueError:
+            number = 0.0
+        if not 0.1 <= number <= most:
+            raise argparse.ArgumentTypeError(f"{text!r} is no number of seconds from 0.1 to {most:.0f}")
+        return number
+
+    return seconds
+
+
+seconds = within_seconds(86400.0)
 
 
 def add_server(parser: argparse.ArgumentParser) -> None:
@@ -277,6 +288,15 @@ def add_exporting(parser: argparse.ArgumentParser) -> None:
     add("--text", action="store_true", help="each value as TEXT, as the server prints it")
 
 
+def add_verifying(parser: argparse.ArgumentParser) -> None:
+    add = parser.add_argument
+    add("--store", metavar="FILE", required=True, help="the store, which has to be followed meanwhile")
+    add("--table", action="append", default=[], help="compare this table, may be repeated (default: all that are published)")
+    add("--show", type=within(0, 1 << 20), default=20, metavar="N", help="print at most N keys that differ (default: 20)")
+    add("--hold", type=within_seconds(600.0), default=10.0, metavar="N",
+        help="hold the stream for at most N seconds until the server has made a slot (default: 10)")
+
+
 # Each subcommand: what adds its options.
 COMMANDS: dict[str, tuple[str, Sequence[Callable[[argparse.ArgumentParser], None]]]] = {
     "follow": ("follow into a store", (add_server, add_following)),
@@ -285,6 +305,7 @@ COMMANDS: dict[str, tuple[str, Sequence[Callable[[argparse.ArgumentParser], None
     "drop": ("drop slot, publications and files", (add_server, add_dropping)),
     "export": ("make ordinary tables of SQLite from the rows of a store, or of a copy of one", (add_reading, add_exporting)),
     "snapshot": ("copy a store into one file", (add_reading,)),
+    "verify": ("compare the copy of a follower that runs with its server, both at one LSN", (add_server, add_verifying)),
     "names": ("tell which OID each name of a table has now, and which ones had it before", (add_names,)),
     "status": (probing.ABOUT, (probing.add_options,)),
 }
@@ -301,7 +322,7 @@ def arguments(words: Sequence[str]) -> Options:
     for name, (about, adds) in COMMANDS.items():
         parsers[name] = commands.add_parser(
             name, help=about.partition("\n")[0], description=about, formatter_class=AsWritten,
-            epilog=ENDS if name in ("follow", "record") else None,
+            epilog=ENDS if name in ("follow", "record") else COMPARED if name == "verify" else None,
         )
         for add in adds:
             add(parsers[name])
@@ -320,7 +341,7 @@ def check(parser: argparse.ArgumentParser, options: Options) -> None:
         ("table", "create"), ("all_tables", "create"), ("failover", "create"), ("append", "record"), ("snapshot", "store"),
         ("snapshot_every", "snapshot"), ("skip", "store"), ("strict", "store"),
     ):
-        if options.command not in ("check", "status") and getattr(options, given) and not getattr(options, needed):
+        if options.command not in ("check", "status", "verify") and getattr(options, given) and not getattr(options, needed):
             parser.error(f"--{given.replace('_', '-')} needs --{needed}")
     if options.command == "follow" and not options.store:
         parser.error("--store is needed")
@@ -518,7 +539,7 @@ def stoppable(call: Callable[[Options, Check], int]) -> Callable[[Options], int]
 RUNS: dict[str, Callable[[Options], Any]] = {
     "follow": follow, "record": record, "check": stoppable(checking.run), "drop": stoppable(dropping.run),
     "export": stoppable(exporting.run), "snapshot": stoppable(taking.run),
-    "names": lambda options: print_names(options.store), "status": probing.run,
+    "verify": stoppable(verifying.run), "names": lambda options: print_names(options.store), "status": probing.run,
 }
 
 
@@ -535,7 +556,7 @@ def main(words: Sequence[str]) -> int:
     except ServerError as error:
         log.error(str(error))
         return SERVER if error.is_lasting() else PASSING
-    except (Unfit, FileError, FilterFault, Passing, UsageError) as error:
+    except (Unfit, FileError, FilterFault, Passing, NoSlot, UsageError) as error:
         log.error(str(error))
         return STATUSES[type(error)]
     except OSError as error:
@@ -553,7 +574,9 @@ def status_of(ended: FilterEnded) -> int:
     return ended.status if ended.status in (USAGE, FILE) else REJECTED
 
 
-STATUSES: dict[type[Exception], int] = {Unfit: UNFIT, FileError: FILE, FilterFault: FILE, Passing: PASSING, UsageError: USAGE}
+STATUSES: dict[type[Exception], int] = {
+    Unfit: UNFIT, FileError: FILE, FilterFault: FILE, Passing: PASSING, NoSlot: NO_SLOT, UsageError: USAGE
+}
 PASSING_ERRORS = (
     errno.ENOSPC, errno.EDQUOT, errno.ENOMEM, errno.EAGAIN, errno.EMFILE, errno.ENFILE, errno.ESTALE, errno.ETIMEDOUT, errno.EHOSTDOWN,
 )

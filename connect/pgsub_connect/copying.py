@@ -29,7 +29,7 @@ from .making import REFUSED, Look, Maker, Wanted, has_publication
 from .messages import InsertHeads, begin, commit, frame, inserts, relation
 from .postgres import QUICK, Check, Connection, never
 from .publishing import Table, are_so_named, estimated_rows, published_tables, stored_in
-from .server import Server, identify, settle, slot_position, tell_plain_text
+from .server import Server, identify, settle, settle_for_slot, slot_position, tell_plain_text
 from .snapshots import sync_folder
 from .texts import counted, identifier, literal, lsn_text, parse_lsn
 from .waiting import Waiting, lock_text
@@ -240,58 +240,29 @@ class Copier:
         plain.run("BEGIN ISOLATION LEVEL REPEATABLE READ READ ONLY")
         try:
             if lock_first:
-                self.lock(plain, tables)
+                lock_tables(plain, tables)
             temporary, point, snapshot = self.make_temporary(SHORT if lock_first else 0)
             take_snapshot(plain, snapshot)
             if not lock_first:
-                self.lock(plain, tables)
+                lock_tables(plain, tables)
             if (published_tables(plain, options.publication), stored_in(plain, tables)) != (tables, stored):
                 raise ServerError(CHANGED)
-            self.check_names(tables)
+            check_names(options, tables, self.check_all)
         except ServerError as error:
             raise ServerError(CHANGED) if error.sqlstate in GONE else error from None
         plain.check = self.check_all
         log.info(f"copying {counted(len(tables), 'table')} as of {lsn_text(point)}")
         return temporary, point, tables
 
-    def lock(self, plain: Connection, tables: list[Table]) -> None:
-        """Locks the tables against whoever alters or truncates them."""
-        if not tables:
-            return
-        try:
-            plain.run(f"LOCK TABLE {', '.join(table.sql_name() for table in tables)} IN ACCESS SHARE MODE")
-        except ServerError as error:
-            if error.sqlstate != DENIED:
-                raise
-            text = f"{error}; to lock a table while it is read needs SELECT on all of it, and not on some columns"
-            raise ServerError(text, DENIED) from None
-
-    def check_names(self, tables: list[Table]) -> None:
-        """Checks that the tables still have their names and columns.
-
-        The snapshot shows those of its own moment, and rows are read by the names of now. The locks keep them from here on.
-        """
-        fresh = Connection(self.options.dsn, name=f"{self.options.slot} copy", check=self.check_all)
-        try:
-            settle(fresh)
-            fresh.run(f"SET lock_timeout = {SHORT}")
-            if not are_so_named(fresh, tables):
-                raise ServerError(CHANGED)
-        finally:
-            fresh.close()
-
     def make_temporary(self, patience: int) -> tuple[str, int, str]:
         """Makes the temporary slot; its name, its consistent point and its snapshot. The server waits for running transactions."""
         assert self.replication is not None
-        temporary = f"{self.options.slot[:40]}_copy_{secrets.token_hex(4)}"
         self.replication.run(f"SET lock_timeout = {patience}")
-        command = f"CREATE_REPLICATION_SLOT {identifier(temporary)} TEMPORARY LOGICAL pgoutput EXPORT_SNAPSHOT"
         self.replication.check = Waiting(self.options.dsn, self.options.slot, self.check_stop).check
         try:
-            _, point, snapshot, _ = self.replication.rows(command)[0]
+            return create_temporary(self.replication, f"{self.options.slot[:40]}_copy")
         finally:
             self.replication.check = self.check_stop
-        return temporary, parse_lsn(point or ""), snapshot or ""
 
     def copy(self, tables: list[Table], point: int) -> None:
         """Sends all rows to a filter on a new file, and waits until the store has them."""
@@ -409,6 +380,44 @@ class Copier:
             raise FileError(f"{self.store}: {error.strerror}") from None
 
 
+def lock_tables(plain: Connection, tables: list[Table], waits: bool = True) -> None:
+    """Locks tables against whoever alters or truncates them."""
+    if not tables:
+        return
+    names = ", ".join(table.sql_name() for table in tables)
+    try:
+        plain.run(f"LOCK TABLE {names} IN ACCESS SHARE MODE{'' if waits else ' NOWAIT'}")
+    except ServerError as error:
+        if error.sqlstate != DENIED:
+            raise
+        text = f"{error}; to lock a table while it is read needs SELECT on all of it, and not on some columns"
+        raise ServerError(text, DENIED) from None
+
+
+def check_names(options: Options, tables: list[Table], check: Check) -> None:
+    """Checks that tables that are locked still have their names and columns.
+
+    The snapshot shows those of its own moment, and rows are read by the names of now. The locks keep them from here on.
+    """
+    fresh = Connection(options.dsn, name=f"{options.slot} copy", check=check)
+    try:
+        settle(fresh)
+        fresh.run(f"SET lock_timeout = {SHORT}")
+        if not are_so_named(fresh, tables):
+            raise ServerError(CHANGED)
+    finally:
+        fresh.close()
+
+
+def create_temporary(replication: Connection, name: str) -> tuple[str, int, str]:
+    """Makes a temporary slot with a name that begins so; its name, its consistent point and its snapshot."""
+    temporary = f"{name}_{secrets.token_hex(4)}"
+    settle_for_slot(replication)
+    command = f"CREATE_REPLICATION_SLOT {identifier(temporary)} TEMPORARY LOGICAL pgoutput EXPORT_SNAPSHOT"
+    _, point, snapshot, _ = replication.rows(command)[0]
+    return temporary, parse_lsn(point or ""), snapshot or ""
+
+
 def take_snapshot(plain: Connection, snapshot: str) -> None:
     """Lets the transaction see what the slot's snapshot has. That is gone with the connection of the slot, which may pass."""
     try:
@@ -455,6 +464,7 @@ def create_slot(options: Options, check: Check, remembered: Remembered | None = 
         maker.make()
         options.publication = maker.publications
         if slot_at is None:
+            settle_for_slot(connection)
             connection.check = Waiting(options.dsn, options.slot, check).check
             connection.run(f"CREATE_REPLICATION_SLOT {identifier(options.slot)} LOGICAL pgoutput NOEXPORT_SNAPSHOT")
             connection.check, is_made = check, True

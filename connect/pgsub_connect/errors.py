@@ -19,6 +19,10 @@ class Passing(Exception):
     """Something is in the way only for now: a later start may do."""
 
 
+class NoSlot(Exception):
+    """The server didn't make a slot in time: nothing was compared."""
+
+
 class UsageError(Exception):
     """Words of the command line ask for what the server's version doesn't have."""
 

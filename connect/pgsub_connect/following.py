@@ -23,7 +23,7 @@ from .server import (
     tell_version_1,
 )
 from .skipping import Skipping
-from .snapshots import Snapshots
+from .snapshots import SOON, Snapshots
 from .texts import counted, identifier, lsn_text, replication_literal
 from .watching import Watch
 
@@ -41,6 +41,8 @@ OPENED_AFTER = (1, 2, 4, 8, 15, 30)
 INTERNAL = "XX000"
 # How often a position that a keepalive alone has moved is passed on, in seconds. Each time costs a sync of the checkpoint.
 QUIET = 1.0
+# How often the server is asked how far it has read its log, where the copy is to be taken at an LSN, in seconds.
+ASK = 0.3
 # What a standby says that can't be followed: it has no such feature, or the slot is one that it only keeps for its promotion.
 NOT_AT_STANDBYS = ("0A", "55000")
 
@@ -146,11 +148,13 @@ class Follower:
     def holds_for_snapshot(self) -> bool:
         """Copies the store for readers, where that is due, once all commits that were passed on are stored.
 
-        Until then nothing more is passed on: returns whether so. The filter has nothing to write meanwhile, and what it has buffered
-        of open transactions isn't in the store.
+        Until then nothing more is passed on, nor where the stream is held for a copy at one LSN: returns whether so. The filter has
+        nothing to write meanwhile, and what it has buffered of open transactions isn't in the store.
         """
-        if self.stop_asked or not self.snapshots.is_due(self.position):
+        if self.stop_asked:
             return False
+        if not self.snapshots.is_due(self.position):
+            return self.snapshots.hold.stops()
         if self.filter.is_running():
             self.forget_confirmed(self.filter.confirmed())
             if self.noting.ends or self.filter.waiting:
@@ -391,6 +395,8 @@ class Follower:
             wait = 0.0 if more and room else self.heartbeat - (time.monotonic() - self.last_sent)
             if self.held:
                 wait = min(wait, QUIET)
+            if self.snapshots.hold.into:
+                wait = min(wait, SOON)
             readable, writable, statuses = self.filter.serve(
                 max(0.0, min(wait, STEP)), [socket] if room else [], [socket] if connection.unsent else []
             )
@@ -419,9 +425,10 @@ class Follower:
         limit = self.options.silence
         if silent > limit:
             raise ServerError(f"the server said nothing for {limit:.0f} seconds")
-        if time.monotonic() - self.last_sent >= min(self.heartbeat, limit / 4):
+        waits = self.snapshots.hold.is_going()
+        if time.monotonic() - self.last_sent >= (ASK if waits else min(self.heartbeat, limit / 4)):
             self.release()
-            self.send(asking(self.filter.status) if silent > limit / 2 else self.filter.status)
+            self.send(asking(self.filter.status) if waits or silent > limit / 2 else self.filter.status)
 
     def serve_server(self) -> None:
         """Keeps the server content while another connection is waited for."""
@@ -430,9 +437,11 @@ class Follower:
 
     def take_payloads(self, connection: Connection) -> bool | None:
         """Passes on what has come. Returns false where there is no more yet, true where there may be, None after the end."""
-        payloads, more = connection.payloads(self.filter.room(), PIECE)
+        hold = self.snapshots.hold
+        payloads, more = (hold.take_kept(), True) if hold.kept else connection.payloads(self.filter.room(), PIECE)
         if not payloads:
             return more
+        payloads = hold.passing(payloads, bool(self.noting.begun))
         if self.recording:
             for payload in payloads:
                 self.recording.write_payload(payload)
@@ -442,7 +451,7 @@ class Follower:
             self.noting.longest = max(self.noting.longest, len(payloads[-1]))
         self.filter.push_payloads(payloads)
         self.noting.note_all(payloads)
-        return more
+        return True if hold.kept and more is not None else more
 
     def note_statuses(self, statuses: list[bytes]) -> None:
         """Notes the last status, before it is sent."""
@@ -524,6 +533,7 @@ class Follower:
 
     def disconnect(self) -> None:
         self.held = None
+        self.snapshots.hold.end_session()
         self.watch.finish()
         if self.connection:
             self.connection.close()

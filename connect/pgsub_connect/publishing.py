@@ -49,9 +49,13 @@ class Table:
     def query(self) -> str:
         """The COPY of its published rows; a partitioned table is read with its partitions, any other without its children."""
         names = ", ".join(identifier(column.name) for column in self.columns)
+        return f"COPY (SELECT {names} {self.source()}) TO STDOUT"
+
+    def source(self) -> str:
+        """The part of a query that says which rows are published."""
         only = "" if self.kind == "p" else "ONLY "
         where = f" WHERE {self.row_filter}" if self.row_filter else ""
-        return f"COPY (SELECT {names} FROM {only}{self.sql_name()}{where}) TO STDOUT"
+        return f"FROM {only}{self.sql_name()}{where}"
 
 
 def published_tables(connection: Connection, publications: Iterable[str]) -> list[Table]:

@@ -13,7 +13,7 @@ from . import log
 from .errors import Stopped, UsageError
 from .filtering import COPY_DONE, header
 from .postgres import COPY_BOTH, Connection
-from .server import STREAMS, log_end, settle, tell_plain_text, tell_version_1
+from .server import STREAMS, log_end, settle, settle_for_slot, tell_plain_text, tell_version_1, unsettle_for_slot
 from .texts import counted, identifier, lsn_text, replication_literal
 
 if TYPE_CHECKING:
@@ -162,7 +162,9 @@ class Recorder:
         assert connection
         try:
             if options.create == "temporary":
+                settle_for_slot(connection)
                 connection.run(f"CREATE_REPLICATION_SLOT {identifier(options.slot)} TEMPORARY LOGICAL pgoutput NOEXPORT_SNAPSHOT")
+                unsettle_for_slot(connection)
                 log.info("recording from now on: make changes now")
             if options.until == "now":
                 self.until = log_end(connection)

@@ -11,6 +11,7 @@ import re
 import struct
 import time
 from collections.abc import Iterator
+from typing import Any
 
 from . import log
 from .errors import FileError, Passing
@@ -114,8 +115,10 @@ def ask(store: str, check: Check) -> str | None:
     """Asks the follower for a copy by the request file, and waits for it. Returns None where the follower has ended."""
     request, into = store + ".request", os.path.abspath(own_name(store + ".export"))
     try:
-        if not put_request(store, request, into, check):
+        file = put_request(store, request, into, check)
+        if file is None:
             return None
+        os.close(file)
         log.info(f"{store} is being followed: its follower is asked for a copy")
         return into if wait_for_copy(store, request, into, check) else None
     except BaseException:
@@ -125,33 +128,42 @@ def ask(store: str, check: Check) -> str | None:
         raise
 
 
-def put_request(store: str, request: str, into: str, check: Check) -> bool:
-    """Makes the request's file, after those of others. Returns false where the follower has ended meanwhile."""
+def put_request(store: str, request: str, into: str, check: Check, **more: object) -> int | None:
+    """Makes the request's file, after those of others. Returns it, open and locked; None where the follower has ended meanwhile."""
     written = into + ".request"
     remove(written)
-    with open(os.open(written, os.O_WRONLY | os.O_CREAT | os.O_EXCL | os.O_CLOEXEC, 0o600), "w", encoding="utf-8") as file:
-        json.dump({"into": into}, file)
-    if os.getuid() == 0:
-        # (so that a follower of another account may answer)
-        owner = os.stat(store)
-        os.chown(written, owner.st_uid, owner.st_gid)
+    file = os.open(written, os.O_WRONLY | os.O_CREAT | os.O_EXCL | os.O_CLOEXEC, 0o600)
     try:
-        until = time.monotonic() + PATIENCE
-        while is_followed(store):
-            with contextlib.suppress(FileExistsError):
-                os.link(written, request)
-                return True
-            if "error" in read_request(request):
-                # (whoever asked has gone)
-                remove(request)
-                continue
-            if time.monotonic() > until:
-                raise Passing(f"{request}: another request waits for the follower since {PATIENCE:.0f} seconds")
-            check()
-            time.sleep(LOOK)
-        return False
+        fcntl.flock(file, fcntl.LOCK_EX)
+        os.write(file, json.dumps({"into": into, **more}).encode())
+        if os.getuid() == 0:
+            # (so that a follower of another account may answer)
+            owner = os.stat(store)
+            os.chown(written, owner.st_uid, owner.st_gid)
+        if link_request(store, written, request, check):
+            return os.dup(file)
+        return None
     finally:
+        os.close(file)
         remove(written)
+
+
+def link_request(store: str, written: str, request: str, check: Check) -> bool:
+    """Gives a file the request's name, after those of others. Returns false where the follower has ended meanwhile."""
+    until = time.monotonic() + PATIENCE
+    while is_followed(store):
+        with contextlib.suppress(FileExistsError):
+            os.link(written, request)
+            return True
+        if "error" in read_request(request):
+            # (whoever asked has gone)
+            remove(request)
+            continue
+        if time.monotonic() > until:
+            raise Passing(f"{request}: another request waits for the follower since {PATIENCE:.0f} seconds")
+        check()
+        time.sleep(LOOK)
+    return False
 
 
 def wait_for_copy(store: str, request: str, into: str, check: Check) -> bool:
@@ -183,7 +195,7 @@ def is_followed(store: str) -> bool:
     return file is None
 
 
-def read_request(path: str) -> dict[str, str]:
+def read_request(path: str) -> dict[str, Any]:
     """A request's fields; none where there is no request, or one that is being written."""
     try:
         with open(path, encoding="utf-8") as file:

@@ -53,6 +53,22 @@ def settle(connection: Connection) -> None:
     connection.rows(f"SELECT {', '.join(calls)}", QUICK)
 
 
+def settle_for_slot(connection: Connection) -> None:
+    """Gives a connection what it needs to make a slot of pgoutput.
+
+    PostgreSQL 18 (seen with 18.6) crashes where it decodes more of a transaction that was rolled back than it keeps in memory, while it
+    makes a slot: that aborts the transaction in pgoutput, which has no cache of relations then. All sessions of the server end by that.
+    """
+    if connection.version() >= ABORTS_IN_VERSION_1:
+        connection.run("SET logical_decoding_work_mem = '1GB'", limit=QUICK)
+
+
+def unsettle_for_slot(connection: Connection) -> None:
+    """Goes back to the server's own setting, for a session that follows on the connection. An exported snapshot is gone by that."""
+    if connection.version() >= ABORTS_IN_VERSION_1:
+        connection.run("RESET logical_decoding_work_mem", limit=QUICK)
+
+
 def tell_plain_text(connection: Connection) -> None:
     """Warns of a connection that others on the way can read."""
     if not connection.is_encrypted() and not connection.is_local():

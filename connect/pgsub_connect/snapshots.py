@@ -11,20 +11,23 @@ import time
 import urllib.parse
 from collections.abc import Callable
 
+from typing import Any
+
 from . import log
-from .texts import lsn_text
+from .holding import LONGEST, Hold, read_locked, write_request
+from .texts import lsn_text, parse_lsn
 
 LOG = "-wal"
 CHUNK = 1 << 22
-# How often a request is looked for, in seconds.
-LOOK = 0.5
+# How often a request is looked for, and what has become of one for which the stream is held, in seconds.
+LOOK, SOON = 0.5, 0.05
 
 
 class Snapshots:
     """Copies a store to another file: each so many seconds, when a signal asks for it, and when a request does.
 
     A request is the file `STORE.request`, a JSON object whose `into` names a file in the store's own folder. It goes when the copy
-    is there, or gets the field `error`.
+    is there, or gets the field `error`. One with `hold` is for a copy at one LSN, as the module `holding` says.
     """
 
     def __init__(self, store: str, path: str | None, every: float, mode: int = 0o600) -> None:
@@ -35,38 +38,85 @@ class Snapshots:
         self.last: int | None = None
         self.wanted: str | None = None
         self.finishing: threading.Thread | None = None
+        self.hold = Hold()
 
     def is_due(self, position: int) -> bool:
         """Whether to copy a store that is at this position: where it was asked for, or it is time and the last copy is older."""
+        now = time.monotonic()
+        if now - self.looked >= (SOON if self.hold.into else LOOK):
+            self.looked = now
+            self.look(position)
         if self.finishing and self.finishing.is_alive():
             return False
-        now = time.monotonic()
-        if self.wanted is None and now - self.looked >= LOOK:
-            self.looked = now
-            self.wanted = self.read_request()
+        if self.hold.into:
+            return self.hold.is_there
         if self.wanted is not None:
             return True
         if not self.path:
             return False
         return self.asked or (self.every > 0 and position != self.last and now >= self.next)
 
-    def read_request(self) -> str | None:
-        """The file that a request names, None where there is none. One of somebody else isn't heard."""
-        try:
-            with open(self.request, encoding="utf-8") as file:
-                owner = os.fstat(file.fileno()).st_uid
-                asked = json.load(file)
-        except (OSError, ValueError):
-            return None
-        into = asked.get("into") if isinstance(asked, dict) and "error" not in asked else None
-        if not isinstance(into, str) or owner not in (os.getuid(), 0):
+    def look(self, position: int) -> None:
+        """Looks for a request, or for what has become of the one for which the stream is held."""
+        if self.hold.into:
+            self.look_after(self.hold.into)
+        elif self.wanted is None and not (self.finishing and self.finishing.is_alive()):
+            self.wanted = self.read_request(position)
+
+    def read_request(self, position: int) -> str | None:
+        """The file that a request names, None where there is none, or the stream is to be held first."""
+        asked, is_alive = self.asked_now() or ({}, False)
+        into = asked.get("into") if "error" not in asked else None
+        if not isinstance(into, str):
             return None
         into = os.path.abspath(into)
         folders = {os.path.realpath(os.path.dirname(it)) for it in (into, os.path.abspath(self.store))}
         if len(folders) > 1 or os.path.lexists(into):
             self.answer(into, "the copy has to be a new file in the store's folder")
             return None
-        return into
+        if "hold" not in asked:
+            return into
+        if "held" in asked:
+            self.answer(into, "another follower runs now")
+        else:
+            self.begin_hold(into, asked["hold"], is_alive, position)
+        return None
+
+    def asked_now(self) -> tuple[dict[str, Any], bool] | None:
+        """What the request says, and whether whoever asks is alive. One of somebody else isn't heard."""
+        try:
+            if os.stat(self.request).st_uid not in (os.getuid(), 0):
+                return None
+        except OSError:
+            return None
+        return read_locked(self.request)
+
+    def begin_hold(self, into: str, seconds: object, is_alive: bool, position: int) -> None:
+        """Holds the stream for whoever will tell an LSN within so many seconds."""
+        if not is_alive or not isinstance(seconds, (int, float)) or not 0 < seconds <= LONGEST:
+            # (who asks holds a lock as long as it is alive)
+            remove(self.request)
+            return
+        self.hold.begin(into, seconds)
+        write_request(self.request, into=into, hold=seconds, held=lsn_text(position))
+
+    def look_after(self, into: str) -> None:
+        """Goes on up to the LSN that is told now, or lets the stream go where nobody waits for it any more."""
+        hold, found = self.hold, self.asked_now()
+        if found is None:
+            hold.end()
+            return
+        asked, is_alive = found
+        if not is_alive or asked.get("into", into) != into:
+            log.warning("whoever had asked for the copy at one LSN is gone: following goes on")
+            remove(self.request)
+            hold.end()
+        elif hold.point is None and "point" in asked:
+            with contextlib.suppress(ValueError):
+                hold.go(parse_lsn(str(asked["point"])))
+        elif hold.point is None and time.monotonic() > hold.until:
+            self.answer(into, "the LSN at which to copy it wasn't told in time")
+            hold.end()
 
     def answer(self, into: str, error: str | None) -> None:
         """Tells whoever waits for a request."""
@@ -79,7 +129,9 @@ class Snapshots:
 
     def take(self, position: int, tick: Callable[[], None]) -> None:
         """Copies the files of a store at rest, and has a thread make one file of them. `tick` is called between parts."""
-        into, self.wanted = self.wanted, None
+        into, self.wanted = self.hold.into or self.wanted, None
+        is_locked = self.hold.into is not None
+        self.hold.end()
         path = into or self.path
         assert path
         if into is None:
@@ -94,10 +146,10 @@ class Snapshots:
         except OSError as error:
             self.fail(path, into, f"{error.strerror}")
             return
-        self.finishing = threading.Thread(target=self.finish, args=(path, into, position), daemon=True)
+        self.finishing = threading.Thread(target=self.finish, args=(path, into, position, is_locked), daemon=True)
         self.finishing.start()
 
-    def finish(self, path: str, into: str | None, position: int) -> None:
+    def finish(self, path: str, into: str | None, position: int, is_locked: bool) -> None:
         """Puts the log into the copied file, which gets its name once it is whole. What was there stays until then."""
         new = path + ".new"
         try:
@@ -113,9 +165,23 @@ class Snapshots:
         except (OSError, sqlite3.Error) as error:
             self.fail(path, into, getattr(error, "strerror", None) or str(error))
             return
+        if into is not None and not self.is_waited_for(into, is_locked):
+            # (whoever gives up takes the request back first, and then removes the file)
+            remove(path)
+            return
         log.info(f"{path}: the rows at {lsn_text(found)}")
         if into is not None:
             self.answer(into, None)
+
+    def is_waited_for(self, into: str, is_locked: bool) -> bool:
+        """Whether a request is there still. One whose lock has gone goes too."""
+        asked, is_alive = self.asked_now() or ({"into": ""}, False)
+        if os.path.abspath(str(asked.get("into", into))) != into:
+            return False
+        if is_locked and not is_alive:
+            remove(self.request)
+            return False
+        return True
 
     def fail(self, path: str, into: str | None, why: str) -> None:
         for left in (path + ".new", path + ".new" + LOG, path + ".new-shm"):

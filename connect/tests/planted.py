@@ -58,6 +58,20 @@ BUGS = (
     Bug("another history is taken for the one that was accepted", "following.py", "options.accept = []", "pass", ("test_following",)),
     Bug("a table written anew by an ALTER TABLE isn't told", "differences.py", "old.altered == new.altered", "old.altered != new.altered",
         ("test_differences", "test_remembered")),
+    Bug("a commit behind the LSN gets into the copy that is compared", "holding.py", "if final_lsn(payload) >= point:",
+        "if final_lsn(payload) > point:", ("test_holding",)),
+    Bug("a keepalive within a transaction ends the way to the LSN", "holding.py", "elif not letter and not is_inside and",
+        "elif not letter and", ("test_holding",)),
+    Bug("a comparison that was killed holds the stream on", "snapshots.py", "if not is_alive or asked.get(", "if asked.get(", ("test_holding",)),
+    Bug("what was kept back outlasts its session", "following.py", "self.snapshots.hold.end_session()", "pass", ("test_passing",)),
+    Bug("a copy is taken at the LSN before all is stored", "following.py", "if self.noting.ends or self.filter.waiting:",
+        "if self.filter.waiting:", ("test_holding",)),
+    Bug("null and the empty text are equal", "digests.py", 'b"n" if it is None else', 'b"0:" if it is None else',
+        ("test_digests", "test_verifying")),
+    Bug("a row that is there twice is counted once", "digests.py", "copies * words[FIRST_WORD]", "words[FIRST_WORD]",
+        ("test_digests", "test_verifying")),
+    Bug("the stream is held until the tables are locked", "verifying.py", "    request.tell(point)\n    source.see(snapshot)\n",
+        "    source.see(snapshot)\n    request.tell(point)\n", ("test_meeting",)),
 )
 
 

@@ -2,15 +2,18 @@
 
 from __future__ import annotations
 
+import contextlib
 import errno
+import fcntl
+import json
 import os
 import threading
 import time
 import unittest
-from collections.abc import Callable, Sequence
+from collections.abc import Callable, Iterator, Sequence
 from unittest import mock
 
-from pgsub_connect import following, postgres, watching
+from pgsub_connect import following, postgres, snapshots, watching
 from pgsub_connect.checkpoint import Checkpoint
 from pgsub_connect.cli import Options
 from pgsub_connect.errors import FilterFault, Passing, ServerError, Unfit
@@ -18,8 +21,10 @@ from pgsub_connect.filtering import Filter, FilterEnded, flushed
 from pgsub_connect.following import Follower
 from pgsub_connect.progress import Progress
 from pgsub_connect.remembered import Remembered
+from pgsub_connect.resting import read_request
 from pgsub_connect.server import Server
 from pgsub_connect.snapshots import Snapshots
+from pgsub_connect.texts import lsn_text
 
 from .fake_server import FakeServer, Quiet, Row
 from .small_server import SmallServer
@@ -175,6 +180,78 @@ class Sessions(Case):
         began = time.monotonic()
         follower.finish_filter()
         self.assertLess(time.monotonic() - began, 1.0)
+
+
+class Meets(Case):
+    """A copy at an LSN that somebody tells: none of the commits above it, and all of those below."""
+
+    def setUp(self) -> None:
+        super().setUp()
+        for name in ("LOOK", "SOON"):
+            self.patch(snapshots, name, 0.01)
+        self.patch(following, "SOON", 0.01)
+        self.patch(following, "ASK", 0.05)
+        self.request = self.store + ".request"
+        self.taken: list[int] = []
+        self.patch(Snapshots, "take", self.take)
+
+    def take(self, position: int, tick: Callable[[], None]) -> None:
+        """In the place of Snapshots.take: notes what the store has."""
+        with open(self.store, encoding="ascii") as file:
+            self.taken.append(int(file.read()))
+        self.assertEqual(self.taken[-1], position)
+        os.unlink(self.request)
+        self.running.snapshots.hold.end()
+
+    def say(self, **fields: object) -> None:
+        with open(self.request, "w", encoding="utf-8") as file:
+            json.dump({"into": self.folder + "/into", "hold": 10.0, **fields}, file)
+
+    @contextlib.contextmanager
+    def asked(self) -> Iterator[None]:
+        """As while somebody asks who is alive."""
+        with open(self.request, "w", encoding="utf-8") as file:
+            fcntl.flock(file, fcntl.LOCK_EX)
+            self.say()
+            yield
+
+    def meet(self, then: Sequence[bytes], point: int, expected: int) -> None:
+        """Passes a commit on, and has the copy taken at a point that comes with these payloads. The last of them ends at 0x208."""
+        self.running = self.follower()
+        self.server.to_send = [begin(0x100, 7), insert(1), commit(0x100, 0x108)]
+        closing = contextlib.ExitStack()
+        steps = self.steps(closing, then, point, expected)
+        with closing:
+            self.run_until(self.running, lambda: next(steps))
+
+    def steps(self, closing: contextlib.ExitStack, then: Sequence[bytes], point: int, expected: int) -> Iterator[bool]:
+        while self.confirmed() != 0x108:
+            yield False
+        closing.enter_context(self.asked())
+        while "held" not in read_request(self.request):
+            yield False
+        self.server.to_send += then
+        self.running.heartbeat, before = 0.02, len(self.server.statuses)
+        while len(self.server.statuses) < before + 3:
+            # (statuses go on meanwhile)
+            yield False
+        self.assertEqual((self.confirmed(), self.taken), (0x108, []))
+        self.say(held="0/108", point=lsn_text(point))
+        while self.taken != [expected] or self.confirmed() != 0x208:
+            yield False
+        while True:
+            yield True
+
+    def test_between_commits(self) -> None:
+        pairs = [it for lsn in (0x110, 0x120, 0x200) for it in (begin(lsn, 7), insert(1), commit(lsn, lsn + 8))]
+        self.meet(pairs, 0x130, 0x128)
+
+    def test_a_commit_that_ends_there(self) -> None:
+        self.meet([begin(0x110, 7), insert(1), commit(0x110, 0x118), begin(0x200, 8), commit(0x200, 0x208)], 0x118, 0x118)
+
+    def test_a_quiet_server(self) -> None:
+        """It is asked how far it is."""
+        self.meet([keepalive(0x150), keepalive(0x208)], 0x150, 0x108)
 
 
 class Fits(Case):

@@ -140,6 +140,39 @@ class Passes(Case):
         self.follower.skipping.begin_session(0x210)
         self.assertNotIn("streaming", self.follower.command(0))
 
+    def test_up_to_an_lsn(self) -> None:
+        """What comes behind it waits until the copy is taken, in the recording too."""
+        hold = self.follower.snapshots.hold
+        below, above = [begin(0x100, 7), insert(1), commit(0x100, 0x108)], [begin(0x110, 8), insert(1), commit(0x110, 0x118)]
+        hold.begin("copy", 10.0)
+        hold.go(0x110)
+        self.assertIs(self.follower.take_payloads(Source([*below, *above])), True)  # type: ignore[arg-type]
+        self.assertEqual((self.pushed(), self.recorded()), (framed(*below), framed(*below)))
+        self.assertEqual((list(self.follower.noting.ends), hold.stops()), ([0x108], True))
+        hold.end()
+        self.assertIs(self.follower.take_payloads(Source([keepalive(0x300)])), True)  # type: ignore[arg-type]
+        self.assertIs(self.take(Source([keepalive(0x300)])), False)
+        self.assertEqual(self.pushed(), framed(*below, *above, keepalive(0x300)))
+
+    def test_up_to_an_lsn_from_within_a_transaction(self) -> None:
+        hold = self.follower.snapshots.hold
+        self.take(Source([begin(0x100, 7), insert(1)]))
+        hold.begin("copy", 10.0)
+        hold.go(0x110)
+        rest = [keepalive(0x110), insert(1), commit(0x100, 0x108)]
+        self.follower.take_payloads(Source([*rest, keepalive(0x110)]))  # type: ignore[arg-type]
+        self.assertEqual(self.pushed(), framed(begin(0x100, 7), insert(1), *rest))
+        self.assertEqual(hold.kept, [keepalive(0x110)])
+
+    def test_the_end_of_a_session_with_what_waits(self) -> None:
+        hold = self.follower.snapshots.hold
+        hold.begin("copy", 10.0)
+        hold.go(0x100)
+        self.assertIsNone(self.follower.take_payloads(Source([begin(0x100, 7)], None)))  # type: ignore[arg-type]
+        self.child.runs = False
+        self.follower.disconnect()
+        self.assertEqual((hold.kept, self.pushed()), ([], b""))
+
 
 class Rejects(Case):
     def end(self, said: str) -> list[str]:

@@ -47,6 +47,7 @@ class Words(Quiet):
             "follow --store s --create temporary", "drop", "names", "nothing", "follow --store s --create --all-tables --keyless inserts",
             "follow --store s --record f --start 0/5", "follow --store s --record f --streaming", "record --record f --store s",
             "record --record f --no-copy", "record --record f --strict", "record --record f --table t", "record --create --until now",
+            "verify", "verify --store s --hold 0", "verify --store s --hold 601", "verify --store s --show -1", "verify --store s --create",
         ):
             self.assertIn("usage: ", self.rejected(words), words)
 

@@ -17,7 +17,7 @@ SHARES = {
     "docs/ARCHITECTURE.md": 1700,
     "docs/PROOFS.md": 3000,
     "docs/PROTOCOL.md": 3000,
-    "docs/OPERATING.md": 2600,
+    "docs/OPERATING.md": 2800,
     "docs/DECISIONS.md": 1300,
     "docs/PERFORMANCE.md": 1000,
     "docs/CONTRIBUTING.md": 1200,

@@ -12,7 +12,7 @@ from ..options import Options
 from ..place import Place, Shared
 from . import (
     altering, copying, names, operating, privacy, publications, reaching, shapes, sideroads, silence, slots, standbys, starts, stops,
-    timelines, values, versions,
+    timelines, values, verifying, versions,
 )
 from .case import Case
 from .exports import CASES as EXPORTS
@@ -23,6 +23,7 @@ THEMES: dict[str, Sequence[Case]] = {
     "publications": publications.CASES,
     "values": values.CASES,
     "exports": EXPORTS,
+    "verifying": verifying.CASES,
     "timelines": timelines.CASES,
     "slots": slots.CASES,
     "copying": copying.CASES,

@@ -1,0 +1,146 @@
+"""What a follower does for `pgsub-connect verify`: it stops between two commits, so that its copy is exactly that of one LSN.
+
+That LSN is a slot's consistent point P, and the server is read under the snapshot that the slot exports. It "will show exactly the
+state of the database after which all changes will be included in the change stream" (PostgreSQL's documentation, Logical Decoding
+Concepts, Exported Snapshots). In its source, src/backend/replication/logical: P is the end of the record at which decoding became
+consistent (`DecodingContextFindStartpoint` in logical.c: `confirmed_flush = reader->EndRecPtr`), and a commit is passed over where its
+record starts before P (`SnapBuildXactNeedsSkip` in snapbuild.c: `ptr < start_decoding_at`, called by `DecodeCommit` in decode.c with
+`buf->origptr`). Records don't overlap and P is the end of one, so of each commit's record one of two things holds:
+
+- it ends at P or before: the snapshot sees the commit. Its final LSN, which is the record's start, is below P, and its end LSN, which is
+  the record's end, isn't above P;
+- it starts at P or behind: the snapshot doesn't see it. Its final LSN is P or above, and its end LSN is above P.
+
+Commits come in the order of their records. So all that the snapshot sees have come, and no other has, before the first of these: a
+Begin with a final LSN of P or above; a Stream Commit with an end LSN above P; a keepalive between transactions with an end of P or
+above, since a server says there up to where it has read its log and sent what commits in it. Blocks of open transactions may pass: what
+they hold isn't in the store.
+
+The stream is held before the slot is made, so P is above all that was passed on: its record is written later than each commit that the
+server has sent. No frame is made up or left out, and statuses go on meanwhile.
+
+The request is a dialog in the file `STORE.request`, which is locked (flock) by whoever asks: with the lock goes the hold.
+
+| Field | Written by | Means |
+|---|---|---|
+| `into` | verify | the file to copy to, as in any request |
+| `hold` | verify | for how many seconds at most the stream may be held until `point` is there |
+| `held` | the follower | nothing is passed on from now on; its position |
+| `point` | verify | P: the stream goes on up to there, then the copy is taken, and the request goes |
+"""
+
+from __future__ import annotations
+
+import contextlib
+import fcntl
+import json
+import os
+import time
+from collections.abc import Sequence
+from typing import Any
+
+from .noting import BEGIN, COMMIT, STREAM_COMMIT, final_lsn
+
+# The most seconds that a request may ask for.
+LONGEST = 610.0
+
+
+class Hold:
+    """Whether payloads are held, and which of them come before the LSN at which the copy is taken."""
+
+    def __init__(self) -> None:
+        self.into: str | None = None
+        self.point: int | None = None
+        self.until = 0.0
+        # whether all commits up to the point have come in this session, and what came behind them
+        self.is_there = False
+        self.kept: list[bytes] = []
+
+    def begin(self, into: str, seconds: float) -> None:
+        """Nothing is passed on from now on."""
+        self.into, self.point, self.is_there = into, None, False
+        self.until = time.monotonic() + seconds
+
+    def go(self, point: int) -> None:
+        """What was committed up to this LSN is passed on."""
+        self.point = point
+
+    def end(self) -> None:
+        """All goes on, with what was kept back."""
+        self.into, self.point, self.is_there = None, None, False
+
+    def end_session(self) -> None:
+        """The server sends again what was kept back, and what the filter may have lost."""
+        self.kept, self.is_there = [], False
+
+    def stops(self) -> bool:
+        """Whether nothing may be passed on now."""
+        return self.into is not None and (self.point is None or self.is_there)
+
+    def is_going(self) -> bool:
+        """Whether payloads are passed on up to the point."""
+        return self.point is not None and not self.is_there
+
+    def passing(self, payloads: list[bytes], is_inside: bool) -> list[bytes]:
+        """Those that are to be passed on; the rest is kept. `is_inside`: they begin between a Begin and its Commit."""
+        if self.point is None:
+            return payloads
+        count = count_below(payloads, self.point, is_inside)
+        self.kept = payloads[count:]
+        self.is_there = bool(self.kept)
+        return payloads[:count]
+
+    def take_kept(self) -> list[bytes]:
+        kept, self.kept = self.kept, []
+        return kept
+
+
+def count_below(payloads: Sequence[bytes], point: int, is_inside: bool) -> int:
+    """How many payloads come before the first one that tells that all commits with an end up to this LSN have come."""
+    for index, payload in enumerate(payloads):
+        letter = payload[25] if len(payload) > 25 else 0
+        if letter == BEGIN:
+            if final_lsn(payload) >= point:
+                return index
+            is_inside = True
+        elif letter == COMMIT:
+            is_inside = False
+        elif letter == STREAM_COMMIT:
+            if int.from_bytes(payload[39:47], "big") > point:
+                return index
+        elif not letter and not is_inside and int.from_bytes(payload[1:9], "big") >= point:
+            return index
+    return len(payloads)
+
+
+def read_locked(path: str) -> tuple[dict[str, Any], bool] | None:
+    """A request's fields, none where it is being written, and whether whoever asks is alive; None where there is no request."""
+    try:
+        with open(path, encoding="utf-8") as file:
+            is_alive = is_locked(file.fileno())
+            with contextlib.suppress(ValueError):
+                found = json.load(file)
+                return (found if isinstance(found, dict) else {}), is_alive
+            return {}, is_alive
+    except OSError:
+        return None
+
+
+def is_locked(file: int) -> bool:
+    """Whether another process has locked an open file for itself."""
+    try:
+        fcntl.flock(file, fcntl.LOCK_SH | fcntl.LOCK_NB)
+    except BlockingIOError:
+        return True
+    fcntl.flock(file, fcntl.LOCK_UN)
+    return False
+
+
+def write_request(path: str, **fields: object) -> None:
+    """Changes a request in place, so that its lock stays. One that is gone isn't made anew."""
+    with contextlib.suppress(FileNotFoundError):
+        file = os.open(path, os.O_WRONLY | os.O_TRUNC | os.O_CLOEXEC)
+        try:
+            os.write(file, json.dumps(fields).encode())
+        finally:
+            os.close(file)

@@ -1,0 +1,192 @@
+"""Brings a server and the copy of a running follower to one LSN, for `pgsub-connect verify`; the module `holding` says how.
+
+The server gets a temporary slot for that, which goes as soon as its snapshot is taken.
+"""
+
+from __future__ import annotations
+
+import contextlib
+import os
+import time
+from typing import TYPE_CHECKING
+
+from .checkpoint import FOLLOWING, Known
+from .copying import CHANGED, GONE, LOCK_TIMEOUT, check_names, create_temporary, lock_tables, take_snapshot
+from .errors import NoSlot, Passing, ServerError, Unfit
+from .holding import write_request
+from .postgres import Check, Connection
+from .publishing import Table, published_tables, stored_in
+from .resting import LOOK, is_followed, own_name, put_request, read_request, remove_files, wait_for_copy
+from .server import identify, settle
+from .snapshots import remove
+from .texts import lsn_text
+from .waiting import Waiting
+
+if TYPE_CHECKING:
+    from .cli import Options
+
+# How long a follower may take until it holds the stream, in seconds: it may be about to connect, or to open its store; and so long may
+# tables be locked by others. And for how much longer than a slot may take it may hold it: who asked lets it go before, unless it hangs.
+PATIENCE, MARGIN = 60.0, 5.0
+
+
+class Request:
+    """A request for the follower's copy at an LSN that is told once the stream is held. It goes at the end, and with it the hold."""
+
+    def __init__(self, store: str, seconds: float, check: Check) -> None:
+        self.store, self.request, self.seconds, self.check = store, store + ".request", seconds, check
+        self.into = os.path.abspath(own_name(store + ".export"))
+        self.file: int | None = None
+
+    def hold(self) -> None:
+        """Has the follower hold the stream."""
+        self.file = put_request(self.store, self.request, self.into, self.check, hold=self.seconds + MARGIN)
+        if self.file is None:
+            raise self.ended()
+        until = time.monotonic() + PATIENCE
+        while "held" not in (found := read_request(self.request)):
+            if "error" in found:
+                raise Passing(f"{self.store}: its follower can't hold the stream: {found['error']}")
+            if not is_followed(self.store):
+                raise self.ended()
+            if not os.path.exists(self.request):
+                raise Passing(f"{self.store}: its follower can't hold the stream: is it of an older version?")
+            if time.monotonic() > until:
+                raise Passing(f"{self.store}: its follower hasn't answered in {PATIENCE:.0f} seconds")
+            self.check()
+            time.sleep(LOOK)
+
+    def tell(self, point: int) -> None:
+        """Lets the stream go on up to this LSN, where the copy is taken."""
+        write_request(self.request, into=self.into, hold=self.seconds + MARGIN, held="", point=lsn_text(point))
+
+    def copied(self) -> str:
+        """Waits for the copy, and returns its path."""
+        if not wait_for_copy(self.store, self.request, self.into, self.check):
+            raise self.ended()
+        return self.into
+
+    def ended(self) -> Passing:
+        return Passing(f"nobody follows into {self.store}: a follower has to run, which brings its copy to the LSN of the comparison")
+
+    def close(self) -> None:
+        if read_request(self.request).get("into") == self.into:
+            remove(self.request)
+        if self.file is not None:
+            os.close(self.file)
+            self.file = None
+        remove_files(self.into)
+
+
+class Source:
+    """The server: its published tables, and a transaction that sees them as they were at the LSN of a slot."""
+
+    def __init__(self, options: Options, known: Known, check: Check) -> None:
+        self.options, self.check = options, check
+        # what is closed at the end, and what is once the snapshot is taken: the slot goes with its connection
+        self.closing, self.slot = contextlib.ExitStack(), contextlib.ExitStack()
+        try:
+            self.replication = self.connect(self.slot, replication=True)
+            self.check_server(known)
+            self.plain = self.connect(self.closing, replication=False)
+            self.plain.run("SET row_security = off")
+            self.tables = published_tables(self.plain, options.publication)
+            self.stored = stored_in(self.plain, self.tables)
+            self.encoding = self.plain.text("SELECT pg_catalog.current_setting('server_encoding')")
+        except BaseException:
+            self.close()
+            raise
+
+    def connect(self, closing: contextlib.ExitStack, replication: bool) -> Connection:
+        connection = Connection(self.options.dsn, replication=replication, name=f"{self.options.slot} verify", check=self.check)
+        closing.callback(connection.close)
+        settle(connection)
+        return connection
+
+    def check_server(self, known: Known) -> None:
+        """Rejects a server whose changes the store doesn't follow."""
+        if known.phase != FOLLOWING:
+            raise Passing(f"{self.options.store} isn't followed yet")
+        server = identify(self.replication)
+        timeline = known.timeline and server.timeline
+        ours, theirs = (known.system, known.database, known.timeline), (server.system, server.database, timeline)
+        if ours != theirs:
+            names = ("the server {}, database {}, timeline {}".format(*it) for it in (ours, theirs))
+            raise Unfit("the store follows {}, and this is {}".format(*names))
+
+    def make_slot(self, seconds: float) -> tuple[int, str]:
+        """Makes a temporary slot; its consistent point and its snapshot. Raises where that takes longer than so many seconds."""
+        until, waiting = time.monotonic() + seconds, Waiting(self.options.dsn, self.options.slot, self.check)
+        # (said in time for the end)
+        waiting.next = min(waiting.next, until - 1)
+
+        def check() -> None:
+            waiting.check()
+            if time.monotonic() > until:
+                raise no_slot(seconds)
+
+        # (a server that waits for a transaction doesn't see that whoever asked was killed)
+        self.replication.run(f"SET lock_timeout = {round(seconds * 1000)}")
+        self.replication.check = check
+        try:
+            _, point, snapshot = create_temporary(self.replication, f"{self.options.slot[:40]}_verify")
+        except ServerError as error:
+            raise no_slot(seconds) if error.sqlstate == LOCK_TIMEOUT else error from None
+        finally:
+            self.replication.check = self.check
+        return point, snapshot
+
+    def see(self, snapshot: str) -> None:
+        """Begins the transaction, in which no published table can be altered. Those that were meanwhile end the comparison."""
+        plain = self.plain
+        try:
+            plain.run("BEGIN ISOLATION LEVEL REPEATABLE READ READ ONLY")
+            take_snapshot(plain, snapshot)
+            self.lock()
+            if (published_tables(plain, self.options.publication), stored_in(plain, self.tables)) != (self.tables, self.stored):
+                raise ServerError(CHANGED)
+            check_names(self.options, self.tables, self.check)
+        except ServerError as error:
+            if str(error) == CHANGED or error.sqlstate in GONE:
+                raise Passing(f"{CHANGED}: nothing was compared") from None
+            raise
+        self.slot.close()
+
+    def lock(self) -> None:
+        """Locks the tables. None is waited for while others are locked: that could end an application's transaction by a deadlock."""
+        until = time.monotonic() + PATIENCE
+        self.plain.run("SAVEPOINT unlocked")
+        while not self.has_locked():
+            if time.monotonic() > until:
+                raise Passing(f"published tables are locked by others for {PATIENCE:.0f} seconds: nothing was compared")
+            self.check()
+            time.sleep(LOOK)
+
+    def has_locked(self) -> bool:
+        """Locks all tables, or none where one of them is to be waited for."""
+        try:
+            lock_tables(self.plain, self.tables, waits=False)
+        except ServerError as error:
+            if error.sqlstate != LOCK_TIMEOUT:
+                raise
+            self.plain.run("ROLLBACK TO SAVEPOINT unlocked")
+            return False
+        return True
+
+    def chosen(self, names: list[str]) -> list[Table]:
+        """The tables with these names, or all where none is named."""
+        known = {name: it for it in self.tables for name in ([it.name, it.text()] if it.namespace == "public" else [it.text()])}
+        if unknown := [name for name in names if name not in known]:
+            raise Unfit(f"there is no published table {unknown[0]}")
+        return list({known[name].oid: known[name] for name in names}.values()) if names else self.tables
+
+    def close(self) -> None:
+        self.slot.close()
+        self.closing.close()
+
+
+def no_slot(seconds: float) -> NoSlot:
+    return NoSlot(
+        f"the server made no slot in {seconds:g} seconds, since it waits for all transactions that run: nothing was compared, and following"
+        " goes on. Try again, or hold the stream for longer by --hold"
+    )

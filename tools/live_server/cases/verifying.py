@@ -1,0 +1,529 @@
+"""`verify`: equal copies under load, differences that are planted into a store, and how it ends where something is in the way."""
+
+from __future__ import annotations
+
+import contextlib
+import json
+import os
+import shutil
+import sqlite3
+import struct
+import threading
+import time
+from collections.abc import Callable, Iterator
+from pathlib import Path
+from typing import Any, Optional
+
+from ..errors import Failed
+from ..follower import wait_until
+from ..load import SCHEMA, Worker, final_statements
+from ..place import OK, PASSING, SERVER, Place
+from .case import Case
+from .exports import Load
+
+DIFFERENT, NO_SLOT = 1, 8
+Cells = tuple[Optional[str], ...]
+Line = dict[str, Any]
+
+
+def words(place: Place, *more: str, dsn: str = "") -> list[str]:
+    return [str(place.options.connect), "verify", "--dsn", dsn or place.dsn(), "--store", str(place.store), *more]
+
+
+def verify(place: Place, *more: str, status: int = OK, dsn: str = "") -> tuple[list[Line], str]:
+    """Compares. Returns the differences that were printed, and all that was said."""
+    said = place.has_ended(place.started(words(place, *more, dsn=dsn)), status, "")
+    return [json.loads(line) for line in said.splitlines() if line.startswith("{")], said
+
+
+def check_left(place: Place) -> None:
+    """Fails where a comparison has left a slot, a request or a copy."""
+    wait_until(lambda: not place.beside(".request").exists(), "letting the request go", 10)
+    slots = "SELECT string_agg(slot_name, ' ') FROM pg_replication_slots"
+    wait_until(lambda: place.value(slots) == place.slot, "dropping the temporary slot", 20)
+
+
+def check_tidy(place: Place) -> None:
+    check_left(place)
+    if found := [it.name for it in place.folder.iterdir() if ".export." in it.name]:
+        raise Failed(f"left: {found}")
+
+
+def equal_under_moves(place: Place) -> None:
+    """Is equal at five moments while moves between accounts are followed, of which some are streamed."""
+    place.run(
+        "CREATE TABLE account (id int PRIMARY KEY, amount int)", "INSERT INTO account SELECT it, 100 FROM generate_series(0, 19) it",
+        "CREATE TABLE move (id int PRIMARY KEY, source int, target int, padding int)",
+        "CREATE TABLE padding (move int, id int, PRIMARY KEY (move, id))", "CREATE PUBLICATION pgsub FOR ALL TABLES",
+    )
+    place.set(logical_decoding_work_mem="64kB")
+    child = place.start("--create")
+    place.catch_up(child)
+    load = Load(place)
+    load.thread.start()
+    try:
+        for _ in range(5):
+            time.sleep(0.5)
+            verify(place)
+            child.check()
+    finally:
+        load.ended.set()
+        load.thread.join(60)
+    check_tidy(place)
+    place.catch_up(child)
+    child.stop()
+    place.equal()
+
+
+def equal_under_all(place: Place) -> None:
+    """Is equal at five moments while changes of every kind are followed, TRUNCATEs and rolled-back subtransactions among them."""
+    place.run(*SCHEMA, "CREATE PUBLICATION pgsub FOR ALL TABLES")
+    child = place.start("--create")
+    place.catch_up(child)
+    workers = [Worker(place.cluster, f"verify {it}", 0.05) for it in range(3)]
+    for it in workers:
+        it.start()
+    try:
+        for _ in range(5):
+            time.sleep(1.0)
+            verified(place)
+            child.check()
+    finally:
+        for it in workers:
+            it.ended.set()
+        for it in workers:
+            it.join(60)
+    place.run(*final_statements())
+    place.catch_up(child)
+    verified(place)
+    check_tidy(place)
+    child.stop()
+    place.equal()
+
+
+def verified(place: Place) -> None:
+    """Compares until no TRUNCATE comes between the slot and the locks."""
+    for _ in range(10):
+        child = place.started(words(place, "--hold", "30"))
+        status = child.end()
+        if status == OK:
+            return
+        if status != PASSING or "the published tables changed" not in child.said():
+            raise Failed(f"status {status}: {child.said()}")
+    raise Failed("the published tables changed at each try")
+
+
+# The planted differences. `stock` and `other` have rows (sku, name, note), and `log`, which has no key, rows (a, b).
+TABLES = (
+    "CREATE TABLE stock (sku int PRIMARY KEY, name text, note text)", "CREATE TABLE other (sku int PRIMARY KEY, name text, note text)",
+    "CREATE TABLE log (a text, b text)", "ALTER TABLE log REPLICA IDENTITY FULL", "CREATE PUBLICATION pgsub FOR ALL TABLES",
+    "INSERT INTO stock SELECT it, 'name ' || it, CASE WHEN it % 3 = 0 THEN NULL WHEN it % 3 = 1 THEN '' ELSE 'note' END"
+    " FROM generate_series(1, 1000) it",
+    "INSERT INTO other VALUES (1, 'one', 'a'), (2, 'two', 'b'), (3, 'three', NULL)",
+    "INSERT INTO log SELECT 'line ' || it % 10, NULL FROM generate_series(1, 100) it",
+)
+
+
+def spelled(cells: Cells) -> bytes:
+    """Cells as a store has them."""
+    parts = [struct.pack(">H", len(cells))]
+    for it in cells:
+        body = None if it is None else it.encode()
+        parts.append(b"n" if body is None else b"t" + struct.pack(">I", len(body)) + body)
+    return b"".join(parts)
+
+
+class Editor:
+    """Changes the rows in the file of a store that nobody follows into."""
+
+    def __init__(self, place: Place, base: sqlite3.Connection) -> None:
+        self.base = base
+        self.oids = {it: int(place.value(f"SELECT '{it}'::regclass::oid")) for it in ("stock", "other", "log")}
+
+    def run(self, query: str, *values: object) -> None:
+        if not (changed := self.base.execute(query, values).rowcount):
+            raise Failed(f"{query}: {changed} rows")
+
+    def put(self, sku: int, *cells: Optional[str], key: Optional[int] = None) -> None:
+        """Puts other cells into a row of `stock`, and another key."""
+        body, ident = spelled((str(key or sku), *cells)), spelled((str(key or sku),))
+        self.run("UPDATE held SET body = ?, ident = ? WHERE oid = ? AND ident = ?", body, ident, self.oids["stock"], spelled((str(sku),)))
+
+    def add(self, sku: int, *cells: Optional[str]) -> None:
+        row = spelled((str(sku), *cells))
+        self.run("INSERT INTO held VALUES (?, ?, ?, 1)", self.oids["stock"], spelled((str(sku),)), row)
+
+    def drop(self, sku: int) -> None:
+        self.run("DELETE FROM held WHERE oid = ? AND ident = ?", self.oids["stock"], spelled((str(sku),)))
+
+    def move(self, sku: int) -> None:
+        """Moves a row of `stock` into `other`."""
+        self.run(
+            "UPDATE held SET oid = ? WHERE oid = ? AND ident = ?", self.oids["other"], self.oids["stock"], spelled((str(sku),))
+        )
+
+    def count(self, a: str, more: int) -> None:
+        """Changes how often a row of `log` is there."""
+        self.run("UPDATE held SET copies = copies + ? WHERE oid = ? AND ident = ?", more, self.oids["log"], spelled((a, None)))
+
+    def empty(self, table: str) -> None:
+        self.run("DELETE FROM held WHERE oid = ?", self.oids[table])
+
+
+def row(sku: int, name: str, note: Optional[str]) -> Line:
+    return {"sku": str(sku), "name": name, "note": note}
+
+
+def keyed(sku: int, server: Optional[Line], copy: Optional[Line], table: str = "public.stock") -> Line:
+    return {"table": table, "key": {"sku": str(sku)}, "server": server, "copy": copy}
+
+
+def counted(a: str, server: int, copy: int) -> Line:
+    return {"table": "public.log", "row": {"a": a, "b": None}, "more_on_server": server, "more_in_copy": copy}
+
+
+EMPTY = [keyed(it, row(it, name, note), None, "public.other") for it, name, note in ((1, "one", "a"), (2, "two", "b"), (3, "three", None))]
+# By what it is: how it is planted, and what is to be found.
+PLANTED: dict[str, tuple[Callable[[Editor], None], list[Line]]] = {
+    "a changed cell": (lambda it: it.put(8, "other", "note"), [keyed(8, row(8, "name 8", "note"), row(8, "other", "note"))]),
+    "a NULL for an empty text": (lambda it: it.put(7, "name 7", None), [keyed(7, row(7, "name 7", ""), row(7, "name 7", None))]),
+    "an empty text for a NULL": (lambda it: it.put(9, "name 9", ""), [keyed(9, row(9, "name 9", None), row(9, "name 9", ""))]),
+    "a row that is missing": (lambda it: it.drop(500), [keyed(500, row(500, "name 500", "note"), None)]),
+    "a row too many": (lambda it: it.add(5000, "x", None), [keyed(5000, None, row(5000, "x", None))]),
+    "a copy too many of a row": (lambda it: it.count("line 3", 1), [counted("line 3", 0, 1)]),
+    "a copy too few of a row": (lambda it: it.count("line 4", -2), [counted("line 4", 2, 0)]),
+    "a changed key": (
+        lambda it: it.put(10, "name 10", "", key=5010), [keyed(10, row(10, "name 10", ""), None), keyed(5010, None, row(5010, "name 10", ""))]
+    ),
+    "a trailing blank": (lambda it: it.put(11, "name 11 ", "note"), [keyed(11, row(11, "name 11", "note"), row(11, "name 11 ", "note"))]),
+    "an empty table": (lambda it: it.empty("other"), EMPTY),
+    "swapped cells": (lambda it: it.put(14, "note", "name 14"), [keyed(14, row(14, "name 14", "note"), row(14, "note", "name 14"))]),
+    "a row in another table": (
+        lambda it: it.move(17), [keyed(17, row(17, "name 17", "note"), None), keyed(17, None, row(17, "name 17", "note"), "public.other")]
+    ),
+}
+
+
+def plant(place: Place, good: Path, change: Callable[[Editor], None]) -> None:
+    """Makes the store's file anew, with a difference."""
+    shutil.copyfile(good, place.store)
+    with contextlib.closing(sqlite3.connect(place.store)) as base:
+        change(Editor(place, base))
+        base.commit()
+    place.beside("-shm").unlink(missing_ok=True)
+
+
+def planted(place: Place) -> None:
+    """Finds each of the planted differences, and nothing else, and follows on."""
+    place.run(*TABLES)
+    place.follow("--create")
+    good = place.folder / "good.db"
+    shutil.copyfile(place.store, good)
+    for name, (change, expected) in PLANTED.items():
+        plant(place, good, change)
+        child = place.start()
+        child.wait_for("following slot")
+        found, said = verify(place, status=DIFFERENT)
+        if sorted(found, key=str) != sorted(expected, key=str):
+            raise Failed(f"{name}: found {found} in place of {expected}: {said}")
+        child.stop()
+    shutil.copyfile(good, place.store)
+    child = place.start()
+    place.catch_up(child)
+    verify(place)
+    verify(place, "--table", "stock", "--table", "public.log", "--show", "0")
+    child.stop()
+
+
+def published_part(place: Place) -> None:
+    """Compares what is published: lists of columns, row filters, partitions under the root's name, two publications of a table."""
+    place.run(
+        "CREATE TABLE listed (id int PRIMARY KEY, secret text, word char(9))", "CREATE TABLE filtered (id int PRIMARY KEY, n int)",
+        "CREATE TABLE parted (id int PRIMARY KEY, word text) PARTITION BY RANGE (id)",
+        "CREATE TABLE low PARTITION OF parted FOR VALUES FROM (MINVALUE) TO (100)",
+        "CREATE TABLE high PARTITION OF parted FOR VALUES FROM (100) TO (MAXVALUE)",
+        "CREATE TABLE computed (id int PRIMARY KEY, twice int GENERATED ALWAYS AS (2 * id) STORED, word text)",
+        "CREATE TABLE bare ()", "ALTER TABLE bare REPLICA IDENTITY FULL",
+        "CREATE PUBLICATION pgsub FOR TABLE listed (id, word), filtered WHERE (id < 50), parted, computed, bare WITH (publish_via_partition_root)",
+        "CREATE PUBLICATION second FOR TABLE filtered WHERE (id > 70)",
+    )
+    rows = (
+        "INSERT INTO listed SELECT it, 'secret', it FROM generate_series({0}, {1}) it",
+        "INSERT INTO filtered SELECT it, it FROM generate_series({0}, {1}) it", "INSERT INTO parted SELECT it, 'w' FROM generate_series({0}, {1}) it",
+        "INSERT INTO computed (id, word) SELECT it, 'w' FROM generate_series({0}, {1}) it", "INSERT INTO bare DEFAULT VALUES",
+    )
+    place.run(*(it.format(1, 60) for it in rows))
+    child = place.start("--create", "--publication", "pgsub", "--publication", "second")
+    place.catch_up(child)
+    place.run(*(it.format(61, 120) for it in rows), "UPDATE filtered SET n = 0", "DELETE FROM parted WHERE id IN (50, 110)")
+    verify(place)
+    # (what isn't published is no difference)
+    place.run("UPDATE listed SET secret = 'other'", "UPDATE filtered SET n = 7 WHERE id BETWEEN 55 AND 65")
+    verify(place)
+    child.stop()
+
+
+def other_encoding(place: Place) -> None:
+    """Compares the texts of a database that isn't in UTF-8."""
+    place.own_server(encoding="LATIN1")
+    place.run(
+        "CREATE TABLE t (id int PRIMARY KEY, word text)", "INSERT INTO t SELECT it, U&'gr\\00fc\\00df ' || it FROM generate_series(1, 1000) it",
+        "CREATE PUBLICATION pgsub FOR ALL TABLES",
+    )
+    child = place.start("--create")
+    place.catch_up(child)
+    place.run("UPDATE t SET word = U&'\\00e4' WHERE id % 2 = 0")
+    verify(place)
+    child.stop()
+    good = place.folder / "good.db"
+    shutil.copyfile(place.store, good)
+    with contextlib.closing(sqlite3.connect(place.store)) as base:
+        base.execute("UPDATE held SET body = ? WHERE ident = ?", (spelled(("3", "grüss 3")), spelled(("3",))))
+        base.commit()
+    place.beside("-shm").unlink(missing_ok=True)
+    child = place.start()
+    child.wait_for("following slot")
+    found, said = verify(place, status=DIFFERENT)
+    if [(it["server"]["word"], it["copy"]["word"]) for it in found] != [("grüß 3", "grüss 3")]:
+        raise Failed(said)
+    child.stop()
+
+
+def altered(place: Place) -> None:
+    """Tells a table whose columns the copy doesn't have yet, and one whose rows aren't there."""
+    place.stock(published=False)
+    place.run("CREATE PUBLICATION pgsub FOR ALL TABLES")
+    child = place.start("--create")
+    place.catch_up(child)
+    place.run("ALTER TABLE stock ADD COLUMN word text")
+    found, said = verify(place, status=DIFFERENT)
+    if found != [{"table": "public.stock", "columns": {"server": ["sku", "quantity", "word"], "copy": ["sku", "quantity"]}}]:
+        raise Failed(said)
+    place.change()
+    verify(place)
+    place.run("CREATE TABLE gone (id int PRIMARY KEY)", "INSERT INTO gone VALUES (1)")
+    verify(place)
+    place.run("DROP TABLE gone")
+    _, said = verify(place)
+    if "rows of 1 table that the publications don't have now: public.gone" not in said:
+        raise Failed(said)
+    child.stop()
+
+
+def rights(place: Place) -> None:
+    """Needs REPLICATION and the right to read the tables, and says which is missing."""
+    place.stock()
+    place.run("CREATE ROLE reader LOGIN REPLICATION", "CREATE ROLE other LOGIN")
+    child = place.start("--create")
+    place.catch_up(child)
+    reader, other = (place.cluster.dsn(place.database, it) for it in ("reader", "other"))
+    _, said = verify(place, status=SERVER, dsn=reader)
+    if "permission denied for table stock" not in said:
+        raise Failed(said)
+    _, said = verify(place, status=SERVER, dsn=other)
+    if "replication" not in said.lower():
+        raise Failed(said)
+    place.run("GRANT SELECT ON stock TO reader")
+    verify(place, dsn=reader)
+    place.run("ALTER TABLE stock ENABLE ROW LEVEL SECURITY")
+    _, said = verify(place, status=SERVER, dsn=reader)
+    if "row-level security" not in said:
+        raise Failed(said)
+    place.run("ALTER TABLE stock DISABLE ROW LEVEL SECURITY")
+    check_tidy(place)
+    place.change()
+    place.catch_up(child)
+    verify(place, dsn=reader)
+    child.stop()
+
+
+@contextlib.contextmanager
+def open_transaction(place: Place) -> Iterator[None]:
+    """A transaction that has written runs meanwhile, so that the server makes no slot."""
+    with place.cluster.connect(place.database) as session:
+        session.run("BEGIN", "CREATE TABLE meanwhile ()")
+        yield
+        session.run("ROLLBACK")
+
+
+def no_slot(place: Place) -> None:
+    """Gives up where the server makes no slot in time, and the follower goes on."""
+    place.stock()
+    child = place.start("--create")
+    place.catch_up(child)
+    with open_transaction(place):
+        began = time.monotonic()
+        _, said = verify(place, "--hold", "2", status=NO_SLOT)
+        if "the slot waits for the transaction of process" not in said or "the server made no slot in 2 seconds" not in said:
+            raise Failed(said)
+        if time.monotonic() - began > 15:
+            raise Failed("it took too long to give up")
+        place.change()
+        place.catch_up(child)
+        check_tidy(place)
+    verify(place)
+    child.stop()
+    place.equal()
+
+
+def is_held(place: Place) -> bool:
+    with contextlib.suppress(OSError, ValueError):
+        return "held" in json.loads(place.beside(".request").read_text())
+    return False
+
+
+def killed(place: Place) -> None:
+    """Killed while the stream is held, or while it compares: the follower goes on, and the server keeps no slot."""
+    place.stock()
+    child = place.start("--create")
+    place.catch_up(child)
+    with open_transaction(place):
+        verifier = place.started(words(place, "--hold", "8"))
+        wait_until(lambda: is_held(place), "holding the stream", 30, verifier.check)
+        place.change()
+        end = place.value("SELECT pg_current_wal_insert_lsn()")
+        time.sleep(1.0)
+        if place.has_confirmed(end):
+            raise Failed("the stream isn't held")
+        verifier.process.kill()
+        wait_until(lambda: place.has_confirmed(end), "going on", 5, child.check)
+        # (the server waits for the transaction as long as the stream was to be held)
+        check_left(place)
+    verify(place)
+    place.run("INSERT INTO stock SELECT it, it FROM generate_series(1000, 60000) it")
+    place.catch_up(child)
+    for wait in (0.3, 0.6, 0.9, 1.2):
+        verifier = place.started(words(place))
+        time.sleep(wait)
+        verifier.process.kill()
+        place.change()
+        place.catch_up(child)
+        check_left(place)
+    verify(place)
+    child.stop()
+    place.equal()
+
+
+def follower_killed(place: Place) -> None:
+    """The follower is killed, or ends, while it holds the stream: the comparison ends, and a new follower goes on."""
+    place.stock()
+    child = place.start("--create")
+    place.catch_up(child)
+    for is_killed in (True, False):
+        with open_transaction(place):
+            verifier = place.started(words(place, "--hold", "5"))
+            wait_until(lambda: is_held(place), "holding the stream", 30, verifier.check)
+            place.change()
+            child.kill() if is_killed else child.stop()
+            # (a slot that was asked for isn't looked after meanwhile)
+            place.has_ended(verifier, NO_SLOT, "made no slot")
+        child = place.start()
+        place.catch_up(child)
+        verify(place)
+    for wait in (0.5, 0.8, 1.1):
+        verifier = place.started(words(place))
+        time.sleep(wait)
+        child.kill()
+        status = verifier.end()
+        if status not in (OK, PASSING):
+            raise Failed(f"status {status}: {verifier.said()}")
+        child = place.start()
+        place.catch_up(child)
+        check_left(place)
+        verify(place)
+    child.stop()
+    place.equal()
+
+
+def filter_killed(place: Place) -> None:
+    """The filter is killed under load while comparisons are made: each of these is equal, or says why there is none."""
+    place.stock()
+    child = place.start("--create")
+    place.catch_up(child)
+    ended = threading.Event()
+
+    def change() -> None:
+        while not ended.wait(0.02):
+            place.change()
+
+    thread = threading.Thread(target=change, daemon=True)
+    thread.start()
+    try:
+        for wait in (0.4, 0.6, 0.8, 1.0):
+            verifier = place.started(words(place, "--hold", "30"))
+            time.sleep(wait)
+            for pid in child.filters():
+                os.kill(pid, 9)
+            status = verifier.end()
+            if status not in (OK, PASSING):
+                raise Failed(f"status {status}: {verifier.said()}")
+            child.check()
+    finally:
+        ended.set()
+        thread.join(30)
+    place.catch_up(child)
+    verify(place)
+    check_tidy(place)
+    child.stop()
+    place.equal()
+
+
+def synchronous(place: Place) -> None:
+    """Commits that wait for the follower may keep the slot from being made; they go on once it is given up."""
+    place.stock()
+    child = place.start("--create")
+    place.catch_up(child)
+    place.set(synchronous_standby_names=place.slot)
+    ended = threading.Event()
+
+    def change() -> None:
+        with place.cluster.connect(place.database) as session:
+            while not ended.is_set():
+                session.run("UPDATE stock SET quantity = quantity + 1")
+
+    thread = threading.Thread(target=change, daemon=True)
+    thread.start()
+    try:
+        for _ in range(3):
+            verifier = place.started(words(place, "--hold", "1"))
+            status = verifier.end()
+            if status not in (OK, NO_SLOT):
+                raise Failed(f"status {status}: {verifier.said()}")
+            before = place.value("SELECT sum(quantity) FROM stock")
+            wait_until(lambda before=before: place.value("SELECT sum(quantity) FROM stock") != before, "going on", 10)  # type: ignore[misc]
+    finally:
+        ended.set()
+        thread.join(30)
+    place.set(synchronous_standby_names="")
+    place.catch_up(child)
+    verify(place)
+    check_tidy(place)
+    child.stop()
+    place.equal()
+
+
+def nobody_follows(place: Place) -> None:
+    """Says that a follower has to run."""
+    place.stock()
+    place.follow("--create")
+    _, said = verify(place, status=PASSING)
+    if "a follower has to run" not in said:
+        raise Failed(said)
+    check_tidy(place)
+
+
+CASES = (
+    Case("verify-under-moves", equal_under_moves),
+    Case("verify-under-every-change", equal_under_all),
+    Case("verify-finds-what-is-planted", planted),
+    Case("verify-the-published-part", published_part, since=15),
+    Case("verify-another-encoding", other_encoding),
+    Case("verify-altered-tables", altered),
+    Case("verify-rights", rights),
+    Case("verify-without-a-slot", no_slot),
+    Case("verify-killed", killed),
+    Case("verify-follower-killed", follower_killed),
+    Case("verify-filter-killed", filter_killed),
+    Case("verify-synchronous", synchronous),
+    Case("verify-without-a-follower", nobody_follows),
+)
