@@ -27,9 +27,9 @@ class ManyValues(Values):
 
 
 class LargeMaker(Maker):
-    """Makes histories whose tables take many pages."""
+    """Makes histories whose tables take many pages, and leave them again."""
 
-    few = 150
+    truncates, alters = 0.001, 0.003
 
     def make_values(self):
         return ManyValues(self.rng)
@@ -38,7 +38,11 @@ class LargeMaker(Maker):
         return self.rng.randint(3, 10)
 
     def sizes(self):
-        return self.rng.choice(((1, 6), (5, 30), (50, 150)))
+        return self.rng.choice(((1, 30), (50, 150), (100, 300)))
+
+    def transaction(self, lsn, end, bad):
+        self.few, self.deletes_from = self.rng.choice(((400, 0.95), (400, 0.95), (100, 0.85), (0, 0.4)))
+        return super().transaction(lsn, end, bad)
 
 
 class Turns:
@@ -106,7 +110,7 @@ def sessions_of(rng, maker, history, version, turns):
             return
         start = rng.choice((position, position, 0, rng.randint(0, position)))
         session = Session(rng, maker.values, history, start, version, maker.oids)
-        frames = session.make(done + rng.choice((-1, 0, 0, 1, 3)))
+        frames = session.make(done + rng.choice((-1, 0, 0, 0, 1, 3)))
         content = b"".join(frame for frame, _ in frames)
         yield content if rng.random() < 0.8 else content[: rng.randint(0, len(content))]
 
