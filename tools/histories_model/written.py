@@ -6,7 +6,7 @@ from pathlib import Path
 from stores.text import PAGE_SIZES, Writer
 
 from . import tables as model
-from .cases import cache_words, check_store, compare, stop_line, version_words
+from .cases import check_store, compare, stop_line, version_words
 from .followed import Followed, exit_status
 from .history import Maker, Values
 from .reader import Reader
@@ -81,7 +81,11 @@ class Turns:
         compare("followed after SQL text", self.program, ["follow", *self.words()], exit_status(fault), written, stop_line(fault), file)
 
     def words(self):
-        return ["--store", self.store, *cache_words(self.number), *version_words(self.rng, self.version)]
+        return [*self.store_words(), *version_words(self.rng, self.version)]
+
+    def store_words(self):
+        """The store, and how many of its pages stay in memory: few, since those of a file that SQL text has made may be large."""
+        return ["--store", self.store, "--cache", self.rng.choice(("100", "100", "1000"))]
 
     def write(self, before):
         after = model.contents(self.read.tables, self.read.position)
@@ -98,7 +102,7 @@ class Turns:
 
     def compare_dump(self):
         rows = model.dump(self.read.tables, self.read.position)
-        compare("the rows after SQL text", self.program, ["dump", "--store", self.store], 0, rows, b"")
+        compare("the rows after SQL text", self.program, ["dump", *self.store_words()], 0, rows, b"")
 
 
 def sessions_of(rng, maker, history, version, turns):
