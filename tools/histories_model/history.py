@@ -157,6 +157,8 @@ class Maker:
 
     # a table that has more rows gets fewer Inserts
     few = 3
+    # how many histories have a transaction that is rejected
+    bad_share = 0.3
     # how often a change truncates, and how often its table was altered before it
     truncates, alters = 0.03, 0.06
     # of a number below 1 that says which change comes: from here on a Delete
@@ -189,7 +191,7 @@ class Maker:
     def history(self):
         rng = self.rng
         count = self.count()
-        bad_at = rng.randrange(count) if count and rng.random() < 0.3 else None
+        bad_at = rng.randrange(count) if count and rng.random() < self.bad_share else None
         lsn = rng.choice((0, 1, 0x100, 2**32 - 40, rng.getrandbits(40), MOST_LSN - 2**20 - rng.getrandbits(40)))
         history = []
         for place in range(count):

@@ -145,4 +145,6 @@ def written(case, program):
 def of_pages(size, number, program):
     """A large history in a file with pages of one size."""
     rng = random.Random(f"pages {size} {number}")
-    in_turns(rng, LargeMaker(rng), program, size)
+    maker = LargeMaker(rng)
+    maker.bad_share = 0
+    in_turns(rng, maker, program, size)
