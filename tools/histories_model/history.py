@@ -157,6 +157,12 @@ class Maker:
 
     # a table that has more rows gets fewer Inserts
     few = 3
+    # how many histories have a transaction that is rejected
+    bad_share = 0.3
+    # how often a change truncates, and how often its table was altered before it
+    truncates, alters = 0.03, 0.06
+    # of a number below 1 that says which change comes: from here on a Delete
+    deletes_from = 0.85
 
     def __init__(self, rng):
         self.rng = rng
@@ -185,7 +191,7 @@ class Maker:
     def history(self):
         rng = self.rng
         count = self.count()
-        bad_at = rng.randrange(count) if count and rng.random() < 0.3 else None
+        bad_at = rng.randrange(count) if count and rng.random() < self.bad_share else None
         lsn = rng.choice((0, 1, 0x100, 2**32 - 40, rng.getrandbits(40), MOST_LSN - 2**20 - rng.getrandbits(40)))
         history = []
         for place in range(count):
@@ -246,7 +252,7 @@ class Maker:
         for _ in range(4):
             oid = rng.choice(self.oids)
             was = self.definitions[oid]
-            if rng.random() < 0.06:
+            if rng.random() < self.alters:
                 self.definitions[oid] = self.values.altered(was)
             change = self.candidate(False, oid)
             try:
@@ -268,7 +274,7 @@ class Maker:
         except model.StoreFault:
             rows = {}
         luck = rng.random()
-        if luck < 0.03:
+        if luck < self.truncates:
             named = [self.definitions[other] for other in rng.choices(self.oids, k=rng.choice((0, 1, 1, 2, 3)))]
             return Change(b"T", named, options=rng.randint(0, 3))
         if luck < (0.3 if len(rows) > self.few else 0.75):
@@ -298,7 +304,7 @@ class Maker:
         """An Update or Delete, mostly of a row that is stored."""
         rng = self.rng
         found = list(rng.choice(list(rows.values()))[0]) if rows and rng.random() < 0.92 else self.row(definition)
-        is_delete = luck > 0.85
+        is_delete = luck > self.deletes_from
         old_kind, old = self.old_tuple(definition, found, is_delete)
         if is_delete:
             change = Change(b"D", [definition], old_kind, old)

@@ -6,7 +6,7 @@ from pathlib import Path
 from stores.text import PAGE_SIZES, Writer
 
 from . import tables as model
-from .cases import cache_words, check_store, compare, stop_line, version_words
+from .cases import check_store, compare, stop_line, version_words
 from .followed import Followed, exit_status
 from .history import Maker, Values
 from .reader import Reader
@@ -27,9 +27,9 @@ class ManyValues(Values):
 
 
 class LargeMaker(Maker):
-    """Makes histories whose tables take many pages."""
+    """Makes histories whose tables take many pages, and leave them again."""
 
-    few = 150
+    truncates, alters = 0.001, 0.003
 
     def make_values(self):
         return ManyValues(self.rng)
@@ -38,7 +38,11 @@ class LargeMaker(Maker):
         return self.rng.randint(3, 10)
 
     def sizes(self):
-        return self.rng.choice(((1, 6), (5, 30), (50, 150)))
+        return self.rng.choice(((1, 30), (50, 150), (100, 300)))
+
+    def transaction(self, lsn, end, bad):
+        self.few, self.deletes_from = self.rng.choice(((400, 0.95), (400, 0.95), (100, 0.85), (0, 0.4)))
+        return super().transaction(lsn, end, bad)
 
 
 class Turns:
@@ -77,7 +81,11 @@ class Turns:
         compare("followed after SQL text", self.program, ["follow", *self.words()], exit_status(fault), written, stop_line(fault), file)
 
     def words(self):
-        return ["--store", self.store, *cache_words(self.number), *version_words(self.rng, self.version)]
+        return [*self.store_words(), *version_words(self.rng, self.version)]
+
+    def store_words(self):
+        """The store, and how many of its pages stay in memory: few, since those of a file that SQL text has made may be large."""
+        return ["--store", self.store, "--cache", self.rng.choice(("100", "100", "1000"))]
 
     def write(self, before):
         after = model.contents(self.read.tables, self.read.position)
@@ -94,7 +102,7 @@ class Turns:
 
     def compare_dump(self):
         rows = model.dump(self.read.tables, self.read.position)
-        compare("the rows after SQL text", self.program, ["dump", "--store", self.store], 0, rows, b"")
+        compare("the rows after SQL text", self.program, ["dump", *self.store_words()], 0, rows, b"")
 
 
 def sessions_of(rng, maker, history, version, turns):
@@ -106,7 +114,7 @@ def sessions_of(rng, maker, history, version, turns):
             return
         start = rng.choice((position, position, 0, rng.randint(0, position)))
         session = Session(rng, maker.values, history, start, version, maker.oids)
-        frames = session.make(done + rng.choice((-1, 0, 0, 1, 3)))
+        frames = session.make(done + rng.choice((-1, 0, 0, 0, 1, 3)))
         content = b"".join(frame for frame, _ in frames)
         yield content if rng.random() < 0.8 else content[: rng.randint(0, len(content))]
 
@@ -137,4 +145,6 @@ def written(case, program):
 def of_pages(size, number, program):
     """A large history in a file with pages of one size."""
     rng = random.Random(f"pages {size} {number}")
-    in_turns(rng, LargeMaker(rng), program, size)
+    maker = LargeMaker(rng)
+    maker.bad_share = 0
+    in_turns(rng, maker, program, size)

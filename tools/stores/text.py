@@ -135,11 +135,32 @@ class Writer:
         saved = self.path.with_name(self.path.name + ".saved")
         with self.opened() as base:
             base.execute("PRAGMA wal_autocheckpoint = 0")
+            # (so that pages go to the log before their commit)
+            base.execute("PRAGMA cache_size = 1")
+            self.leave_in_log(base)
             self.execute(base, before, after)
+            if self.rng.random() < 0.3:
+                self.change_nothing(base)
             shutil.copyfile(self.path, saved)
             shutil.copyfile(log_of(self.path), log_of(saved))
         os.replace(saved, self.path)
         os.replace(log_of(saved), log_of(self.path))
+
+    def leave_in_log(self, base: sqlite3.Connection) -> None:
+        """Leaves pages in the log that are nothing to the next commit: rolled back, or in the file already."""
+        luck = self.rng.random()
+        if luck < 0.3:
+            self.change_nothing(base)
+            base.execute("ROLLBACK")
+        elif luck < 0.6:
+            self.change_nothing(base)
+            base.execute("COMMIT")
+            base.execute("PRAGMA wal_checkpoint")
+
+    def change_nothing(self, base: sqlite3.Connection) -> None:
+        """Begins a transaction that writes each page of the rows as it is."""
+        base.execute("BEGIN IMMEDIATE")
+        base.execute("UPDATE held SET body = body, ident = ident")
 
     def execute(self, base: sqlite3.Connection, before: Contents, after: Contents) -> None:
         base.execute("BEGIN IMMEDIATE")
