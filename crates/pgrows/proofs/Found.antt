@@ -1,5 +1,5 @@
 -- What a seek and one step of its cursor tell of the table.
-use Rattle.std.proofs.Common.{◌≡◌, ◌≢◌, ℕ, ℤ, true, false, Bool, List, [], ◌∷◌, Option, Some, None, is_some, IsTrue, refl, sym, ap, subst, subst₂, ◌∙◌, ◌≤◌, ◌<ℤ◌, ◌≤ℤ◌, map, arith, true≢false}
+use Rattle.std.proofs.Common.{◌≡◌, ℕ, ℤ, true, false, Bool, List, [], ◌∷◌, Option, Some, None, is_some, IsTrue, refl, sym, ap, subst, subst₂, ◌∙◌, ◌≤◌, ◌<ℤ◌, ◌≤ℤ◌, map, arith, true≢false}
 use Rattle.std.specs.Prelude.{MatchOption, IsSome}
 use Rattle.std.proofs.lemmas.Int.{ints}
 use Rattle.std.specs.FinMap.{get, nat_cmp-IsAntisymmetric, slice_cmp-IsAntisymmetric}
@@ -18,11 +18,10 @@ use Rattle.sqlite.specs.Store.{Ghosts}
 use Rattle.sqlite.specs.State.{HasCleanDisk, Savepoint}
 use Rattle.sqlite_trees.proofs.ListLemmas.{all_weaker}
 use Rattle.std.specs.List.{AllByRecursion}
-use Rattle.sqlite_rules.specs.Lists.{Has}
-use Rattle.pgtables.specs.Kept.{AreHeld, copies_in, held_row, key_in, IsKept, tables_in}
+use Rattle.pgtables.specs.Kept.{AreHeld, copies_in, key_in, IsKept}
 use Rattle.pgtables.proofs.Maps.{row_got, row_missing}
 use Rattle.pgtables.proofs.HeldRows.{the_map}
-use Rattle.pgrows.specs.Rows.{AreBehind, AreBelow, AreLow, AreRows, IsHeld, IsAt, IsBehind, IsFree, IsGood, IsSaved, IsUnder, Keeps, Stands, database, key_of, saved_in, shown_mark, state, tables_of}
+use Rattle.pgrows.specs.Rows.{AreBehind, AreBelow, AreLow, AreRows, IsHeld, IsAt, IsBehind, IsFree, IsGood, IsSaved, IsUnder, Keeps, Stands, database, key_of, saved_in, shown_mark, state}
 use Rattle.pgrows.proofs.SetUp.{index_shape, indexed, entries_rise}
 use Rattle.pgrows.proofs.Seek.{none_left, first_other, first_there}
 

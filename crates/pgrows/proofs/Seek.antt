@@ -1,19 +1,18 @@
 -- What a seek by a key finds: the entry of the row that has it, or one of another key, or none.
-use Rattle.std.proofs.Common.{◌≡◌, ◌≢◌, ◌⊎◌, inl, inr, ℕ, ℤ, pos, Bool, true, false, not, List, [], ◌∷◌, filter, refl, sym, ap, subst, ◌∙◌, arith, true≢false, Ordering, Less, Equal, Greater, is_lt, is_gt, is_eq, nat_cmp, int_cmp}
+use Rattle.std.proofs.Common.{◌≡◌, inl, inr, ℕ, ℤ, pos, Bool, true, false, not, List, [], ◌∷◌, filter, refl, sym, ap, subst, ◌∙◌, arith, true≢false, Ordering, Less, Equal, Greater, is_lt, is_gt, nat_cmp, int_cmp}
 use Rattle.std.proofs.lemmas.Bool.{not-true}
 use Rattle.std.proofs.lemmas.Bool.Decides.{nat_tests}
 use Rattle.std.proofs.lemmas.Cmp.{nat_list_cmp_total, tied_itself}
 use Rattle.std.proofs.lemmas.List.Sorted.{Contains-permutation, IsPermutation-sym}
 use Rattle.std.specs.Cmp.Lexicographic.{slice_cmp}
-use Rattle.std.specs.List.{AllByRecursion}
 use Rattle.std.specs.FinMap.{nat_cmp-IsAntisymmetric, slice_cmp-IsAntisymmetric}
 use Rattle.sqlite_value.specs.declared.value.Value.{Value}
 use Rattle.sqlite_value.specs.declared.value.Value.TheVariants.{Int, Blob}
 use Rattle.sqlite_value.specs.Order.{Row, column, bytes}
-use Rattle.sqlite_value.specs.Keys.{plain, first_key, entry_cmp, prefix_cmp}
+use Rattle.sqlite_value.specs.Keys.{plain, entry_cmp, prefix_cmp}
 use Rattle.sqlite_value.proofs.KeyLemmas.{first_key-plain}
 use Rattle.sqlite_value.proofs.OrderLemmas.{value_cmp-Int, value_cmp-Blob, then-Equal}
-use Rattle.sqlite_trees.specs.Tree.{IsAscending, IsIndex, from_key, rowid}
+use Rattle.sqlite_trees.specs.Tree.{IsIndex, from_key, rowid}
 use Rattle.sqlite_trees.proofs.ListLemmas.{ascending-filter}
 use Rattle.sqlite_trees.proofs.TreeLemmas.{sorted_index, from_key-filter, prefix_cmp_follows, not_true}
 use Rattle.sqlite_sql.specs.Catalog.{entry_of, IsIndexOf}
@@ -21,7 +20,7 @@ use Rattle.sqlite_rules.specs.Lists.{Has}
 use Rattle.sqlite_rules.specs.Edit.{id_in}
 use Rattle.sqlite_rules.proofs.ListLemmas.{all_has, has_filtered, has_kept, has_contained, contains_had}
 use Rattle.sqlite_rules.proofs.ProbeLemmas.{mapped_has, has_mapped}
-use Rattle.pgtables.specs.Kept.{AreHeld, Copies, copies_in, held_row, key_in, number_in}
+use Rattle.pgtables.specs.Kept.{AreHeld, copies_in, key_in, number_in}
 use Rattle.pgrows.specs.Rows.{IsAt, IsFree, Stands, key_of}
 
 abbrev pub entry : Row → Row

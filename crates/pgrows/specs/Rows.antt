@@ -7,7 +7,7 @@ use Rattle.sqlite.specs.Tree.{Trees, rowid}
 use Rattle.sqlite.specs.View.{Snapshot, View, IsClean}
 use Rattle.sqlite.specs.Effect.{Database}
 use Rattle.sqlite.specs.Store.{Ghosts}
-use Rattle.sqlite.specs.State.{Savepoint, State, HasCleanDisk, KeepsCommit, Survives}
+use Rattle.sqlite.specs.State.{Savepoint, State, HasCleanDisk, KeepsCommit}
 use Rattle.sqlite_rules.specs.Lists.{Has}
 use Rattle.sqlite_rules.specs.Edit.{id_in}
 use Rattle.pgtables.specs.Schema.{store_schema}

@@ -1,4 +1,4 @@
-use Rattle.std.proofs.Common.{◌≡◌, ◌++◌, [], Some, refl, sym, ap, subst, ◌∙◌, arith, rules, to_z-of_z, SFits, w64}
+use Rattle.std.proofs.Common.{◌≡◌, ◌++◌, Some, sym, ap, subst, ◌∙◌, arith, rules, to_z-of_z, SFits, w64}
 use Rattle.sqlite_trees.specs.Tree.{Trees}
 use Rattle.sqlite_trees.specs.View.{View, IsClean}
 use Rattle.sqlite_rules.specs.Lists.{Has}

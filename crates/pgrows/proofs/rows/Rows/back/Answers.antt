@@ -1,4 +1,4 @@
-use Rattle.std.proofs.Common.{◌≡◌, ◌≢◌, [], false, arith, rules}
+use Rattle.std.proofs.Common.{◌≢◌, [], false, arith}
 use Rattle.sqlite_trees.specs.View.{IsClean}
 use Rattle.pgrows.specs.Rows.{GoesBack, IfServing, saved_in, state}
 use Rattle.pgrows.proofs.Found.{held_on, held_failed, keeps_failed}

@@ -1,4 +1,3 @@
-use Rattle.std.proofs.Common.{rules}
 use Rattle.pgrows.proofs.Found.{held_failed}
 use Rattle.pgrows.proofs.rows.Rows.delete_row.Goals as goal
 

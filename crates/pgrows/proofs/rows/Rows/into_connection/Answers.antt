@@ -1,5 +1,5 @@
-use Rattle.std.proofs.Common.{◌≡◌, Result, Ok, Err, IfOk, IsTrue, sym, ap, subst, ◌∙◌, arith}
-use Rattle.sqlite_trees.specs.View.{View, IsClean}
+use Rattle.std.proofs.Common.{Result, Ok, Err, IfOk, IsTrue, sym, ap, subst, ◌∙◌, arith}
+use Rattle.sqlite_trees.specs.View.{IsClean}
 use Rattle.sqlite.specs.State.{HasCleanDisk}
 use Rattle.pgrows.specs.Rows.{state}
 use Rattle.pgrows.proofs.Found.{open_of}

@@ -1,4 +1,4 @@
-use Rattle.std.proofs.Common.{arith, rules}
+use Rattle.std.proofs.Common.{arith}
 use Rattle.sqlite_trees.specs.View.{IsClean}
 use Rattle.pgrows.proofs.Found.{held_on, held_failed, keeps_failed, open_of}
 use Rattle.pgrows.proofs.Marked.{marked_under}
