@@ -42,10 +42,10 @@ module _ (o : ℕ) (i : List ℕ) (rows entries : List Row) (held : AreHeld rows
   abbrev key : Row
   key = key_of o i
 
-  abbrev passes : Row → Bool
+  abbrev pub passes : Row → Bool
   passes e = not (is_lt (prefix_cmp plain e key))
 
-  left_is : from_key plain key entries ≡ filter passes entries
+  pub left_is : from_key plain key entries ≡ filter passes entries
   left_is = from_key-filter plain key entries (sorted_index plain entries up)
 
   entry_row : (e : Row) → Has entries e → (r : Row) × Has rows r × (e ≡ entry r)
@@ -64,7 +64,7 @@ module _ (o : ℕ) (i : List ℕ) (rows entries : List Row) (held : AreHeld rows
   id_at : (r : Row) → Has rows r → rowid r ≡ Int (id_in (rowid r))
   id_at r h = ap rowid (held.formed r h)
 
-  compared : (r : Row) → Has rows r → prefix_cmp plain (entry r) key ≡ slice_cmp nat_cmp (key_in r) (o ∷ i)
+  pub compared : (r : Row) → Has rows r → prefix_cmp plain (entry r) key ≡ slice_cmp nat_cmp (key_in r) (o ∷ i)
   compared r h = ap (λ x. prefix_cmp plain (entry x) key) (held.formed r h) ∙ prefix_is (number_in (column r 1)) o (bytes (column r 2)) i (Int (id_in (rowid r)))
 
   tied : (r : Row) → Has rows r → key_in r ≡ o ∷ i → prefix_cmp plain (entry r) key ≡ Equal
@@ -88,10 +88,10 @@ module _ (o : ℕ) (i : List ℕ) (rows entries : List Row) (held : AreHeld rows
   none_left none r h is = subst (λ l. Has l (entry r)) none (is_left r h is)
 
   module _ (first : Row) (more : List Row) (left : from_key plain key entries ≡ first ∷ more) where
-    first_in : Has entries first × (passes first ≡ true)
+    pub first_in : Has entries first × (passes first ≡ true)
     first_in = has_filtered passes entries first (subst (λ l. Has l first) (sym left ∙ left_is) (inl refl))
 
-    before : (e : Row) → Has more e → entry_cmp plain first e ≡ Less
+    pub before : (e : Row) → Has more e → entry_cmp plain first e ≡ Less
     before e h = all_has _ more e (subst (IsIndex plain) (sym left_is ∙ left) (ascending-filter _ passes entries up)).0 h
 
     pub first_other : ((id : ℤ) → ¬ IsAt o i first id) → IsFree o i rows

@@ -38,6 +38,9 @@ pub struct Rows<S: Alter> {
     key: Row,
     found: Row,
     row: Row,
+    // The entry of the row that came last, or nothing, and the first one behind it: what comes between them needs no search.
+    low: Row,
+    high: Row,
     // No row of the commit, of a mark or of the transaction has a rowid above it. It isn't known before the first change.
     last: Option<i64>,
     failed: bool,
@@ -52,7 +55,7 @@ impl<S: Alter> Model for Rows<S> {
 
     ghost view = { λ r. r.store };
 
-    ghost invariant = { λ r. IsHeld S.Store r.store r.last r.failed };
+    ghost invariant = { λ r. IsHeld S.Store r.store r.last r.low r.high r.failed };
 }
 
 impl<S: Alter + Drop> Rows<S> {
@@ -78,6 +81,8 @@ impl<S: Alter + Drop> Rows<S> {
             key: Row::new(alloc),
             found: Row::new(alloc),
             row: Row::new(alloc),
+            low: Row::new(alloc),
+            high: Row::new(alloc),
             last: None,
             failed: false,
         }
@@ -130,8 +135,8 @@ impl<S: Alter> Rows<S> {
         }
         match add(
             &mut self.store,
-            &mut self.key,
-            &mut self.found,
+            &mut self.low,
+            &mut self.high,
             &mut self.row,
             self.last,
             oid,
@@ -210,6 +215,7 @@ impl<S: Alter> Rows<S> {
         if self.failed {
             return Err(StoreError::Broken);
         }
+        self.low.clear(); // The row may come between them.
         match put(
             &mut self.store,
             &mut self.key,
@@ -495,6 +501,7 @@ impl<S: Alter> Rows<S> {
             Keeps S.Store self.old self.new }
         ensures survives { Survives (state S.Store self.old) (state S.Store self.new) (λ _. ⊥) }
     {
+        self.low.clear(); // So may those that come back.
         match self.store.rollback_to() {
             Ok(()) => {
                 self.failed = false;
@@ -515,6 +522,7 @@ impl<S: Alter> Rows<S> {
         ensures survives { Survives (state S.Store self.old) (state S.Store self.new) (λ _. ⊥) }
     {
         self.store.rollback();
+        self.low.clear(); // Rows that come back may stand between them.
         self.failed = false;
     }
 
@@ -535,7 +543,11 @@ impl<S: Alter> Rows<S> {
             self.undo();
             return Err(StoreError::Broken);
         }
-        self.store.commit()
+        let committed = self.store.commit();
+        if committed.is_err() {
+            self.low.clear();
+        }
+        committed
     }
 
     /// Gives all rows with their relation's OID, namespace and name, their bytes and how often they stand, by OID and then by the
