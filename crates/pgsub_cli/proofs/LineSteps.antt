@@ -1,14 +1,19 @@
 -- Lines on their way to an output, from one step to the next.
-use Rattle.std.proofs.Common.{◌≡◌, ◌++◌, ℕ, List, [], ◌∷◌, Option, None, Some, Ok, Err, refl, sym, ap, subst, ◌∙◌, inl, inr}
+use Rattle.std.proofs.Common.{◌≡◌, ◌≢◌, ◌++◌, ℕ, List, [], ◌∷◌, Bool, true, false, Option, None, Some, Result, Ok, Err, IfOk, IfErr, refl, sym, ap, subst, ◌∙◌, inl, inr}
+use Rattle.std.specs.List.{flat_map}
+use Rattle.std.proofs.lemmas.Grind.{flat_map-append}
 use Rattle.std.proofs.lemmas.List.{append_assoc, append-nil}
+use Rattle.pgapply.specs.declared.rows.DumpRow.{DumpRow}
 use Rattle.pgapply.specs.declared.rows.StoreFault.{StoreFault}
 use Rattle.pgapply.specs.Stored.{IsOwnFault}
 use Rattle.pgsub_core.specs.Faults.{IsReadFault, fault_of_store}
 use Rattle.pgsub_core.specs.declared.fault.Fault.{Fault}
 use Rattle.pgsub_core.specs.declared.fault.Fault.TheVariants.{Memory}
+use Rattle.pgsub_cli.specs.declared.fault.Ending.{Ending}
 use Rattle.pgsub_cli.specs.declared.fault.Ending.TheVariants.{Done}
 use Rattle.pgsub_cli.specs.declared.fault.RunFault.{RunFault}
 use Rattle.pgsub_cli.specs.declared.fault.RunFault.TheVariants as run
+use Rattle.pgsub_cli.specs.DumpText.{dump_of, position_line, row_line}
 use Rattle.pgsub_cli.specs.Dumped.{AreWritten, PrintsLines, WrittenFront, joined}
 use Rattle.pgsub_cli.specs.Lines.{IsWriting}
 
@@ -26,8 +31,8 @@ module _ {W : Type 0} (takes : W → List ℕ → W → Type 0) (failed : W → 
   begins old bytes lines is = record { pieces = []; rest = lines; mid = old; written = refl; is = is; stands = (refl, refl) }
 
   module _ {old : W} {bytes : List ℕ} {out : W} {lines : List ℕ} where
-    pub flushed : (fault : Option RunFault) → fault ≡ None → Writing old bytes out lines fault → (new : W) (next : List ℕ) → takes out lines new → next ≡ [] → Writing old bytes new next None
-    flushed None none w new next took empty = record {
+    pub flushed : Writing old bytes out lines None → (new : W) (next : List ℕ) → takes out lines new → next ≡ [] → Writing old bytes new next None
+    flushed w new next took empty = record {
       pieces = lines ∷ w.pieces;
       rest = [];
       mid = new;
@@ -35,10 +40,9 @@ module _ {W : Type 0} (takes : W → List ℕ → W → Type 0) (failed : W → 
       is = w.is ∙ ap (λ l. joined w.pieces ++ l) w.stands.1 ∙ sym (append-nil (joined w.pieces ++ lines));
       stands = (refl, sym empty);
     }
-    flushed (Some f) none w new next took empty = absurd (cc)
 
-    pub kept : (fault : Option RunFault) → fault ≡ None → Writing old bytes out lines fault → (text next : List ℕ) → next ≡ lines ++ text → Writing old (bytes ++ text) out next None
-    kept None none w text next is = record {
+    pub kept : Writing old bytes out lines None → (text next : List ℕ) → next ≡ lines ++ text → Writing old (bytes ++ text) out next None
+    kept w text next is = record {
       pieces = w.pieces;
       rest = w.rest ++ text;
       mid = w.mid;
@@ -46,17 +50,18 @@ module _ {W : Type 0} (takes : W → List ℕ → W → Type 0) (failed : W → 
       is = ap (λ l. l ++ text) w.is ∙ append_assoc (joined w.pieces) w.rest text;
       stands = (w.stands.0, ap (λ l. l ++ text) w.stands.1 ∙ sym is);
     }
-    kept (Some f) none w text next is = absurd (cc)
 
-    pub unwritten : (fault : Option RunFault) → fault ≡ None → Writing old bytes out lines fault → (new : W) (next : List ℕ) → failed out → Writing old bytes new next (Some run.CannotWrite)
-    unwritten None none w new next h = record { pieces = w.pieces; rest = w.rest; mid = w.mid; written = w.written; is = w.is; stands = subst failed w.stands.0 h }
-    unwritten (Some f) none w new next h = absurd (cc)
+    unwritten : Writing old bytes out lines None → (new : W) (next : List ℕ) → failed out → Writing old bytes new next (Some run.CannotWrite)
+    unwritten w new next h = record { pieces = w.pieces; rest = w.rest; mid = w.mid; written = w.written; is = w.is; stands = subst failed w.stands.0 h }
 
-    pub starved : (fault : Option RunFault) → fault ≡ None → Writing old bytes out lines fault → (next : List ℕ) → Writing old bytes out next (Some (run.Stream Memory))
-    starved None none w next = record { pieces = w.pieces; rest = w.rest; mid = w.mid; written = w.written; is = w.is; stands = (refl, w.stands.0) }
-    starved (Some f) none w next = absurd (cc)
+    -- writing stopped with this fault
+    pub stuck : Writing old bytes out lines None → (new : W) (next : List ℕ) (f : RunFault) → (f ≡ run.CannotWrite) × failed out → Writing old bytes new next (Some f)
+    stuck w new next f is = subst (λ g. Writing old bytes new next (Some g)) (sym is.0) (unwritten w new next is.1)
 
-    -- what is written is a front, where nothing else follows the bytes
+    pub starved : Writing old bytes out lines None → (next : List ℕ) → Writing old bytes out next (Some (run.Stream Memory))
+    starved w next = record { pieces = w.pieces; rest = w.rest; mid = w.mid; written = w.written; is = w.is; stands = (refl, w.stands.0) }
+
+    -- what is written is a front, whatever follows the bytes
     front : (w : Writing old bytes out lines None) → (more : List ℕ) → WrittenFront takes old (bytes ++ more) out
     front w more = (
       joined w.pieces,
@@ -83,15 +88,39 @@ module _ {W : Type 0} (takes : W → List ℕ → W → Type 0) (failed : W → 
     stops run.NotAnLsn w more = absurd w.stands
 
     -- they stop for this fault of reading
-    pub unread : (fault : Option RunFault) → fault ≡ None → Writing old bytes out lines fault → (more : List ℕ) (f : Fault) → IsReadFault f → PrintsLines takes failed (bytes ++ more) old out (Err (run.Stream f))
-    unread None none w more f read = (read, front w more)
-    unread (Some g) none w more f read = absurd (cc)
+    pub unread : Writing old bytes out lines None → (more : List ℕ) (f : Fault) → IsReadFault f → PrintsLines takes failed (bytes ++ more) old out (Err (run.Stream f))
+    unread w more f read = (read, front w more)
 
     -- all is written
-    pub done : (fault : Option RunFault) → fault ≡ None → lines ≡ [] → Writing old bytes out lines fault → PrintsLines takes failed bytes old out (Ok Done)
-    done None none empty w = (
+    pub done : Writing old bytes out lines None → lines ≡ [] → PrintsLines takes failed bytes old out (Ok Done)
+    done w empty = (
       w.pieces,
       sym (w.is ∙ ap (λ l. joined w.pieces ++ l) (w.stands.1 ∙ empty) ∙ append-nil (joined w.pieces)),
       subst (λ s. AreWritten takes old w.pieces s) (sym w.stands.0) w.written,
     )
-    done (Some f) none empty w = absurd (cc)
+
+  -- writing the last lines stopped with this fault
+  pub unfinished : {old : W} {bytes : List ℕ} {out : W} {lines : List ℕ} → Writing old bytes out lines None → (new : W) (f : RunFault) → (f ≡ run.CannotWrite) × failed out → PrintsLines takes failed bytes old new (Err f)
+  unfinished {old} {bytes} w new f is =
+      subst (λ bs. PrintsLines takes failed bs old new (Err f)) (append-nil bytes) (stops f (stuck w new [] f is) [])
+
+  module _ (rows : List DumpRow) (position : ℕ) (read : Result Bool StoreFault) (out mid : W) (lines : List ℕ) (fault : Option RunFault) (new : W) (ended : Result Ending RunFault) where
+    -- how these rows end that were read so
+    abbrev Ends : Type 0
+    Ends = (old : W) (bytes more : List ℕ) → Writing old bytes mid lines fault → IfErr read IsOwnFault → (read ≡ Ok true → more ≡ position_line position) → PrintsLines takes failed (bytes ++ more) old new ended
+
+    abbrev Front : Type 0
+    Front = (done : List DumpRow) × (left : List DumpRow) × (rows ≡ done ++ left) × Writing out (flat_map row_line done) mid lines fault
+
+    front_dumped : read ≢ Ok true → Front → IfErr read IsOwnFault → Ends → PrintsLines takes failed (dump_of rows position) out new ended
+    front_dumped no (done, left, is, writing) own ends =
+        let are : dump_of rows position ≡ flat_map row_line done ++ (flat_map row_line left ++ position_line position) =
+          ap (λ (rs : List DumpRow). flat_map row_line rs ++ position_line position) is ∙ ap (λ (l : List ℕ). l ++ position_line position) (flat_map-append row_line done left)
+          ∙ append_assoc (flat_map row_line done) (flat_map row_line left) (position_line position) in
+        subst (λ (bytes : List ℕ). PrintsLines takes failed bytes out new ended) (sym are) (ends out (flat_map row_line done) (flat_map row_line left ++ position_line position) writing own (λ e. absurd (no e)))
+
+  pub dumped : (rows : List DumpRow) (position : ℕ) (read : Result Bool StoreFault) (out mid : W) (lines : List ℕ) (fault : Option RunFault) (new : W) (ended : Result Ending RunFault) → Front rows position read out mid lines fault new ended
+      → IfOk read (λ all. all ≡ true → Writing out (flat_map row_line rows) mid lines fault) → IfErr read IsOwnFault → Ends rows position read out mid lines fault new ended → PrintsLines takes failed (dump_of rows position) out new ended
+  dumped rows position (Ok true) out mid lines fault new ended front all own ends = ends out (flat_map row_line rows) (position_line position) (all refl) own (λ _. refl)
+  dumped rows position (Ok false) out mid lines fault new ended front all own ends = front_dumped rows position (Ok false) out mid lines fault new ended (λ e. absurd (cc)) front own ends
+  dumped rows position (Err f) out mid lines fault new ended front all own ends = front_dumped rows position (Err f) out mid lines fault new ended (λ e. absurd (cc)) front own ends

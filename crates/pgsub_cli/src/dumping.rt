@@ -1,6 +1,6 @@
 //! Prints what a store holds, row by row as it is read.
 
-ghost use Rattle.std.specs.Prelude.{◌≡◌, ◌≢◌, ◌≤◌, ◌++◌, [], ℕ, List, Result, Ok, Some, None, true, false, IsOk, IfOk, IfErr, string_bytes};
+ghost use Rattle.std.specs.Prelude.{◌≡◌, ◌≤◌, ◌++◌, [], ℕ, List, Result, Ok, Some, None, true, OnOk, IfErr, string_bytes};
 ghost use Rattle.sqlite.specs.State.{Survives};
 ghost use Rattle.pgapply.specs.Dump.{dump};
 ghost use Rattle.pgapply.specs.Stored.{IsOwnFault, Stored};
@@ -9,7 +9,7 @@ ghost use Rattle.pgstore.specs.StoreValue.{Holds, IsHonest, Serves, Stays};
 ghost use Rattle.pgsub_cli.specs.declared.fault.Ending.{Ending};
 ghost use Rattle.pgsub_cli.specs.declared.fault.RunFault.{RunFault};
 ghost use Rattle.pgsub_cli.specs.declared.fault.RunFault.TheVariants.{CannotWrite};
-ghost use Rattle.pgsub_cli.specs.DumpText.{position_line};
+ghost use Rattle.pgsub_cli.specs.DumpText.{position_line, row_line};
 ghost use Rattle.pgsub_cli.specs.Dumped.{Dumps, PrintsLines};
 ghost use Rattle.pgsub_cli.specs.Lines.{IsWriting};
 ghost use Rattle.pgsub_cli.specs.Runs.{Tells, status_of};
@@ -29,117 +29,119 @@ use std::alloc::{AllocError, Global};
 /// Lines are written once they have so many bytes.
 const PIECE_LEN: usize = 65_536;
 
-/// Writes a line for each row that it takes, many lines at a time.
+/// Lines on their way to an output, many of which are written at a time.
 #[derive(Drop)]
-struct LineSink<W: Output + Drop> {
+struct Lines<W: Output + Drop> {
     alloc: Global,
     out: W,
-    lines: String,
+    text: String,
+}
+
+impl<W: Output + Drop> Lines<W> {
+    /// Writes the lines that are kept.
+    fn write(&mut self) -> Result<(), RunFault>
+        ensures written { OnOk result ((old : W) (bytes : List ℕ) →
+            IsWriting W.takes W.failed old bytes self.old.out (string_bytes self.old.text) None →
+            IsWriting W.takes W.failed old bytes self.new.out (string_bytes self.new.text) None) }
+        ensures cleared { OnOk result (string_bytes self.new.text ≡ []) }
+        ensures failed { IfErr result (λ f. (f ≡ CannotWrite) × W.failed self.old.out) }
+    {
+        match self.out.write_lines(self.text.as_str()) {
+            Ok(()) => {
+                self.text.clear();
+                Ok(())
+            }
+            Err(_) => Err(RunFault::CannotWrite),
+        }
+    }
+
+    /// Keeps a line behind the others, and writes all once they are many.
+    fn add(&mut self, line: &str) -> Result<(), RunFault>
+        ensures added { OnOk result ((old : W) (bytes : List ℕ) →
+            IsWriting W.takes W.failed old bytes self.old.out (string_bytes self.old.text) None →
+            IsWriting W.takes W.failed old (bytes ++ line.now) self.new.out
+            (string_bytes self.new.text) None) }
+        ensures stays { IfErr result (λ f. (old : W) (bytes : List ℕ) →
+            IsWriting W.takes W.failed old bytes self.old.out (string_bytes self.old.text) None →
+            IsWriting W.takes W.failed old bytes self.new.out (string_bytes self.new.text)
+            (Some f)) }
+    {
+        if self.text.push_str(line).is_err() {
+            return Err(RunFault::Stream(Fault::Memory));
+        }
+        if self.text.len() < PIECE_LEN {
+            return Ok(());
+        }
+        self.write()
+    }
+
+    /// Keeps the line of a row.
+    fn add_row(&mut self, row: &DumpRow) -> Result<(), RunFault>
+        ensures added { OnOk result ((old : W) (bytes : List ℕ) →
+            IsWriting W.takes W.failed old bytes self.old.out (string_bytes self.old.text) None →
+            IsWriting W.takes W.failed old (bytes ++ row_line row.now) self.new.out
+            (string_bytes self.new.text) None) }
+        ensures stays { IfErr result (λ f. (old : W) (bytes : List ℕ) →
+            IsWriting W.takes W.failed old bytes self.old.out (string_bytes self.old.text) None →
+            IsWriting W.takes W.failed old bytes self.new.out (string_bytes self.new.text)
+            (Some f)) }
+    {
+        match line_text(self.alloc, row) {
+            Ok(line) => self.add(line.as_str()),
+            Err(AllocError) => Err(RunFault::Stream(Fault::Memory)),
+        }
+    }
+
+    /// Keeps the line of the position.
+    fn add_position(&mut self, position: Lsn) -> Result<(), RunFault>
+        ensures added { OnOk result ((old : W) (bytes : List ℕ) →
+            IsWriting W.takes W.failed old bytes self.old.out (string_bytes self.old.text) None →
+            IsWriting W.takes W.failed old (bytes ++ position_line position) self.new.out
+            (string_bytes self.new.text) None) }
+        ensures stays { IfErr result (λ f. (old : W) (bytes : List ℕ) →
+            IsWriting W.takes W.failed old bytes self.old.out (string_bytes self.old.text) None →
+            IsWriting W.takes W.failed old bytes self.new.out (string_bytes self.new.text)
+            (Some f)) }
+    {
+        match position_text(self.alloc, position) {
+            Ok(line) => self.add(line.as_str()),
+            Err(AllocError) => Err(RunFault::Stream(Fault::Memory)),
+        }
+    }
+
+    /// Writes the line of the position behind the others.
+    fn finish(&mut self, position: Lsn) -> Result<Ending, RunFault>
+        ensures { (old : W) (bytes : List ℕ) →
+            IsWriting W.takes W.failed old bytes self.old.out (string_bytes self.old.text) None →
+            PrintsLines W.takes W.failed (bytes ++ position_line position) old self.new.out result }
+    {
+        self.add_position(position)?;
+        self.write()?;
+        Ok(Ending::Done)
+    }
+}
+
+/// Writes a line for each row that it takes, up to the first fault.
+#[derive(Drop)]
+struct LineSink<W: Output + Drop> {
+    lines: Lines<W>,
     fault: Option<RunFault>,
 }
 
 impl<W: Output + Drop> LineSink<W> {
-    /// Writes the lines that are kept.
-    fn write(&mut self) -> bool
-        requires { self.old.fault ≡ None }
-        ensures written { result ≡ true → (old : W) (bytes : List ℕ) →
-            IsWriting W.takes W.failed old bytes self.old.out (string_bytes self.old.lines)
-            self.old.fault →
-            IsWriting W.takes W.failed old bytes self.new.out (string_bytes self.new.lines)
-            self.new.fault }
-        ensures cleared { result ≡ true → string_bytes self.new.lines ≡ [] }
-        ensures going { result ≡ true → self.new.fault ≡ None }
-        ensures stopped { result ≡ false → (self.new.fault ≡ Some CannotWrite)
-            × W.failed self.old.out }
-    {
-        if self.out.write_lines(self.lines.as_str()).is_err() {
-            self.fault = Some(RunFault::CannotWrite);
-            return false;
-        }
-        self.lines.clear();
-        true
-    }
-
-    /// Keeps a line behind the others, and writes all once they are many.
-    fn add(&mut self, line: &str) -> bool
-        requires { self.old.fault ≡ None }
-        ensures added { result ≡ true → (old : W) (bytes : List ℕ) →
-            IsWriting W.takes W.failed old bytes self.old.out (string_bytes self.old.lines)
-            self.old.fault →
-            IsWriting W.takes W.failed old (bytes ++ line.now) self.new.out
-            (string_bytes self.new.lines) self.new.fault }
-        ensures stays { result ≡ false → (old : W) (bytes : List ℕ) →
-            IsWriting W.takes W.failed old bytes self.old.out (string_bytes self.old.lines)
-            self.old.fault →
-            IsWriting W.takes W.failed old bytes self.new.out (string_bytes self.new.lines)
-            self.new.fault }
-        ensures going { result ≡ true → self.new.fault ≡ None }
-        ensures stopped { result ≡ false → self.new.fault ≢ None }
-    {
-        if self.lines.push_str(line).is_err() {
-            self.fault = Some(RunFault::Stream(Fault::Memory));
-            return false;
-        }
-        self.lines.len() < PIECE_LEN || self.write()
-    }
-
-    /// Keeps the line that was made, or notes that there was no memory for it.
-    fn add_made(&mut self, line: Result<String, AllocError>) -> bool
-        requires { self.old.fault ≡ None }
-        ensures made { result ≡ true → IsOk line }
-        ensures added { result ≡ true → IfOk line (λ text. (old : W) (bytes : List ℕ) →
-            IsWriting W.takes W.failed old bytes self.old.out (string_bytes self.old.lines)
-            self.old.fault →
-            IsWriting W.takes W.failed old (bytes ++ string_bytes text) self.new.out
-            (string_bytes self.new.lines) self.new.fault) }
-        ensures stays { result ≡ false → (old : W) (bytes : List ℕ) →
-            IsWriting W.takes W.failed old bytes self.old.out (string_bytes self.old.lines)
-            self.old.fault →
-            IsWriting W.takes W.failed old bytes self.new.out (string_bytes self.new.lines)
-            self.new.fault }
-        ensures going { result ≡ true → self.new.fault ≡ None }
-        ensures stopped { result ≡ false → self.new.fault ≢ None }
-    {
-        match line {
-            Ok(line) => self.add(line.as_str()),
-            Err(AllocError) => {
-                self.fault = Some(RunFault::Stream(Fault::Memory));
-                false
-            }
-        }
-    }
-
-    /// Prints the line of the position behind the others.
-    fn finish(&mut self, position: Lsn) -> Result<Ending, RunFault>
-        requires { self.old.fault ≡ None }
-        ensures { (old : W) (bytes : List ℕ) →
-            IsWriting W.takes W.failed old bytes self.old.out (string_bytes self.old.lines)
-            self.old.fault →
-            PrintsLines W.takes W.failed (bytes ++ position_line position) old self.new.out result }
-    {
-        let line = position_text(self.alloc, position);
-        if self.add_made(line) && self.write() {
-            return Ok(Ending::Done);
-        }
-        match self.fault {
-            Some(fault) => Err(fault),
-            None => unreachable!(),
-        }
-    }
-
     /// Ends where the rows were read so.
     fn end(&mut self, read: Result<bool, StoreFault>, position: Lsn) -> Result<Ending, RunFault>
         ensures { (old : W) (bytes more : List ℕ) →
-            IsWriting W.takes W.failed old bytes self.old.out (string_bytes self.old.lines)
-            self.old.fault → IfErr read IsOwnFault →
+            IsWriting W.takes W.failed old bytes self.old.lines.out
+            (string_bytes self.old.lines.text) self.old.fault → IfErr read IsOwnFault →
             (read ≡ Ok true → more ≡ position_line position) →
-            PrintsLines W.takes W.failed (bytes ++ more) old self.new.out result }
+            PrintsLines W.takes W.failed (bytes ++ more) old self.new.lines.out result }
     {
         if let Some(fault) = self.fault {
             return Err(fault);
         }
         match read {
-            Ok(true) => self.finish(position),
+            Ok(true) => self.lines.finish(position),
             Ok(false) => Err(RunFault::Stream(Fault::Memory)),
             Err(fault) => Err(RunFault::Stream(store_fault(fault))),
         }
@@ -152,9 +154,9 @@ impl<W: Output + Drop> DumpSink for LineSink<W> {
     ghost use Rattle.pgsub_cli.specs.DumpText.{row_line};
     ghost use Rattle.pgsub_cli.specs.Lines.{IsWriting};
 
-    ghost has_taken = { λ start sink rows. IsWriting W.takes W.failed start.out
-        (string_bytes start.lines ++ flat_map row_line rows) sink.out (string_bytes sink.lines)
-        sink.fault };
+    ghost has_taken = { λ start sink rows. IsWriting W.takes W.failed start.lines.out
+        (string_bytes start.lines.text ++ flat_map row_line rows) sink.lines.out
+        (string_bytes sink.lines.text) sink.fault };
 
     ghost has_stopped = { λ sink. sink.fault ≢ None };
 
@@ -162,7 +164,13 @@ impl<W: Output + Drop> DumpSink for LineSink<W> {
         if self.fault.is_some() {
             return false;
         }
-        self.add_made(line_text(self.alloc, &row))
+        match self.lines.add_row(&row) {
+            Ok(()) => true,
+            Err(fault) => {
+                self.fault = Some(fault);
+                false
+            }
+        }
     }
 }
 
@@ -180,15 +188,12 @@ fn write_rows<S: Alter + Drop, W: Output + Drop>(
     ensures crash { Survives (state S.Store store.old.rows) (state S.Store store.new.rows) (λ _. ⊥) }
 {
     let position = store.position();
-    let sink = LineSink {
-        alloc,
-        out,
-        lines: String::new(alloc),
-        fault: None,
-    };
+    let text = String::new(alloc);
+    let lines = Lines { alloc, out, text };
+    let sink = LineSink { lines, fault: None };
     let (read, mut sink) = store.each_row(sink);
     let ended = sink.end(read, position);
-    (ended, sink.out)
+    (ended, sink.lines.out)
 }
 
 /// Prints the rows of a store and its position, row by row, with the memory of one row and some lines. Returns the exit status, the
