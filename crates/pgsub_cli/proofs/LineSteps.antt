@@ -1,4 +1,5 @@
 -- Lines on their way to an output, from one step to the next.
+use Rattle.std.specs.Prelude.{IsErrAnd}
 use Rattle.std.proofs.Common.{◌≡◌, ◌≢◌, ◌++◌, ℕ, List, [], ◌∷◌, Bool, true, false, Option, None, Some, Result, Ok, Err, IfOk, IfErr, refl, sym, ap, subst, ◌∙◌, inl, inr}
 use Rattle.std.specs.List.{flat_map}
 use Rattle.std.proofs.lemmas.Grind.{flat_map-append}
@@ -87,6 +88,10 @@ module _ {W : Type 0} (takes : W → List ℕ → W → Type 0) (failed : W → 
     stops (run.CannotRead side) w more = absurd w.stands
     stops run.NotAnLsn w more = absurd w.stands
 
+    pub stops_as : (r : Result Ending RunFault) (f : RunFault) → IsErrAnd r (λ y. y ≡ f) → Writing old bytes out lines (Some f) → (more : List ℕ) → PrintsLines takes failed (bytes ++ more) old out r
+    stops_as (Ok e) f is w more = absurd is
+    stops_as (Err y) f is w more = stops y (subst (λ g. Writing old bytes out lines (Some g)) (sym is) w) more
+
     -- they stop for this fault of reading
     pub unread : Writing old bytes out lines None → (more : List ℕ) (f : Fault) → IsReadFault f → PrintsLines takes failed (bytes ++ more) old out (Err (run.Stream f))
     unread w more f read = (read, front w more)
@@ -100,9 +105,14 @@ module _ {W : Type 0} (takes : W → List ℕ → W → Type 0) (failed : W → 
     )
 
   -- writing the last lines stopped with this fault
-  pub unfinished : {old : W} {bytes : List ℕ} {out : W} {lines : List ℕ} → Writing old bytes out lines None → (new : W) (f : RunFault) → (f ≡ run.CannotWrite) × failed out → PrintsLines takes failed bytes old new (Err f)
-  unfinished {old} {bytes} w new f is =
-      subst (λ bs. PrintsLines takes failed bs old new (Err f)) (append-nil bytes) (stops f (stuck w new [] f is) [])
+  pub unfinished : (old : W) (bytes : List ℕ) (out : W) (lines : List ℕ) → Writing old bytes out lines None → (new : W) (r : Result Ending RunFault) (f : RunFault) → IsErrAnd r (λ y. y ≡ f) → (f ≡ run.CannotWrite) × failed out
+      → PrintsLines takes failed bytes old new r
+  unfinished old bytes out lines w new r f err is =
+      subst (λ bs. PrintsLines takes failed bs old new r) (append-nil bytes) (stops_as r f err (stuck w new [] f is) [])
+
+  -- an empty text in front of the bytes
+  pub unbegun : {old : W} {bytes : List ℕ} {out : W} {lines : List ℕ} {fault : Option RunFault} (text : List ℕ) → text ≡ [] → Writing old (text ++ bytes) out lines fault → Writing old bytes out lines fault
+  unbegun {old} {bytes} {out} {lines} {fault} text is = subst (λ t. Writing old (t ++ bytes) out lines fault) is
 
   module _ (rows : List DumpRow) (position : ℕ) (read : Result Bool StoreFault) (out mid : W) (lines : List ℕ) (fault : Option RunFault) (new : W) (ended : Result Ending RunFault) where
     -- how these rows end that were read so
@@ -113,11 +123,11 @@ module _ {W : Type 0} (takes : W → List ℕ → W → Type 0) (failed : W → 
     Front = (done : List DumpRow) × (left : List DumpRow) × (rows ≡ done ++ left) × Writing out (flat_map row_line done) mid lines fault
 
     front_dumped : read ≢ Ok true → Front → IfErr read IsOwnFault → Ends → PrintsLines takes failed (dump_of rows position) out new ended
-    front_dumped no (done, left, is, writing) own ends =
+    front_dumped other (done, left, is, writing) own ends =
         let are : dump_of rows position ≡ flat_map row_line done ++ (flat_map row_line left ++ position_line position) =
           ap (λ (rs : List DumpRow). flat_map row_line rs ++ position_line position) is ∙ ap (λ (l : List ℕ). l ++ position_line position) (flat_map-append row_line done left)
           ∙ append_assoc (flat_map row_line done) (flat_map row_line left) (position_line position) in
-        subst (λ (bytes : List ℕ). PrintsLines takes failed bytes out new ended) (sym are) (ends out (flat_map row_line done) (flat_map row_line left ++ position_line position) writing own (λ e. absurd (no e)))
+        subst (λ (bytes : List ℕ). PrintsLines takes failed bytes out new ended) (sym are) (ends out (flat_map row_line done) (flat_map row_line left ++ position_line position) writing own (λ e. absurd (other e)))
 
   pub dumped : (rows : List DumpRow) (position : ℕ) (read : Result Bool StoreFault) (out mid : W) (lines : List ℕ) (fault : Option RunFault) (new : W) (ended : Result Ending RunFault) → Front rows position read out mid lines fault new ended
       → IfOk read (λ all. all ≡ true → Writing out (flat_map row_line rows) mid lines fault) → IfErr read IsOwnFault → Ends rows position read out mid lines fault new ended → PrintsLines takes failed (dump_of rows position) out new ended

@@ -137,13 +137,11 @@ impl<W: Output + Drop> LineSink<W> {
             (read ≡ Ok true → more ≡ position_line position) →
             PrintsLines W.takes W.failed (bytes ++ more) old self.new.lines.out result }
     {
-        if let Some(fault) = self.fault {
-            return Err(fault);
-        }
-        match read {
-            Ok(true) => self.lines.finish(position),
-            Ok(false) => Err(RunFault::Stream(Fault::Memory)),
-            Err(fault) => Err(RunFault::Stream(store_fault(fault))),
+        match (self.fault, read) {
+            (Some(fault), _) => Err(fault),
+            (None, Ok(true)) => self.lines.finish(position),
+            (None, Ok(false)) => Err(RunFault::Stream(Fault::Memory)),
+            (None, Err(fault)) => Err(RunFault::Stream(store_fault(fault))),
         }
     }
 }
