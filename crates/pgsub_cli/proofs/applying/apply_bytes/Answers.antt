@@ -15,3 +15,6 @@ returns-clause-applied g c =
     lines_of_new holds_tables position_of lines_of c.in_ok-subscriber.subscriber shows.0 c.args.limits c.args.version (shows.1.0 ∷ []) (fault_of_feeding printed.stopped) (string_bytes printed.lines)
     c.fed_sessions_are_followed.ensures.followed new.empty new.state shows.1.2 in
     (shows.1.0, shows.1.1, told.0, told.1, told.2))
+
+pub returns-clause-fault : goal.returns-clause-fault
+returns-clause-fault g c = c.apply_read.ensures.fault c.stores_on_memory_disks_are_honest.ensures

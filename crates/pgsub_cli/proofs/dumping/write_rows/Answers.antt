@@ -12,10 +12,9 @@ returns-clause-dumps g c honest serves v holds =
     let takes = g.W.Output.takes in
     let failed = g.W.Output.failed in
     let text = string_bytes c.new-text.result in
-    let start = record { lines = record { alloc = c.args.alloc; out = c.args.out; text = c.new-text.result }; fault = None } in
     let first = begins takes failed c.args.out _ text (append-nil text) in
-    let front = c.each_row-read.ensures.front honest v holds start first in
-    let all = if_ok c.each_row-read.result.0 _ _ (c.each_row-read.ensures.all honest) (λ whole given is. unbegun takes failed text c.new-text.ensures.bytes (given is v holds start first)) in
+    let front = c.each_row-read.ensures.front honest v holds (record { lines = record { alloc = c.args.alloc; out = c.args.out; text = c.new-text.result }; fault = None }) first in
+    let all = if_ok c.each_row-read.result.0 _ _ (c.each_row-read.ensures.all honest) (λ whole given is. unbegun takes failed text c.new-text.ensures.bytes (given is v holds (record { lines = record { alloc = c.args.alloc; out = c.args.out; text = c.new-text.result }; fault = None }) first)) in
     let sink = c.each_row-read.result.1 in
     subst (λ at. PrintsLines takes failed (dump_of (dump v.tables) at) c.args.out c.end-ended.new.self.lines.out c.end-ended.result) (c.position-position.ensures.position ∙ sym holds.position)
     (dumped takes failed (dump v.tables) c.position-position.result c.each_row-read.result.0 c.args.out sink.lines.out (string_bytes sink.lines.text) sink.fault c.end-ended.new.self.lines.out c.end-ended.result
