@@ -197,7 +197,7 @@ fn dump_over(rt: &HostRuntime, task: &Task, path: &str) -> u8 {
     }
     match Store::open_with(rt.alloc(), rt, path, cache_of(task), Unknown) {
         Ok(store) => {
-            let (status, store, _) = run_dump(rt.alloc(), store, rt.stdout(), &mut err);
+            let (status, store, _out) = run_dump(rt.alloc(), store, rt.stdout(), &mut err);
             let _ = store.close_files();
             status
         }
@@ -255,6 +255,9 @@ fn run_live(rt: &HostRuntime, limits: Limits, version: Version, path: &str, cach
     }
 }
 
+/// Ends a value. It is of any type, since a proof over the store's own asks for what holds of each of its parts.
+fn end<T: Drop>(_value: T) {}
+
 /// Applies a recording or a file to a store in memory, which ends with the program, and tells meanwhile how far it is.
 fn run_in_memory(rt: &HostRuntime, task: &Task) -> u8 {
     let mut err = rt.stderr();
@@ -268,7 +271,17 @@ fn run_in_memory(rt: &HostRuntime, task: &Task) -> u8 {
             let reporter = reporter_of(rt, task, &input);
             let told = reporter.as_ref();
             let limits = limits_of(task);
-            run_opened(rt.alloc(), store, limits, input, told, &mut out, &mut err).0
+            let (status, store) = run_opened(
+                rt.alloc(),
+                store,
+                limits,
+                input,
+                told,
+                &mut out,
+                &mut err,
+            );
+            end(store);
+            status
         }
         Err(fault) => {
             let stopped = RunFault::Stream(store_fault(fault));
