@@ -125,8 +125,8 @@ module _ {W : Type 0} (takes : W → List ℕ → W → Type 0) (failed : W → 
     front_dumped : read ≢ Ok true → Front → IfErr read IsOwnFault → Ends → PrintsLines takes failed (dump_of rows position) out new ended
     front_dumped other (done, left, is, writing) own ends =
         let are : dump_of rows position ≡ flat_map row_line done ++ (flat_map row_line left ++ position_line position) =
-          ap (λ (rs : List DumpRow). flat_map row_line rs ++ position_line position) is ∙ ap (λ (l : List ℕ). l ++ position_line position) (flat_map-append row_line done left)
-          ∙ append_assoc (flat_map row_line done) (flat_map row_line left) (position_line position) in
+        ap (λ (rs : List DumpRow). flat_map row_line rs ++ position_line position) is ∙ ap (λ (l : List ℕ). l ++ position_line position) (flat_map-append row_line done left)
+        ∙ append_assoc (flat_map row_line done) (flat_map row_line left) (position_line position) in
         subst (λ (bytes : List ℕ). PrintsLines takes failed bytes out new ended) (sym are) (ends out (flat_map row_line done) (flat_map row_line left ++ position_line position) writing own (λ e. absurd (other e)))
 
   pub dumped : (rows : List DumpRow) (position : ℕ) (read : Result Bool StoreFault) (out mid : W) (lines : List ℕ) (fault : Option RunFault) (new : W) (ended : Result Ending RunFault) → Front rows position read out mid lines fault new ended

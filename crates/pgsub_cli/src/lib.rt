@@ -25,7 +25,7 @@ pub mod showing;
 pub mod stores;
 pub mod storing;
 
-pub use dumping::run_dump;
+pub use dumping::{RowSource, run_dump};
 pub use following::run_follow;
 pub use pgcommand::{Limits, Task};
 pub use reporting::run_opened;
