@@ -16,7 +16,7 @@ use pgsub_cli::fault::RunFault;
 use pgsub_cli::following::tell_unfollowed;
 use pgsub_cli::reporting::Reporter;
 use pgsub_cli::storing::{Incoming, read_input, store_fault, tell_stopped, tell_unopened};
-use pgsub_cli::{run, run_dump, run_follow, run_opened, store_path};
+use pgsub_cli::{RowSource, run, run_dump, run_follow, run_opened, store_path};
 use pgsub_core::Side;
 use sqlite::Unknown;
 use std::alloc::AllocError;
@@ -188,6 +188,13 @@ fn run_over(rt: &HostRuntime, task: &Task, path: &str) -> u8 {
     }
 }
 
+/// Prints what a store holds.
+fn print_rows<C: RowSource + Drop>(rt: &HostRuntime, store: C) -> (u8, C) {
+    let mut err = rt.stderr();
+    let (status, store, _out) = run_dump(rt.alloc(), store, rt.stdout(), &mut err);
+    (status, store)
+}
+
 /// Prints what the store in the file at a path holds, which has to be there.
 fn dump_over(rt: &HostRuntime, task: &Task, path: &str) -> u8 {
     let mut err = rt.stderr();
@@ -197,7 +204,7 @@ fn dump_over(rt: &HostRuntime, task: &Task, path: &str) -> u8 {
     }
     match Store::open_with(rt.alloc(), rt, path, cache_of(task), Unknown) {
         Ok(store) => {
-            let (status, store, _out) = run_dump(rt.alloc(), store, rt.stdout(), &mut err);
+            let (status, store) = print_rows(rt, store);
             let _ = store.close_files();
             status
         }
