@@ -1,7 +1,8 @@
 /* The subscriber by hand in C over libsqlite3: baseline FILE [DATABASE] reads the bytes of one session and prints the rows and the position as
  * `pgsub apply --raw FILE` does. Its database is in memory, or in a new file with a write-ahead log that is synced at each commit. It has the
- * tables and the statements of pgtables, prepared once, and a SQL transaction for each commit. It does less than pgsub: tables have a key, cells are text or null, there is no Truncate, texts are printed without escapes,
- * any fault ends the program, nothing limits what is open. */
+ * tables of pgsub's store, changed by statements that are prepared once, and a SQL transaction for each commit. It does less than pgsub: tables
+ * have a key, cells are text or null, there is no Truncate, texts are printed without escapes, any fault ends the program, nothing limits what
+ * is open. */
 #include "../pgoutput.h"
 #include <fcntl.h>
 #include <sqlite3.h>

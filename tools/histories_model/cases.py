@@ -97,6 +97,13 @@ def cache_words(number):
     return ([], ["--cache", "100"], ["--cache=4000"])[number % 3]
 
 
+def check_store(program, store, read):
+    """Whether SQLite finds a store's file sound, and in it what the model has read."""
+    told = program.store_findings(store, model.contents(read.tables, read.position))
+    if told:
+        raise Difference(f"the file {store}\n   " + "\n   ".join(told))
+
+
 def stored(program, sessions, version, words, ends=None):
     """A run for each session over a store in a file, up to the first fault; the last one ends so, where that is known."""
     store = program.path_of("copy.db")
@@ -108,6 +115,7 @@ def stored(program, sessions, version, words, ends=None):
             raise AssertionError(f"two models differ: {(status, rows, line)} and {ends}")
         file = program.file(f"session.{number}.raw", content)
         compare("a store in a file", program, ["apply", "--store", store, *cache_words(number), "--raw", *words, file], status, rows, line)
+        check_store(program, store, read)
         if read.fault:
             break
     words = ["dump", "--store", program.copied_alone(store)]
@@ -237,6 +245,7 @@ def followed(case, program):
         written = Followed(read).follow(part).written
         file = program.file(f"input.{number}", part)
         compare("following", program, ["follow", *words, *cache_words(number)], exit_status(read.fault), written, stop_line(read.fault), file)
+        check_store(program, store, read)
     compare("what the file holds", program, ["dump", "--store", store], 0, model.dump(read.tables, read.position), b"")
 
 

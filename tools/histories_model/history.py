@@ -155,9 +155,18 @@ class Values:
 class Maker:
     """Makes the transactions of one history, and follows the tables meanwhile so that most changes meet a row."""
 
+    # a table that has more rows gets fewer Inserts
+    few = 3
+    # how many histories have a transaction that is rejected
+    bad_share = 0.3
+    # how often a change truncates, and how often its table was altered before it
+    truncates, alters = 0.03, 0.06
+    # of a number below 1 that says which change comes: from here on a Delete
+    deletes_from = 0.85
+
     def __init__(self, rng):
         self.rng = rng
-        self.values = Values(rng)
+        self.values = self.make_values()
         self.tables = {}
         self.definitions = {}
         oids = [rng.choice((16384, 1, 0, 2**31, 2**31 - 1, 2**32 - 1, rng.getrandbits(32))) + step for step in range(1, 9)]
@@ -165,11 +174,24 @@ class Maker:
         for oid in self.oids:
             self.definitions[oid] = self.values.definition(oid)
 
-    def history(self):
+    def make_values(self):
+        return Values(self.rng)
+
+    def count(self):
+        """How many transactions a history has."""
         rng = self.rng
         luck = rng.random()
-        count = rng.randint(0, 3) if luck < 0.3 else rng.randint(2, 9) if luck < 0.95 else rng.randint(10, 40)
-        bad_at = rng.randrange(count) if count and rng.random() < 0.3 else None
+        return rng.randint(0, 3) if luck < 0.3 else rng.randint(2, 9) if luck < 0.95 else rng.randint(10, 40)
+
+    def sizes(self):
+        """About how many changes a transaction has, at least and at most."""
+        luck = self.rng.random()
+        return (0, 0) if luck < 0.08 else (1, 6) if luck < 0.85 else (5, 30) if luck < 0.99 else (50, 400)
+
+    def history(self):
+        rng = self.rng
+        count = self.count()
+        bad_at = rng.randrange(count) if count and rng.random() < self.bad_share else None
         lsn = rng.choice((0, 1, 0x100, 2**32 - 40, rng.getrandbits(40), MOST_LSN - 2**20 - rng.getrandbits(40)))
         history = []
         for place in range(count):
@@ -188,8 +210,7 @@ class Maker:
         before = model.copied(self.tables) if bad else None
         definitions = dict(self.definitions)
         xid = self.free.pop()
-        luck = rng.random()
-        sizes = (0, 0) if luck < 0.08 else (1, 6) if luck < 0.85 else (5, 30) if luck < 0.99 else (50, 400)
+        sizes = self.sizes()
         self.bad = bad
         parts = self.parts(rng.randint(*sizes), 0)
         transaction = Transaction(xid, lsn, end, parts)
@@ -231,7 +252,7 @@ class Maker:
         for _ in range(4):
             oid = rng.choice(self.oids)
             was = self.definitions[oid]
-            if rng.random() < 0.06:
+            if rng.random() < self.alters:
                 self.definitions[oid] = self.values.altered(was)
             change = self.candidate(False, oid)
             try:
@@ -253,10 +274,10 @@ class Maker:
         except model.StoreFault:
             rows = {}
         luck = rng.random()
-        if luck < 0.03:
+        if luck < self.truncates:
             named = [self.definitions[other] for other in rng.choices(self.oids, k=rng.choice((0, 1, 1, 2, 3)))]
             return Change(b"T", named, options=rng.randint(0, 3))
-        if luck < (0.3 if len(rows) > 3 else 0.75):
+        if luck < (0.3 if len(rows) > self.few else 0.75):
             return Change(b"I", [definition], new=self.insert_row(definition, rows, careless))
         return self.change_of_row(definition, rows, careless, luck)
 
@@ -283,7 +304,7 @@ class Maker:
         """An Update or Delete, mostly of a row that is stored."""
         rng = self.rng
         found = list(rng.choice(list(rows.values()))[0]) if rows and rng.random() < 0.92 else self.row(definition)
-        is_delete = luck > 0.85
+        is_delete = luck > self.deletes_from
         old_kind, old = self.old_tuple(definition, found, is_delete)
         if is_delete:
             change = Change(b"D", [definition], old_kind, old)

@@ -257,6 +257,10 @@ class Planted:
         """The store: it has no log."""
         return store
 
+    def store_findings(self, _store, _wanted):
+        """Nothing: there is no file."""
+        return []
+
     def reader_for(self, words):
         """The reader that a command begins with: over its store, if it names one."""
         reader = (Shown if words[0] == "show" else self.reader)(1 if "1" in words or "--proto=1" in words else 2)

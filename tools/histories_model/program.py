@@ -4,6 +4,9 @@ import os
 import resource
 import shutil
 import signal
+from pathlib import Path
+
+from stores import sound
 
 MEMORY = 1 << 30
 # of processor time: for any input, and for each megabyte of it
@@ -51,6 +54,10 @@ class Program:
         if os.path.exists(store):
             shutil.copyfile(store, alone)
         return alone
+
+    def store_findings(self, store, wanted):
+        """What SQLite finds wrong with a store's file, after a run that has ended, or other than is wanted."""
+        return sound.findings(Path(store), wanted)
 
     def run(self, *words, given="/dev/null"):
         """Runs it: the status, standard output and standard error; a negative status is that of a signal."""

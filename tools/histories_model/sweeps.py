@@ -6,9 +6,11 @@ A sweep yields the name of each of its cases and the call that runs it.
 import struct
 from functools import partial
 
+from stores.text import PAGE_SIZES
+
 from . import tables as model
-from . import wire, worked
-from .cases import compare, stop_line
+from . import wire, worked, written
+from .cases import check_store, compare, stop_line
 from .program import MEMORY
 from .reader import MAX_FRAME, Reader
 from .worked import ONE
@@ -53,7 +55,9 @@ def cut_and_kept(stream, length, program):
     read = Reader(2).follow([stream[:length]])
     apply("a store", program, ["--store", store, "--raw"], program.file("cut.raw", stream[:length]), read)
     whole = read.restarted().follow([stream])
+    check_store(program, store, read)
     apply("the store's second run", program, ["--store", store, "--raw"], program.file("whole.raw", stream), whole)
+    check_store(program, store, whole)
     compare("the store", program, ["dump", "--store", store], 0, model.dump(whole.tables, whole.position), b"")
 
 
@@ -120,15 +124,19 @@ def transaction_of(changes, version, in_blocks):
 
 def bad_change(bad, place, fault, version, in_blocks, program):
     """A transaction with one bad change is rejected whole; without it, it is applied by the next run."""
-    words = ["--store", program.path_of("copy.db"), "--proto", str(version)]
+    store, before = program.path_of("copy.db"), Reader(version).follow([ONE])
+    words = ["--store", store, "--proto", str(version)]
     good = [worked.insert(f"{key}g") for key in (2, 3, 4, 5)]
     spoilt = good[: place - 1] + [bad] + good[place - 1 :]
     status, line = ends(fault)
     file = program.file("bad.pgx", text_of(ONE + transaction_of(spoilt, version, in_blocks)))
     compare("the bad change", program, ["apply", *words, file], status, ONE_ROW + b"position 0/130\n", line)
+    check_store(program, store, before)
     compare("without a store", program, ["apply", *words[2:], file], status, ONE_ROW + b"position 0/130\n", line)
-    file = program.file("good.pgx", text_of(transaction_of(good, version, in_blocks)))
+    session = transaction_of(good, version, in_blocks)
+    file = program.file("good.pgx", text_of(session))
     compare("without the bad change", program, ["apply", *words, file], 0, ONE_ROW + RESTS + b"position 0/230\n", b"")
+    check_store(program, store, before.restarted().follow([session]))
 
 
 def bad_changes():
@@ -141,15 +149,20 @@ def bad_changes():
 
 def foreign(content, fault, program):
     """What isn't of the copy stream ends its session; what was committed stays, and the next run goes on."""
-    words = ["--store", program.path_of("copy.db")]
+    store = program.path_of("copy.db")
+    words = ["--store", store]
     status, line = ends(fault)
     file = program.file("foreign.raw", ONE + content)
     compare("a foreign frame", program, ["apply", *words, "--raw", file], status, ONE_ROW + b"position 0/130\n", line)
+    read = Reader(2).follow([ONE])
+    check_store(program, store, read)
     for length in range(1, len(content)):
         file = program.file("front.pgx", text_of(ONE + content[:length]))
         apply(f"its first {length} bytes", program, [], file, Reader(2).follow([ONE + content[:length]]))
-    file = program.file("next.pgx", text_of(ONE + transaction_of([worked.insert("2g")], 2, False)))
+    session = ONE + transaction_of([worked.insert("2g")], 2, False)
+    file = program.file("next.pgx", text_of(session))
     compare("the next run", program, ["apply", *words, file], 0, ONE_ROW + RESTS[:27] + b"position 0/230\n", b"")
+    check_store(program, store, read.restarted().follow([session]))
 
 
 def foreign_frames():
@@ -284,6 +297,7 @@ def kept_within(pages, program):
     store, words, file = program.path_of("copy.db"), ["--cache", str(pages)], program.file("one.raw", ONE)
     read = Reader(2).follow([ONE])
     apply("a store", program, ["--store", store, *words, "--raw"], file, read)
+    check_store(program, store, read)
     rows = model.dump(read.tables, read.position)
     compare("the store", program, ["dump", "--store", store, *words], 0, rows, b"")
     # (of 1,024 bytes each, which are all that a run may have)
@@ -291,6 +305,7 @@ def kept_within(pages, program):
     for what, status in ((["apply", *words, "--raw", file], 1), (["dump", *words], 1), (["follow", *words], 14)):
         compare("too many pages", program, what, status, b"", b"pgsub: memory\n")
     compare("the store afterwards", program, ["dump", "--store", store], 0, rows, b"")
+    check_store(program, store, read)
 
 
 def caches():
@@ -298,6 +313,14 @@ def caches():
         yield f"{pages} pages", partial(kept_within, pages)
 
 
+# files with pages of each size
+
+def page_sizes():
+    for size in PAGE_SIZES:
+        for number in range(4):
+            yield f"{size} bytes, history {number}", partial(written.of_pages, size, number)
+
+
 SWEEPS = {"cuts": cuts, "bytes": byte_values, "numbers": great_numbers, "orders": orders, "changes": bad_changes,
           "foreign": foreign_frames, "rows": long_rows, "sizes": sizes,
-          "caches": caches}
+          "caches": caches, "pages": page_sizes}

@@ -5,7 +5,9 @@ Tables are a dict from OID to (definition, rows), and rows a dict from encoded i
 
 import json
 
-from .wire import NULL, UNSENT, lsn_text
+from stores.contents import Contents, Relation, Row
+
+from .wire import NULL, UNSENT, lsn_text, tuple_data
 
 MOST_COPIES = 2147483647
 NAMES = {1: "Clash", 2: "NoIdentity", 3: "UnknownIdentity", 4: "UnchangedInInsert", 5: "Width", 7: "TooManyCopies"}
@@ -120,6 +122,16 @@ def apply_change(tables, change):
 
 def copied(tables):
     return {oid: (definition, dict(rows)) for oid, (definition, rows) in tables.items()}
+
+
+def contents(tables, position):
+    """What a store's file holds of these tables."""
+    held = Contents(position=position)
+    for oid, (definition, rows) in tables.items():
+        held.relations[oid] = Relation(definition.namespace.decode(), definition.name.decode(), definition.letter[0], definition.columns_rest)
+        for identity, (cells, copies) in rows.items():
+            held.rows[oid, identity] = Row(tuple_data(cells), copies)
+    return held
 
 
 def cell_value(cell):

@@ -33,7 +33,7 @@ class Column:
 class Definition:
     """What a Relation message says of a table."""
 
-    __slots__ = ("oid", "namespace", "name", "letter", "columns", "width", "key", "keyed", "shape", "rest")
+    __slots__ = ("oid", "namespace", "name", "letter", "columns", "width", "key", "keyed", "shape", "columns_rest", "rest")
 
     def __init__(self, oid, namespace, name, letter, columns):
         self.oid, self.namespace, self.name, self.letter = oid, namespace, name, letter
@@ -42,10 +42,11 @@ class Definition:
         self.key = [place for place, column in enumerate(self.columns) if column.flag]
         self.keyed = letter in b"di" and bool(self.key)
         self.shape = (letter, tuple((column.flag, column.name) for column in self.columns))
-        parts = [struct.pack(">I", oid), namespace, b"\0", name, b"\0", letter, struct.pack(">H", self.width)]
+        parts = [struct.pack(">H", self.width)]
         for column in self.columns:
             parts += bytes([column.flag]), column.name, b"\0", struct.pack(">Ii", column.type_oid, column.modifier)
-        self.rest = b"".join(parts)
+        self.columns_rest = b"".join(parts)
+        self.rest = struct.pack(">I", oid) + namespace + b"\0" + name + b"\0" + letter + self.columns_rest
 
     def identity(self, cells):
         """The encoded identity of a row."""

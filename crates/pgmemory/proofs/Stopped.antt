@@ -34,3 +34,6 @@ module _ {D : Type 0} {g : Ghosts D} (it : FileStore D g) where
       let left = subst (λ (p : D × D). outcomes g p.0 p.1 image) same out in
       let is = clean_is now in
       ∥∥₁_map (opens_again it (numbered is) (sound is) image (may_is now image left)) (λ db. let r : (x : Trees) × may_leave x × HoldsDatabase image x = (db.0, outcome db.0 db.1, db.2) in r)
+
+  pub store_clean : (files : Files D) → (files.log, files.db) ≡ store.files it → AreClean g files.log files.db → IsClean (store.view it)
+  store_clean files same clean = clean_is (subst (λ (p : D × D). AreClean g p.0 p.1) same clean)

@@ -1,15 +1,22 @@
 //! What a stop at any moment leaves of the two files.
 
-ghost use Rattle.sqlite.specs.Files.{file_state};
+ghost use Rattle.std.specs.Prelude.{IsTrue};
+ghost use Rattle.sqlite.specs.Held.{AreDatabases};
+ghost use Rattle.sqlite_trees.specs.View.{IsClean};
+ghost use Rattle.sqlite_store.specs.FileStore.{recovers, view};
+ghost use Rattle.sqlite_wal.specs.Reads.{AreClean};
 ghost use Rattle.pgmemory.specs.Stopped.{Leaves};
 
-use sqlite::{Connection, FileStore, Files};
+use sqlite::{FileStore, Files};
 use sqlite_disk::Disk;
 
 /// The two files as they are, without a word to the disks: what a stop at this moment leaves. Whatever they may then hold is
-/// a database that the connection could leave.
-pub fn stop<D: Disk + Drop>(conn: Connection<FileStore<D>>) -> Files<D>
-    ensures { Leaves D.Disk (file_state conn).may_leave result }
+/// a database that the store could leave.
+pub fn stop<D: Disk + Drop>(store: FileStore<D>) -> Files<D>
+    requires numbered { IsClean (view store) → IsTrue (view store).is_numbered }
+    requires sound { IsClean (view store) → AreDatabases (recovers store) }
+    ensures left { Leaves D.Disk (recovers store) result }
+    ensures clean { AreClean D.Disk result.log result.db → IsClean (view store) }
 {
-    conn.into_store().close()
+    store.close()
 }

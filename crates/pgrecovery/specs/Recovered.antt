@@ -8,9 +8,9 @@ use Rattle.sqlite.specs.Recovery.{Image}
 use Rattle.sqlite.specs.Store.{Ghosts}
 use Rattle.sqlite.specs.Files.{over_files}
 use Rattle.pgorder.specs.declared.Version.{Version}
-use Rattle.pgtables.specs.Kept.{tables_of}
 use Rattle.pgapply.specs.Value.{Tables}
 use Rattle.pgapply.specs.Stored.{Stored}
+use Rattle.pgstore.specs.Acts.{committed_of}
 use Rattle.pgstore.specs.Spelled.{IsStored}
 use Rattle.pgstore.specs.StoreValue.{StoreValue, Contains}
 use Rattle.pgstore.specs.Reopened.{CrashLeaves, HoldsContent, Reopens}
@@ -37,7 +37,7 @@ position_of s = s.position
 
 module _ {S : Type 0} (g : Ghosts S) where
   abbrev pub holds_tables : StoreValue S → Tables → Type 0
-  holds_tables s tables = IsStored tables (tables_of g s.conn)
+  holds_tables s tables = IsStored tables (committed_of g s.rows)
 
   -- The store holds exactly the history's rows up to a position of its own. That is no lower than the position before the crash, and
   -- every transaction that changes rows and ends by what was confirmed is among them.

@@ -1,17 +1,16 @@
 -- Taking the rows of a relation out one by one takes them all.
-use Rattle.std.proofs.Common.{◌≡◌, ◌≢◌, inl, inr, ℕ, ℤ, pos, Bool, true, false, not, List, [], ◌∷◌, Option, Some, None, refl, sym, ap, subst, ◌∙◌, ◌==◌, eqb-true, eq-eqb, true≢false, cond, nat_cmp}
+use Rattle.std.proofs.Common.{◌≡◌, ℕ, Bool, true, false, not, List, [], ◌∷◌, Option, None, refl, sym, ap, ◌∙◌, eqb-true, eq-eqb, true≢false, cond, nat_cmp}
 use Rattle.std.specs.Ordering.{eq_by_cmp}
 use Rattle.std.specs.Cmp.Lexicographic.{slice_cmp}
 use Rattle.std.specs.FinMap.{FinMap, get, remove, retain_keys, get-remove, get-retain_keys, same_map, nat_cmp-IsAntisymmetric, slice_cmp-IsAntisymmetric}
-use Rattle.std.proofs.lemmas.Bool.{cases_Bool, false_from_ne_true}
+use Rattle.std.proofs.lemmas.Bool.{false_from_ne_true}
 use Rattle.std.proofs.lemmas.Cmp.{nat_list_cmp_total}
-use Rattle.sqlite_value.specs.Order.{Row, column}
+use Rattle.sqlite_value.specs.Order.{column}
 use Rattle.sqlite_trees.specs.Tree.{Trees}
-use Rattle.sqlite_rules.specs.Lists.{Has}
 use Rattle.pgtables.specs.Kept.{AreHeld, Copies, Tables, copies_in, is_of, key_in, number_in, tables_in, without_row, without_rows}
-use Rattle.pgtables.proofs.Edits.{IsEdited, edited_rows, removed}
+use Rattle.pgtables.proofs.Edits.{edited_rows, removed}
 use Rattle.pgtables.proofs.Maps.{equal}
-use Rattle.pgtables.proofs.HeldRows.{Formed, the_map, form_of}
+use Rattle.pgtables.proofs.HeldRows.{Formed, form_of}
 use Rattle.pgrows.specs.Rows.{HasNone}
 
 abbrev other : ℕ → List ℕ → Bool

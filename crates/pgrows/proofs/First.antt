@@ -1,5 +1,5 @@
 -- What a seek by a relation's OID finds: the entry of one of its rows, or one of another relation, or none.
-use Rattle.std.proofs.Common.{◌≡◌, ◌≢◌, ◌⊎◌, inl, inr, ℕ, ℤ, pos, Bool, true, false, not, List, [], ◌∷◌, filter, refl, sym, ap, subst, ◌∙◌, arith, true≢false, Ordering, Less, Equal, Greater, is_lt, is_gt, is_eq, nat_cmp, int_cmp}
+use Rattle.std.proofs.Common.{◌≡◌, inl, inr, ℕ, ℤ, pos, Bool, true, false, not, List, [], ◌∷◌, filter, refl, sym, ap, subst, ◌∙◌, true≢false, Less, Equal, is_lt, is_gt, nat_cmp, int_cmp}
 use Rattle.std.proofs.lemmas.Bool.{not-true}
 use Rattle.std.proofs.lemmas.Cmp.{nat_cmp_total, tied_itself}
 use Rattle.std.proofs.lemmas.List.Sorted.{Contains-permutation, IsPermutation-sym}
@@ -7,7 +7,7 @@ use Rattle.std.specs.FinMap.{nat_cmp-IsAntisymmetric}
 use Rattle.sqlite_value.specs.declared.value.Value.{Value}
 use Rattle.sqlite_value.specs.declared.value.Value.TheVariants.{Int, Blob}
 use Rattle.sqlite_value.specs.Order.{Row, column, bytes}
-use Rattle.sqlite_value.specs.Keys.{plain, first_key, entry_cmp, prefix_cmp}
+use Rattle.sqlite_value.specs.Keys.{plain, entry_cmp, prefix_cmp}
 use Rattle.sqlite_value.proofs.KeyLemmas.{first_key-plain}
 use Rattle.sqlite_value.proofs.OrderLemmas.{value_cmp-Int, then-Equal}
 use Rattle.std.specs.Prelude.{Option, Some, MatchOption}
@@ -22,8 +22,8 @@ use Rattle.sqlite_rules.specs.Lists.{Has}
 use Rattle.sqlite_rules.specs.Edit.{id_in}
 use Rattle.sqlite_rules.proofs.ListLemmas.{all_has, has_filtered, has_kept, has_contained, contains_had}
 use Rattle.sqlite_rules.proofs.ProbeLemmas.{mapped_has, has_mapped}
-use Rattle.pgtables.specs.Kept.{AreHeld, Copies, copies_in, held_row, number_in}
-use Rattle.pgrows.specs.Rows.{HasNone, IsFirst, IsGood, IsOf, front_of, index_row, Stands}
+use Rattle.pgtables.specs.Kept.{AreHeld, copies_in, held_row, number_in}
+use Rattle.pgrows.specs.Rows.{HasNone, IsFirst, IsGood, IsOf, front_of}
 use Rattle.pgrows.proofs.SetUp.{index_shape, indexed, entries_rise}
 use Rattle.pgrows.proofs.Seek.{entry, nat_as_int, only_equal}
 use Rattle.pgrows.proofs.Found.{matched}

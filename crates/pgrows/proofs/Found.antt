@@ -1,5 +1,5 @@
 -- What a seek and one step of its cursor tell of the table.
-use Rattle.std.proofs.Common.{◌≡◌, ◌≢◌, ℕ, ℤ, true, false, Bool, List, [], ◌∷◌, Option, Some, None, is_some, IsTrue, refl, sym, ap, subst, subst₂, ◌∙◌, ◌≤◌, ◌<ℤ◌, ◌≤ℤ◌, map, arith, true≢false}
+use Rattle.std.proofs.Common.{◌≡◌, ℕ, ℤ, true, false, List, [], ◌∷◌, Option, Some, None, is_some, IsTrue, refl, sym, ap, subst, subst₂, ◌∙◌, ◌≤◌, ◌<ℤ◌, ◌≤ℤ◌, map, arith}
 use Rattle.std.specs.Prelude.{MatchOption, IsSome}
 use Rattle.std.proofs.lemmas.Int.{ints}
 use Rattle.std.specs.FinMap.{get, nat_cmp-IsAntisymmetric, slice_cmp-IsAntisymmetric}
@@ -18,11 +18,10 @@ use Rattle.sqlite.specs.Store.{Ghosts}
 use Rattle.sqlite.specs.State.{HasCleanDisk, Savepoint}
 use Rattle.sqlite_trees.proofs.ListLemmas.{all_weaker}
 use Rattle.std.specs.List.{AllByRecursion}
-use Rattle.sqlite_rules.specs.Lists.{Has}
-use Rattle.pgtables.specs.Kept.{AreHeld, copies_in, held_row, key_in, IsKept, tables_in}
+use Rattle.pgtables.specs.Kept.{AreHeld, copies_in, key_in, IsKept}
 use Rattle.pgtables.proofs.Maps.{row_got, row_missing}
 use Rattle.pgtables.proofs.HeldRows.{the_map}
-use Rattle.pgrows.specs.Rows.{AreBehind, AreBelow, AreLow, AreRows, IsHeld, IsAt, IsBehind, IsFree, IsGood, IsSaved, IsUnder, Keeps, Stands, database, key_of, saved_in, shown_mark, state, tables_of}
+use Rattle.pgrows.specs.Rows.{AreBehind, AreBelow, AreLow, IsAt, IsBehind, IsFree, IsGood, IsSaved, IsUnder, Keeps, Stands, database, key_of, saved_in, shown_mark, state}
 use Rattle.pgrows.proofs.SetUp.{index_shape, indexed, entries_rise}
 use Rattle.pgrows.proofs.Seek.{none_left, first_other, first_there}
 
@@ -43,7 +42,7 @@ module _ {old mid : View} (good : IsGood old) (listed : IsListed (old.trees cata
   left : mid.cursors 0 ≡ Some (from_key plain (key_of o i) (old.trees 2))
   left = ap (λ (v : View). v.cursors 0) placed ∙ ap (λ s. Some (from_key (order_of s) key (old.trees 2))) (index_shape good listed ordered) ∙ ap (λ k. Some (from_key plain k (old.trees 2))) key_is
 
-  given : (rows : List Row) → mid.cursors 0 ≡ Some rows → from_key plain (key_of o i) (old.trees 2) ≡ rows
+  pub given : (rows : List Row) → mid.cursors 0 ≡ Some rows → from_key plain (key_of o i) (old.trees 2) ≡ rows
   given rows h = let both : Some (from_key plain (key_of o i) (old.trees 2)) ≡ Some rows = sym left ∙ h in let e : from_key plain (key_of o i) (old.trees 2) ≡ rows = cc in e
 
   pub ended : (row : Row) (new : View) → Advances mid new 0 row false → IsFree o i (old.trees 1)
@@ -201,10 +200,3 @@ behind_kept g old new last doubts keeps behind clean up =
       committed = subst (λ c. IsSaved last c c) (sym c) b.committed;
       marks = subst₂ (λ c ms. AllByRecursion (λ (p : Savepoint). IsSaved last c p.db.trees) ms) (sym c) (sym (k.marks up)) b.marks;
     }
-
--- what holds between calls, after one that went well and after one that failed
-pub held_on : {S : Type 0} (g : Ghosts S) (s : S) (last : Option ℤ) (failed : Bool) → AreRows g s last → IsHeld g s last failed
-held_on g s last failed rows = record { behind = λ clean up. (rows clean up).behind; rows = λ _. rows }
-
-pub held_failed : {S : Type 0} (g : Ghosts S) (old new : S) (last : Option ℤ) → doubt (g.view old).is_clean ≤ doubt (g.view new).is_clean → (HasCleanDisk (state g new) → Keeps g old new) → AreBehind g old last → IsHeld g new last true
-held_failed g old new last doubts keeps behind = record { behind = behind_kept g old new last doubts keeps behind; rows = λ sound. absurd (true≢false sound) }

@@ -1,5 +1,5 @@
 -- A dump gives rows in the order of the index, and what was given is a front of it.
-use Rattle.std.proofs.Common.{◌≡◌, inl, inr, ℕ, ℤ, pos, Bool, true, false, true≢false, filter, slice_get, unwrap_or, List, [], ◌∷◌, ◌++◌, map, Option, Some, None, refl, sym, ap, subst, ◌∙◌}
+use Rattle.std.proofs.Common.{◌≡◌, inl, ℕ, ℤ, pos, Bool, true, false, true≢false, filter, slice_get, unwrap_or, List, [], ◌∷◌, ◌++◌, map, Option, Some, None, refl, sym, ap, subst, ◌∙◌}
 use Rattle.std.proofs.lemmas.List.{append_assoc, append-nil, map-append}
 use Rattle.std.specs.FinMap.{get}
 use Rattle.sqlite_value.specs.declared.value.Value.TheVariants.{Int, Text, Blob}
@@ -24,16 +24,16 @@ use Rattle.pgrows.proofs.Defined.{looked_up}
 use Rattle.pgrows.proofs.Ordered.{dumped, entry_row}
 
 -- some entries were given, and the cursor stands behind them
-pub record IsGiving (start now : View) (old new : List Row → Type 0) (definition : Row) (known : Option ℤ) : Type 0 where
+pub record IsGiving {K : Type 0} (start now : View) (old new : K → List Row → Type 0) (definition : Row) (known : Option ℤ) : Type 0 where
   pub done : List Row
   pub left : List Row
   pub split : start.trees 2 ≡ done ++ left
   pub at : now.cursors 0 ≡ Some left
   pub same : OnlyReads start now
-  pub taken : (before : List Row) → old before → new (before ++ map (shown_by start.trees) done)
+  pub taken : (k : K) (before : List Row) → old k before → new k (before ++ map (shown_by start.trees) done)
   pub defines : DefinesKnown start.trees definition known
 
-module _ {start : View} (good : IsGood start) (listed : IsListed (start.trees catalog_tree) start.shape start.reals) (ordered : IsOrdered start.shape start.trees) (old : List Row → Type 0) where
+module _ {start : View} (good : IsGood start) (listed : IsListed (start.trees catalog_tree) start.shape start.reals) (ordered : IsOrdered start.shape start.trees) {K : Type 0} (old : K → List Row → Type 0) where
   all_is : map (shown_by start.trees) (start.trees 2) ≡ dump_of (tables_in start.trees)
   all_is = dumped start.trees good.kept.held (indexed good listed ordered) (entries_rise good listed ordered)
 
@@ -44,25 +44,25 @@ module _ {start : View} (good : IsGood start) (listed : IsListed (start.trees ca
     split = refl;
     at = ap (λ (v : View). v.cursors 0) placed ∙ ap (λ s. Some (from_key (order_of s) key (start.trees 2))) (index_shape good listed ordered) ∙ ap (λ k. Some (from_key plain k (start.trees 2))) key_is ∙ ap Some (from_no_key plain (start.trees 2));
     same = placed ∙ (λ i. record start { cursors = (sym placed i).cursors });
-    taken = λ before h. subst old (sym (append-nil before)) h;
+    taken = λ k before h. subst (old k) (sym (append-nil before)) h;
     defines = tt;
   }
 
-  module _ (now : View) (new : List Row → Type 0) (definition : Row) (known : Option ℤ) (g : IsGiving start now old new definition known) where
-    pub front : GivesFront (tables_in start.trees) old new
-    front = (
+  module _ (now : View) (new : K → List Row → Type 0) (definition : Row) (known : Option ℤ) (g : IsGiving start now old new definition known) where
+    pub front : (k : K) → GivesFront (tables_in start.trees) (old k) (new k)
+    front k = (
       map (shown_by start.trees) g.done,
       map (shown_by start.trees) g.left,
       sym all_is ∙ ap (map (shown_by start.trees)) g.split ∙ map-append (shown_by start.trees) g.done g.left,
-      g.taken,
+      g.taken k,
     )
 
-    pub ended : (next : View) (row : Row) → Advances now next 0 row false → GivesAll (tables_in start.trees) old new
-    ended next row h before h0 =
+    pub ended : (next : View) (row : Row) → Advances now next 0 row false → (k : K) → GivesAll (tables_in start.trees) (old k) (new k)
+    ended next row h k before h0 =
         let none : Some g.left ≡ Some [] = sym g.at ∙ h.0 in
         let left : g.left ≡ [] = cc in
         let all : start.trees 2 ≡ g.done = g.split ∙ ap (λ l. g.done ++ l) left ∙ append-nil g.done in
-        subst new (ap (λ l. before ++ map (shown_by start.trees) l) (sym all) ∙ ap (λ l. before ++ l) all_is) (g.taken before h0)
+        subst (new k) (ap (λ l. before ++ map (shown_by start.trees) l) (sym all) ∙ ap (λ l. before ++ l) all_is) (g.taken k before h0)
 
     module _ (next : View) (row : Row) (h : Advances now next 0 row true) where
       left_is : g.left ≡ row ∷ h.0
@@ -82,16 +82,16 @@ module _ {start : View} (good : IsGood start) (listed : IsListed (start.trees ca
       shown_in = subst (λ l. Has l (shown_by start.trees row)) (sym (map-append (shown_by start.trees) g.done (row ∷ h.0)) ∙ sym (ap (map (shown_by start.trees)) split_is) ∙ all_is)
           (has_right (map (shown_by start.trees) g.done) (map (shown_by start.trees) (row ∷ h.0)) (shown_by start.trees row) (inl refl))
 
-      pub given_one : (next_new : List Row → Type 0) (shown next_definition : Row) (oid : ℤ) → shown ≡ shown_by start.trees row → Defines start.trees next_definition oid
-          → ((rows : List Row) → new rows → next_new (rows ++ shown ∷ [])) → IsGiving start next old next_new next_definition (Some oid)
+      pub given_one : (next_new : K → List Row → Type 0) (shown next_definition : Row) (oid : ℤ) → shown ≡ shown_by start.trees row → Defines start.trees next_definition oid
+          → ((k : K) (rows : List Row) → new k rows → next_new k (rows ++ shown ∷ [])) → IsGiving start next old next_new next_definition (Some oid)
       given_one next_new shown next_definition oid shown_is defines more = record {
         done = g.done ++ row ∷ [];
         left = h.0;
         split = split_is ∙ sym (append_assoc g.done (row ∷ []) h.0);
         at = ap (λ (v : View). v.cursors 0) h.2;
         same = reads_next;
-        taken = λ before h0. subst next_new (append_assoc before (map (shown_by start.trees) g.done) (shown ∷ [])
-            ∙ ap (λ l. before ++ l) (ap (λ s. map (shown_by start.trees) g.done ++ s ∷ []) shown_is ∙ sym (map-append (shown_by start.trees) g.done (row ∷ [])))) (more _ (g.taken before h0));
+        taken = λ k before h0. subst (next_new k) (append_assoc before (map (shown_by start.trees) g.done) (shown ∷ [])
+            ∙ ap (λ l. before ++ l) (ap (λ s. map (shown_by start.trees) g.done ++ s ∷ []) shown_is ∙ sym (map-append (shown_by start.trees) g.done (row ∷ [])))) (more k _ (g.taken k before h0));
         defines = defines;
       }
 

@@ -10,6 +10,7 @@ pub mod Defined
 pub mod First
 pub mod Emptied
 pub mod Ordered
+pub mod Gaps
 pub mod Given
 pub mod Marked
 pub mod StoredRows

@@ -1,5 +1,5 @@
 -- The entries of a relation, in the order of the index, give its rows in the order of their identities.
-use Rattle.std.proofs.Common.{◌≡◌, inl, inr, ℕ, pos, Bool, true, false, not, List, [], ◌∷◌, ◌++◌, map, filter, Some, refl, sym, ap, subst, subst₂, ◌∙◌, Ordering, Less, Equal, true≢false, nat_cmp, is_gt}
+use Rattle.std.proofs.Common.{◌≡◌, inl, inr, ℕ, pos, Bool, true, false, List, [], ◌∷◌, ◌++◌, map, filter, Some, refl, sym, ap, subst, subst₂, ◌∙◌, Less, Equal, true≢false, nat_cmp, is_gt}
 use Rattle.std.specs.Prelude.{T}
 use Rattle.std.specs.Ordering.{is_eq, is_lt, ordering_then}
 use Rattle.std.specs.List.{AllByRecursion}

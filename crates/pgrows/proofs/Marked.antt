@@ -1,12 +1,11 @@
 -- Marks, rollbacks and commits keep what holds between calls.
-use Rattle.std.proofs.Common.{◌≡◌, ◌≢◌, ◌⊎◌, inl, inr, ℕ, zero, suc, ℤ, ◌<◌, ◌+◌, ◌-◌, ◌++◌, true, false, List, [], ◌∷◌, map, length, take, get_or, Option, Some, None, IsTrue, refl, sym, ap, subst, subst₂, ◌∙◌, arith}
+use Rattle.std.proofs.Common.{◌≡◌, ◌≢◌, ◌⊎◌, inl, inr, ℕ, zero, suc, ℤ, ◌<◌, ◌-◌, ◌++◌, false, List, [], ◌∷◌, map, length, take, get_or, Option, Some, None, IsTrue, refl, sym, ap, subst, subst₂, ◌∙◌, arith}
 use Rattle.std.specs.List.{AllByRecursion}
 use Rattle.std.proofs.lemmas.List.{map-append}
-use Rattle.sqlite.specs.Effect.{Database}
 use Rattle.sqlite.specs.State.{Savepoint}
 use Rattle.sqlite.specs.Store.{Ghosts}
 use Rattle.sqlite_trees.specs.Tree.{Trees}
-use Rattle.sqlite_trees.specs.View.{Commits, GoesBack, IsClean, IsRolledBack, Marks, Releases, Snapshot, View, as_committed, newest, snapshot}
+use Rattle.sqlite_trees.specs.View.{Commits, GoesBack, IsClean, IsRolledBack, Marks, Releases, Snapshot, View, newest, snapshot}
 use Rattle.sqlite_trees.proofs.ListLemmas.{all-get_or}
 use Rattle.pgtables.specs.Kept.{IsKept}
 use Rattle.pgrows.specs.Rows as said

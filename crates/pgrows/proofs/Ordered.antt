@@ -1,5 +1,5 @@
 -- The index gives the rows in the order of their keys, so what is shown of them in its order is the dump.
-use Rattle.std.proofs.Common.{◌≡◌, ◌≢◌, ◌⊎◌, inl, inr, ℕ, ℤ, pos, Bool, true, false, ◌&&◌, List, [], ◌∷◌, map, filter, Option, Some, None, refl, sym, ap, subst, subst₂, ◌∙◌, Ordering, Less, Equal, Greater, true≢false, nat_cmp, int_cmp}
+use Rattle.std.proofs.Common.{◌≡◌, ◌⊎◌, inl, inr, ℕ, ℤ, pos, Bool, true, false, ◌&&◌, List, [], ◌∷◌, map, filter, Some, refl, sym, ap, subst, subst₂, ◌∙◌, Ordering, Less, Equal, nat_cmp}
 use Rattle.std.specs.Prelude.{T, slice_get, unwrap_or}
 use Rattle.std.specs.Ordering.{is_lt, ordering_then}
 use Rattle.std.specs.Cmp.Lexicographic.{slice_cmp}
@@ -7,7 +7,7 @@ use Rattle.std.specs.FinMap.{IsAntisymmetric, get, find, entries, entries_sorted
 use Rattle.std.specs.FinMap.Entries.{is_sorted, below_all, same_entries}
 use Rattle.std.proofs.lemmas.Cmp.{nat_list_cmp_total, tied_itself}
 use Rattle.std.proofs.lemmas.List.Sorted.{Contains-permutation, IsPermutation-sym}
-use Rattle.sqlite_value.specs.declared.value.Value.TheVariants.{Int, Blob}
+use Rattle.sqlite_value.specs.declared.value.Value.TheVariants.{Int}
 use Rattle.sqlite_value.specs.Order.{Row, column, bytes}
 use Rattle.sqlite_value.specs.Keys.{plain, entry_cmp}
 use Rattle.sqlite_value.proofs.KeyLemmas.{entry_cmp-plain, entry_cmp_total, then_below}

@@ -18,7 +18,6 @@ use Rattle.pgrows.specs.Dump.{row_at}
 use Rattle.pgrows.specs.Rows.{IsGood, front_of}
 use Rattle.pgrows.specs.Stored.{HasCopies, IsWithin}
 use Rattle.pgrows.proofs.SetUp.{index_shape, indexed, entries_rise}
-use Rattle.pgrows.proofs.Seek.{entry}
 use Rattle.pgrows.proofs.Ordered.{entry_row}
 use Rattle.pgrows.proofs.Listed.{all_read, fits_at, none_behind, rising_end, sought_in, sought_rise}
 

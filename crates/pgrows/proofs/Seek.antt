@@ -1,19 +1,18 @@
 -- What a seek by a key finds: the entry of the row that has it, or one of another key, or none.
-use Rattle.std.proofs.Common.{◌≡◌, ◌≢◌, ◌⊎◌, inl, inr, ℕ, ℤ, pos, Bool, true, false, not, List, [], ◌∷◌, filter, refl, sym, ap, subst, ◌∙◌, arith, true≢false, Ordering, Less, Equal, Greater, is_lt, is_gt, is_eq, nat_cmp, int_cmp}
+use Rattle.std.proofs.Common.{◌≡◌, inl, inr, ℕ, ℤ, pos, Bool, true, false, not, List, [], ◌∷◌, filter, refl, sym, ap, subst, ◌∙◌, arith, true≢false, Ordering, Less, Equal, Greater, is_lt, is_gt, nat_cmp, int_cmp}
 use Rattle.std.proofs.lemmas.Bool.{not-true}
 use Rattle.std.proofs.lemmas.Bool.Decides.{nat_tests}
 use Rattle.std.proofs.lemmas.Cmp.{nat_list_cmp_total, tied_itself}
 use Rattle.std.proofs.lemmas.List.Sorted.{Contains-permutation, IsPermutation-sym}
 use Rattle.std.specs.Cmp.Lexicographic.{slice_cmp}
-use Rattle.std.specs.List.{AllByRecursion}
 use Rattle.std.specs.FinMap.{nat_cmp-IsAntisymmetric, slice_cmp-IsAntisymmetric}
 use Rattle.sqlite_value.specs.declared.value.Value.{Value}
 use Rattle.sqlite_value.specs.declared.value.Value.TheVariants.{Int, Blob}
 use Rattle.sqlite_value.specs.Order.{Row, column, bytes}
-use Rattle.sqlite_value.specs.Keys.{plain, first_key, entry_cmp, prefix_cmp}
+use Rattle.sqlite_value.specs.Keys.{plain, entry_cmp, prefix_cmp}
 use Rattle.sqlite_value.proofs.KeyLemmas.{first_key-plain}
 use Rattle.sqlite_value.proofs.OrderLemmas.{value_cmp-Int, value_cmp-Blob, then-Equal}
-use Rattle.sqlite_trees.specs.Tree.{IsAscending, IsIndex, from_key, rowid}
+use Rattle.sqlite_trees.specs.Tree.{IsIndex, from_key, rowid}
 use Rattle.sqlite_trees.proofs.ListLemmas.{ascending-filter}
 use Rattle.sqlite_trees.proofs.TreeLemmas.{sorted_index, from_key-filter, prefix_cmp_follows, not_true}
 use Rattle.sqlite_sql.specs.Catalog.{entry_of, IsIndexOf}
@@ -21,7 +20,7 @@ use Rattle.sqlite_rules.specs.Lists.{Has}
 use Rattle.sqlite_rules.specs.Edit.{id_in}
 use Rattle.sqlite_rules.proofs.ListLemmas.{all_has, has_filtered, has_kept, has_contained, contains_had}
 use Rattle.sqlite_rules.proofs.ProbeLemmas.{mapped_has, has_mapped}
-use Rattle.pgtables.specs.Kept.{AreHeld, Copies, copies_in, held_row, key_in, number_in}
+use Rattle.pgtables.specs.Kept.{AreHeld, copies_in, key_in, number_in}
 use Rattle.pgrows.specs.Rows.{IsAt, IsFree, Stands, key_of}
 
 abbrev pub entry : Row → Row
@@ -43,10 +42,10 @@ module _ (o : ℕ) (i : List ℕ) (rows entries : List Row) (held : AreHeld rows
   abbrev key : Row
   key = key_of o i
 
-  abbrev passes : Row → Bool
+  abbrev pub passes : Row → Bool
   passes e = not (is_lt (prefix_cmp plain e key))
 
-  left_is : from_key plain key entries ≡ filter passes entries
+  pub left_is : from_key plain key entries ≡ filter passes entries
   left_is = from_key-filter plain key entries (sorted_index plain entries up)
 
   entry_row : (e : Row) → Has entries e → (r : Row) × Has rows r × (e ≡ entry r)
@@ -65,7 +64,7 @@ module _ (o : ℕ) (i : List ℕ) (rows entries : List Row) (held : AreHeld rows
   id_at : (r : Row) → Has rows r → rowid r ≡ Int (id_in (rowid r))
   id_at r h = ap rowid (held.formed r h)
 
-  compared : (r : Row) → Has rows r → prefix_cmp plain (entry r) key ≡ slice_cmp nat_cmp (key_in r) (o ∷ i)
+  pub compared : (r : Row) → Has rows r → prefix_cmp plain (entry r) key ≡ slice_cmp nat_cmp (key_in r) (o ∷ i)
   compared r h = ap (λ x. prefix_cmp plain (entry x) key) (held.formed r h) ∙ prefix_is (number_in (column r 1)) o (bytes (column r 2)) i (Int (id_in (rowid r)))
 
   tied : (r : Row) → Has rows r → key_in r ≡ o ∷ i → prefix_cmp plain (entry r) key ≡ Equal
@@ -89,10 +88,10 @@ module _ (o : ℕ) (i : List ℕ) (rows entries : List Row) (held : AreHeld rows
   none_left none r h is = subst (λ l. Has l (entry r)) none (is_left r h is)
 
   module _ (first : Row) (more : List Row) (left : from_key plain key entries ≡ first ∷ more) where
-    first_in : Has entries first × (passes first ≡ true)
+    pub first_in : Has entries first × (passes first ≡ true)
     first_in = has_filtered passes entries first (subst (λ l. Has l first) (sym left ∙ left_is) (inl refl))
 
-    before : (e : Row) → Has more e → entry_cmp plain first e ≡ Less
+    pub before : (e : Row) → Has more e → entry_cmp plain first e ≡ Less
     before e h = all_has _ more e (subst (IsIndex plain) (sym left_is ∙ left) (ascending-filter _ passes entries up)).0 h
 
     pub first_other : ((id : ℤ) → ¬ IsAt o i first id) → IsFree o i rows

@@ -1,7 +1,5 @@
 -- A sound transaction over the tables of a store is laid out, and its index is up to date.
-use Rattle.std.proofs.Common.{◌≡◌, ◌≢◌, inl, inr, true, false, List, [], ◌∷◌, subst, sym, ap, ◌∙◌, refl, IsTrue, true≢false}
-use Rattle.std.proofs.lemmas.Bool.{true_from_ne_false, both_ways}
-use Rattle.sqlite_value.specs.Order.{Row}
+use Rattle.std.proofs.Common.{◌≡◌, List, [], ◌∷◌, subst, refl}
 use Rattle.sqlite_value.specs.Keys.{plain}
 use Rattle.sqlite_trees.specs.Tree.{IsTable, IsIndex}
 use Rattle.sqlite_trees.specs.declared.store.Shape.TheVariants as shape

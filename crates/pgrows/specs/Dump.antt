@@ -1,5 +1,5 @@
 -- What a dump gives, row by row in the order of the index.
-use Rattle.std.specs.Prelude.{◌≡◌, ◌++◌, ℕ, ℤ, ⊤, pos, List, [], ◌∷◌, map, filter, slice_get, unwrap_or, Option, Some, MatchOption}
+use Rattle.std.specs.Prelude.{◌≡◌, ◌++◌, ℕ, ℤ, ⊤, pos, List, [], ◌∷◌, filter, slice_get, unwrap_or, Option, Some, MatchOption}
 use Rattle.std.specs.FinMap.{get}
 use Rattle.sqlite.specs.Order.{Row, column, bytes}
 use Rattle.sqlite.specs.Tree.{Trees, has_rowid}

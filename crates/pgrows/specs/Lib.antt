@@ -1,3 +1,4 @@
+pub mod Gap
 pub mod Rows
 pub mod Dump
 pub mod Stored

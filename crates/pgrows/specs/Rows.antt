@@ -7,10 +7,11 @@ use Rattle.sqlite.specs.Tree.{Trees, rowid}
 use Rattle.sqlite.specs.View.{Snapshot, View, IsClean}
 use Rattle.sqlite.specs.Effect.{Database}
 use Rattle.sqlite.specs.Store.{Ghosts}
-use Rattle.sqlite.specs.State.{Savepoint, State, HasCleanDisk, KeepsCommit, Survives}
+use Rattle.sqlite.specs.State.{Savepoint, State, HasCleanDisk, KeepsCommit}
 use Rattle.sqlite_rules.specs.Lists.{Has}
 use Rattle.sqlite_rules.specs.Edit.{id_in}
 use Rattle.pgtables.specs.Schema.{store_schema}
+use Rattle.pgrows.specs.Gap.{IsGap}
 use Rattle.pgtables.specs.Kept.{Copies, IsKept, Tables, held_row, is_there, key_in, number_in, tables_in, with_row}
 
 abbrev pub database : Trees → Database
@@ -162,10 +163,15 @@ module _ {S : Type 0} (g : Ghosts S) where
   abbrev pub AreBehind : S → Option ℤ → Type 0
   AreBehind s last = IfServing s (IsBehind (g.view s) last)
 
+  -- no row stands between the two entries
+  abbrev pub HasGap : S → Row → Row → Type 0
+  HasGap s low high = IfServing s (IsGap low high (tables_of s).rows)
+
   -- what holds of it between calls
-  pub record IsHeld (s : S) (last : Option ℤ) (failed : Bool) : Type 0 where
+  pub record IsHeld (s : S) (last : Option ℤ) (low high : Row) (failed : Bool) : Type 0 where
     pub behind : AreBehind s last
     pub rows : failed ≡ false → AreRows s last
+    pub gap : failed ≡ false → HasGap s low high
 
   -- a change of the tables inside the transaction
   pub record Makes (change : Tables → Tables) (old new : S) : Type 0 where

@@ -1,5 +1,5 @@
 -- What a row of the tables stands for.
-use Rattle.std.specs.Prelude.{◌≡◌, ◌∷◌, ℕ, List, pos}
+use Rattle.std.specs.Prelude.{◌≡◌, ℕ, pos}
 use Rattle.sqlite.specs.declared.types.Value.TheVariants.{Int, Text, Blob}
 use Rattle.sqlite.specs.Order.{Row, column}
 use Rattle.pgtables.specs.Kept.{Copies, Definition}

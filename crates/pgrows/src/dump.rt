@@ -98,11 +98,12 @@ pub(crate) fn give_rows<S: Alter, T: RowSink>(
     sink: &mut T,
 ) -> Result<bool, StoreError>
     requires { IsClean (S.Store.view store.old) → IsGood (S.Store.view store.old) }
-    ensures front { IsClean (S.Store.view store.new) → GivesFront (tables_of S.Store store.old)
-        (T.RowSink.has_taken sink.old) (T.RowSink.has_taken sink.new) }
-    ensures all { IsClean (S.Store.view store.new) → IfOk result (λ all. all ≡ true →
-        GivesAll (tables_of S.Store store.old) (T.RowSink.has_taken sink.old)
-        (T.RowSink.has_taken sink.new)) }
+    ensures front { IsClean (S.Store.view store.new) → (start : T) →
+        GivesFront (tables_of S.Store store.old) (T.RowSink.has_taken start sink.old)
+        (T.RowSink.has_taken start sink.new) }
+    ensures all { IsClean (S.Store.view store.new) → IfOk result (λ all. all ≡ true → (start : T) →
+        GivesAll (tables_of S.Store store.old) (T.RowSink.has_taken start sink.old)
+        (T.RowSink.has_taken start sink.new)) }
     ensures left { IsClean (S.Store.view store.new) → IfOk result (λ all. all ≡ false →
         LeavesAt (tables_of S.Store store.old) (T.RowSink.has_left sink.new)) }
     ensures same { IsClean (S.Store.view store.new) →
@@ -140,11 +141,12 @@ pub(crate) fn give_all<S: Alter, T: RowSink>(
     _last: Option<i64>,
 ) -> Result<bool, StoreError>
     requires { AreRows S.Store store.old _last }
-    ensures front { IsClean (S.Store.view store.new) → GivesFront (tables_of S.Store store.old)
-        (T.RowSink.has_taken sink.old) (T.RowSink.has_taken sink.new) }
-    ensures all { IsClean (S.Store.view store.new) → IfOk result (λ all. all ≡ true →
-        GivesAll (tables_of S.Store store.old) (T.RowSink.has_taken sink.old)
-        (T.RowSink.has_taken sink.new)) }
+    ensures front { IsClean (S.Store.view store.new) → (start : T) →
+        GivesFront (tables_of S.Store store.old) (T.RowSink.has_taken start sink.old)
+        (T.RowSink.has_taken start sink.new) }
+    ensures all { IsClean (S.Store.view store.new) → IfOk result (λ all. all ≡ true → (start : T) →
+        GivesAll (tables_of S.Store store.old) (T.RowSink.has_taken start sink.old)
+        (T.RowSink.has_taken start sink.new)) }
     ensures left { IsClean (S.Store.view store.new) → IfOk result (λ all. all ≡ false →
         LeavesAt (tables_of S.Store store.old) (T.RowSink.has_left sink.new)) }
     ensures made { IsClean (S.Store.view store.new) → OnOk result

@@ -3,7 +3,8 @@
 ghost use Rattle.std.specs.Prelude.{◌≡◌, false, MatchOption, IfOk, OnOk, OnErr};
 ghost use Rattle.sqlite_trees.specs.View.{IsClean, IsQuiet};
 ghost use Rattle.sqlite_exec.specs.Calls.{OnlyReads};
-ghost use Rattle.pgrows.specs.Rows.{IsFree, IsGood, Keeps, Stands, state};
+ghost use Rattle.pgrows.specs.Gap.{IsNext};
+ghost use Rattle.pgrows.specs.Rows.{IsFree, IsGood, Keeps, Stands, key_of, state, tables_of};
 
 use crate::entry::{id_at, write_key};
 use sqlite_trees::error::StoreError;
@@ -18,7 +19,7 @@ pub(crate) const INDEX: u32 = 2;
 
 pub(crate) const PLACE: u32 = 3;
 
-/// The rowid of the row that has the key.
+/// The rowid of the row that has the key. `found` is the first entry from the key on then, or empty where there is none.
 pub(crate) fn find<S: Alter>(
     store: &mut S,
     key: &mut Row,
@@ -30,6 +31,9 @@ pub(crate) fn find<S: Alter>(
     ensures found { IsClean (S.Store.view store.new) → IfOk result (λ id. MatchOption id
         (IsFree oid ident.now ((S.Store.view store.old).trees 1))
         (Stands oid ident.now ((S.Store.view store.old).trees 1))) }
+    ensures next { IsClean (S.Store.view store.new) → OnOk result
+        (IsNext oid ident.now found.new (tables_of S.Store store.old).rows) }
+    ensures key { OnOk result (key.new ≡ key_of oid ident.now) }
     ensures sound { IsClean (S.Store.view store.new) →
         OnOk result ((S.Store.view store.old).is_broken ≡ false) }
     ensures same { IsClean (S.Store.view store.new) →
@@ -42,6 +46,7 @@ pub(crate) fn find<S: Alter>(
     write_key(key, oid, ident)?;
     store.seek(0, INDEX, key, Direction::Forward)?;
     if !store.next(0, found)? {
+        found.clear();
         return Ok(None);
     }
     Ok(id_at(found, oid, ident))

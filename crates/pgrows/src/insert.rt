@@ -6,10 +6,12 @@ ghost use Rattle.sqlite.specs.State.{HasCleanDisk};
 ghost use Rattle.sqlite_trees.specs.View.{IsClean, IsQuiet, OnlyWrites};
 ghost use Rattle.sqlite_exec.specs.Calls.{OnlyReads};
 ghost use Rattle.pgtables.specs.Kept.{IsKept, tables_in, with_row};
-ghost use Rattle.pgrows.specs.Rows.{AreBelow, AreRows, IsFree, IsGood, IsUnder, Keeps, Makes, database, state, tables_of};
+ghost use Rattle.pgrows.specs.Gap.{IsGap, IsNext};
+ghost use Rattle.pgrows.specs.Rows.{AreBelow, AreRows, HasGap, IsFree, IsGood, IsUnder, Keeps, Makes, Stands, database, index_row, state, tables_of};
 
 use crate::entry::{write_entry, write_row};
 use crate::find::{INDEX, TABLE, find};
+use crate::gap::is_between;
 use sqlite_exec::write;
 use sqlite_rules::edit::id_in;
 use sqlite_trees::error::StoreError;
@@ -83,6 +85,7 @@ fn put_new<S: Alter>(
         (record { body = body.now; copies = copies }) (tables_of S.Store store.old))) }
     ensures below { IsClean (S.Store.view store.new) → OnOk result
         (AreBelow id ((S.Store.view store.new).trees 1)) }
+    ensures entry { OnOk result (entry.new ≡ index_row oid ident.now id) }
     ensures frame { IsClean (S.Store.view store.new) →
         OnOk result (OnlyWrites (S.Store.view store.old) (S.Store.view store.new)) }
     ensures err { IsClean (S.Store.view store.new) →
@@ -119,6 +122,7 @@ pub(crate) fn append<S: Alter>(
     ensures below { IsClean (S.Store.view store.new) → IfOk result
         (λ id. AreBelow id ((S.Store.view store.new).trees 1)) }
     ensures above { IfOk result (λ id. last <ℤ id) }
+    ensures entry { IfOk result (λ id. entry.new ≡ index_row oid ident.now id) }
     ensures frame { IsClean (S.Store.view store.new) →
         OnOk result (OnlyWrites (S.Store.view store.old) (S.Store.view store.new)) }
     ensures err { IsClean (S.Store.view store.new) →
@@ -133,11 +137,43 @@ pub(crate) fn append<S: Alter>(
     Ok(id)
 }
 
-/// Puts a row whose key is not there yet, and answers whether it isn't, and the last rowid.
+/// Whether no row has the key. One between `low` and `high` needs no search. Then `high` is the first entry behind the key.
+fn is_missing<S: Alter>(
+    store: &mut S,
+    low: &mut Row,
+    high: &mut Row,
+    oid: u32,
+    ident: &[u8],
+) -> Result<bool, StoreError>
+    requires good { IsClean (S.Store.view store.old) → IsGood (S.Store.view store.old) }
+    requires gap { IsClean (S.Store.view store.old) →
+        IsGap low.old high.old (tables_of S.Store store.old).rows }
+    ensures free { IsClean (S.Store.view store.new) → IfOk result (λ missing. missing ≡ true →
+        IsFree oid ident.now ((S.Store.view store.old).trees 1)) }
+    ensures there { IsClean (S.Store.view store.new) → IfOk result (λ missing. missing ≡ false →
+        (id : ℤ) × Stands oid ident.now ((S.Store.view store.old).trees 1) id) }
+    ensures next { IsClean (S.Store.view store.new) → OnOk result
+        (IsNext oid ident.now high.new (tables_of S.Store store.old).rows) }
+    ensures same { IsClean (S.Store.view store.new) →
+        OnOk result (OnlyReads (S.Store.view store.old) (S.Store.view store.new)) }
+    ensures err { IsClean (S.Store.view store.new) →
+        OnErr result (Keeps S.Store store.old store.new) }
+    ensures quiet { IsQuiet S.Store.view S.Store.faults S.Store.recovers S.Store.is_shielded
+        store.old store.new }
+{
+    if is_between(low, high, oid, ident) {
+        return Ok(true);
+    }
+    let found = find(store, low, high, oid, ident)?;
+    Ok(found.is_none())
+}
+
+/// Puts a row whose key is not there yet, and answers whether it isn't, and the last rowid. Its entry is `low` then, and the one
+/// behind it is `high`.
 pub(crate) fn add<S: Alter>(
     store: &mut S,
-    key: &mut Row,
-    found: &mut Row,
+    low: &mut Row,
+    high: &mut Row,
     row: &mut Row,
     last: Option<i64>,
     oid: u32,
@@ -145,7 +181,8 @@ pub(crate) fn add<S: Alter>(
     body: &[u8],
     copies: u32,
 ) -> Result<(bool, i64), StoreError>
-    requires { AreRows S.Store store.old last }
+    requires rows { AreRows S.Store store.old last }
+    requires gap { HasGap S.Store store.old low.old high.old }
     ensures added { IsClean (S.Store.view store.new) → IfOk result (λ it. it.0 ≡ true →
         (get (tables_of S.Store store.old).rows (oid ∷ ident.now) ≡ None)
         × Makes S.Store (with_row oid ident.now (record { body = body.now; copies = copies }))
@@ -154,15 +191,17 @@ pub(crate) fn add<S: Alter>(
         IsSome (get (tables_of S.Store store.old).rows (oid ∷ ident.now))
         × Makes S.Store (λ t. t) store.old store.new) }
     ensures rows { IfOk result (λ it. AreRows S.Store store.new (Some it.1)) }
+    ensures gap { OnOk result (HasGap S.Store store.new low.new high.new) }
     ensures keeps { HasCleanDisk (state S.Store store.new) →
         Keeps S.Store store.old store.new }
     ensures quiet { IsQuiet S.Store.view S.Store.faults S.Store.recovers S.Store.is_shielded
         store.old store.new }
 {
-    let top = top_of(store, found, last)?;
-    if find(store, key, found, oid, ident)?.is_some() {
+    let top = top_of(store, row, last)?;
+    if !is_missing(store, low, high, oid, ident)? {
+        low.clear();
         return Ok((false, top));
     }
-    let id = append(store, key, row, top, oid, ident, body, copies)?;
+    let id = append(store, low, row, top, oid, ident, body, copies)?;
     Ok((true, id))
 }

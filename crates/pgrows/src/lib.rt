@@ -7,6 +7,7 @@ mod dump;
 mod entry;
 pub mod fault;
 mod find;
+mod gap;
 mod insert;
 mod list;
 mod relation;

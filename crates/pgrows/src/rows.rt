@@ -38,6 +38,9 @@ pub struct Rows<S: Alter> {
     key: Row,
     found: Row,
     row: Row,
+    // The entry of the row that came last, or nothing, and the first one behind it: what comes between them needs no search.
+    low: Row,
+    high: Row,
     // No row of the commit, of a mark or of the transaction has a rowid above it. It isn't known before the first change.
     last: Option<i64>,
     failed: bool,
@@ -52,7 +55,7 @@ impl<S: Alter> Model for Rows<S> {
 
     ghost view = { λ r. r.store };
 
-    ghost invariant = { λ r. IsHeld S.Store r.store r.last r.failed };
+    ghost invariant = { λ r. IsHeld S.Store r.store r.last r.low r.high r.failed };
 }
 
 impl<S: Alter + Drop> Rows<S> {
@@ -78,6 +81,8 @@ impl<S: Alter + Drop> Rows<S> {
             key: Row::new(alloc),
             found: Row::new(alloc),
             row: Row::new(alloc),
+            low: Row::new(alloc),
+            high: Row::new(alloc),
             last: None,
             failed: false,
         }
@@ -90,7 +95,9 @@ impl<S: Alter + Drop> Rows<S> {
     /// Those of the SQL library, and `Closed` where a failure of the disk has shut the store, which comes back beside them.
     pub fn into_connection(self, alloc: Global) -> Result<Connection<S>, (Error, S)>
         ensures { IfOk result (λ conn. HasCleanDisk (connection.state S.Store conn) →
-            (connection.state S.Store conn).now.trees ≡ (state S.Store self).committed.trees) }
+            HasCleanDisk (state S.Store self) × IsTrue (state S.Store self).is_open
+            × ((connection.state S.Store conn).now.trees
+            ≡ (state S.Store self).committed.trees)) }
     {
         let mut store = self.store;
         store.rollback();
@@ -128,8 +135,8 @@ impl<S: Alter> Rows<S> {
         }
         match add(
             &mut self.store,
-            &mut self.key,
-            &mut self.found,
+            &mut self.low,
+            &mut self.high,
             &mut self.row,
             self.last,
             oid,
@@ -208,6 +215,7 @@ impl<S: Alter> Rows<S> {
         if self.failed {
             return Err(StoreError::Broken);
         }
+        self.low.clear(); // The row may come between them.
         match put(
             &mut self.store,
             &mut self.key,
@@ -493,6 +501,7 @@ impl<S: Alter> Rows<S> {
             Keeps S.Store self.old self.new }
         ensures survives { Survives (state S.Store self.old) (state S.Store self.new) (λ _. ⊥) }
     {
+        self.low.clear(); // So may those that come back.
         match self.store.rollback_to() {
             Ok(()) => {
                 self.failed = false;
@@ -513,6 +522,7 @@ impl<S: Alter> Rows<S> {
         ensures survives { Survives (state S.Store self.old) (state S.Store self.new) (λ _. ⊥) }
     {
         self.store.rollback();
+        self.low.clear(); // Rows that come back may stand between them.
         self.failed = false;
     }
 
@@ -533,18 +543,22 @@ impl<S: Alter> Rows<S> {
             self.undo();
             return Err(StoreError::Broken);
         }
-        self.store.commit()
+        let committed = self.store.commit();
+        if committed.is_err() {
+            self.low.clear();
+        }
+        committed
     }
 
     /// Gives all rows with their relation's OID, namespace and name, their bytes and how often they stand, by OID and then by the
     /// bytes of the identity. It answers false where the sink stopped before the end. What was given is always a front of the dump.
     pub fn each_row<T: RowSink>(&mut self, alloc: Global, sink: &mut T) -> Result<bool, StoreError>
-        ensures front { HasCleanDisk (state S.Store self.new) →
-            GivesFront (tables_of S.Store self.old) (T.RowSink.has_taken sink.old)
-            (T.RowSink.has_taken sink.new) }
+        ensures front { HasCleanDisk (state S.Store self.new) → (start : T) →
+            GivesFront (tables_of S.Store self.old) (T.RowSink.has_taken start sink.old)
+            (T.RowSink.has_taken start sink.new) }
         ensures all { HasCleanDisk (state S.Store self.new) → IfOk result (λ all. all ≡ true →
-            GivesAll (tables_of S.Store self.old) (T.RowSink.has_taken sink.old)
-            (T.RowSink.has_taken sink.new)) }
+            (start : T) → GivesAll (tables_of S.Store self.old)
+            (T.RowSink.has_taken start sink.old) (T.RowSink.has_taken start sink.new)) }
         ensures left { HasCleanDisk (state S.Store self.new) → IfOk result (λ all. all ≡ false →
             LeavesAt (tables_of S.Store self.old) (T.RowSink.has_left sink.new)) }
         ensures made { HasCleanDisk (state S.Store self.new) → OnOk result

@@ -10,14 +10,13 @@ use Rattle.std.specs.FinMap as finite
 use Rattle.std.specs.FinMap.{find, is_sorted, entries_sorted, get-entries, nat_cmp-IsAntisymmetric, slice_cmp-IsAntisymmetric}
 use Rattle.std.specs.FinMap.Entries.{below_all, same_entries}
 use Rattle.sqlite.specs.Store.{Ghosts}
-use Rattle.sqlite.specs.Held.{Held, state}
 use Rattle.sqlite.specs.State.{HasCleanDisk}
 use Rattle.pgtuple.specs.Limits.{IsWireTuple}
 use Rattle.pglogical.specs.declared.item.RelationDef.{RelationDef}
 use Rattle.pgrel.specs.Identity.{keyed}
 use Rattle.pgtables.specs.Kept as stored
 use Rattle.pgtables.specs.Shown.{ListsRows}
-use Rattle.pgtables.proofs.Inside.{goes_then}
+use Rattle.pgrows.specs.Rows.{state, tables_of}
 use Rattle.pgapply.specs.declared.rows.StoreFault.{StoreFault}
 use Rattle.pgapply.specs.Value.{Row, Rows, Table, Tables, IsRow}
 use Rattle.pgapply.specs.Apply.{◌>>=◌, carry_row, carry_rows}
@@ -27,7 +26,8 @@ use Rattle.pgapply.proofs.KeepsForm.{at_most}
 use Rattle.pgapply.proofs.ChangedShapes.{flags_and_names, carry_none, carry_first}
 use Rattle.pgstore.specs.Spelled.{IsChanging, IsStored, spelled_row, row_in}
 use Rattle.pgstore.specs.Carries.{AreKeptRows, AreKept, CarriesOne, Carried, CarriesOn, CarriesAll, RefusesToCarryOne, RefusesToCarry}
-use Rattle.pgstore.proofs.Applying.{goes_none}
+use Rattle.pgstore.specs.Acts.{Goes}
+use Rattle.pgstore.proofs.Going.{goes_none, goes_then}
 use Rattle.pgstore.proofs.Deciding.{fault_first}
 
 -- ---- the rows that are stored, in their order
@@ -86,24 +86,24 @@ module _ (v : Tables) (def : RelationDef) (t : stored.Tables) (h : IsStored v t)
 
 -- ---- one row after the other
 
-module _ {S : Type 0} (g : Ghosts S) (a : Held S) (before def : RelationDef) (all : List stored.Copies) where
-  pub carries_none : stored.InTransaction g a → CarriesOn g a a before def all all
-  carries_none serving = record {
+module _ {S : Type 0} (g : Ghosts S) (a : S) (before def : RelationDef) (all : List stored.Copies) where
+  pub carries_none : CarriesOn g a a before def all all
+  carries_none = record {
     goes = goes_none g a;
     made = λ clean still. (
-      record { was_open = still; is_open = still; under_way = serving clean still },
+      record { was_open = still; is_open = still },
       λ v entries start h kept. record { left = entries; rows = start; kept = kept; same = refl; changing = h },
     );
   }
 
-  module _ (b : Held S) (k : stored.Copies) (rest : List stored.Copies) (so_far : CarriesOn g a b before def all (k ∷ rest)) where
-    pub carries_then : (c : Held S) → (HasCleanDisk (state g c) → CarriesOne g b c before def k) → stored.Goes g b c → CarriesOn g a c before def all rest
+  module _ (b : S) (k : stored.Copies) (rest : List stored.Copies) (so_far : CarriesOn g a b before def all (k ∷ rest)) where
+    pub carries_then : (c : S) → (HasCleanDisk (state g c) → CarriesOne g b c before def k) → Goes g b c → CarriesOn g a c before def all rest
     carries_then c one goes = record {
       goes = goes_then g a b c so_far.goes goes.keeps goes.survives;
       made = λ clean still.
           let step = one clean in
           let first = so_far.made (omega (arith, goes.survives.clean)) still in (
-            record { was_open = first.0.was_open; is_open = step.0.is_open; under_way = step.0.under_way },
+            record { was_open = first.0.was_open; is_open = step.0.is_open },
             λ v entries start h kept.
                 let was = first.1 v entries start h kept in
                 next v entries start step was.left was.rows was.kept was.same was.changing,
@@ -111,7 +111,7 @@ module _ {S : Type 0} (g : Ghosts S) (a : Held S) (before def : RelationDef) (al
     }
       where
         next : (v : Tables) (entries : List (List ℕ × Row)) (start : Rows) → CarriesOne g b c before def k → (left : List (List ℕ × Row)) (rows : Rows) → AreKeptRows before left (k ∷ rest)
-            → carry_rows before def entries start ≡ carry_rows before def left rows → IsChanging v def rows (stored.tables_of g b) → Carried g a c before def v entries start rest
+            → carry_rows before def entries start ≡ carry_rows before def left rows → IsChanging v def rows (tables_of g b) → Carried g a c before def v entries start rest
         next v entries start step [] rows kept same changing = absurd kept
         next v entries start step (e ∷ more) rows kept same changing =
             let made = step.1 e.1 kept.0 v rows changing in
@@ -123,13 +123,13 @@ module _ {S : Type 0} (g : Ghosts S) (a : Held S) (before def : RelationDef) (al
         let was = (so_far.made clean still).1 v entries start h kept in
         next was.left was.rows was.kept was.same was.changing
       where
-        next : (left : List (List ℕ × Row)) (rows : Rows) → AreKeptRows before left (k ∷ rest) → carry_rows before def entries start ≡ carry_rows before def left rows → IsChanging v def rows (stored.tables_of g b)
+        next : (left : List (List ℕ × Row)) (rows : Rows) → AreKeptRows before left (k ∷ rest) → carry_rows before def entries start ≡ carry_rows before def left rows → IsChanging v def rows (tables_of g b)
             → IsFault e (carry_rows before def entries start)
         next [] rows kept same changing = absurd kept
         next (x ∷ more) rows kept same changing =
             subst (IsFault e) (sym (same ∙ carry_first before def x more rows)) (fault_first e (carry_row before def x.1 rows) (carry_rows before def more) (refuses x.1 kept.0 v rows changing))
 
-  pub carries_all : (c : Held S) → CarriesOn g a c before def all [] → HasCleanDisk (state g c) → IsTrue (state g a).is_open → CarriesAll g a c before def all
+  pub carries_all : (c : S) → CarriesOn g a c before def all [] → HasCleanDisk (state g c) → IsTrue (state g a).is_open → CarriesAll g a c before def all
   carries_all c done clean still =
       let it = done.made clean still in (
         it.0,

@@ -15,26 +15,26 @@ use Rattle.pglogical.specs.Spelling.{AreColumns, IsColumn, IsDefinition, IsLette
 use Rattle.pglogical.specs.Typed.{AreTypedColumns}
 use Rattle.pglogical.specs.declared.item.Column.{Column}
 use Rattle.pgrel.specs.Identity.{keyed}
-use Rattle.pgtables.specs.declared.fault.ReadFault.{ReadFault}
-use Rattle.pgtables.specs.declared.fault.ReadFault.TheVariants.{Sql, Malformed}
+use Rattle.pgrows.specs.declared.fault.ReadFault.{ReadFault}
+use Rattle.pgrows.specs.declared.fault.ReadFault.TheVariants.{Store, Malformed}
 use Rattle.pgtables.specs.Kept as stored
 use Rattle.pgtables.specs.Shown.{AllFit, FitsCopies, FitsDefinition}
 use Rattle.pgapply.specs.declared.rows.StoreFault.{StoreFault}
 use Rattle.pgapply.specs.Value.{Row, Rows, Table, Tables, most_copies}
 use Rattle.pgapply.specs.Stored.{IsOwnFault}
-use Rattle.pgstore.specs.SqlFault.{IsFaultOf, IsReadFaultOf}
+use Rattle.pgstore.specs.SqlFault.{IsReadFaultOf, IsTreeFaultOf}
 use Rattle.pgstore.specs.Spelled.{IsChanging, IsReadable, IsSpellable, IsStored, spelled_definition, spelled_row}
 use Rattle.pgstore.specs.Carries.{AreKept, AreKeptRows}
 use Rattle.pgstore.proofs.SpelledRows.{own_row}
 
 -- ---- faults
 
-own_of_sql : (fault : StoreFault) (error : _) → IsFaultOf error fault → IsOwnFault fault
-own_of_sql fault error (inl memory) = inl memory.1
-own_of_sql fault error (inr other) = inr other.1
+pub own_of_tree : (fault : StoreFault) (error : _) → IsTreeFaultOf error fault → IsOwnFault fault
+own_of_tree fault error (inl memory) = inl memory.1
+own_of_tree fault error (inr other) = inr other.1
 
 pub own_of_read : (read : ReadFault) (fault : StoreFault) → read ≢ Malformed → IsReadFaultOf read fault → IsOwnFault fault
-own_of_read (Sql error) fault formed is = own_of_sql fault error is
+own_of_read (Store error) fault formed is = own_of_tree fault error is
 own_of_read Malformed fault formed is = absurd (formed refl)
 
 -- the refusal that a `?` makes of a fault of reading
@@ -44,7 +44,7 @@ read_refuses (Err fault) read is goes = goes fault is
 
 -- ---- tuples
 
-encoded_read : (cells : List Cell) (bytes : List ℕ) → IsWireTuple cells → bytes ≡ tuple_spelling cells → tuple_at bytes ≡ Ok (cells, (length bytes, []))
+pub encoded_read : (cells : List Cell) (bytes : List ℕ) → IsWireTuple cells → bytes ≡ tuple_spelling cells → tuple_at bytes ≡ Ok (cells, (length bytes, []))
 encoded_read cells bytes fits is = ap tuple_at (is ∙ sym (append-nil (tuple_spelling cells))) ∙ tuple_again cells [] fits ∙ ap (λ n. Ok (cells, (n, []))) (ap length (sym is))
 
 pub never_unread : (cells : List Cell) (bytes : List ℕ) (f : TupleFault) → IsWireTuple cells → bytes ≡ tuple_spelling cells → tuple_at bytes ≡ Err f → ⊥

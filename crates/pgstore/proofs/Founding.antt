@@ -32,7 +32,8 @@ use Rattle.pgstore.specs.StoreValue.{AreOf, IsPlaceOf, IsStore, IsValueOf, Leave
 use Rattle.pgstore.specs.Adopted.{AreDefinitionsOf, AreRead, AreRemade, Definitions, Founds, HasRemade, IsKnownRow, IsPlaceRead, LeavesRemade, Stands, is_whole, with_definitions}
 use Rattle.pgstore.proofs.Adopted.{tables_from, value_stands}
 use Rattle.pgstore.proofs.Remade.{got_definitions, got_no_row}
-use Rattle.pgstore.proofs.Stores.{IsSettled, crash_leaves, no_value, open_keeps}
+use Rattle.pgstore.specs.Acts.{committed_of}
+use Rattle.pgstore.proofs.Stores.{IsSettled, adopted_kept, adopted_trees, crash_leaves, no_value, open_keeps}
 
 not_both : {X A : Type 0} {x : X} → ◌≡◌ {A = Option X} None (Some x) → A
 not_both e = absurd cc
@@ -318,17 +319,27 @@ no_items [] e = refl
 no_items (x ∷ xs) e = absurd (omega arith)
 
 -- it is a store
-pub founded_store : {S : Type 0} (g : Ghosts S) (old new : Held S) (position : ℕ) → position < 2 ^ 64 → (HasCleanDisk (state g new) → Founds g old new position) → IsSettled g → (IsTrue (state g new).is_open → (state g new).now ≡ (state g new).committed)
-    → (state g new).in_transaction ≡ false → IsStore g new position
-founded_store g old new position range founds law even settled = record {
-  settled = settled;
-  kept = λ clean still. (founds clean).stands.kept;
-  range = range;
-  same = λ clean still. (founds clean).stands.place;
-  stored = λ clean still. (founds clean).stands.stored;
-  crash = crash_leaves g law new even;
-  keeps = λ clean.
-      let it = founds clean in
-      let v : Stored = record { tables = it.stands.stored.0; position = position } in
-      (v, open_keeps g new v law even it.is_open it.stands.kept it.stands.stored.1 it.stands.place range);
-}
+module _ {S : Type 0} (g : Ghosts S) (old new : Held S) (position : ℕ) (range : position < 2 ^ 64) (founds : HasCleanDisk (state g new) → Founds g old new position)
+    (even : IsTrue (state g new).is_open → (state g new).now ≡ (state g new).committed) where
+  -- what a connection shows that was read is what is committed
+  pub founded_as : HasCleanDisk (state g new) → committed_of g new.store ≡ tables_of g new
+  founded_as clean = ap tables_in (adopted_trees g new even (founds clean).is_open)
+
+  founded_stored : HasCleanDisk (state g new) → (v : Tables) × IsStored v (committed_of g new.store)
+  founded_stored clean = let it = (founds clean).stands.stored in (it.0, subst (IsStored it.0) (sym (founded_as clean)) it.1)
+
+  founded_place : HasCleanDisk (state g new) → (committed_of g new.store).place ≡ to_be_bytes w64 position
+  founded_place clean = ap (λ (t : stored.Tables). t.place) (founded_as clean) ∙ (founds clean).stands.place
+
+  pub founded_store : IsSettled g → IsStore g new.store position
+  founded_store law = record {
+    kept = λ clean still. adopted_kept g new even (founds clean).is_open (founds clean).stands.kept;
+    range = range;
+    same = λ clean still. founded_place clean;
+    stored = λ clean still. founded_stored clean;
+    crash = crash_leaves g law new.store;
+    keeps = λ clean.
+        let it = founds clean in
+        let v : Stored = record { tables = (founded_stored clean).0; position = position } in
+        (v, open_keeps g new.store v law it.is_open (adopted_kept g new even it.is_open it.stands.kept) (founded_stored clean).1 (founded_place clean) range);
+  }

@@ -1,5 +1,5 @@
 -- Tables that are made anew from what was read.
-use Rattle.std.proofs.Common.{◌≡◌, ◌++◌, ℕ, List, [], ◌∷◌, Some, None, cond, refl, sym, ap, subst, ◌∙◌, append-nil, T}
+use Rattle.std.proofs.Common.{◌≡◌, ◌++◌, ℕ, List, [], ◌∷◌, Some, None, cond, refl, sym, ap, subst, ◌∙◌, append-nil, T, inl, arith}
 use Rattle.std.specs.Ordering.{nat_cmp, eq_by_cmp}
 use Rattle.std.specs.Cmp.{nat_cmp_total}
 use Rattle.std.specs.FinMap as finite
@@ -13,7 +13,12 @@ use Rattle.pgtables.specs.Kept.{Goes, GoesOn, Makes, IfServing, tables_in, table
 use Rattle.pgtables.proofs.Inside.{goes_on_then}
 use Rattle.pgstore.specs.Adopted.{with_definitions}
 use Rattle.pgstore.proofs.Adopted.{none_before}
-use Rattle.pgstore.proofs.Applying.{goes_none}
+
+goes_none : {S : Type 0} (g : Ghosts S) (a : Held S) → Goes g a a
+goes_none g a = record {
+  keeps = λ clean. record { was_open = λ still. still; committed = λ still. refl };
+  survives = record { clean = omega arith; shield = λ h. h; counts = omega arith; limit = refl; closes = λ clean h. inl h; crash = λ clean db h. inl h };
+}
 
 abbrev Entries : Type 0
 Entries = List (ℕ × stored.Definition)

@@ -6,7 +6,7 @@ use Rattle.sqlite.specs.Effect.{Database}
 use Rattle.sqlite.specs.Files.{over_files}
 use Rattle.sqlite.specs.Store.{Ghosts}
 use Rattle.pgtables.specs.Kept as stored
-use Rattle.pgtables.specs.Kept.{tables_of}
+use Rattle.pgstore.specs.Acts.{committed_of}
 use Rattle.pgapply.specs.Value.{Tables}
 use Rattle.pgstore.specs.Spelled.{IsStored}
 use Rattle.pgstore.specs.StoreValue.{AreOf}
@@ -33,7 +33,7 @@ module _ {S T : Type 0} (g : Ghosts S) (h : Ghosts T) where
   reopens_same old new v contains again w holds =
       let there = again.opened v (contains.left again.db again.left) in
       record {
-        stored = same_stored v.tables w.tables (tables_of g old.conn) (tables_of h new.conn) contains.holds.stored holds.stored there.stored;
+        stored = same_stored v.tables w.tables (committed_of g old.rows) (committed_of h new.rows) contains.holds.stored holds.stored there.stored;
         position = holds.position ∙ sym contains.holds.position ∙ there.position;
       }
 

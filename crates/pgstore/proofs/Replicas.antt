@@ -1,9 +1,9 @@
 -- The SQL store as what a subscriber keeps its tables in.
 use Rattle.std.proofs.Common.{◌≡◌, ◌⊎◌, inl, inr, ℕ, List, Result, Ok, Err, OnOk, OnErr, IfOk, IfErr, refl, sym, arith}
-use Rattle.sqlite.specs.Held.{state}
 use Rattle.sqlite.specs.State.{Survives}
 use Rattle.sqlite.specs.Store.{Ghosts}
-use Rattle.pgtables.specs.Kept.{tables_of}
+use Rattle.pgrows.specs.Rows.{state}
+use Rattle.pgstore.specs.Acts.{committed_of}
 use Rattle.pgapply.specs.declared.rows.DumpRow.{DumpRow}
 use Rattle.pgapply.specs.declared.rows.StoreFault.{StoreFault}
 use Rattle.pgapply.specs.Value.{Tables}
@@ -17,7 +17,7 @@ use Rattle.pgstore.specs.StoreValue.{StoreValue, IsHonest, Serves, Holds, Contai
 
 module _ {S : Type 0} (g : Ghosts S) where
   abbrev pub holds_tables : StoreValue S → Tables → Type 0
-  holds_tables s tables = IsStored tables (tables_of g s.conn)
+  holds_tables s tables = IsStored tables (committed_of g s.rows)
 
   pub holds_with_position : (s : StoreValue S) (tables : Tables) → holds_tables s tables → Holds g s (record { tables = tables; position = s.position })
   holds_with_position s tables h = record { stored = h; position = refl }
@@ -37,7 +37,7 @@ module _ {S : Type 0} (g : Ghosts S) where
   shows_tables old rows shows tables h = shows (record { tables = tables; position = old.position }) (holds_with_position old tables h)
 
   -- what a crash may leave of a commit is what it could leave before, or the changes of the commit folded
-  pub leaves_fold : (old new : StoreValue S) (changes : List Change) (end : ℕ) → Survives (state g old.conn) (state g new.conn) (LeavesWork g old changes end) → (Serves g old → (v : Stored) × Contains g old v) → IsHonest g new
+  pub leaves_fold : (old new : StoreValue S) (changes : List Change) (end : ℕ) → Survives (state g old.rows) (state g new.rows) (LeavesWork g old changes end) → (Serves g old → (v : Stored) × Contains g old v) → IsHonest g new
       → (other : StoreValue S) → Reopens g g new other → Reopens g g old other ⊎ (Serves g old × taken.LeavesFold holds_tables (λ s. s.position) old changes end other)
   leaves_fold old new changes end survives contains honest other left = elim (survives.crash honest left.db left.left) [
     | inl was ↦ inl (record { db = left.db; left = was; opened = left.opened })

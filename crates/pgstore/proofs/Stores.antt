@@ -1,5 +1,5 @@
 -- What a store contains, when it is made and when a commit is taken.
-use Rattle.std.proofs.Common.{◌≡◌, ◌≤◌, ◌<◌, ◌^◌, inl, inr, ℕ, List, [], ◌∷◌, Ok, false, IsTrue, refl, sym, ap, subst, ◌∙◌, arith}
+use Rattle.std.proofs.Common.{◌≡◌, ◌≤◌, ◌<◌, ◌^◌, inl, inr, ℕ, List, [], ◌∷◌, Ok, IsTrue, refl, sym, ap, subst, ◌∙◌, arith}
 use Rattle.std.specs.Prelude.{option_map}
 use Rattle.std.specs.Int.{w64, to_be_bytes}
 use Rattle.std.specs.Ordering.{nat_cmp}
@@ -10,13 +10,15 @@ use Rattle.sqlite.specs.Tree.{Trees}
 use Rattle.sqlite.specs.Effect.{Database}
 use Rattle.sqlite.specs.Store.{Ghosts}
 use Rattle.sqlite.specs.View.{doubt}
-use Rattle.sqlite.specs.Held.{Held, state}
-use Rattle.sqlite.specs.State.{HasCleanDisk, Survives}
+use Rattle.sqlite.specs.Held as connection
+use Rattle.sqlite.specs.Held.{AreDatabases, Held}
+use Rattle.sqlite.specs.State.{HasCleanDisk, KeepsCommit, Survives}
 use Rattle.sqlite.proofs.StateLemmas.{survives_weaker}
 use Rattle.pglogical.specs.declared.item.RelationDef.{RelationDef}
 use Rattle.pgtables.specs.Schema.{store_schema}
 use Rattle.pgtables.specs.Kept as stored
-use Rattle.pgtables.specs.Kept.{IfServing, tables_of, tables_in}
+use Rattle.pgtables.specs.Kept.{tables_in}
+use Rattle.pgrows.specs.Rows.{IfServing, database, state}
 use Rattle.pgapply.specs.declared.op.Op.{Op}
 use Rattle.pgapply.specs.declared.rows.StoreFault.{StoreFault}
 use Rattle.pgapply.specs.Value.{Table}
@@ -24,7 +26,7 @@ use Rattle.pgapply.specs.Works.{change_values}
 use Rattle.pgapply.specs.Apply.{Change, fold_changes}
 use Rattle.pgapply.specs.Stored.{Stored, IsFault}
 use Rattle.pgstore.specs.Spelled.{IsStored, spelled_definition, spelled_row, row_in}
-use Rattle.pgstore.specs.Acts.{HasTaken, LeavesTaken, RefusesToFold}
+use Rattle.pgstore.specs.Acts.{HasTaken, LeavesTaken, RefusesToFold, committed_of}
 use Rattle.pgstore.specs.StoreValue.{AreOf, IsAtLeast, Keeps, IsStore, HasMade, Serves, Holds, Contains, Takes, Stays, RefusesWork, LeavesWork, nothing_stored}
 use Rattle.pgapply.proofs.KeepsForm.{none_keeps}
 
@@ -34,13 +36,13 @@ use Rattle.pgapply.proofs.KeepsForm.{none_keeps}
 abbrev pub IsSettled : {S : Type 0} → Ghosts S → Type 0
 IsSettled {S} g = (s : S) (db : Trees) → IsTrue (g.view s).is_open → g.recovers s db → db ≡ (g.view s).committed
 
-module _ {S : Type 0} (g : Ghosts S) (law : IsSettled g) (conn : Held S) (even : IsTrue (state g conn).is_open → (state g conn).now ≡ (state g conn).committed) where
-  pub crash_leaves : IfServing g conn ((db : Trees) → (state g conn).may_leave db → db ≡ (state g conn).now.trees)
-  crash_leaves clean still db may = law conn.store db still may ∙ sym (ap (λ (d : Database). d.trees) (even still))
+module _ {S : Type 0} (g : Ghosts S) (law : IsSettled g) (rows : S) where
+  pub crash_leaves : IfServing g rows ((db : Trees) → (state g rows).may_leave db → db ≡ (state g rows).committed.trees)
+  crash_leaves clean still db may = law rows db still may
 
 -- what a store contains is left
-pub contains : {S : Type 0} (g : Ghosts S) (conn : Held S) (position : ℕ) → IsStore g conn position → Serves g (record { conn = conn; position = position }) → (v : Stored) × Contains g (record { conn = conn; position = position }) v
-contains g conn position is now =
+pub contains : {S : Type 0} (g : Ghosts S) (rows : S) (position : ℕ) → IsStore g rows position → Serves g (record { rows = rows; position = position }) → (v : Stored) × Contains g (record { rows = rows; position = position }) v
+contains g rows position is now =
     let v = is.stored now.honest now.is_open in
     let kept = is.kept now.honest now.is_open in (
       record { tables = v.0; position = position },
@@ -48,7 +50,7 @@ contains g conn position is now =
         holds = record { stored = v.1; position = refl };
         left = λ db may.
             let same = is.crash now.honest now.is_open db may in
-            let whole : ◌≡◌ {A = Database} (state g conn).now (record { schema = store_schema; trees = db }) = λ i. record { schema = kept.schema i; trees = sym same i } in
+            let whole : ◌≡◌ {A = Database} (state g rows).committed (database db) = ap database (sym same) in
             record {
               kept = subst stored.IsKept whole kept;
               stored = subst (λ t. IsStored v.0 (tables_in t)) (sym same) v.1;
@@ -59,9 +61,9 @@ contains g conn position is now =
     )
 
 -- the trees that a store has, where all that it says of them holds
-trees_of : {S : Type 0} (g : Ghosts S) (conn : Held S) (v : Stored) (db : Trees) → stored.IsKept (state g conn).now → IsStored v.tables (tables_of g conn) → (tables_of g conn).place ≡ to_be_bytes w64 v.position → v.position < 2 ^ 64 → db ≡ (state g conn).now.trees → AreOf v db
-trees_of g conn v db kept is place range same =
-    let whole : ◌≡◌ {A = Database} (state g conn).now (record { schema = store_schema; trees = db }) = λ i. record { schema = kept.schema i; trees = sym same i } in
+trees_of : {S : Type 0} (g : Ghosts S) (rows : S) (v : Stored) (db : Trees) → stored.IsKept (state g rows).committed → IsStored v.tables (committed_of g rows) → (committed_of g rows).place ≡ to_be_bytes w64 v.position → v.position < 2 ^ 64 → db ≡ (state g rows).committed.trees → AreOf v db
+trees_of g rows v db kept is place range same =
+    let whole : ◌≡◌ {A = Database} (state g rows).committed (database db) = ap database (sym same) in
     record {
       kept = subst stored.IsKept whole kept;
       stored = subst (λ t. IsStored v.tables (tables_in t)) (sym same) is;
@@ -74,13 +76,30 @@ very : (v : Stored) (db : Trees) → AreOf v db → IsAtLeast v db
 very v db is = (v, is, omega arith, λ _. is)
 
 -- an open store keeps what it has
-pub open_keeps : {S : Type 0} (g : Ghosts S) (conn : Held S) (v : Stored) → IsSettled g → (IsTrue (state g conn).is_open → (state g conn).now ≡ (state g conn).committed) → IsTrue (state g conn).is_open → stored.IsKept (state g conn).now
-    → IsStored v.tables (tables_of g conn) → (tables_of g conn).place ≡ to_be_bytes w64 v.position → v.position < 2 ^ 64 → Keeps g (record { conn = conn; position = v.position }) v
-open_keeps g conn v law even still kept is place range = record {
+pub open_keeps : {S : Type 0} (g : Ghosts S) (rows : S) (v : Stored) → IsSettled g → IsTrue (state g rows).is_open → stored.IsKept (state g rows).committed
+    → IsStored v.tables (committed_of g rows) → (committed_of g rows).place ≡ to_be_bytes w64 v.position → v.position < 2 ^ 64 → Keeps g (record { rows = rows; position = v.position }) v
+open_keeps g rows v law still kept is place range = record {
   position = refl;
   holds = λ _. record { stored = is; position = refl };
-  left = λ db may. very v db (trees_of g conn v db kept is place range (law conn.store db still may ∙ sym (ap (λ (d : Database). d.trees) (even still))));
+  left = λ db may. very v db (trees_of g rows v db kept is place range (law rows db still may));
 }
+
+-- ---- a connection that was adopted
+
+module _ {S : Type 0} (g : Ghosts S) (conn : Held S) (even : IsTrue (connection.state g conn).is_open → (connection.state g conn).now ≡ (connection.state g conn).committed) where
+  -- its trees are committed
+  pub adopted_trees : IsTrue (connection.state g conn).is_open → (state g conn.store).committed.trees ≡ (connection.state g conn).now.trees
+  adopted_trees still = sym (ap (λ (d : Database). d.trees) (even still))
+
+  pub adopted_kept : IsTrue (connection.state g conn).is_open → stored.IsKept (connection.state g conn).now → stored.IsKept (state g conn.store).committed
+  adopted_kept still kept =
+      let whole : ◌≡◌ {A = Database} (connection.state g conn).now (state g conn.store).committed = λ i. record { schema = kept.schema i; trees = sym (adopted_trees still) i } in
+      subst stored.IsKept whole kept
+
+-- the limit of steps of a connection isn't the store's
+pub adopted_survives : {S : Type 0} (g : Ghosts S) (old new : Held S) (P : Trees → Type 0) → Survives (connection.state g old) (connection.state g new) P
+    → Survives (connection.state g old) (record (state g new.store) { step_limit = (connection.state g old).step_limit }) P
+adopted_survives g old new P s = record { clean = s.clean; shield = s.shield; counts = s.counts; limit = refl; closes = s.closes; crash = s.crash }
 
 -- ---- a new store
 
@@ -95,31 +114,40 @@ no_value = record {
   spellable = λ oid table there. absurd (let none = sym (get-empty nat_cmp oid) ∙ there in cc);
 }
 
-module _ {S : Type 0} (g : Ghosts S) (conn : Held S) (made : HasCleanDisk (state g conn) → HasMade g conn) where
-  first_stored : HasCleanDisk (state g conn) → IsStored map.empty (tables_of g conn)
-  first_stored clean = subst (IsStored map.empty) (sym (made clean).none) no_value
+module _ {S : Type 0} (g : Ghosts S) (conn : Held S) (made : HasCleanDisk (connection.state g conn) → HasMade g conn)
+    (even : IsTrue (connection.state g conn).is_open → (connection.state g conn).now ≡ (connection.state g conn).committed) where
+  first_none : HasCleanDisk (connection.state g conn) → committed_of g conn.store ≡ stored.no_tables
+  first_none clean = ap tables_in (adopted_trees g conn even (made clean).is_open) ∙ (made clean).none
 
-  pub first_store : IsSettled g → (IsTrue (state g conn).is_open → (state g conn).now ≡ (state g conn).committed) → (state g conn).in_transaction ≡ false → IsStore g conn 0
-  first_store law even settled = record {
-    settled = settled;
-    kept = λ clean still. (made clean).kept;
+  first_stored : HasCleanDisk (connection.state g conn) → IsStored map.empty (committed_of g conn.store)
+  first_stored clean = subst (IsStored map.empty) (sym (first_none clean)) no_value
+
+  first_kept : HasCleanDisk (connection.state g conn) → stored.IsKept (state g conn.store).committed
+  first_kept clean = adopted_kept g conn even (made clean).is_open (made clean).kept
+
+  pub first_store : IsSettled g → IsStore g conn.store 0
+  first_store law = record {
+    kept = λ clean still. first_kept clean;
     range = omega arith;
-    same = λ clean still. ap (λ (t : stored.Tables). t.place) (made clean).none;
+    same = λ clean still. ap (λ (t : stored.Tables). t.place) (first_none clean);
     stored = λ clean still. (map.empty, first_stored clean);
-    crash = crash_leaves g law conn even;
-    keeps = λ clean. (nothing_stored, open_keeps g conn nothing_stored law even (made clean).is_open (made clean).kept (first_stored clean) (ap (λ (t : stored.Tables). t.place) (made clean).none) (omega arith));
+    crash = crash_leaves g law conn.store;
+    keeps = λ clean. (nothing_stored, open_keeps g conn.store nothing_stored law (made clean).is_open (first_kept clean) (first_stored clean) (ap (λ (t : stored.Tables). t.place) (first_none clean)) (omega arith));
   }
 
-  pub first_holds : HasCleanDisk (state g conn) → Serves g (record { conn = conn; position = 0 }) × Holds g (record { conn = conn; position = 0 }) nothing_stored
+  pub first_holds : HasCleanDisk (connection.state g conn) → Serves g (record { rows = conn.store; position = 0 }) × Holds g (record { rows = conn.store; position = 0 }) nothing_stored
   first_holds clean = (record { honest = clean; is_open = (made clean).is_open }, record { stored = first_stored clean; position = refl })
 
 -- ---- a commit
 
-module _ {S : Type 0} (g : Ghosts S) (old new : Held S) (position : ℕ) (doubts : doubt (state g old).is_clean ≤ doubt (state g new).is_clean) where
-  -- nothing changed
-  module _ (same : IfServing g new (IsTrue (state g old).is_open × ((state g new).now ≡ (state g old).now))) where
-    pub stays_keeps : IsStore g old position → ((v : Stored) → v.position ≡ position → Keeps g (record { conn = old; position = position }) v → HasCleanDisk (state g new) → (db : Trees) → (state g new).may_leave db → IsAtLeast v db)
-        → HasCleanDisk (state g new) → (v : Stored) × Keeps g (record { conn = new; position = position }) v
+module _ {S : Type 0} (g : Ghosts S) (old new : S) (position : ℕ) (doubts : doubt (state g old).is_clean ≤ doubt (state g new).is_clean) where
+  -- nothing was committed
+  module _ (commit : HasCleanDisk (state g new) → KeepsCommit (state g old) (state g new)) where
+    same : IfServing g new (IsTrue (state g old).is_open × ((state g new).committed ≡ (state g old).committed))
+    same clean still = ((commit clean).was_open still, (commit clean).committed still)
+
+    pub stays_keeps : IsStore g old position → ((v : Stored) → v.position ≡ position → Keeps g (record { rows = old; position = position }) v → HasCleanDisk (state g new) → (db : Trees) → (state g new).may_leave db → IsAtLeast v db)
+        → HasCleanDisk (state g new) → (v : Stored) × Keeps g (record { rows = new; position = position }) v
     stays_keeps was left clean =
         let k = was.keeps (omega arith) in (
           k.0,
@@ -133,9 +161,8 @@ module _ {S : Type 0} (g : Ghosts S) (old new : Held S) (position : ℕ) (doubts
           },
         )
 
-    pub stays_store : IsStore g old position → ((v : Stored) → v.position ≡ position → Keeps g (record { conn = old; position = position }) v → HasCleanDisk (state g new) → (db : Trees) → (state g new).may_leave db → IsAtLeast v db) → IsSettled g → (IsTrue (state g new).is_open → (state g new).now ≡ (state g new).committed) → (state g new).in_transaction ≡ false → IsStore g new position
-    stays_store was left law even settled = record {
-      settled = settled;
+    pub stays_store : IsStore g old position → ((v : Stored) → v.position ≡ position → Keeps g (record { rows = old; position = position }) v → HasCleanDisk (state g new) → (db : Trees) → (state g new).may_leave db → IsAtLeast v db) → IsSettled g → IsStore g new position
+    stays_store was left law = record {
       kept = λ clean still. let it = same clean still in subst stored.IsKept (sym it.1) (was.kept (omega arith) it.0);
       range = was.range;
       same = λ clean still. let it = same clean still in ap (λ (d : Database). (tables_in d.trees).place) it.1 ∙ was.same (omega arith) it.0;
@@ -143,11 +170,11 @@ module _ {S : Type 0} (g : Ghosts S) (old new : Held S) (position : ℕ) (doubts
           let it = same clean still in
           let v = was.stored (omega arith) it.0 in
           (v.0, subst (λ (d : Database). IsStored v.0 (tables_in d.trees)) (sym it.1) v.1);
-      crash = crash_leaves g law new even;
+      crash = crash_leaves g law new;
       keeps = stays_keeps was left;
     }
 
-    pub stays : Serves g (record { conn = new; position = position }) → Stays g (record { conn = old; position = position }) (record { conn = new; position = position })
+    pub stays : Serves g (record { rows = new; position = position }) → Stays g (record { rows = old; position = position }) (record { rows = new; position = position })
     stays now =
         let it = same now.honest now.is_open in
         record {
@@ -157,9 +184,8 @@ module _ {S : Type 0} (g : Ghosts S) (old new : Held S) (position : ℕ) (doubts
 
   -- the changes were folded
   module _ (definitions : List RelationDef) (entries : List (ℕ × Op)) (end : ℕ) (bytes : List ℕ) (spells : bytes ≡ to_be_bytes w64 end) (range : end < 2 ^ 64) (taken : HasCleanDisk (state g new) → HasTaken g old new definitions entries bytes) where
-    pub taken_store : IsStore g old position → IsSettled g → (IsTrue (state g new).is_open → (state g new).now ≡ (state g new).committed) → (state g new).in_transaction ≡ false → IsStore g new end
-    taken_store was law even settled = record {
-      settled = settled;
+    pub taken_store : IsStore g old position → IsSettled g → IsStore g new end
+    taken_store was law = record {
       kept = λ clean still. (taken clean).kept;
       range = range;
       same = λ clean still. (taken clean).position_is ∙ spells;
@@ -168,15 +194,15 @@ module _ {S : Type 0} (g : Ghosts S) (old new : Held S) (position : ℕ) (doubts
           let v = was.stored (omega arith) it.was_open in
           let f = it.folds v.0 v.1 in
           (f.0, f.2);
-      crash = crash_leaves g law new even;
+      crash = crash_leaves g law new;
       keeps = λ clean.
           let it = taken clean in
           let v = was.stored (omega arith) it.was_open in
           let f = it.folds v.0 v.1 in
-          (record { tables = f.0; position = end }, open_keeps g new (record { tables = f.0; position = end }) law even it.is_open it.kept f.2 (it.position_is ∙ spells) range);
+          (record { tables = f.0; position = end }, open_keeps g new (record { tables = f.0; position = end }) law it.is_open it.kept f.2 (it.position_is ∙ spells) range);
     }
 
-    pub takes : (changes : List Change) → change_values definitions entries ≡ changes → HasCleanDisk (state g new) → Takes g (record { conn = old; position = position }) (record { conn = new; position = end }) changes end
+    pub takes : (changes : List Change) → change_values definitions entries ≡ changes → HasCleanDisk (state g new) → Takes g (record { rows = old; position = position }) (record { rows = new; position = end }) changes end
     takes changes is clean =
         let it = taken clean in
         record {
@@ -188,14 +214,14 @@ module _ {S : Type 0} (g : Ghosts S) (old new : Held S) (position : ℕ) (doubts
         }
 
 -- the fault of a work
-pub refuses_work : {S : Type 0} (g : Ghosts S) (old : Held S) (position : ℕ) (definitions : List RelationDef) (entries : List (ℕ × Op)) (changes : List Change) (e : StoreFault) → change_values definitions entries ≡ changes
-    → RefusesToFold g old definitions entries e → RefusesWork g (record { conn = old; position = position }) changes e
+pub refuses_work : {S : Type 0} (g : Ghosts S) (old : S) (position : ℕ) (definitions : List RelationDef) (entries : List (ℕ × Op)) (changes : List Change) (e : StoreFault) → change_values definitions entries ≡ changes
+    → RefusesToFold (committed_of g old) definitions entries e → RefusesWork g (record { rows = old; position = position }) changes e
 refuses_work g old position definitions entries changes e is h v s = subst (λ cs. IsFault e (fold_changes v.tables cs)) is (h v.tables s.stored)
 
 -- what a crash inside a commit may leave
-module _ {S : Type 0} (g : Ghosts S) (old new : Held S) (position : ℕ) (definitions : List RelationDef) (entries : List (ℕ × Op)) (end : ℕ) (bytes : List ℕ) (spells : bytes ≡ to_be_bytes w64 end) (range : end < 2 ^ 64)
+module _ {S : Type 0} (g : Ghosts S) (old new : S) (position : ℕ) (definitions : List RelationDef) (entries : List (ℕ × Op)) (end : ℕ) (bytes : List ℕ) (spells : bytes ≡ to_be_bytes w64 end) (range : end < 2 ^ 64)
     (changes : List Change) (is : change_values definitions entries ≡ changes) where
-  leaves_work : (db : Trees) → LeavesTaken g old definitions entries bytes db → LeavesWork g (record { conn = old; position = position }) changes end db
+  leaves_work : (db : Trees) → LeavesTaken g old definitions entries bytes db → LeavesWork g (record { rows = old; position = position }) changes end db
   leaves_work db h = (
     h.was_open,
     λ v s.
@@ -204,7 +230,7 @@ module _ {S : Type 0} (g : Ghosts S) (old new : Held S) (position : ℕ) (defini
   )
 
   -- what a commit leaves that wasn't answered Ok is at least as far
-  pub refused_left : position < end → Survives (state g old) (state g new) (LeavesTaken g old definitions entries bytes) → (v : Stored) → v.position ≡ position → Keeps g (record { conn = old; position = position }) v
+  pub refused_left : position < end → Survives (state g old) (state g new) (LeavesTaken g old definitions entries bytes) → (v : Stored) → v.position ≡ position → Keeps g (record { rows = old; position = position }) v
       → HasCleanDisk (state g new) → (db : Trees) → (state g new).may_leave db → IsAtLeast v db
   refused_left later s v at keeps clean db may = elim (s.crash clean db may) [
     | inl before ↦ keeps.left db before
@@ -213,10 +239,21 @@ module _ {S : Type 0} (g : Ghosts S) (old new : Held S) (position : ℕ) (defini
         (record { tables = f.0; position = end }, record { kept = taken.kept; stored = f.2; position = taken.position_is ∙ spells; range = range }, omega (arith, later, at), λ e. absurd (let no : ⊥ = omega (arith, later, at, e) in no))
   ]
 
-  pub survives_work : Survives (state g old) (state g new) (LeavesTaken g old definitions entries bytes) → Survives (state g old) (state g new) (LeavesWork g (record { conn = old; position = position }) changes end)
+  pub survives_work : Survives (state g old) (state g new) (LeavesTaken g old definitions entries bytes) → Survives (state g old) (state g new) (LeavesWork g (record { rows = old; position = position }) changes end)
   survives_work s = survives_weaker (state g old) (state g new) _ _ (λ _ db h. leaves_work db h) s
 
 -- a call that commits nothing leaves what could be left before
-pub read_left : {S : Type 0} (g : Ghosts S) (old new : Held S) (position : ℕ) → Survives (state g old) (state g new) (λ _. ⊥) → (v : Stored) → v.position ≡ position → Keeps g (record { conn = old; position = position }) v
+pub read_left : {S : Type 0} (g : Ghosts S) (old new : S) (position : ℕ) → Survives (state g old) (state g new) (λ _. ⊥) → (v : Stored) → v.position ≡ position → Keeps g (record { rows = old; position = position }) v
     → HasCleanDisk (state g new) → (db : Trees) → (state g new).may_leave db → IsAtLeast v db
 read_left g old new position s v at keeps clean db may = elim (s.crash clean db may) [ inl before ↦ keeps.left db before | inr none ↦ absurd none ]
+
+-- whatever a store may leave is a database
+pub left_databases : {S : Type 0} (g : Ghosts S) (old new : S) (position : ℕ) → (HasCleanDisk (state g old) → (v : Stored) × Keeps g (record { rows = old; position = position }) v) → Survives (state g old) (state g new) (λ _. ⊥)
+    → HasCleanDisk (state g new) → AreDatabases (state g new).may_leave
+left_databases g old new position keeps survives clean db may = elim (survives.crash clean db may) [
+  | inl before ↦
+      let k = keeps (omega (arith, survives.clean)) in
+      let it = k.1.left db before in
+      (store_schema, it.1.kept.sound)
+  | inr none ↦ absurd none
+]

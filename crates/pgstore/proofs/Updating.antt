@@ -1,6 +1,6 @@
 -- The changes of a keyed table that are one statement: a row that was sent whole and stays at its place, and a row that goes.
 use Rattle.std.proofs.Common.{◌≡◌, ◌⊎◌, ◌≤◌, ◌-◌, ℕ, List, ◌∷◌, true, false, cond, Option, Some, None, Ok, refl, sym, ap, subst, ◌∙◌, inl, inr, arith}
-use Rattle.std.specs.Prelude.{if◌then◌else◌, nat_lt}
+use Rattle.std.specs.Prelude.{if◌then◌else◌, is_some, nat_lt}
 use Rattle.std.specs.Ordering.{nat_cmp, eq_by_cmp}
 use Rattle.std.specs.Cmp.Lexicographic.{slice_cmp, nat_list_cmp_total}
 use Rattle.std.specs.FinMap as map
@@ -15,6 +15,7 @@ use Rattle.pglogical.specs.declared.item.OldKind.{OldKind}
 use Rattle.pgrel.specs.Identity.{keyed, searched_identity}
 use Rattle.pgrel.proofs.Rows.{sent_stays}
 use Rattle.pgtables.specs.Kept as stored
+use Rattle.pgrows.specs.Rows.{with_row_if_there}
 use Rattle.pgapply.specs.declared.op.Op.TheVariants.{Update, Delete}
 use Rattle.pgapply.specs.Value.{Row, Rows, Tables, most_copies}
 use Rattle.pgapply.specs.Apply.{with_row, without_row, rows_after}
@@ -30,15 +31,28 @@ cases_Option (Some x) = inr (x, refl)
 
 module _ (def : RelationDef) (prior : Option (OldKind × List Cell)) (row : List Cell) (rows : Rows) (searched : List Cell) (checked : searched_identity def prior (Some row) ≡ Ok searched) (place : List ℕ) (at : place ≡ tuple_spelling searched)
     (v : Tables) (t : stored.Tables) (h : IsChanging v def rows t) where
-  pub updated_whole : (next : stored.Tables) → StaysWhole def place row → IsWireTuple row → next ≡ stored.with_body def.oid place (tuple_spelling row) t → MakesOf v def (rows_after def (Update prior row) rows) next
+  -- one copy of a keyed row stands
+  one_stands : (there : stored.Copies) (was : Row) → IsFound rows place there was → keyed def ≡ true → there.copies ≡ 1
+  one_stands there was found key =
+      let few : was.copies ≤ (if keyed def then 1 else most_copies) = (h.form place was found.at).copies in
+      let one : was.copies ≤ 1 = subst (λ b. was.copies ≤ (if b then 1 else most_copies)) key few in
+      let some = (h.form place was found.at).some in
+      let is : there.copies ≡ was.copies = ap (λ (k : stored.Copies). k.copies) found.is in
+      omega (arith, one, some, is)
+
+  pub updated_whole : (next : stored.Tables) → StaysWhole def place row → IsWireTuple row → next ≡ with_row_if_there def.oid place (record { body = tuple_spelling row; copies = 1 }) t → MakesOf v def (rows_after def (Update prior row) rows) next
   updated_whole next stays tuple is = elim (cases_Option (map.get t.rows (def.oid ∷ place))) [
     | inl none ↦ updated_not def prior row rows searched checked place at v t h next none
-        (is ∙ ap (λ was. record t { rows = stored.bodied (def.oid ∷ place) (tuple_spelling row) t.rows was }) none)
+        (is ∙ ap (λ (was : Option stored.Copies). if is_some was then put_one else t) none)
     | inr some ↦ updated_one def prior row rows searched checked place at v t h some.0 next some.1 (λ was found.
         subst (λ (cells : List Cell). MakesOf v def (with_row def cells (without_row place was rows)) next) (sym (sent_stays row was.cells stays.sent))
         (moved_same v def rows t h row place some.0 was next found stays.place_is tuple stays.width stays.sent
-        (is ∙ ap (λ was. record t { rows = stored.bodied (def.oid ∷ place) (tuple_spelling row) t.rows was }) some.1)))
+        (is ∙ ap (λ (was : Option stored.Copies). if is_some was then put_one else t) some.1
+        ∙ ap (λ n. stored.with_row def.oid place (record { body = tuple_spelling row; copies = n }) t) (sym (one_stands some.0 was found stays.keyed)))))
   ]
+    where
+      put_one : stored.Tables
+      put_one = stored.with_row def.oid place (record { body = tuple_spelling row; copies = 1 }) t
 
 -- what isn't there goes without a change
 remove_missing : (m : FinMap (slice_cmp nat_cmp) stored.Copies) (k : List ℕ) → map.get m k ≡ None → map.remove m k ≡ m

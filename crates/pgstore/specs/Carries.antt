@@ -3,7 +3,6 @@ use Rattle.std.specs.Prelude.{◌≡◌, ◌⊎◌, ◌<◌, ◌≤◌, ◌+◌,
 use Rattle.std.specs.List.{AllZip}
 use Rattle.std.specs.FinMap as finite
 use Rattle.sqlite.specs.Store.{Ghosts}
-use Rattle.sqlite.specs.Held.{Held, state}
 use Rattle.sqlite.specs.State.{HasCleanDisk}
 use Rattle.pgtuple.specs.Cells.{tuple_spelling}
 use Rattle.pgtuple.specs.Limits.{IsWireTuple}
@@ -12,8 +11,8 @@ use Rattle.pglogical.specs.declared.item.RelationDef.{RelationDef}
 use Rattle.pglogical.specs.Spelling.{IsDefinition}
 use Rattle.pgrel.specs.Identity.{keyed, has_unchanged}
 use Rattle.pgtables.specs.Kept as stored
-use Rattle.pgtables.specs.Kept.{tables_of}
 use Rattle.pgtables.specs.Shown.{ListsRows}
+use Rattle.pgrows.specs.Rows.{Makes, state, tables_of}
 use Rattle.pgapply.specs.declared.op.Op.{Op}
 use Rattle.pgapply.specs.declared.rows.StoreFault.{StoreFault}
 use Rattle.pgapply.specs.declared.rows.StoreFault.TheVariants.{Clash, TooManyCopies}
@@ -21,7 +20,7 @@ use Rattle.pgapply.specs.Value.{Row, Rows, Tables, identity_key, most_copies}
 use Rattle.pgapply.specs.Apply.{joined, carry_row, carry_rows, found_rows}
 use Rattle.pgapply.specs.Stored.{IsFault, IsOwnFault}
 use Rattle.pgstore.specs.Spelled.{IsChanging, IsStored, spelled_definition, spelled_row}
-use Rattle.pgstore.specs.Acts.{GoesOpen, MakesOf}
+use Rattle.pgstore.specs.Acts.{Goes, GoesOpen, MakesOf}
 
 -- ---- rows that join others
 
@@ -37,23 +36,23 @@ pub record IsCarriedRow (def : RelationDef) (row : Row) (place body : List ℕ) 
   pub few : row.copies ≤ most_copies
 
 -- copies join those of a row of a bag
-pub record JoinsCopies {S : Type 0} (g : Ghosts S) (def : RelationDef) (place body : List ℕ) (copies : ℕ) (there : stored.Copies) (old new : Held S) : Type 0 where
+pub record JoinsCopies {S : Type 0} (g : Ghosts S) (def : RelationDef) (place body : List ℕ) (copies : ℕ) (there : stored.Copies) (old new : S) : Type 0 where
   pub bag : keyed def ≡ false
   pub few : there.copies + copies ≤ most_copies
-  pub made : stored.Makes g (stored.with_row def.oid place (record { body = body; copies = there.copies + copies })) old new
+  pub made : Makes g (stored.with_row def.oid place (record { body = body; copies = there.copies + copies })) old new
 
 abbrev pub RefusesCopies : RelationDef → ℕ → stored.Copies → StoreFault → Type 0
 RefusesCopies def copies there fault =
     IsOwnFault fault ⊎ (((fault ≡ Clash) × (keyed def ≡ true)) ⊎ ((fault ≡ TooManyCopies) × (keyed def ≡ false) × (most_copies < there.copies + copies)))
 
-module _ {S : Type 0} (g : Ghosts S) (old new : Held S) where
+module _ {S : Type 0} (g : Ghosts S) (old new : S) where
   -- a row joins those that are there
   abbrev pub Joins : RelationDef → List ℕ → List ℕ → ℕ → Type 0
   Joins def place body copies =
       GoesOpen g old new × ((row : Row) → IsCarriedRow def row place body copies → (v : Tables) (rows : Rows) → IsChanging v def rows (tables_of g old)
       → MakesOf v def (joined def row rows (finite.get rows (identity_key def row.cells))) (tables_of g new))
 
-abbrev pub RefusesToJoin : {S : Type 0} → Ghosts S → Held S → RelationDef → List ℕ → List ℕ → ℕ → StoreFault → Type 0
+abbrev pub RefusesToJoin : {S : Type 0} → Ghosts S → S → RelationDef → List ℕ → List ℕ → ℕ → StoreFault → Type 0
 RefusesToJoin g old def place body copies e =
     (row : Row) → IsCarriedRow def row place body copies → (v : Tables) (rows : Rows) → IsChanging v def rows (tables_of g old)
     → IsFault e (joined def row rows (finite.get rows (identity_key def row.cells)))
@@ -73,7 +72,7 @@ pub record IsKeptRow (def : RelationDef) (row : Row) (kept : stored.Copies) : Ty
 abbrev pub AreKeptRows : RelationDef → List (List ℕ × Row) → List stored.Copies → Type 0
 AreKeptRows def entries kept = AllZip (λ (e : List ℕ × Row) k. IsKeptRow def e.1 k) entries kept
 
-module _ {S : Type 0} (g : Ghosts S) (old new : Held S) (before def : RelationDef) where
+module _ {S : Type 0} (g : Ghosts S) (old new : S) (before def : RelationDef) where
   -- one row is carried
   abbrev pub CarriesOne : stored.Copies → Type 0
   CarriesOne kept =
@@ -89,7 +88,7 @@ module _ {S : Type 0} (g : Ghosts S) (old new : Held S) (before def : RelationDe
 
   -- what a loop over the rows keeps
   pub record CarriesOn (all rest : List stored.Copies) : Type 0 where
-    pub goes : stored.Goes g old new
+    pub goes : Goes g old new
     pub made : HasCleanDisk (state g new) → IsTrue (state g old).is_open
         → GoesOpen g old new × ((v : Tables) (entries : List (List ℕ × Row)) (start : Rows) → IsChanging v def start (tables_of g old) → AreKeptRows before entries all → Carried v entries start rest)
 
@@ -99,11 +98,11 @@ module _ {S : Type 0} (g : Ghosts S) (old new : Held S) (before def : RelationDe
       GoesOpen g old new × ((v : Tables) (entries : List (List ℕ × Row)) (start : Rows) → IsChanging v def start (tables_of g old) → AreKeptRows before entries all
       → MakesOf v def (carry_rows before def entries start) (tables_of g new))
 
-abbrev pub RefusesToCarryOne : {S : Type 0} → Ghosts S → Held S → RelationDef → RelationDef → stored.Copies → StoreFault → Type 0
+abbrev pub RefusesToCarryOne : {S : Type 0} → Ghosts S → S → RelationDef → RelationDef → stored.Copies → StoreFault → Type 0
 RefusesToCarryOne g old before def kept e =
     (row : Row) → IsKeptRow before row kept → (v : Tables) (rows : Rows) → IsChanging v def rows (tables_of g old) → IsFault e (carry_row before def row rows)
 
-abbrev pub RefusesToCarry : {S : Type 0} → Ghosts S → Held S → RelationDef → RelationDef → List stored.Copies → StoreFault → Type 0
+abbrev pub RefusesToCarry : {S : Type 0} → Ghosts S → S → RelationDef → RelationDef → List stored.Copies → StoreFault → Type 0
 RefusesToCarry g old before def all e =
     (v : Tables) (entries : List (List ℕ × Row)) (start : Rows) → IsChanging v def start (tables_of g old) → AreKeptRows before entries all → IsFault e (carry_rows before def entries start)
 
@@ -121,30 +120,30 @@ pub record IsReadAs (there : stored.Definition) (def before : RelationDef) : Typ
 abbrev pub emptied : RelationDef → List ℕ → stored.Tables → stored.Tables
 emptied def columns t = stored.without_rows def.oid (stored.with_definition def.oid (record { namespace = def.namespace; name = def.name; letter = def.letter; columns = columns }) t)
 
-abbrev pub Empties : {S : Type 0} → Ghosts S → RelationDef → List ℕ → Held S → Held S → Type 0
-Empties g def columns = stored.Makes g (emptied def columns)
+abbrev pub Empties : {S : Type 0} → Ghosts S → RelationDef → List ℕ → S → S → Type 0
+Empties g def columns = Makes g (emptied def columns)
 
 -- all rows of the relation, by identity
 abbrev pub AreKept : RelationDef → RelationDef → List (List ℕ × Row) → stored.Tables → Type 0
 AreKept before def entries t = (kept : List stored.Copies) → ListsRows def.oid t kept → AreKeptRows before entries kept
 
 -- the relation has the definition, and its rows are carried over to it
-abbrev pub CarriesTable : {S : Type 0} → Ghosts S → Held S → Held S → RelationDef → RelationDef → List ℕ → Type 0
+abbrev pub CarriesTable : {S : Type 0} → Ghosts S → S → S → RelationDef → RelationDef → List ℕ → Type 0
 CarriesTable g old new before def columns =
     GoesOpen g old new × ((v : Tables) (entries : List (List ℕ × Row)) → IsChanging v def finite.empty (emptied def columns (tables_of g old)) → AreKept before def entries (tables_of g old)
     → MakesOf v def (carry_rows before def entries finite.empty) (tables_of g new))
 
-abbrev pub RefusesTable : {S : Type 0} → Ghosts S → Held S → RelationDef → RelationDef → List ℕ → StoreFault → Type 0
+abbrev pub RefusesTable : {S : Type 0} → Ghosts S → S → RelationDef → RelationDef → List ℕ → StoreFault → Type 0
 RefusesTable g old before def columns e =
     (v : Tables) (entries : List (List ℕ × Row)) → IsChanging v def finite.empty (emptied def columns (tables_of g old)) → AreKept before def entries (tables_of g old)
     → IsFault e (carry_rows before def entries finite.empty)
 
 -- the definition takes the place of the stored one, and the relation has the rows that the change finds
-abbrev pub GivesAnew : {S : Type 0} → Ghosts S → Held S → Held S → stored.Definition → RelationDef → Op → Type 0
+abbrev pub GivesAnew : {S : Type 0} → Ghosts S → S → S → stored.Definition → RelationDef → Op → Type 0
 GivesAnew g old new there def op =
     GoesOpen g old new × ((v : Tables) → IsStored v (tables_of g old) → finite.get (tables_of g old).defined def.oid ≡ Some there
     → (rows : Rows) × (found_rows (finite.get v def.oid) def op ≡ Ok rows) × IsChanging v def rows (tables_of g new))
 
-abbrev pub RefusesAnew : {S : Type 0} → Ghosts S → Held S → stored.Definition → RelationDef → Op → StoreFault → Type 0
+abbrev pub RefusesAnew : {S : Type 0} → Ghosts S → S → stored.Definition → RelationDef → Op → StoreFault → Type 0
 RefusesAnew g old there def op e =
     (v : Tables) → IsStored v (tables_of g old) → finite.get (tables_of g old).defined def.oid ≡ Some there → IsFault e (found_rows (finite.get v def.oid) def op)

@@ -10,10 +10,12 @@ use Rattle.sqlite.specs.WalFiles.{outcomes}
 use Rattle.sqlite.specs.WalReads.{AreClean}
 use Rattle.sqlite.specs.Tree.{Trees}
 use Rattle.sqlite.specs.Store.{Ghosts}
-use Rattle.sqlite.specs.Held.{Held, state}
+use Rattle.sqlite.specs.Held as connection
+use Rattle.sqlite.specs.Held.{Held}
 use Rattle.sqlite.specs.State.{Opens}
-use Rattle.sqlite.specs.Files.{file_state, over_files, HoldsDatabase}
+use Rattle.sqlite.specs.Files.{over_files, HoldsDatabase}
 use Rattle.pgmemory.specs.Stopped.{Leaves}
+use Rattle.pgrows.specs.Rows.{state}
 use Rattle.pgapply.specs.Stored.{Stored}
 use Rattle.pgstore.specs.StoreValue.{StoreValue, Adopts, AreOf, Contains, Holds, Keeps}
 
@@ -25,14 +27,14 @@ module _ {S : Type 0} (g : Ghosts S) where
   -- So does one that adopted a connection which an open of such files gave.
   abbrev pub AdoptedHoldsContent : Type 0
   AdoptedHoldsContent =
-      (content : Image) (conn : Held S) (s : StoreValue S) → ((db : Trees) → HoldsDatabase content db → (state g conn).committed.trees ≡ db) → Opens (state g conn) → Adopts g conn s
+      (content : Image) (conn : Held S) (s : StoreValue S) → ((db : Trees) → HoldsDatabase content db → (connection.state g conn).committed.trees ≡ db) → Opens (connection.state g conn) → Adopts g conn s
       → HoldsContent content s
 
 module _ {S T : Type 0} (g : Ghosts S) (h : Ghosts T) where
   -- The new one was opened on what a crash at this moment may leave of the old one. It may be in files of another kind.
   pub record Reopens (old : StoreValue S) (new : StoreValue T) : Type 0 where
     pub db : Trees
-    pub left : (state g old.conn).may_leave db
+    pub left : (state g old.rows).may_leave db
     pub opened : (v : Stored) → AreOf v db → Holds h new v
 
   -- So where the old one serves, of which a crash leaves what it contains, the new one holds the same.
@@ -50,7 +52,7 @@ module _ {S T : Type 0} (g : Ghosts S) (h : Ghosts T) where
 pub record CrashLeaves {D : Type 0} {g : disk.Ghosts D} (old : StoreValue (FileStore D g)) (content : Image) : Type 0 where
   -- the files as the crash finds them, of which `Store::stop` says this
   pub files : Files D
-  pub stopped : Leaves g (file_state old.conn).may_leave files
+  pub stopped : Leaves g (state over_files old.rows).may_leave files
   -- their disks have given back what was written
   pub honest : AreClean g files.log files.db
   -- and each says that its file may hold this after a crash

@@ -1,10 +1,12 @@
--- What an error of SQL is told as, and a fault of reading rows.
+-- What an error of SQL is told as, one of the trees, and a fault of reading rows.
 use Rattle.std.specs.Prelude.{◌≡◌, ◌≢◌, ◌⊎◌}
 use Rattle.sqlite.specs.declared.error.Error.{Error}
 use Rattle.sqlite.specs.declared.error.Error.TheVariants.{SqliteFailure}
 use Rattle.sqlite.specs.declared.error.ErrorCode.TheVariants.{OutOfMemory}
-use Rattle.pgtables.specs.declared.fault.ReadFault.{ReadFault}
-use Rattle.pgtables.specs.declared.fault.ReadFault.TheVariants.{Sql, Malformed}
+use Rattle.sqlite_trees.specs.declared.error.StoreError.{StoreError}
+use Rattle.sqlite_trees.specs.declared.error.StoreError.TheVariants as tree
+use Rattle.pgrows.specs.declared.fault.ReadFault.{ReadFault}
+use Rattle.pgrows.specs.declared.fault.ReadFault.TheVariants.{Store, Malformed}
 use Rattle.pgapply.specs.declared.rows.StoreFault.{StoreFault}
 use Rattle.pgapply.specs.declared.rows.StoreFault.TheVariants.{Refused, NotAStore, Memory}
 
@@ -12,6 +14,9 @@ use Rattle.pgapply.specs.declared.rows.StoreFault.TheVariants.{Refused, NotAStor
 abbrev pub IsFaultOf : Error → StoreFault → Type 0
 IsFaultOf error fault = ((error ≡ SqliteFailure OutOfMemory) × (fault ≡ Memory)) ⊎ ((error ≢ SqliteFailure OutOfMemory) × (fault ≡ Refused))
 
+abbrev pub IsTreeFaultOf : StoreError → StoreFault → Type 0
+IsTreeFaultOf error fault = ((error ≡ tree.OutOfMemory) × (fault ≡ Memory)) ⊎ ((error ≢ tree.OutOfMemory) × (fault ≡ Refused))
+
 abbrev pub IsReadFaultOf : ReadFault → StoreFault → Type 0
-IsReadFaultOf (Sql error) fault = IsFaultOf error fault
+IsReadFaultOf (Store error) fault = IsTreeFaultOf error fault
 IsReadFaultOf Malformed fault = fault ≡ NotAStore

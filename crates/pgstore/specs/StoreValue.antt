@@ -1,35 +1,38 @@
 -- What a caller sees of a store, and what holds of each.
-use Rattle.std.specs.Prelude.{◌≡◌, ◌<◌, ◌≤◌, ◌^◌, ◌⊎◌, ℕ, false, List, [], ◌∷◌, IsTrue, Ok, refl}
+use Rattle.std.specs.Prelude.{◌≡◌, ◌<◌, ◌≤◌, ◌^◌, ◌⊎◌, ℕ, List, [], ◌∷◌, IsTrue, Ok, refl}
 use Rattle.std.specs.Coded.{Coded, code_by, coded×, coded_ℕ}
 use Rattle.std.specs.Int.{w64, to_be_bytes}
 use Rattle.std.specs.FinMap as map
 use Rattle.sqlite.specs.Tree.{Trees}
 use Rattle.sqlite.specs.Effect.{Database}
 use Rattle.sqlite.specs.Store.{Ghosts}
-use Rattle.sqlite.specs.Held.{Held, held_code, state}
-use Rattle.sqlite.specs.State.{HasCleanDisk}
-use Rattle.pgtables.specs.Schema.{no_schema, store_schema}
+use Rattle.sqlite.specs.Held as connection
+use Rattle.sqlite.specs.Held.{Held}
+use Rattle.sqlite.specs.State.{HasCleanDisk, State}
+use Rattle.pgtables.specs.Schema.{no_schema}
 use Rattle.pgtables.specs.Kept as stored
-use Rattle.pgtables.specs.Kept.{AreDefined, AreHeld, IfServing, IsKept, pos_row, tables_in, tables_of}
+use Rattle.pgtables.specs.Kept.{AreDefined, AreHeld, IsKept, pos_row, tables_in}
+use Rattle.pgrows.specs.Rows.{IfServing, database, state}
 use Rattle.pgtables.specs.declared.remains.Remains.{Remains}
 use Rattle.pgtables.specs.Remains.{remaining, schema_of}
 use Rattle.pgapply.specs.declared.rows.StoreFault.{StoreFault}
 use Rattle.pgapply.specs.Value.{Tables}
 use Rattle.pgapply.specs.Apply.{Change, fold_changes}
 use Rattle.pgapply.specs.Stored.{Stored, IsFault}
+use Rattle.pgstore.specs.Acts.{committed_of}
 use Rattle.pgstore.specs.Spelled.{IsStored}
 
--- its connection, and its position
+-- the store of its rows, and its position
 pub record StoreValue (S : Type 0) : Type 0 where
-  pub conn : Held S
+  pub rows : S
   pub position : ℕ
 
 abbrev pub store_code : {S : Type 0} → Coded S → Coded (StoreValue S)
-store_code {S} store = code_by (Held S × ℕ) (coded× (held_code store) coded_ℕ) (λ s. (s.conn, s.position)) (λ p. record { conn = p.0; position = p.1 }) (λ _. refl)
+store_code {S} store = code_by (S × ℕ) (coded× store coded_ℕ) (λ s. (s.rows, s.position)) (λ p. record { rows = p.0; position = p.1 }) (λ _. refl)
 
 -- trees that have these tables and this position
 pub record AreOf (v : Stored) (db : Trees) : Type 0 where
-  pub kept : IsKept (record { schema = store_schema; trees = db })
+  pub kept : IsKept (database db)
   pub stored : IsStored v.tables (tables_in db)
   pub position : (tables_in db).place ≡ to_be_bytes w64 v.position
   pub range : v.position < 2 ^ 64
@@ -59,48 +62,47 @@ pub record IsValueOf (v : Stored) (db : Database) : Type 0 where
 module _ {S : Type 0} (g : Ghosts S) where
   -- the disk has returned what was written, so far
   abbrev pub IsHonest : StoreValue S → Type 0
-  IsHonest s = HasCleanDisk (state g s.conn)
+  IsHonest s = HasCleanDisk (state g s.rows)
 
   -- it has, and no failure of the disk has shut the store
   pub record Serves (s : StoreValue S) : Type 0 where
     pub honest : IsHonest s
-    pub is_open : IsTrue (state g s.conn).is_open
+    pub is_open : IsTrue (state g s.rows).is_open
 
-  -- these are the tables and the position of the store
+  -- these are the tables and the position of the store: those that are committed
   pub record Holds (s : StoreValue S) (v : Stored) : Type 0 where
-    pub stored : IsStored v.tables (tables_of g s.conn)
+    pub stored : IsStored v.tables (committed_of g s.rows)
     pub position : v.position ≡ s.position
 
   -- they are what the store contains, and whatever a crash may leave of it contains the same
   pub record Contains (s : StoreValue S) (v : Stored) : Type 0 where
     pub holds : Holds s v
-    pub left : (db : Trees) → (state g s.conn).may_leave db → AreOf v db
+    pub left : (db : Trees) → (state g s.rows).may_leave db → AreOf v db
 
   -- The tables that the store has, or had when a failure of its disk shut it. While it is open it holds them, and whatever a
   -- crash may leave is at least as far, shut or not.
   pub record Keeps (s : StoreValue S) (v : Stored) : Type 0 where
     pub position : v.position ≡ s.position
-    pub holds : IsTrue (state g s.conn).is_open → Holds s v
-    pub left : (db : Trees) → (state g s.conn).may_leave db → IsAtLeast v db
+    pub holds : IsTrue (state g s.rows).is_open → Holds s v
+    pub left : (db : Trees) → (state g s.rows).may_leave db → IsAtLeast v db
 
   -- what holds of each store
-  pub record IsStore (conn : Held S) (position : ℕ) : Type 0 where
-    pub settled : (state g conn).in_transaction ≡ false
-    pub kept : IfServing g conn (IsKept (state g conn).now)
+  pub record IsStore (rows : S) (position : ℕ) : Type 0 where
+    pub kept : IfServing g rows (IsKept (state g rows).committed)
     pub range : position < 2 ^ 64
     -- the position that is kept is the one that is stored
-    pub same : IfServing g conn ((tables_of g conn).place ≡ to_be_bytes w64 position)
-    pub stored : IfServing g conn ((v : Tables) × IsStored v (tables_of g conn))
+    pub same : IfServing g rows ((committed_of g rows).place ≡ to_be_bytes w64 position)
+    pub stored : IfServing g rows ((v : Tables) × IsStored v (committed_of g rows))
     -- between calls a crash leaves what is stored
-    pub crash : IfServing g conn ((db : Trees) → (state g conn).may_leave db → db ≡ (state g conn).now.trees)
+    pub crash : IfServing g rows ((db : Trees) → (state g rows).may_leave db → db ≡ (state g rows).committed.trees)
     -- and of a store that has shut nothing older
-    pub keeps : HasCleanDisk (state g conn) → (v : Stored) × Keeps (record { conn = conn; position = position }) v
+    pub keeps : HasCleanDisk (state g rows) → (v : Stored) × Keeps (record { rows = rows; position = position }) v
 
   -- the tables were made, empty, with position 0/0
   pub record HasMade (conn : Held S) : Type 0 where
-    pub is_open : IsTrue (state g conn).is_open
-    pub kept : IsKept (state g conn).now
-    pub none : tables_of g conn ≡ stored.no_tables
+    pub is_open : IsTrue (connection.state g conn).is_open
+    pub kept : IsKept (connection.state g conn).now
+    pub none : stored.tables_of g conn ≡ stored.no_tables
 
   -- the changes were folded over the tables, with this position
   pub record Takes (old new : StoreValue S) (changes : List Change) (end : ℕ) : Type 0 where
@@ -119,14 +121,18 @@ module _ {S : Type 0} (g : Ghosts S) where
 
   -- what a crash may leave of a commit: the changes folded, with this position
   abbrev pub LeavesWork : StoreValue S → List Change → ℕ → Trees → Type 0
-  LeavesWork old changes end db = IsTrue (state g old.conn).is_open × ((v : Stored) → Holds old v → (next : Tables) × (fold_changes v.tables changes ≡ Ok next) × AreOf (record { tables = next; position = end }) db)
+  LeavesWork old changes end db = IsTrue (state g old.rows).is_open × ((v : Stored) → Holds old v → (next : Tables) × (fold_changes v.tables changes ≡ Ok next) × AreOf (record { tables = next; position = end }) db)
 
   -- the store holds what is stored in the tables of a connection, also where some of them are missing, and nothing at 0/0 where it has no tables
   pub record Adopts (conn : Held S) (store : StoreValue S) : Type 0 where
-    pub stood : (v : Stored) → AreOf v (state g conn).now.trees → Holds store v
-    pub bare : (state g conn).now.schema ≡ no_schema → Holds store nothing_stored
-    pub value : (v : Stored) → IsValueOf v (state g conn).now → Holds store v
+    pub stood : (v : Stored) → AreOf v (connection.state g conn).now.trees → Holds store v
+    pub bare : (connection.state g conn).now.schema ≡ no_schema → Holds store nothing_stored
+    pub value : (v : Stored) → IsValueOf v (connection.state g conn).now → Holds store v
+
+  -- what the store shows, with the limit of steps that the connection had
+  abbrev pub shown_by : Held S → StoreValue S → State
+  shown_by conn s = record (state g s.rows) { step_limit = (connection.state g conn).step_limit }
 
   -- what a crash may leave of adopting a connection: a store that holds what the connection held
   abbrev pub LeavesAdopted : Held S → Trees → Type 0
-  LeavesAdopted conn db = (v : Stored) × IsValueOf v (state g conn).now × AreOf v db
+  LeavesAdopted conn db = (v : Stored) × IsValueOf v (connection.state g conn).now × AreOf v db

@@ -3,12 +3,12 @@
 //! PostgreSQL documentation, Logical Replication Message Formats, Relation; Logical Replication, Restrictions.
 
 ghost use Rattle.std.specs.Prelude.{◌≡◌, ◌&&◌, [], nat_lt, IsTrue, OnOk, IfErr};
-ghost use Rattle.sqlite.specs.Held.{state};
 ghost use Rattle.sqlite.specs.State.{HasCleanDisk};
 ghost use Rattle.pglogical.specs.Spelling.{IsDefinition};
 ghost use Rattle.pgrel.specs.Carried.{places};
 ghost use Rattle.pgrel.specs.Identity.{keyed};
-ghost use Rattle.pgtables.specs.Kept.{Goes, InTransaction};
+ghost use Rattle.pgrows.specs.Rows.{state};
+ghost use Rattle.pgstore.specs.Acts.{Goes};
 ghost use Rattle.pgstore.specs.Carries.{JoinsCopies, RefusesCopies, Joins, RefusesToJoin, CarriesOne, RefusesToCarryOne, CarriesOn, RefusesToCarry};
 
 use crate::changing::MOST_COPIES;
@@ -17,26 +17,25 @@ use crate::fault::Refusal;
 use pgapply::StoreFault;
 use pglogical::RelationDef;
 use pgrel::{Carrying, keyed};
-use pgtables::{StoredRow, find_row, put_row};
-use sqlite::{Alter, Transaction};
+use pgrows::rows::Rows;
+use pgtables::StoredRow;
+use sqlite::Alter;
 use std::alloc::Global;
 
 /// Copies join those of a row that is stored at their identity, where the table is a bag.
 fn join_copies<S: Alter>(
-    tx: &mut Transaction<'_, S>,
+    rows: &mut Rows<S>,
     def: &RelationDef,
     place: &[u8],
     body: &[u8],
     copies: u32,
     there: &StoredRow,
 ) -> Result<(), Refusal>
-    requires { InTransaction S.Store tx.old.conn.now }
-    ensures same_reference { tx.new.conn.ghost_name ≡ tx.old.conn.ghost_name }
-    ensures made { HasCleanDisk (state S.Store tx.new.conn.now) →
-        OnOk result (JoinsCopies S.Store def.now place.now body.now copies there.now tx.old.conn.now
-        tx.new.conn.now) }
+    ensures made { HasCleanDisk (state S.Store rows.new) →
+        OnOk result (JoinsCopies S.Store def.now place.now body.now copies there.now rows.old
+        rows.new) }
     ensures fault { IfErr result (RefusesCopies def.now copies there.now) }
-    ensures goes { Goes S.Store tx.old.conn.now tx.new.conn.now }
+    ensures goes { Goes S.Store rows.old rows.new }
 {
     if keyed(def) {
         return Err(Refusal::new(StoreFault::Clash));
@@ -45,7 +44,7 @@ fn join_copies<S: Alter>(
     if copies > MOST_COPIES || others > MOST_COPIES - copies {
         return Err(Refusal::new(StoreFault::TooManyCopies));
     }
-    put_row(tx, def.oid, place, body, others + copies)?;
+    rows.put_row(def.oid, place, body, others + copies)?;
     Ok(())
 }
 
@@ -58,51 +57,47 @@ fn clashes(def: &RelationDef, copies: u32) -> bool
 
 /// A row comes with its copies: once under a key, and to those that are there in a bag.
 fn add_carried<S: Alter>(
-    tx: &mut Transaction<'_, S>,
+    rows: &mut Rows<S>,
     def: &RelationDef,
     place: &[u8],
     body: &[u8],
     copies: u32,
 ) -> Result<(), Refusal>
-    requires { InTransaction S.Store tx.old.conn.now }
-    ensures same_reference { tx.new.conn.ghost_name ≡ tx.old.conn.ghost_name }
-    ensures made { HasCleanDisk (state S.Store tx.new.conn.now) →
-        OnOk result (Joins S.Store tx.old.conn.now tx.new.conn.now def.now place.now body.now
+    ensures made { HasCleanDisk (state S.Store rows.new) →
+        OnOk result (Joins S.Store rows.old rows.new def.now place.now body.now
         copies) }
-    ensures fault { HasCleanDisk (state S.Store tx.new.conn.now) →
-        IfErr result (RefusesToJoin S.Store tx.old.conn.now def.now place.now body.now copies) }
-    ensures goes { Goes S.Store tx.old.conn.now tx.new.conn.now }
+    ensures fault { HasCleanDisk (state S.Store rows.new) →
+        IfErr result (RefusesToJoin S.Store rows.old def.now place.now body.now copies) }
+    ensures goes { Goes S.Store rows.old rows.new }
 {
     if clashes(def, copies) {
         return Err(Refusal::new(StoreFault::Clash));
     }
-    match find_row(tx, def.oid, place)? {
+    match rows.find_row(def.oid, place)? {
         None => {
-            put_row(tx, def.oid, place, body, copies)?;
+            rows.put_row(def.oid, place, body, copies)?;
             Ok(())
         }
-        Some(there) => join_copies(tx, def, place, body, copies, &there),
+        Some(there) => join_copies(rows, def, place, body, copies, &there),
     }
 }
 
 /// One row as it is under the new definition, under its new identity. One that no store writes is `NotAStore`.
 fn carry_row<S: Alter>(
-    tx: &mut Transaction<'_, S>,
+    rows: &mut Rows<S>,
     alloc: Global,
     old: &RelationDef,
     def: &RelationDef,
     carrying: &Carrying,
     kept: &StoredRow,
 ) -> Result<(), Refusal>
-    requires serving { InTransaction S.Store tx.old.conn.now }
     requires definition { IsDefinition def.now }
     requires carrying { carrying.now ≡ places old.now.columns def.now.columns }
-    ensures same_reference { tx.new.conn.ghost_name ≡ tx.old.conn.ghost_name }
-    ensures made { HasCleanDisk (state S.Store tx.new.conn.now) →
-        OnOk result (CarriesOne S.Store tx.old.conn.now tx.new.conn.now old.now def.now kept.now) }
-    ensures fault { HasCleanDisk (state S.Store tx.new.conn.now) →
-        IfErr result (RefusesToCarryOne S.Store tx.old.conn.now old.now def.now kept.now) }
-    ensures goes { Goes S.Store tx.old.conn.now tx.new.conn.now }
+    ensures made { HasCleanDisk (state S.Store rows.new) →
+        OnOk result (CarriesOne S.Store rows.old rows.new old.now def.now kept.now) }
+    ensures fault { HasCleanDisk (state S.Store rows.new) →
+        IfErr result (RefusesToCarryOne S.Store rows.old old.now def.now kept.now) }
+    ensures goes { Goes S.Store rows.old rows.new }
 {
     let was = read_tuple(kept.body())?;
     if was.width() != old.columns.len() {
@@ -112,30 +107,28 @@ fn carry_row<S: Alter>(
     let row = next.borrowed();
     let place = encode_identity(alloc, def, &row)?;
     let body = encode(alloc, &row)?;
-    add_carried(tx, def, place.as_slice(), body.as_slice(), kept.copies())
+    add_carried(rows, def, place.as_slice(), body.as_slice(), kept.copies())
 }
 
 /// The rows in their order, up to the first that is refused.
 pub(crate) fn carry_rows<S: Alter>(
-    tx: &mut Transaction<'_, S>,
+    rows: &mut Rows<S>,
     alloc: Global,
     old: &RelationDef,
     def: &RelationDef,
-    rows: &[StoredRow],
+    before: &[StoredRow],
 ) -> Result<(), Refusal>
-    requires serving { InTransaction S.Store tx.old.conn.now }
     requires definition { IsDefinition def.now }
-    ensures same_reference { tx.new.conn.ghost_name ≡ tx.old.conn.ghost_name }
-    ensures made { OnOk result (CarriesOn S.Store tx.old.conn.now tx.new.conn.now old.now def.now
-        rows.now []) }
-    ensures fault { HasCleanDisk (state S.Store tx.new.conn.now) →
-        IsTrue (state S.Store tx.old.conn.now).is_open →
-        IfErr result (RefusesToCarry S.Store tx.old.conn.now old.now def.now rows.now) }
-    ensures goes { Goes S.Store tx.old.conn.now tx.new.conn.now }
+    ensures made { OnOk result (CarriesOn S.Store rows.old rows.new old.now def.now
+        before.now []) }
+    ensures fault { HasCleanDisk (state S.Store rows.new) →
+        IsTrue (state S.Store rows.old).is_open →
+        IfErr result (RefusesToCarry S.Store rows.old old.now def.now before.now) }
+    ensures goes { Goes S.Store rows.old rows.new }
 {
     let carrying = Carrying::new(alloc, old, def)?;
-    for kept in rows {
-        carry_row(tx, alloc, old, def, &carrying, kept)?;
+    for kept in before {
+        carry_row(rows, alloc, old, def, &carrying, kept)?;
     }
     Ok(())
 }

@@ -3,8 +3,11 @@
 //! SQLite documentation, Write-Ahead Logging.
 
 ghost use Rattle.std.specs.Prelude.{◌≡◌, ◌⊎◌, IsTrue, IfOk, IfErr};
-ghost use Rattle.sqlite.specs.Files.{file_state, image_of, over_files};
+ghost use Rattle.sqlite.specs.Files.{image_of, over_files};
+ghost use Rattle.sqlite.specs.State.{HasCleanDisk};
+ghost use Rattle.sqlite.specs.Tree.{Trees};
 ghost use Rattle.pgmemory.specs.Stopped.{Leaves};
+ghost use Rattle.pgrows.specs.Rows.{state};
 ghost use Rattle.pgapply.specs.Stored.{IsOwnFault};
 ghost use Rattle.pgstore.specs.StoreValue.{IsHonest, Serves};
 ghost use Rattle.pgstore.specs.Reopened.{HoldsContent, ReopensLeft};
@@ -20,9 +23,29 @@ impl<D: Disk + Drop> Store<FileStore<D>> {
     /// The two files as they are, without a word to the disks: what a crash at this moment leaves. While the disks are honest, each
     /// content that the files may have after the crash holds a database that the store may leave.
     pub fn stop(self) -> Files<D>
-        ensures left { Leaves D.Disk (file_state self.conn).may_leave result }
+        ensures left { Leaves D.Disk (state over_files self.rows).may_leave result }
     {
-        pgmemory::stop(self.into_connection())
+        pgmemory::stop(self.into_store())
+    }
+
+    /// Closes the store: its log goes into the file of the database, and the two files come back. Nothing of what is committed is
+    /// lost, also where that fails.
+    ///
+    /// # Errors
+    ///
+    /// `Memory` or `Refused` where the log can't be copied. The store of the trees comes back beside the fault.
+    pub fn close_files(self) -> Result<Files<D>, (StoreFault, FileStore<D>)>
+        ensures left { IfOk result (Leaves D.Disk (state over_files self.rows).may_leave) }
+        ensures unclosed { IfErr result (λ e. HasCleanDisk (state over_files e.1) →
+            (db : Trees) → (state over_files e.1).may_leave db →
+            (state over_files self.rows).may_leave db) }
+        ensures fault { IfErr result (λ e. IsOwnFault e.0) }
+    {
+        let mut store = self.into_store();
+        match store.checkpoint() {
+            Ok(()) => Ok(pgmemory::stop(store)),
+            Err(error) => Err((StoreFault::from(Refusal::from(error)), store)),
+        }
     }
 
     /// The store in two files, as `adopt` takes it. Files without bytes get a store without tables at position 0/0.

@@ -16,7 +16,7 @@ use pgsub_cli::fault::RunFault;
 use pgsub_cli::following::tell_unfollowed;
 use pgsub_cli::reporting::Reporter;
 use pgsub_cli::storing::{Incoming, read_input, store_fault, tell_stopped, tell_unopened};
-use pgsub_cli::{run, run_follow, run_opened, store_path};
+use pgsub_cli::{RowSource, run, run_dump, run_follow, run_opened, store_path};
 use pgsub_core::Side;
 use sqlite::Unknown;
 use std::alloc::AllocError;
@@ -104,27 +104,19 @@ fn cache_of(task: &Task) -> usize {
     pages as usize
 }
 
-/// What a task applies to its store, None where it prints what the file at this path holds. That one has to be there.
-fn input_of(
-    rt: &HostRuntime,
-    task: &Task,
-    path: &str,
-) -> Result<Option<(Version, Incoming<File>)>, RunFault> {
-    match task {
-        Task::Apply {
-            version,
-            raw,
-            file,
-            ..
-        } => {
-            let incoming = read_input(rt.alloc(), *raw, opened(rt, file.as_str()))?;
-            Ok(Some((*version, incoming)))
-        }
-        _ => match opened(rt, path) {
-            Some(_) => Ok(None),
-            None => Err(RunFault::CannotRead(Side::Left)),
-        },
-    }
+/// What a task applies to its store, None where it applies nothing.
+fn input_of(rt: &HostRuntime, task: &Task) -> Result<Option<(Version, Incoming<File>)>, RunFault> {
+    let Task::Apply {
+        version,
+        raw,
+        file,
+        ..
+    } = task
+    else {
+        return Ok(None);
+    };
+    let incoming = read_input(rt.alloc(), *raw, opened(rt, file.as_str()))?;
+    Ok(Some((*version, incoming)))
 }
 
 /// The number of bytes of a file, None where it isn't a plain one.
@@ -167,7 +159,7 @@ fn reporter_of<'r>(
 /// the log.
 fn run_over(rt: &HostRuntime, task: &Task, path: &str) -> u8 {
     let mut err = rt.stderr();
-    let input = match input_of(rt, task, path) {
+    let input = match input_of(rt, task) {
         Ok(input) => input,
         Err(fault) => return tell_stopped(rt.alloc(), task, fault, &mut err),
     };
@@ -189,7 +181,31 @@ fn run_over(rt: &HostRuntime, task: &Task, path: &str) -> u8 {
                 &mut out,
                 &mut err,
             );
-            let _ = store.into_connection().close();
+            let _ = store.close_files();
+            status
+        }
+        Err(fault) => tell_unopened(rt.alloc(), fault, &mut err),
+    }
+}
+
+/// Prints what a store holds.
+fn print_rows<C: RowSource + Drop>(rt: &HostRuntime, store: C) -> (u8, C) {
+    let mut err = rt.stderr();
+    let (status, store, _out) = run_dump(rt.alloc(), store, rt.stdout(), &mut err);
+    (status, store)
+}
+
+/// Prints what the store in the file at a path holds, which has to be there.
+fn dump_over(rt: &HostRuntime, task: &Task, path: &str) -> u8 {
+    let mut err = rt.stderr();
+    if opened(rt, path).is_none() {
+        let missing = RunFault::CannotRead(Side::Left);
+        return tell_stopped(rt.alloc(), task, missing, &mut err);
+    }
+    match Store::open_with(rt.alloc(), rt, path, cache_of(task), Unknown) {
+        Ok(store) => {
+            let (status, store) = print_rows(rt, store);
+            let _ = store.close_files();
             status
         }
         Err(fault) => tell_unopened(rt.alloc(), fault, &mut err),
@@ -239,17 +255,20 @@ fn run_live(rt: &HostRuntime, limits: Limits, version: Version, path: &str, cach
                 &mut clock,
                 &mut err,
             );
-            let _ = store.into_connection().close();
+            let _ = store.close_files();
             status
         }
         Err(fault) => tell_unfollowed(rt.alloc(), fault, &mut err),
     }
 }
 
+/// Ends a value. It is of any type, since a proof over the store's own asks for what holds of each of its parts.
+fn end<T: Drop>(_value: T) {}
+
 /// Applies a recording or a file to a store in memory, which ends with the program, and tells meanwhile how far it is.
 fn run_in_memory(rt: &HostRuntime, task: &Task) -> u8 {
     let mut err = rt.stderr();
-    let input = match input_of(rt, task, "") {
+    let input = match input_of(rt, task) {
         Ok(input) => input,
         Err(fault) => return tell_stopped(rt.alloc(), task, fault, &mut err),
     };
@@ -259,7 +278,17 @@ fn run_in_memory(rt: &HostRuntime, task: &Task) -> u8 {
             let reporter = reporter_of(rt, task, &input);
             let told = reporter.as_ref();
             let limits = limits_of(task);
-            run_opened(rt.alloc(), store, limits, input, told, &mut out, &mut err).0
+            let (status, store) = run_opened(
+                rt.alloc(),
+                store,
+                limits,
+                input,
+                told,
+                &mut out,
+                &mut err,
+            );
+            end(store);
+            status
         }
         Err(fault) => {
             let stopped = RunFault::Stream(store_fault(fault));
@@ -292,6 +321,9 @@ fn run_words(rt: &HostRuntime, words: &[String]) -> u8 {
     } = &task
     {
         return run_live(rt, *limits, *version, store.as_str(), cache_of(&task));
+    }
+    if let Task::Dump { store, .. } = &task {
+        return dump_over(rt, &task, store.as_str());
     }
     if let Some(path) = store_path(&task) {
         return run_over(rt, &task, path);

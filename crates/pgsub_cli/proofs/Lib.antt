@@ -12,3 +12,4 @@ mod LeftWithin
 mod WithinLines
 pub mod Ended
 mod FollowStatuses
+pub mod LineSteps

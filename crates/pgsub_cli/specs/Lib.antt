@@ -11,5 +11,7 @@ pub mod Storing
 pub mod StoreAfter
 pub mod Reports
 pub mod Compared
+pub mod Dumped
+pub mod Lines
 pub mod FollowedLive
 pub mod FollowStatus

@@ -7,8 +7,8 @@ use Rattle.pgmemory.specs.declared.disk.MemoryDisk.{MemoryDisk}
 use Rattle.pgmemory.specs.contracts.disk.MemoryDiskDisk.TheImpl as memory_disk
 use Rattle.pgcommand.specs.declared.limits.Limits.{Limits}
 use Rattle.pgorder.specs.declared.Version.{Version}
-use Rattle.pgtables.specs.Kept.{tables_of}
 use Rattle.pgapply.specs.Value.{Tables}
+use Rattle.pgstore.specs.Acts.{committed_of}
 use Rattle.pgstore.specs.Spelled.{IsStored}
 use Rattle.pgstore.specs.StoreValue.{StoreValue}
 use Rattle.pgsub_core.specs.SubscriberValue.{SubscriberValue, seen}
@@ -18,7 +18,7 @@ abbrev pub InMemory : Type 0
 InMemory = StoreValue (FileStore MemoryDisk memory_disk.ghosts)
 
 abbrev pub holds_tables : InMemory → Tables → Type 0
-holds_tables store tables = IsStored tables (tables_of over_files store.conn)
+holds_tables store tables = IsStored tables (committed_of over_files store.rows)
 
 abbrev pub position_of : InMemory → ℕ
 position_of store = store.position

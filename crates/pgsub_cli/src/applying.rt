@@ -7,7 +7,7 @@ ghost use Rattle.pgsub_core.specs.Crashing.{LeavesOldOr, FedOver, LeavesHistory}
 ghost use Rattle.pgsub_core.specs.Faults.{IsReadFault};
 ghost use Rattle.pgsub_core.specs.Following.{FeedsSessions};
 ghost use Rattle.pgsub_core.specs.Subscribed.{bytes_of};
-ghost use Rattle.pgsub_core.specs.SubscriberValue.{seen};
+ghost use Rattle.pgsub_core.specs.SubscriberValue.{SubscriberValue, seen};
 ghost use Rattle.pgsub_cli.specs.Fed.{FeedsFile, ResumesFed, ShowsFile, ShowsProgress};
 ghost use Rattle.pgsub_cli.specs.Followed.{Shows, ShowsFed};
 ghost use Rattle.pgsub_cli.specs.Limits.{clock};
@@ -147,22 +147,50 @@ fn progress_lines<P: Spools + Drop, C: ReplicaStore + Drop>(
     }
 }
 
-/// Follows sessions, and tells what is reached then, whatever stopped them.
+/// Follows sessions, and tells what is reached then, whatever stopped them. The subscriber ends with that.
 fn resume_sessions<P: Spools + Drop, C: ReplicaStore + Drop>(
     alloc: Global,
-    subscriber: &mut Subscriber<P, C>,
+    mut subscriber: Subscriber<P, C>,
     sessions: &[Session],
 ) -> Result<Printed, Fault>
-    ensures resumed { C.is_honest subscriber.new.applied.store →
-        IfOk result (λ printed. ResumesFed C.holds C.place subscriber.old
-        (bytes_of sessions.now) subscriber.new printed.stopped (string_bytes printed.lines)) }
-    ensures fault { C.is_honest subscriber.new.applied.store → IfErr result IsReadFault }
+    ensures resumed { ((s : C) → C.is_honest s) → IfOk result (λ printed. (new : SubscriberValue C)
+        × ResumesFed C.holds C.place subscriber (bytes_of sessions.now) new printed.stopped
+        (string_bytes printed.lines)) }
+    ensures fault { ((s : C) → C.is_honest s) → IfErr result IsReadFault }
 {
-    let followed = follow(subscriber, sessions, CLOCK);
+    let followed = follow(&mut subscriber, sessions, CLOCK);
     Ok(Printed {
-        lines: progress_lines(alloc, subscriber)?,
+        lines: progress_lines(alloc, &mut subscriber)?,
         stopped: followed.err(),
     })
+}
+
+/// As `apply_sessions`. The subscriber ends with that.
+fn apply_all<P: Spools + Drop, C: ReplicaStore + Drop>(
+    alloc: Global,
+    mut subscriber: Subscriber<P, C>,
+    sessions: &[Session],
+) -> Result<Printed, Fault>
+    ensures applied { ((s : C) → C.is_honest s) → IfOk result (λ printed. (new : SubscriberValue C)
+        × ShowsFed C.holds C.place subscriber (bytes_of sessions.now) new printed.stopped
+        (string_bytes printed.lines)) }
+    ensures fault { ((s : C) → C.is_honest s) → IfErr result IsReadFault }
+{
+    apply_sessions(alloc, &mut subscriber, sessions)
+}
+
+/// As `apply_input`. The subscriber ends with that.
+fn apply_read<R: Input + Drop, P: Spools + Drop, C: ReplicaStore + Drop>(
+    alloc: Global,
+    mut subscriber: Subscriber<P, C>,
+    file: R,
+) -> Result<Printed, Fault>
+    ensures applied { ((s : C) → C.is_honest s) → IfOk result (λ printed. (new : SubscriberValue C)
+        × ShowsFile R.gives R.begins R.failed C.holds C.place file subscriber new printed.stopped
+        (string_bytes printed.lines)) }
+    ensures fault { ((s : C) → C.is_honest s) → IfErr result IsReadFault }
+{
+    apply_input(alloc, &mut subscriber, file)
 }
 
 /// Follows sessions from an empty store on, within these limits. The lines are those of the rows and the position that the bytes of the sessions leave,
@@ -182,8 +210,8 @@ pub fn apply(
 {
     stores_on_memory_disks_are_honest();
     fed_sessions_are_followed();
-    let mut subscriber = new_subscriber(alloc, limits, version)?;
-    apply_sessions(alloc, &mut subscriber, sessions)
+    let subscriber = new_subscriber(alloc, limits, version)?;
+    apply_all(alloc, subscriber, sessions)
 }
 
 /// Feeds the bytes of a file from an empty store on, as one session within these limits. The lines are those of the rows and the position that they
@@ -202,8 +230,8 @@ pub fn apply_bytes<R: Input + Drop>(
 {
     stores_on_memory_disks_are_honest();
     fed_sessions_are_followed();
-    let mut subscriber = new_subscriber(alloc, limits, version)?;
-    apply_input(alloc, &mut subscriber, file)
+    let subscriber = new_subscriber(alloc, limits, version)?;
+    apply_read(alloc, subscriber, file)
 }
 
 /// Follows sessions from an empty store on. The lines are the position that their bytes leave and the LSN up to which it may be
@@ -217,6 +245,6 @@ pub fn resume(alloc: Global, sessions: &[Session]) -> Result<Printed, Fault>
 {
     stores_on_memory_disks_are_honest();
     fed_sessions_are_followed();
-    let mut subscriber = new_subscriber(alloc, Limits::DEFAULT, Version::Two)?;
-    resume_sessions(alloc, &mut subscriber, sessions)
+    let subscriber = new_subscriber(alloc, Limits::DEFAULT, Version::Two)?;
+    resume_sessions(alloc, subscriber, sessions)
 }

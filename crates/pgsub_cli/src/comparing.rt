@@ -33,30 +33,30 @@ fn confirmed_fault<P: Spools + Drop, C: ReplicaStore + Drop>(
     }
 }
 
-/// Compares two subscribers behind these sessions, the left one's first.
+/// Compares two subscribers behind these sessions, the left one's first. Both end with that.
 fn compare_subscribers<
     P: Spools + Drop,
     C: ReplicaStore + Drop,
     Q: Spools + Drop,
     D: ReplicaStore + Drop,
 >(
-    left: &mut Subscriber<P, C>,
+    mut left: Subscriber<P, C>,
     left_sessions: &[Session],
-    right: &mut Subscriber<Q, D>,
+    mut right: Subscriber<Q, D>,
     right_sessions: &[Session],
 ) -> Result<Verdict, ConvergeFault>
     ensures ends { ((s : C) → C.is_honest s) → ((s : D) → D.is_honest s) →
-        EndsOver C.holds C.place D.holds D.place left.old (bytes_of left_sessions.now) right.old
+        EndsOver C.holds C.place D.holds D.place left (bytes_of left_sessions.now) right
         (bytes_of right_sessions.now) result }
 {
-    let stopped = match converge(left, left_sessions, right, right_sessions, CLOCK) {
+    let stopped = match converge(&mut left, left_sessions, &mut right, right_sessions, CLOCK) {
         Ok(verdict) => return Ok(verdict),
         Err(stopped) => stopped,
     };
     let side = stopped.side;
     let fault = match side {
-        Side::Left => confirmed_fault(left, stopped.fault),
-        Side::Right => confirmed_fault(right, stopped.fault),
+        Side::Left => confirmed_fault(&mut left, stopped.fault),
+        Side::Right => confirmed_fault(&mut right, stopped.fault),
     };
     Err(ConvergeFault { side, fault })
 }
@@ -83,16 +83,16 @@ fn new_side(
 fn compare_with_new<P: Spools + Drop, C: ReplicaStore + Drop>(
     alloc: Global,
     version: Version,
-    left: &mut Subscriber<P, C>,
+    left: Subscriber<P, C>,
     left_sessions: &[Session],
     right_sessions: &[Session],
 ) -> Result<Verdict, ConvergeFault>
-    ensures { ((s : C) → C.is_honest s) → EndsBesideNew C.holds C.place version left.old
+    ensures { ((s : C) → C.is_honest s) → EndsBesideNew C.holds C.place version left
         (bytes_of left_sessions.now) (bytes_of right_sessions.now) result }
 {
     stores_on_memory_disks_are_honest();
-    let mut right = new_side(alloc, version)?;
-    compare_subscribers(left, left_sessions, &mut right, right_sessions)
+    let right = new_side(alloc, version)?;
+    compare_subscribers(left, left_sessions, right, right_sessions)
 }
 
 /// How the rows and positions compare that the sessions of two recordings leave of empty stores.
@@ -108,8 +108,8 @@ pub fn compare(
     ensures stopped { IfErr result (IsUncompared version left.now right.now) }
 {
     stores_on_memory_disks_are_honest();
-    let mut subscriber = new_side(alloc, version)?;
-    compare_with_new(alloc, version, &mut subscriber, left, right)
+    let subscriber = new_side(alloc, version)?;
+    compare_with_new(alloc, version, subscriber, left, right)
 }
 
 /// The line of a verdict.

@@ -57,6 +57,15 @@ fn row_text(alloc: Global, row: &DumpRow) -> Result<String, AllocError>
     value.to_string(alloc)
 }
 
+/// A row's line.
+pub(crate) fn line_text(alloc: Global, row: &DumpRow) -> Result<String, AllocError>
+    ensures { IfOk result (λ line. string_bytes line ≡ row_line row.now) }
+{
+    let mut line = row_text(alloc, row)?;
+    line.push('\n')?;
+    Ok(line)
+}
+
 /// Appends a row's line.
 fn write_row(alloc: Global, row: &DumpRow, out: &mut String) -> Result<(), AllocError>
     ensures { OnOk result (string_bytes out.new ≡ string_bytes out.old ++ row_line row.now) }
@@ -71,6 +80,13 @@ fn write_position(position: Lsn, out: &mut String) -> Result<(), AllocError>
     ensures { OnOk result (string_bytes out.new ≡ string_bytes out.old ++ position_line position) }
 {
     writeln!(out, "position {position}")
+}
+
+/// The line of the position.
+pub(crate) fn position_text(alloc: Global, position: Lsn) -> Result<String, AllocError>
+    ensures { IfOk result (λ line. string_bytes line ≡ position_line position) }
+{
+    format!(in alloc; "position {position}\n")
 }
 
 /// The line of the position, and that of the LSN up to which it may be confirmed.

@@ -10,6 +10,7 @@
 pub mod applying;
 pub mod comparing;
 pub mod dump;
+mod dumping;
 pub mod fault;
 pub mod fault_text;
 pub mod files;
@@ -24,6 +25,7 @@ pub mod showing;
 pub mod stores;
 pub mod storing;
 
+pub use dumping::{RowSource, run_dump};
 pub use following::run_follow;
 pub use pgcommand::{Limits, Task};
 pub use reporting::run_opened;

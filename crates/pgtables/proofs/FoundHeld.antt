@@ -34,7 +34,7 @@ use Rattle.pgtables.specs.Remains.{Stands, remaining}
 use Rattle.pgtables.proofs.Standing.{over, held_listed}
 use Rattle.pgtables.specs.Kept.{AreHeld, AreKeyed, Copies, IfServing, held_row, key_in, copies_in, number_in, tables_in, tables_of}
 use Rattle.pgtables.specs.Opened.{AreAccepted, IsRowAccepted}
-use Rattle.pgtables.proofs.Insertions.{agree_same, ints_differ}
+use Rattle.pgtables.proofs.Agreeing.{agree_same, ints_differ}
 use Rattle.pgtables.proofs.HeldRows.{Formed, the_map}
 use Rattle.pgtables.proofs.Maps.{equal, got_row, row_missing}
 use Rattle.pgtables.proofs.FoundTexts.{by_rowid, rows_text, rows_shown, rows_command, rows_read_only, rows_read}

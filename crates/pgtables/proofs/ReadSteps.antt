@@ -28,7 +28,7 @@ use Rattle.sqlite_resolve.specs.declared.error.CompileError.TheVariants.{NoSuchT
 use Rattle.sqlite_resolve.specs.Lowering.{Checked, and_then}
 use Rattle.sqlite_resolve.specs.Compile.{compiled, first, returning, planned, meaning, with_command}
 use Rattle.pgtables.specs.Kept.{IfServing}
-use Rattle.pgtables.proofs.DumpRows.{to_query_stays}
+use Rattle.pgtables.proofs.Stays.{to_query_stays}
 
 pub on_ok : {X E : Type 0} (r : Result X E) (P : Type 0) → P → OnOk r P
 on_ok (Ok x) P it = it

@@ -1,7 +1,7 @@
 //! Two disks in memory that outlast the runs over them.
 
 use crate::fault::Wrong;
-use crate::runs::{Input, Run, check_run, input_of};
+use crate::runs::{Input, Run, check_dump, check_run, input_of};
 use pgstore::Store;
 use sqlite::{Alter, Connection, FileStore, Files, Options};
 use sqlite_disk::{Disk, Memory};
@@ -47,7 +47,13 @@ fn run_over<S: Alter + Drop>(
     run: &Run,
 ) -> Result<Connection<S>, Wrong> {
     match Store::adopt(alloc, conn) {
-        Ok(store) => Ok(check_run(alloc, store, input, run)?.into_connection()),
+        Ok(store) => {
+            let store = check_run(alloc, store, input, run)?;
+            match check_dump(alloc, store, run)?.into_connection() {
+                Ok(conn) => Ok(conn),
+                Err(_) => Err(Wrong::Unclosed),
+            }
+        }
         Err(_) => Err(Wrong::Unadopted),
     }
 }

@@ -3,8 +3,10 @@
 use crate::fault::Wrong;
 use pgapply::ReplicaStore;
 use pgorder::Version;
-use pgsub_cli::run_store;
+use pgstore::Store;
 use pgsub_cli::storing::{Incoming, read_input};
+use pgsub_cli::{run_dump, run_store};
+use sqlite::Alter;
 use std::alloc::{AllocError, Global};
 
 /// A run: `apply` of a recording, or `dump` where there is none, and what comes of it.
@@ -67,6 +69,21 @@ pub(crate) fn check_run<C: ReplicaStore + Drop>(
 ) -> Result<C, Wrong> {
     let (mut out, mut err) = (Vec::new(alloc), Vec::new(alloc));
     let (status, store) = run_store(alloc, store, input, &mut out, &mut err);
+    compare(run, out.as_slice(), err.as_slice(), status)?;
+    Ok(store)
+}
+
+/// Prints what a store holds row by row, where the run is one that applies nothing, and compares it with what that prints.
+pub(crate) fn check_dump<S: Alter + Drop>(
+    alloc: Global,
+    store: Store<S>,
+    run: &Run,
+) -> Result<Store<S>, Wrong> {
+    if run.recording.is_some() {
+        return Ok(store);
+    }
+    let mut err = Vec::new(alloc);
+    let (status, store, out) = run_dump(alloc, store, Vec::new(alloc), &mut err);
     compare(run, out.as_slice(), err.as_slice(), status)?;
     Ok(store)
 }

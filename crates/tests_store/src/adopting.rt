@@ -21,6 +21,14 @@ fn adopt<S: Alter + Drop>(
     }
 }
 
+/// A connection to the tables of a store.
+fn connection_of<S: Alter + Drop>(store: Store<S>) -> Result<Connection<S>, Fail> {
+    match store.into_connection() {
+        Ok(conn) => Ok(conn),
+        Err(_) => Err(Fail::from("the store gives no connection")),
+    }
+}
+
 /// The connection isn't adopted, and serves still.
 fn expect_refused<S: Alter + Drop>(
     rt: &(impl Abort + AllocGlobal),
@@ -45,11 +53,11 @@ impl Trial for GoesOn {
         mut store: Store<S>,
     ) -> Result<(), Fail> {
         take(rt, &mut store, 0x0100_0000_0000_0130, FILLED.0)?;
-        let mut again = adopt(rt, store.into_connection())?;
+        let mut again = adopt(rt, connection_of(store)?)?;
         assert_eq!(rt; again.position(), Lsn(0x0100_0000_0000_0130));
         assert_eq!(rt; shown(rt.alloc(), &mut again)?.as_str(), FILLED.2);
         take(rt, &mut again, 0x0100_0000_0000_0131, &[])?;
-        let mut last = adopt(rt, again.into_connection())?;
+        let mut last = adopt(rt, connection_of(again)?)?;
         assert_eq!(rt; last.position(), Lsn(0x0100_0000_0000_0131));
         assert_eq!(rt; shown(rt.alloc(), &mut last)?.as_str(), FILLED.2);
         Ok(())
@@ -86,7 +94,7 @@ impl Trial for BeginsAnew {
         rt: &(impl Abort + AllocGlobal),
         store: Store<S>,
     ) -> Result<(), Fail> {
-        ConnectionTrial::run(self, rt, store.into_connection())
+        ConnectionTrial::run(self, rt, connection_of(store)?)
     }
 }
 
@@ -105,7 +113,7 @@ impl Trial for LosesItsPosition {
         rt: &(impl Abort + AllocGlobal),
         store: Store<S>,
     ) -> Result<(), Fail> {
-        let mut conn = store.into_connection();
+        let mut conn = connection_of(store)?;
         conn.execute_batch("DELETE FROM pos")?;
         ConnectionTrial::run(&BeginsAnew, rt, conn)
     }
@@ -141,7 +149,7 @@ impl Trial for IsRefused {
         rt: &(impl Abort + AllocGlobal),
         store: Store<S>,
     ) -> Result<(), Fail> {
-        ConnectionTrial::run(self, rt, store.into_connection())
+        ConnectionTrial::run(self, rt, connection_of(store)?)
     }
 }
 
@@ -216,7 +224,7 @@ impl Trial for Changed {
         mut store: Store<S>,
     ) -> Result<(), Fail> {
         take(rt, &mut store, 0x130, FILLED.0)?;
-        let mut conn = store.into_connection();
+        let mut conn = connection_of(store)?;
         conn.execute_batch(self.change)?;
         if !self.is_right {
             return expect_refused(rt, conn, StoreFault::NotAStore);
@@ -268,7 +276,7 @@ fn check_remade<S: Alter + Drop>(
     assert_eq!(rt; store.position(), position);
     assert_eq!(rt; shown(rt.alloc(), &mut store)?.as_str(), "");
     take(rt, &mut store, 0x230, FILLED.0)?;
-    let mut again = adopt(rt, store.into_connection())?;
+    let mut again = adopt(rt, connection_of(store)?)?;
     assert_eq!(rt; again.position(), Lsn(0x230));
     assert_eq!(rt; shown(rt.alloc(), &mut again)?.as_str(), FILLED.2);
     Ok(())
@@ -288,7 +296,7 @@ impl Trial for Dropped {
         mut store: Store<S>,
     ) -> Result<(), Fail> {
         take(rt, &mut store, 0x130, FILLED.0)?;
-        let mut conn = store.into_connection();
+        let mut conn = connection_of(store)?;
         conn.execute_batch(self.drops)?;
         match self.position {
             Some(position) => check_remade(rt, conn, Lsn(position)),
@@ -317,9 +325,9 @@ impl Trial for KeepsDefinitions {
         mut store: Store<S>,
     ) -> Result<(), Fail> {
         take(rt, &mut store, 0x130, FILLED.0)?;
-        let mut conn = store.into_connection();
+        let mut conn = connection_of(store)?;
         conn.execute_batch("DROP TABLE held")?;
-        let mut conn = adopt(rt, conn)?.into_connection();
+        let mut conn = connection_of(adopt(rt, conn)?)?;
         let definitions = conn.query_all("SELECT oid FROM rel", &[])?;
         assert_eq!(rt; definitions.len(), 3);
         Ok(())

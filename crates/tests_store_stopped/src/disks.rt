@@ -119,7 +119,7 @@ pub(crate) fn try_over(
     };
     let files = match adopt(alloc, conn)? {
         Ok(store) => trial.run(alloc, store)?.stop(),
-        Err(conn) => stop(conn),
+        Err(conn) => stop(conn.into_store()),
     };
     left_on(alloc, files)
 }

@@ -1,13 +1,11 @@
-//! The tables as others read and write them. What each statement does is proved, and `tests_store` runs them all.
+//! The tables as others make them. What each statement does is proved, and `tests_store` runs them all.
 
 ghost use Rattle.std.specs.Prelude.{◌≡◌, false};
 ghost use Rattle.sqlite.specs.Held.{state};
 ghost use Rattle.pgtables.specs.Schema.{no_schema};
 ghost use Rattle.pgtables.specs.Kept.{IfServing};
 
-use pgtables::{
-    Remains, create_tables, delete_row, find_remains, put_position, put_row, update_row,
-};
+use pgtables::{Remains, create_tables, find_remains, put_position};
 use sqlite::{Alter, Connection, Error};
 use std::test::Fail;
 
@@ -112,53 +110,5 @@ fn what_is_made_is_told(rt: HostRuntime) -> Result<(), Fail> {
     make(&mut conn)?;
     assert!(rt; find_remains(&conn) == Some(ALL));
     assert!(rt; is_at(&mut conn, &[0, 0, 0, 0, 0, 0, 1, 0x30])?);
-    Ok(())
-}
-
-// Two relations have a row of one identity. For each update and delete: whether a row was there.
-fn change_rows<S: Alter>(conn: &mut Connection<S>) -> Result<[bool; 4], Error>
-    requires settled { (state S.Store conn.old).in_transaction ≡ false }
-    requires bare { IfServing S.Store conn.old ((state S.Store conn.old).now.schema ≡ no_schema) }
-{
-    let mut tx = conn.transaction();
-    create_tables(&mut tx)?;
-    put_row(&mut tx, 7, b"key", b"first", 3)?;
-    put_row(&mut tx, 8, b"key", b"other", 1)?;
-    put_row(&mut tx, 8, b"gone", b"body", 1)?;
-    let updated = update_row(&mut tx, 7, b"key", b"second")?;
-    let missing = update_row(&mut tx, 7, b"another", b"third")?;
-    let deleted = delete_row(&mut tx, 8, b"gone")?;
-    let gone = delete_row(&mut tx, 8, b"gone")?;
-    tx.commit()?;
-    Ok([updated, missing, deleted, gone])
-}
-
-/// Whether relation 7 has this row so many times.
-fn has_copies<S: Alter>(conn: &mut Connection<S>, body: &[u8], copies: i64) -> Result<bool, Error> {
-    let row = conn.query_row("SELECT body, copies FROM held WHERE oid = 7", &[])?;
-    let (stored, count): (Vec<u8>, i64) = (row.get(0)?, row.get(1)?);
-    Ok(stored.as_slice() == body && count == copies)
-}
-
-/// Whether relation 8 has this row.
-fn has_other<S: Alter>(conn: &mut Connection<S>, body: &[u8]) -> Result<bool, Error> {
-    let stored: Vec<u8> = conn
-        .query_row("SELECT body FROM held WHERE oid = 8", &[])?
-        .get(0)?;
-    Ok(stored.as_slice() == body)
-}
-
-/// How many rows there are.
-fn count_rows<S: Alter>(conn: &mut Connection<S>) -> Result<i64, Error> {
-    conn.query_row("SELECT count(*) FROM held", &[])?.get(0)
-}
-
-#[test]
-fn a_row_that_is_there_gets_a_body(rt: HostRuntime) -> Result<(), Fail> {
-    let mut conn = Connection::open_in_memory(rt.alloc())?;
-    assert!(rt; change_rows(&mut conn)? == [true, false, true, false]);
-    assert!(rt; has_copies(&mut conn, b"second", 3)?);
-    assert!(rt; has_other(&mut conn, b"other")?);
-    assert!(rt; count_rows(&mut conn)? == 2);
     Ok(())
 }

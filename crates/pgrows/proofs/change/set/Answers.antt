@@ -1,8 +1,8 @@
-use Rattle.std.proofs.Common.{◌≡◌, true, false, true≢false, refl, sym, ap, subst, ◌∙◌, ◌∷◌, Some, arith, rules, to_z-of_z, SFits, w64}
+use Rattle.std.proofs.Common.{ap, ◌∙◌, Some, arith, rules, to_z-of_z, SFits, w64}
 use Rattle.sqlite_trees.specs.View.{View, IsClean}
-use Rattle.sqlite_rules.proofs.ViewLemmas.{reads_again, still_quiet}
-use Rattle.pgtables.specs.Kept.{tables_in, with_row, without_row}
-use Rattle.pgrows.proofs.Found.{some_of, none_of, open_of, opened, free_is, stands_some, free_before, free_after, stands_before, stands_after, reads_good, reads_under, wrote_on, grew_on, keeps_reads, keeps_writes, keeps_then}
+use Rattle.sqlite_rules.proofs.ViewLemmas.{reads_again}
+use Rattle.pgtables.specs.Kept.{tables_in, with_row}
+use Rattle.pgrows.proofs.Found.{open_of, opened, free_before, stands_before, stands_after, reads_good, reads_under, wrote_on, keeps_reads, keeps_writes, keeps_then}
 use Rattle.pgrows.proofs.Edited.{told_none, told_some, none_set, some_set}
 use Rattle.pgrows.proofs.change.set.Goals as goal
 

@@ -1,4 +1,4 @@
-use Rattle.std.proofs.Common.{◌≡◌, true, refl, sym, ap, ◌∙◌, arith, rules, to_z-of_z, SFits, w64}
+use Rattle.std.proofs.Common.{arith, rules, to_z-of_z, SFits, w64}
 use Rattle.std.proofs.lemmas.Result.{IfOk-weaker}
 use Rattle.sqlite_trees.specs.View.{IsClean}
 use Rattle.pgrows.proofs.SetUp.{rel_shape}

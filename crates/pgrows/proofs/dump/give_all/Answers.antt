@@ -1,4 +1,4 @@
-use Rattle.std.proofs.Common.{◌≡◌, sym, ap, ◌∙◌, arith, rules}
+use Rattle.std.proofs.Common.{sym, ap, ◌∙◌, arith}
 use Rattle.sqlite_trees.specs.View.{View, IsClean}
 use Rattle.pgtables.specs.Kept.{tables_in}
 use Rattle.pgrows.proofs.Found.{open_of, opened, reads_under, keeps_reads}

@@ -1,4 +1,4 @@
-use Rattle.std.proofs.Common.{◌≡◌, pos, true, refl, sym, ap, subst, ◌∙◌, arith, rules, to_z-of_z, SFits, w64}
+use Rattle.std.proofs.Common.{true, ap, subst, ◌∙◌, arith, rules, to_z-of_z, SFits, w64}
 use Rattle.sqlite_trees.specs.Tree.{Trees}
 use Rattle.sqlite_trees.specs.View.{View, Finds, IsClean}
 use Rattle.sqlite_rules.proofs.ViewLemmas.{still_quiet}

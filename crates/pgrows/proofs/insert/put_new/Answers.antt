@@ -1,4 +1,4 @@
-use Rattle.std.proofs.Common.{◌≡◌, refl, sym, ap, subst, ◌∙◌, ◌∷◌, [], arith, rules, to_z-of_z, SFits, w64}
+use Rattle.std.proofs.Common.{ap, ◌∙◌, arith, rules, to_z-of_z, SFits, w64}
 use Rattle.std.proofs.lemmas.Result.{on_ok_weaker}
 use Rattle.sqlite_trees.specs.View.{View, IsClean}
 use Rattle.pgtables.specs.Kept.{Copies}

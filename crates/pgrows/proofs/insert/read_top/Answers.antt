@@ -1,4 +1,4 @@
-use Rattle.std.proofs.Common.{◌≡◌, true, arith, subst, sym, ap, ◌∙◌, rules, SFits, w64, to_z-of_z}
+use Rattle.std.proofs.Common.{arith, subst, sym, ap, ◌∙◌, rules, SFits, w64, to_z-of_z}
 use Rattle.sqlite_rules.specs.Edit.{id_in}
 use Rattle.pgrows.specs.Rows.{AreBelow}
 use Rattle.pgrows.proofs.SetUp.{rises}

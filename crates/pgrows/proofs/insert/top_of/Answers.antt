@@ -1,4 +1,4 @@
-use Rattle.std.proofs.Common.{◌≡◌, None, Some, sym, ◌∙◌, arith, rules, to_z-of_z, SFits, w64}
+use Rattle.std.proofs.Common.{None, sym, ◌∙◌, arith, rules, to_z-of_z, SFits, w64}
 use Rattle.std.proofs.lemmas.Result.{IfOk-weaker}
 use Rattle.sqlite_trees.specs.View.{IsClean}
 use Rattle.pgrows.specs.Rows.{IsUnder}

@@ -1,7 +1,6 @@
-use Rattle.std.proofs.Common.{◌≡◌, sym, ap, ◌∙◌, arith, rules}
-use Rattle.sqlite_trees.specs.View.{View, IsClean}
-use Rattle.pgtables.specs.Kept.{tables_in}
-use Rattle.pgrows.proofs.Found.{open_of, opened, reads_under, keeps_reads}
+use Rattle.std.proofs.Common.{sym, ◌∙◌, arith}
+use Rattle.sqlite_trees.specs.View.{IsClean}
+use Rattle.pgrows.proofs.Found.{open_of, reads_under}
 use Rattle.pgrows.proofs.list.list.Goals as goal
 
 pub returns-clause-rows : goal.returns-clause-rows

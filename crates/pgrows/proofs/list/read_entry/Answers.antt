@@ -1,4 +1,4 @@
-use Rattle.std.proofs.Common.{◌≡◌, true, false, ap, subst, ◌∙◌, arith, rules, to_z-of_z, SFits, w64}
+use Rattle.std.proofs.Common.{arith, rules, to_z-of_z, SFits, w64}
 use Rattle.sqlite_trees.specs.View.{IsClean}
 use Rattle.pgtables.specs.Kept.{copies_in}
 use Rattle.pgrows.specs.Dump.{row_at}

@@ -1,4 +1,4 @@
-use Rattle.std.proofs.Common.{◌≡◌, [], true≢false, refl, sym, ap, subst, ◌∙◌, arith, rules}
+use Rattle.std.proofs.Common.{◌≡◌, true≢false, sym, ap, subst, ◌∙◌, arith}
 use Rattle.sqlite_trees.specs.Tree.{Trees}
 use Rattle.sqlite_trees.specs.View.{View, IsClean}
 use Rattle.sqlite_rules.specs.Lists.{Has}

@@ -1,4 +1,4 @@
-use Rattle.std.proofs.Common.{◌≡◌, refl, sym, ap, subst, ◌∙◌, Some, arith, rules, to_z-of_z, SFits, w64}
+use Rattle.std.proofs.Common.{ap, ◌∙◌, Some, arith, rules, to_z-of_z, SFits, w64}
 use Rattle.sqlite_trees.specs.View.{View, IsClean}
 use Rattle.sqlite_rules.proofs.ViewLemmas.{still_quiet}
 use Rattle.pgtables.specs.Kept.{tables_in, without_rows}

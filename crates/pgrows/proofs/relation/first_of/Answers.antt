@@ -1,4 +1,4 @@
-use Rattle.std.proofs.Common.{◌≡◌, false, true, sym, ap, subst, ◌∙◌, arith, rules}
+use Rattle.std.proofs.Common.{sym, ◌∙◌, arith}
 use Rattle.pgrows.proofs.SetUp.{index_shape}
 use Rattle.pgrows.proofs.First.{front_ended, front_met}
 use Rattle.pgrows.proofs.relation.first_of.Goals as goal

@@ -1,4 +1,4 @@
-use Rattle.std.proofs.Common.{◌≡◌, true, false, true≢false, refl, sym, ap, subst, ◌∙◌, Some, arith, rules, to_z-of_z, SFits, w64}
+use Rattle.std.proofs.Common.{◌≡◌, true≢false, sym, ap, subst, ◌∙◌, Some, arith, rules, to_z-of_z, SFits, w64}
 use Rattle.sqlite_value.specs.Order.{column}
 use Rattle.sqlite_trees.specs.View.{View, IsClean}
 use Rattle.pgtables.specs.Kept.{tables_in, without_rows}

@@ -1,7 +1,6 @@
-use Rattle.std.proofs.Common.{◌≡◌, drop}
+use Rattle.std.proofs.Common.{drop}
 use Rattle.pgstore.specs.Carries.{CarriesOn}
 use Rattle.pgstore.proofs.carrying.carry_rows.Given as goal
 
 abbrev pub invariant-loop-kept : goal.invariant-loop-kept
-invariant-loop-kept g l =
-    (l.tx.conn.ghost_name ≡ l.initial.tx.conn.ghost_name) × CarriesOn g.S.Store l.initial.tx.conn.now l.tx.conn.now l.old l.def l.rows (drop l.kept-index l.rows)
+invariant-loop-kept g l = CarriesOn g.S.Store l.initial.rows l.rows l.old l.def l.before (drop l.kept-index l.before)

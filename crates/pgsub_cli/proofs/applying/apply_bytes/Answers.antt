@@ -9,9 +9,12 @@ use Rattle.pgsub_cli.proofs.applying.apply_bytes.Goals as goal
 pub returns-clause-applied : goal.returns-clause-applied
 returns-clause-applied g c =
     let new = c.in_ok-subscriber.ensures.new in
-    let fed = c.apply_input.ensures.applied (c.stores_on_memory_disks_are_honest.ensures c.apply_input.new.subscriber.applied.store) in
-    if_ok c.apply_input.result _ _ fed (λ printed shows.
+    let fed = c.apply_read.ensures.applied c.stores_on_memory_disks_are_honest.ensures in
+    if_ok c.apply_read.result _ _ fed (λ printed shows.
     let told =
-    lines_of_new holds_tables position_of lines_of c.in_ok-subscriber.subscriber c.apply_input.new.subscriber c.args.limits c.args.version (shows.0 ∷ []) (fault_of_feeding printed.stopped) (string_bytes printed.lines)
-    c.fed_sessions_are_followed.ensures.followed new.empty new.state shows.2 in
-    (shows.0, shows.1, told.0, told.1, told.2))
+    lines_of_new holds_tables position_of lines_of c.in_ok-subscriber.subscriber shows.0 c.args.limits c.args.version (shows.1.0 ∷ []) (fault_of_feeding printed.stopped) (string_bytes printed.lines)
+    c.fed_sessions_are_followed.ensures.followed new.empty new.state shows.1.2 in
+    (shows.1.0, shows.1.1, told.0, told.1, told.2))
+
+pub returns-clause-fault : goal.returns-clause-fault
+returns-clause-fault g c = c.apply_read.ensures.fault c.stores_on_memory_disks_are_honest.ensures

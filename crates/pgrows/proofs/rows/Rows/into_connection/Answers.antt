@@ -1,5 +1,7 @@
-use Rattle.std.proofs.Common.{◌≡◌, Result, Ok, Err, IfOk, IsTrue, sym, ap, subst, ◌∙◌, arith}
-use Rattle.sqlite_trees.specs.View.{View, IsClean}
+use Rattle.std.proofs.Common.{Result, Ok, Err, IfOk, IsTrue, sym, ap, subst, ◌∙◌, arith}
+use Rattle.sqlite_trees.specs.View.{IsClean}
+use Rattle.sqlite.specs.State.{HasCleanDisk}
+use Rattle.pgrows.specs.Rows.{state}
 use Rattle.pgrows.proofs.Found.{open_of}
 use Rattle.pgrows.proofs.rows.Rows.into_connection.Goals as goal
 
@@ -31,4 +33,9 @@ returns g c = ok_of_both c.over.result c.over.ensures.clean c.over.ensures.trees
     let still : IsClean after = omega (arith, doubts) in
     let unbroken = sym (c.is_broken.ensures still) ∙ c.if-is_broken.false in
     let up = open_of after (g.met.S.Store.broken_if_shut c.rollback.new.self) unbroken in
-    trees clean ∙ (c.rollback.ensures.undone.undone up).0 ∙ ap (λ s. (g.S.Store.view s).committed) c.self.view_is)
+    let back = c.rollback.ensures.undone in
+    let was : HasCleanDisk (state g.S.Store c.self.inside.store) = omega (arith, c.rollback.ensures.quiet.clean, still) in (
+      subst (λ s. HasCleanDisk (state g.S.Store s)) c.self.view_is was,
+      subst (λ s. IsTrue (state g.S.Store s).is_open) c.self.view_is ((back.kept still).was_open up),
+      trees clean ∙ (back.undone up).0 ∙ ap (λ s. (g.S.Store.view s).committed) c.self.view_is,
+    ))

@@ -1,11 +1,15 @@
-use Rattle.std.proofs.Common.{subst}
-use Rattle.sqlite_store.specs.declared.store.FileStore.{FileStore}
-use Rattle.sqlite.specs.Held.{Held}
-use Rattle.sqlite.specs.Files.{file_state}
-use Rattle.pgmemory.specs.Stopped.{Leaves}
+use Rattle.std.proofs.Common.{inl, inr}
+use Rattle.std.proofs.Math.Logic.{∥∥₁_map}
 use Rattle.pgstore.proofs.reopening.Store+FileStore+D.stop.Goals as goal
 
 pub returns : goal.returns
 returns g c = record {
-  left = subst (λ (conn : Held (FileStore g.row.D.Denot g.D.Disk)). Leaves g.D.Disk (file_state conn).may_leave c.stop.result) c.into_connection.ensures c.stop.ensures;
+  left = λ clean image may. ∥∥₁_map (c.stop.ensures.left clean image may) (λ it. (
+    it.0,
+    elim (c.into_store.ensures.crash.crash (c.stop.ensures.clean clean) it.0 it.1) [
+      | inl left ↦ left
+      | inr none ↦ absurd none
+    ],
+    it.2,
+  ));
 }
