@@ -14,7 +14,7 @@ import traceback
 from collections.abc import Callable, Sequence
 from typing import Any, Protocol
 
-from . import VERSION, builds, checking, dropping, exporting, log, probing, taking, verifying
+from . import VERSION, builds, checking, dropping, exporting, log, probing, requesting, taking, verifying
 from . import checkpoint as known_of
 from .asking import Asker
 from .checkpoint import Checkpoint
@@ -297,6 +297,12 @@ def add_verifying(parser: argparse.ArgumentParser) -> None:
         help="hold the stream for at most N seconds until the server has made a slot (default: 10)")
 
 
+def add_requesting(parser: argparse.ArgumentParser) -> None:
+    add = parser.add_argument
+    add("--store", metavar="FILE", required=True, help="the store; its follower adds them, or does so at its next start")
+    add("--table", action="append", required=True, help="a published table, may be repeated; what the copy has of it is replaced")
+
+
 # Each subcommand: what adds its options.
 COMMANDS: dict[str, tuple[str, Sequence[Callable[[argparse.ArgumentParser], None]]]] = {
     "follow": ("follow into a store", (add_server, add_following)),
@@ -306,6 +312,7 @@ COMMANDS: dict[str, tuple[str, Sequence[Callable[[argparse.ArgumentParser], None
     "export": ("make ordinary tables of SQLite from the rows of a store, or of a copy of one", (add_reading, add_exporting)),
     "snapshot": ("copy a store into one file", (add_reading,)),
     "verify": ("compare the copy of a follower that runs with its server, both at one LSN", (add_server, add_verifying)),
+    "add": ("copy tables anew beside what is followed: new ones of the publication, or any whose rows are wrong", (add_server, add_requesting)),
     "names": ("tell which OID each name of a table has now, and which ones had it before", (add_names,)),
     "status": (probing.ABOUT, (probing.add_options,)),
 }
@@ -341,7 +348,7 @@ def check(parser: argparse.ArgumentParser, options: Options) -> None:
         ("table", "create"), ("all_tables", "create"), ("failover", "create"), ("append", "record"), ("snapshot", "store"),
         ("snapshot_every", "snapshot"), ("skip", "store"), ("strict", "store"),
     ):
-        if options.command not in ("check", "status", "verify") and getattr(options, given) and not getattr(options, needed):
+        if options.command not in ("check", "status", "verify", "add") and getattr(options, given) and not getattr(options, needed):
             parser.error(f"--{given.replace('_', '-')} needs --{needed}")
     if options.command == "follow" and not options.store:
         parser.error("--store is needed")
@@ -539,7 +546,7 @@ def stoppable(call: Callable[[Options, Check], int]) -> Callable[[Options], int]
 RUNS: dict[str, Callable[[Options], Any]] = {
     "follow": follow, "record": record, "check": stoppable(checking.run), "drop": stoppable(dropping.run),
     "export": stoppable(exporting.run), "snapshot": stoppable(taking.run),
-    "verify": stoppable(verifying.run), "names": lambda options: print_names(options.store), "status": probing.run,
+    "verify": stoppable(verifying.run), "add": stoppable(requesting.run), "names": lambda options: print_names(options.store), "status": probing.run,
 }
 
 

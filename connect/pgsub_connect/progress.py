@@ -11,8 +11,8 @@ from .texts import lsn_text
 
 # What a follower may be at.
 STATES = (
-    "starting", "copying", "opening the store", "connecting", "following", "copying the store", "waiting to connect again", "stopping",
-    "stopped", "failed",
+    "starting", "copying", "opening the store", "connecting", "following", "copying the store", "adding a table",
+    "waiting to connect again", "stopping", "stopped", "failed",
 )
 
 
@@ -40,6 +40,8 @@ class Progress:
         self.version = self.timeline = 0
         self.found: dict[str, str] = {}
         self.skipped = ""
+        # the tables that are being added, and how that goes
+        self.adding: dict[str, str] = {}
         self.lag, self.slot = Lag(), Slot()
         self.last_message: float | None = None
         # of the session's server: when it was started, whether it was a standby then, and whether it was promoted since
@@ -101,6 +103,7 @@ class Progress:
             "last_error": self.last_error,
             "found": self.found or None,
             "skipped": self.skipped or None,
+            "adding": self.adding or None,
             "server_version": self.version or None,
             "timeline": self.timeline or None,
             "connector_version": VERSION,
