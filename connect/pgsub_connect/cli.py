@@ -14,7 +14,7 @@ import traceback
 from collections.abc import Callable, Sequence
 from typing import Any, Protocol
 
-from . import VERSION, builds, checking, dropping, exporting, log, probing, requesting, taking, verifying
+from . import VERSION, builds, checking, dropping, exporting, log, probing, refreshing, requesting, taking, verifying
 from . import checkpoint as known_of
 from .asking import Asker
 from .checkpoint import Checkpoint
@@ -57,6 +57,10 @@ bug; 7 something is in the way only for now, such as a server that isn't there: 
 COMPARED = """\
 exit status: 0 equal; 1 the copy differs; 8 the server made no slot in time, so nothing was compared; 2 to 7 as those of `follow`
 """
+ADDED = """\
+exit status: 0 done, or left to the next start; 1 a table is left as it was; 2 to 7 as those of `follow`
+"""
+ENDINGS = {"follow": ENDS, "record": ENDS, "verify": COMPARED, "add": ADDED, "refresh": ADDED}
 TOP = os.path.dirname(os.path.dirname(os.path.dirname(os.path.realpath(__file__))))
 REJECTED, USAGE, FILE, SERVER, UNFIT, BUG, PASSING, NO_SLOT = 1, 2, 3, 4, 5, 6, 7, 8
 KINDS = ("history", "slot", "names", "publication", "values", "gap", "all")
@@ -303,6 +307,12 @@ def add_requesting(parser: argparse.ArgumentParser) -> None:
     add("--table", action="append", required=True, help="a published table, may be repeated; what the copy has of it is replaced")
 
 
+def add_refreshing(parser: argparse.ArgumentParser) -> None:
+    add = parser.add_argument
+    add("--store", metavar="FILE", required=True, help="the store that is compared with what is published")
+    add("--yes", action="store_true", help="copy tables anew without asking")
+
+
 # Each subcommand: what adds its options.
 COMMANDS: dict[str, tuple[str, Sequence[Callable[[argparse.ArgumentParser], None]]]] = {
     "follow": ("follow into a store", (add_server, add_following)),
@@ -313,6 +323,7 @@ COMMANDS: dict[str, tuple[str, Sequence[Callable[[argparse.ArgumentParser], None
     "snapshot": ("copy a store into one file", (add_reading,)),
     "verify": ("compare the copy of a follower that runs with its server, both at one LSN", (add_server, add_verifying)),
     "add": ("copy tables anew beside what is followed: new ones of the publication, or any whose rows are wrong", (add_server, add_requesting)),
+    "refresh": ("tell which tables lack rows or were altered since they were copied, and copy them anew", (add_server, add_refreshing)),
     "names": ("tell which OID each name of a table has now, and which ones had it before", (add_names,)),
     "status": (probing.ABOUT, (probing.add_options,)),
 }
@@ -329,7 +340,7 @@ def arguments(words: Sequence[str]) -> Options:
     for name, (about, adds) in COMMANDS.items():
         parsers[name] = commands.add_parser(
             name, help=about.partition("\n")[0], description=about, formatter_class=AsWritten,
-            epilog=ENDS if name in ("follow", "record") else COMPARED if name == "verify" else None,
+            epilog=ENDINGS.get(name),
         )
         for add in adds:
             add(parsers[name])
@@ -546,7 +557,7 @@ def stoppable(call: Callable[[Options, Check], int]) -> Callable[[Options], int]
 RUNS: dict[str, Callable[[Options], Any]] = {
     "follow": follow, "record": record, "check": stoppable(checking.run), "drop": stoppable(dropping.run),
     "export": stoppable(exporting.run), "snapshot": stoppable(taking.run),
-    "verify": stoppable(verifying.run), "add": stoppable(requesting.run), "names": lambda options: print_names(options.store), "status": probing.run,
+    "verify": stoppable(verifying.run), "add": stoppable(requesting.run), "refresh": stoppable(refreshing.run), "names": lambda options: print_names(options.store), "status": probing.run,
 }
 
 

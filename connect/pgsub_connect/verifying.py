@@ -17,6 +17,7 @@ from collections.abc import Iterable, Iterator
 from typing import TYPE_CHECKING
 
 from . import log
+from .checkpoint import Known
 from .digests import Field, Fields, NotText, Plan, Queries, Summing, Sums, chunks_for, fields_in, fields_of, text_of
 from .dropping import read_known
 from .errors import FileError, Passing, Stopped, Unfit
@@ -240,7 +241,7 @@ def verify(options: Options, check: Check) -> int:
         if not is_followed(options.store):
             raise request.ended()
         source = stack.enter_context(contextlib.closing(Source(options, known, check)))
-        tables = source.chosen(options.table)
+        tables = settled(source.chosen(options.table), known)
         point = meet(request, source, options.hold)
         copy = stack.enter_context(contextlib.closing(Copy(request.copied(), options.store, point, check)))
         tell_left(copy, source)
@@ -249,6 +250,13 @@ def verify(options: Options, check: Check) -> int:
     text = f"{counted(len(tables), 'table')}, {counted(verifier.rows, 'row')} on the server at {lsn_text(point)}"
     log.info(f"{text}: {'equal' if is_equal else 'the copy differs'}")
     return EQUAL if is_equal else DIFFERENT
+
+
+def settled(tables: list[Table], known: Known) -> list[Table]:
+    """Tables none of which is being added, since of such a one the copy has no state of the server."""
+    if going := [it.text() for it in tables if str(it.oid) in known.adding]:
+        raise Passing(f"being added just now, or refused: {names_of(going)}: nothing was compared. Wait for it, or choose others by --table")
+    return tables
 
 
 def meet(request: Request, source: Source, seconds: float) -> int:

@@ -2,6 +2,7 @@
 
 from __future__ import annotations
 
+import json
 import os
 import signal
 import sys
@@ -336,6 +337,46 @@ def synchronous(place: Place) -> None:
     place.set(synchronous_standby_names="")
 
 
+def refresh(place: Place, status: int = OK) -> list[str]:
+    """Has all copied anew that isn't right. Returns what was told, of which table."""
+    words = [str(place.options.connect), "refresh", "--dsn", place.dsn(), "--store", str(place.store), "--yes"]
+    said = place.has_ended(place.started(words), status, "")
+    return [f"{it['is']} {it.get('table')}" for it in map(json.loads, [it for it in said.splitlines() if it.startswith("{")])]
+
+
+def refreshed(place: Place) -> None:
+    """Tables, partitions and columns that were added, and a table that left: all is told, copied anew, and nothing is wrong any more."""
+    place.stock()
+    place.run(
+        "CREATE TABLE gone (id int PRIMARY KEY)", "INSERT INTO gone VALUES (1)", "ALTER PUBLICATION pgsub ADD TABLE gone",
+        "CREATE TABLE parted (id int PRIMARY KEY, note text) PARTITION BY RANGE (id)",
+        "CREATE TABLE parted_1 PARTITION OF parted FOR VALUES FROM (0) TO (10)", "INSERT INTO parted VALUES (1, 'a')",
+        "CREATE TABLE parted_2 (LIKE parted INCLUDING ALL)", "INSERT INTO parted_2 VALUES (11, 'b')",
+        "ALTER PUBLICATION pgsub ADD TABLE parted", "ALTER PUBLICATION pgsub SET (publish_via_partition_root = true)",
+    )
+    place.follow("--create")
+    child = place.start()
+    place.catch_up(child)
+    if refresh(place):
+        raise Failed("it tells what isn't so")
+    place.run(
+        "CREATE TABLE more (id int PRIMARY KEY, note text)", "INSERT INTO more SELECT it, 'note ' || it FROM generate_series(1, 100) it",
+        "ALTER PUBLICATION pgsub ADD TABLE more", "ALTER PUBLICATION pgsub DROP TABLE gone",
+        "ALTER TABLE stock ADD COLUMN price int DEFAULT 5", "ALTER TABLE parted ATTACH PARTITION parted_2 FOR VALUES FROM (10) TO (20)",
+    )
+    told = refresh(place)
+    if told != ["changed public.stock", "missing public.parted", "missing public.more", "extra public.gone"]:
+        raise Failed(f"told: {told}")
+    place.run("UPDATE parted SET note = 'c'", "UPDATE stock SET price = 6 WHERE sku = 1", "DELETE FROM more WHERE id < 50")
+    place.catch_up(child)
+    verify(place)
+    if (left := refresh(place)) != ["extra public.gone"]:
+        raise Failed(f"left: {left}")
+    if list(place.found()) != ["publication"]:
+        raise Failed(f"found: {place.found()}")
+    child.stop()
+
+
 CASES = (
     Case("add-a-table-that-joined", joined),
     Case("add-under-moves", under_load),
@@ -348,4 +389,5 @@ CASES = (
     Case("add-altered-meanwhile", altered),
     Case("add-beside-a-long-transaction", long_transaction),
     Case("add-synchronous", synchronous),
+    Case("refresh", refreshed, since=15),
 )
