@@ -20,11 +20,12 @@ from typing import TYPE_CHECKING, Protocol
 
 from . import log
 from .catalog import Column, Shape
-from .copying import BLOCK, GONE, PASSING
+from .copying import PASSING
 from .differences import PUBLICATION
 from .errors import NoSlot, Passing, ServerError, Unfit
 from .meeting import Source
-from .publishing import Table
+from .publishing import Table, sizes_of
+from .reading import BLOCK, GONE
 from .remembered import Relation, Remembered
 from .replacing import Leaving, Rows, payload_of
 from .texts import counted, lsn_text
@@ -125,14 +126,7 @@ class Adder:
             return f"table {oid} isn't published"
         if not self.checkpoint.has_room_for(oid):
             return f"{table.text()}: the checkpoint has no room for it"
-        size = int(
-            source.plain.value(
-                "SELECT pg_catalog.sum(pg_catalog.pg_table_size(t.relid)) FROM pg_catalog.pg_class c,"
-                " LATERAL (SELECT c.oid AS relid UNION SELECT i.relid FROM pg_catalog.pg_partition_tree(c.oid) i) t"
-                f" WHERE c.oid = {oid}"
-            )
-            or 0
-        )
+        size = sizes_of(source.plain, [table]).get(oid, 0)
         return self.too_large(table, size) if size > FAR * self.options.max_buffered else ""
 
     def too_large(self, table: Table, size: int) -> str:

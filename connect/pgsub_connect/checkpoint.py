@@ -6,7 +6,7 @@ one opens the store.
 
 | Field | Means |
 |---|---|
-| `phase` | `new`: nothing yet; `copying`: rows are being copied; `copied`: all rows are in `STORE.copying`, and the slot is made next; `following` |
+| `phase` | `new`: nothing yet; `copying`: a copy begins; `slot`: its slot is made, and rows are read; `copied`: they are in `STORE.copying`; `following` |
 | `system`, `database`, `slot` | whose changes the store holds |
 | `timeline` | the server's timeline in the last session; 0 where it isn't known |
 | `started` | when the server of the last session was started, in microseconds since 1970; 0 where it isn't known |
@@ -34,7 +34,7 @@ from .texts import lsn_text
 SIZE = 512
 PATIENCE = 60
 TEXT = json.JSONEncoder(separators=(",", ":"))
-NEW, COPYING, COPIED, FOLLOWING = "new", "copying", "copied", "following"
+NEW, COPYING, SLOT, COPIED, FOLLOWING = "new", "copying", "slot", "copied", "following"
 
 
 @dataclasses.dataclass

@@ -85,6 +85,7 @@ class Options:
     keyless: str = "refuse"
     failover: bool = False
     no_copy: bool = False
+    jobs: int = 2
     accept: list[str] = dataclasses.field(default_factory=list)
     strict: bool = False
     skip: int = 0
@@ -235,6 +236,7 @@ def add_copying(parser: argparse.ArgumentParser) -> None:
     add = parser.add_argument_group("the initial copy").add_argument
     add_publishing(add)
     add("--no-copy", action="store_true", help="begin a new store where the slot is, without the rows from before")
+    add("--jobs", type=within(1, 64), default=2, metavar="N", help="read N tables at a time (default: 2)")
 
 
 def add_longest(add: Callable[..., object]) -> None:

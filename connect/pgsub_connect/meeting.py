@@ -12,11 +12,12 @@ from collections.abc import Iterable
 from typing import TYPE_CHECKING
 
 from .checkpoint import FOLLOWING, Known
-from .copying import CHANGED, GONE, LOCK_TIMEOUT, check_names, create_temporary, lock_tables, take_snapshot
+from .copying import CHANGED, check_names, create_temporary
 from .errors import NoSlot, Passing, ServerError, Unfit
 from .holding import write_request
 from .postgres import Check, Connection
 from .publishing import Table, published_tables, stored_in
+from .reading import GONE, LOCK_TIMEOUT, lock_tables, take_snapshot
 from .resting import LOOK, is_followed, own_name, put_request, read_request, remove_files, wait_for_copy
 from .server import identify, settle
 from .snapshots import remove

@@ -32,10 +32,11 @@ class Progress:
         self.passed_changes = self.passed_commits = 0
         self.sent_to = b"\0" * 8
         self.confirmed = self.position = 0
-        self.sessions = self.restarts = self.copied_rows = 0
+        self.sessions = self.restarts = self.copied_rows = self.copied_tables = 0
         self.copying: str | None = None
         # by the server's statistics: None where it has none
         self.copy_total_rows: int | None = None
+        self.copy_total_tables: int | None = None
         self.last_error: str | None = None
         self.version = self.timeline = 0
         self.found: dict[str, str] = {}
@@ -98,6 +99,8 @@ class Progress:
             "filter_restarts": self.restarts,
             "copied_rows": self.copied_rows,
             "copy_total_rows": self.copy_total_rows,
+            "copied_tables": self.copied_tables if self.copy_total_tables is not None else None,
+            "copy_total_tables": self.copy_total_tables,
             "copy_seconds_left": self.copy_seconds_left(rate),
             "copying_table": self.copying,
             "last_error": self.last_error,

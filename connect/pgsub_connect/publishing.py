@@ -184,6 +184,19 @@ def are_so_named(connection: Connection, tables: list[Table]) -> bool:
     )
 
 
+def sizes_of(connection: Connection, tables: list[Table]) -> dict[int, int]:
+    """How many bytes the files of each table have, with those of its partitions."""
+    oids = ", ".join(str(table.oid) for table in tables)
+    if not oids:
+        return {}
+    rows = connection.rows(
+        "SELECT c.oid, pg_catalog.sum(pg_catalog.pg_table_size(t.relid))::pg_catalog.int8 FROM pg_catalog.pg_class c,"
+        " LATERAL (SELECT c.oid AS relid UNION SELECT i.relid FROM pg_catalog.pg_partition_tree(c.oid) i) t"
+        f" WHERE c.oid IN ({oids}) GROUP BY c.oid"
+    )
+    return {int(oid or 0): int(size or 0) for oid, size in rows}
+
+
 def estimated_rows(connection: Connection, tables: list[Table]) -> int | None:
     """How many rows the tables have by the server's statistics; None where it has none of them."""
     oids = ", ".join(str(table.oid) for table in tables)

@@ -15,6 +15,7 @@ As long as nothing was copied it has the first two fields alone.
 | `sent` | by OID: the last Relation message of a change, and the LSN of its commit |
 | `names` | which OID each name has, since when, and which OIDs had it before |
 | `found` | by kind: the LSN at which the first was found, the texts, and how many more there were |
+| `copied` | while rows are copied first: the OIDs of tables that are stored whole, each with the position from which they are |
 | `wanted` | OIDs of tables whose rows are to be added, and why one was refused, "" where none was |
 | `left` | OIDs of tables that were there once and aren't published any more |
 | `told` | texts that a Relation message up to an LSN may give again, since the look at the server gave them already |
@@ -100,6 +101,7 @@ class Remembered:
         self.told: dict[str, int] = {}
         self.left: set[int] = set()
         self.wanted: dict[int, str] = {}
+        self.copied: dict[int, int] = {}
         self.news: list[str] = []
         self.is_urgent = self.is_changed = False
 
@@ -311,6 +313,16 @@ class Remembered:
         texts = [it for kind, found in self.found.items() if kind != NAMES for it in found.texts]
         return [text for text in texts if any(it in f" {text}" for it in told)]
 
+    def never_copied(self, oid: int) -> None:
+        """Forgets a table that went before any row of it was copied."""
+        self.sent.pop(oid, None)
+        if self.catalog:
+            self.catalog.tables.pop(oid, None)
+        if key := self.held.get(oid):
+            self.release(key)
+            self.names[key].before.remove(oid)
+        self.is_changed = True
+
     def replaced(self, relation: Relation, lsn: int) -> None:
         """Notes that a table's rows are those of a commit with this LSN: a Relation message up to there tells nothing new."""
         self.sent[relation.oid] = Sent(lsn, relation.shape)
@@ -352,6 +364,7 @@ class Remembered:
         self.told = {text: parse_lsn(lsn) for text, lsn in said["told"].items()}
         self.left = {int(oid) for oid in said["left"]}
         self.wanted = {int(oid): str(why) for oid, why in said.get("wanted", {}).items()}
+        self.copied = {int(oid): int(end) for oid, end in said.get("copied", {}).items()}
 
     def written(self) -> dict[str, Any]:
         if self.catalog is None:
@@ -363,6 +376,7 @@ class Remembered:
             "sent": {oid: [lsn_text(it.lsn), it.shape and [it.shape.identity, it.shape.columns]] for oid, it in self.sent.items()},
             "names": [[*key, it.oid, lsn_text(it.since), it.before] for key, it in sorted(self.names.items())],
             "found": {kind: [lsn_text(it.lsn), it.texts, it.more] for kind, it in self.found.items()},
+            "copied": self.copied,
             "wanted": self.wanted,
             "left": sorted(self.left),
             "told": {text: lsn_text(lsn) for text, lsn in self.told.items()},

@@ -103,9 +103,13 @@ def spelled(cells: list[Cell]) -> bytes:
 class Store:
     """The rows: a file in the store's format, or memory."""
 
-    def __init__(self, path: str) -> None:
+    def __init__(self, path: str, own: bool = False) -> None:
         self.path = path
-        self.base = sqlite3.connect(path, isolation_level=None)
+        self.base = sqlite3.connect(path, isolation_level=None, timeout=0 if own else 5)
+        if own:
+            # (no other process opens it meanwhile)
+            self.base.execute("PRAGMA locking_mode = EXCLUSIVE")
+            self.base.executescript("BEGIN EXCLUSIVE; COMMIT")
         self.base.executescript(SCHEMA)
         row = self.base.execute("SELECT lsn FROM pos").fetchone()
         self.position = int.from_bytes(row[0], "big") if row else 0
@@ -348,9 +352,12 @@ def main(words: list[str]) -> int:
     def value(name: str, default: int) -> int:
         return int(words[words.index(name) + 1]) if name in words else default
 
-    store = Store(words[words.index("--store") + 1])
+    try:
+        store = Store(words[words.index("--store") + 1], own=True)
+    except sqlite3.OperationalError as error:
+        print(f"row_filter: {error}", file=sys.stderr)
+        return 12
     with contextlib.closing(store.base):
-        store.base.execute("PRAGMA locking_mode = EXCLUSIVE")
         try:
             if words[0] == "dump":
                 dump(store)

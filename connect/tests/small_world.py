@@ -176,8 +176,9 @@ class WorldSource:
         self.check()
         self.hook("see")
 
-    def value(self, command: str) -> str:
-        return str(sum(map(len, self.world.slot()[1].get(self.tables[0].oid, []))))
+    def rows(self, command: str) -> list[list[str | None]]:
+        """The sizes of tables."""
+        return [[str(oid), str(sum(map(len, lines)))] for oid, lines in self.world.slot()[1].items()]
 
     def copied_blocks(self, command: str, size: int) -> Iterator[list[bytes]]:
         self.hook("COPY")
