@@ -22,7 +22,7 @@ from . import log
 from .catalog import Column, Shape
 from .copying import PASSING
 from .differences import PUBLICATION
-from .errors import NoSlot, Passing, ServerError, Unfit
+from .errors import NoSlot, Passing, ServerError, Stopped, Unfit
 from .meeting import Source
 from .publishing import Table, sizes_of
 from .reading import BLOCK, GONE
@@ -113,6 +113,8 @@ class Adder:
                 source.close()
         except (ServerError, Passing, Unfit) as error:
             return str(error)
+        except Stopped:
+            return "it is about to end"
         if not errors:
             self.remembered.want(asked)
             self.next_try = 0.0

@@ -55,7 +55,7 @@ can't be used; 4 the server rejected a command for good; 5 the store and the slo
 bug; 7 something is in the way only for now, such as a server that isn't there: start it again
 """
 COMPARED = """\
-exit status: 0 equal; 1 the copy differs; 8 the server made no slot in time, so nothing was compared; 2 to 7 as those of `follow`
+exit status: 0 equal, or repaired; 1 the copy differs; 8 the server made no slot in time, so nothing was compared; 2 to 7 as those of `follow`
 """
 ADDED = """\
 exit status: 0 done, or left to the next start; 1 a table is left as it was; 2 to 7 as those of `follow`
@@ -117,6 +117,7 @@ class Options:
     text: bool = False
     show: int = 20
     hold: float = 10.0
+    repair: bool = False
 
     def accepts(self, kind: str) -> bool:
         """Whether what may be wrong in this way was said to be taken as it is."""
@@ -298,6 +299,7 @@ def add_verifying(parser: argparse.ArgumentParser) -> None:
     add = parser.add_argument
     add("--store", metavar="FILE", required=True, help="the store, which has to be followed meanwhile")
     add("--table", action="append", default=[], help="compare this table, may be repeated (default: all that are published)")
+    add("--repair", action="store_true", help="have the follower copy the tables that differ anew")
     add("--show", type=within(0, 1 << 20), default=20, metavar="N", help="print at most N keys that differ (default: 20)")
     add("--hold", type=within_seconds(600.0), default=10.0, metavar="N",
         help="hold the stream for at most N seconds until the server has made a slot (default: 10)")

@@ -444,6 +444,7 @@ class Follower:
     def renew(self, connection: Connection) -> None:
         """Ends a session so that another one begins, with whole transactions where a table is added, or again without."""
         log.info("a session begins anew, because of tables that are added")
+        self.delay = 0.0
         connection.end_copy()
 
     def attend(self) -> None:

@@ -30,6 +30,8 @@ if TYPE_CHECKING:
 DONE, REFUSED = 0, 1
 # How long a follower may take until it has answered a request, in seconds: it may be about to connect, or to open its store.
 PATIENCE = 120.0
+# How often it is looked whether tables are there, in seconds.
+WAIT = 0.3
 
 
 def read_published(options: Options, check: Check) -> list[Table]:
@@ -117,6 +119,6 @@ def wait(options: Options, tables: dict[int, str], check: Check) -> int:
         if left and not is_followed(options.store):
             raise Passing(f"{options.store} isn't followed any more: the next start adds {names_of(list(left.values()))}")
         check()
-        time.sleep(LOOK)
+        time.sleep(WAIT)
     log.info(f"{counted(len(tables), 'table')}: {'added' if status == DONE else 'not all were added'}")
     return status

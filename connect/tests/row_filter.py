@@ -106,6 +106,8 @@ class Store:
     def __init__(self, path: str, own: bool = False) -> None:
         self.path = path
         self.base = sqlite3.connect(path, isolation_level=None, timeout=0 if own else 5)
+        # (it outlasts a kill, and no power cut)
+        self.base.execute("PRAGMA synchronous = OFF")
         if own:
             # (no other process opens it meanwhile)
             self.base.execute("PRAGMA locking_mode = EXCLUSIVE")

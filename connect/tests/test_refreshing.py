@@ -86,7 +86,7 @@ class Case(Quiet):
         self.server = FakeServer()
         self.now = a_catalog(ONE, TWO, THREE)
         for where, what, by in (
-            (requesting, "Connection", self.server.connect), (refreshing, "Connection", self.server.connect), (requesting, "LOOK", 0.005),
+            (requesting, "Connection", self.server.connect), (refreshing, "Connection", self.server.connect), (requesting, "LOOK", 0.005), (requesting, "WAIT", 0.005),
             (refreshing, "read_catalog", lambda *_: self.now), (resting, "LOOK", 0.005), (snapshots, "LOOK", 0.005),
             (requesting, "published_tables", lambda *_: [table(it.oid, it.name) for it in self.now.tables.values()]),
         ):

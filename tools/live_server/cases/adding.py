@@ -4,19 +4,21 @@ from __future__ import annotations
 
 import json
 import os
+import random
 import signal
 import sys
 import time
-from collections.abc import Callable
+from collections.abc import Callable, Sequence
 
 from ..child import Child
 from ..errors import Failed
-from ..follower import filters_of, wait_until
+from ..follower import Supervisor, filters_of, wait_until
 from ..load import SCHEMA, Worker, final_statements
-from ..place import OK, REJECTED, SERVER, Place
+from ..pgbench import PgBench
+from ..place import OK, PASSING, REJECTED, SERVER, Place
 from .case import Case
 from .exports import Load
-from .verifying import verified, verify
+from .verifying import PLANTED, TABLES, plant, verified, verify
 
 REFUSED = 1
 
@@ -249,6 +251,24 @@ def parts_killed(place: Place) -> None:
         place.equal()
 
 
+def repaired(place: Place) -> None:
+    """`verify --repair` mends each of the planted differences, beside other changes."""
+    place.run(*TABLES)
+    place.follow("--create")
+    for name, (change, _) in PLANTED.items():
+        plant(place, place.store, change)
+        child = place.start()
+        child.wait_for("following slot")
+        place.run("UPDATE other SET note = note || '.' WHERE sku > 3", "INSERT INTO stock SELECT max(sku) + 1, 'new', NULL FROM stock")
+        if not verify(place, "--repair")[0]:
+            raise Failed(f"{name}: nothing was found")
+        place.run("UPDATE stock SET note = 'x' WHERE sku % 50 = 0", "INSERT INTO log VALUES ('line 3', NULL)")
+        verify(place)
+        child.stop()
+    place.follow()
+    place.equal()
+
+
 def too_large(place: Place) -> None:
     """A table above what may be buffered is refused before anything is done; one that isn't known to be keeps its old rows, and is told."""
     place.stock()
@@ -337,6 +357,61 @@ def synchronous(place: Place) -> None:
     place.set(synchronous_standby_names="")
 
 
+PUBLISHED = ("pgbench_accounts", "pgbench_tellers", "pgbench_branches")
+
+
+def under_kills(place: Place) -> None:
+    """Tables are added, copied anew and taken out of the publication under pgbench's load, while filter, connector, session and server are killed."""
+    rng = random.Random(f"add {place.options.seed}")
+    load = PgBench(place.cluster, 1, 50)
+    place.run("DROP PUBLICATION pgsub", f"CREATE PUBLICATION pgsub FOR TABLE {', '.join(PUBLISHED)}")
+    supervisor = Supervisor(place.words("--create"), place.log)
+    load.begin()
+    supervisor.begin()
+    try:
+        wait_until(place.store.exists, "the first copy", 120, supervisor.check)
+        for _ in range(10):
+            is_there = place.value("SELECT count(*) FROM pg_publication_tables WHERE tablename = 'pgbench_history'") == "1"
+            if rng.random() < 0.5:
+                place.run(f"ALTER PUBLICATION pgsub {'DROP' if is_there else 'ADD'} TABLE pgbench_history")
+                is_there = not is_there
+            tables = rng.sample([*PUBLISHED, *(["pgbench_history"] if is_there else [])], 2)
+            child = place.started(words(place, *tables))
+            time.sleep(rng.random() * 3)
+            kill(place, supervisor, rng.choice(("filter", "filter", "connector", "connector", "session", "server", "nothing")))
+            status = child.end(120)
+            if status not in (OK, PASSING):
+                raise Failed(f"status {status}: {child.said()[-3000:]}")
+        if place.value("SELECT count(*) FROM pg_publication_tables WHERE tablename = 'pgbench_history'") == "0":
+            place.run("ALTER PUBLICATION pgsub ADD TABLE pgbench_history")
+        wait_until(lambda: has_added(place, (*PUBLISHED, "pgbench_history")), "adding all tables", 180, supervisor.check)
+        load.end()
+        verify(place)
+    finally:
+        load.end()
+        supervisor.finish()
+    place.equal()
+
+
+def has_added(place: Place, tables: Sequence[str]) -> bool:
+    """Adds tables. Returns whether they are there, and all else that was to be added."""
+    status = place.started(words(place, *tables)).end(120)
+    wanted = json.loads(place.beside(".tables").read_text())["wanted"]
+    return status == OK and not wanted and not place.checkpoint().get("adding")
+
+
+def kill(place: Place, supervisor: Supervisor, victim: str) -> None:
+    if victim == "filter":
+        supervisor.kill_filter()
+    elif victim == "connector":
+        supervisor.kill_connector()
+    elif victim == "session":
+        place.value("SELECT count(pg_terminate_backend(active_pid)) FROM pg_replication_slots WHERE active")
+    elif victim == "server":
+        place.cluster.stop("immediate")
+        place.cluster.start()
+
+
 def refresh(place: Place, status: int = OK) -> list[str]:
     """Has all copied anew that isn't right. Returns what was told, of which table."""
     words = [str(place.options.connect), "refresh", "--dsn", place.dsn(), "--store", str(place.store), "--yes"]
@@ -385,9 +460,11 @@ CASES = (
     Case("add-a-table-that-clashes", clashes),
     Case("add-cut-at-each-step", cut),
     Case("add-parts-killed", parts_killed),
+    Case("verify-repairs-what-is-planted", repaired),
     Case("add-too-large", too_large),
     Case("add-altered-meanwhile", altered),
     Case("add-beside-a-long-transaction", long_transaction),
     Case("add-synchronous", synchronous),
     Case("refresh", refreshed, since=15),
+    Case("add-under-kills", under_kills),
 )
