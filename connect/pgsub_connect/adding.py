@@ -9,14 +9,14 @@
 
 Where the server makes no slot in time, or the table is altered or locked, the stream is let go, and later it is tried again. Where rows
 can't be read to their end the session ends, since a transaction is open in it. A table that can't be added is refused: it stays as it
-was, its changes stay left out, and that is a finding. One that isn't published any more is no longer added.
+was, its changes stay left out, and that is a finding. One that isn't published any more is no longer added; where its rows are to go, the transaction has none.
 """
 
 from __future__ import annotations
 
 import collections
 import time
-from typing import TYPE_CHECKING, Protocol
+from typing import TYPE_CHECKING, Any, Protocol
 
 from . import log
 from .catalog import Column, Shape
@@ -24,6 +24,7 @@ from .copying import PASSING
 from .differences import PUBLICATION
 from .errors import NoSlot, Passing, ServerError, Stopped, Unfit
 from .meeting import Source
+from .publishing import Column as TableColumn
 from .publishing import Table, sizes_of
 from .reading import BLOCK, GONE
 from .remembered import Relation, Remembered
@@ -87,6 +88,8 @@ class Adder:
         self.table: Table | None = None
         self.next_try = self.delay = 0.0
         self.counts: collections.Counter[tuple[int, str]] = collections.Counter()
+        # whether the table isn't published any more, and its rows are to go
+        self.is_gone = False
         # what was found of the table before its rows were read
         self.texts: list[str] = []
         # whether the session asks for whole transactions because of tables
@@ -101,14 +104,17 @@ class Adder:
             self.remembered.want(wanted)
         self.show()
 
-    def take(self, asked: object) -> str | None:
+    def take(self, asked: dict[str, Any]) -> str | None:
         """Takes a request for tables, by their OIDs. Returns why it is rejected."""
-        if not isinstance(asked, list) or not all(isinstance(it, int) for it in asked):
+        adds, removes = asked.get("add"), asked.get("remove", [])
+        if not all(isinstance(oids, list) and all(isinstance(it, int) for it in oids) for oids in (adds, removes)):
             return "malformed"
         try:
             source = Source(self.options, self.checkpoint.known, self.stream.serve_server, "add")
             try:
-                errors = [text for oid in asked if (text := self.rejection(source, oid))]
+                errors = [text for oid in adds or [] if (text := self.rejection(source, oid))]
+                published = {it.oid for it in source.tables}
+                errors += [f"table {oid} is published, or isn't known" for oid in removes if oid in published or not self.remembered.described(oid)]
             finally:
                 source.close()
         except (ServerError, Passing, Unfit) as error:
@@ -116,7 +122,7 @@ class Adder:
         except Stopped:
             return "it is about to end"
         if not errors:
-            self.remembered.want(asked)
+            self.remembered.want(adds or [], removes)
             self.next_try = 0.0
             self.show()
         return "; ".join(errors) or None
@@ -212,6 +218,9 @@ class Adder:
             self.source = Source(self.options, self.checkpoint.known, self.stream.attend, "add")
             self.source.patience = LOCK
             self.table = self.source.narrow(self.oid)
+            self.is_gone = self.table is None
+            if self.oid in self.remembered.unwanted:
+                self.table = self.table or table_of(self.remembered.described(self.oid))
         except (ServerError, Passing, Unfit) as error:
             self.fail(error)
             return
@@ -249,8 +258,8 @@ class Adder:
 
         Unless it was altered behind P, which makes nothing wrong of the rows at P, but of their values then.
         """
-        self.texts = []
-        if self.table and self.watch.look_again(self.stream.attend, self.stream.position) and self.remembered.catalog:
+        self.texts = self.remembered.found_of(self.oid) if self.is_gone else []
+        if not self.is_gone and self.table and self.watch.look_again(self.stream.attend, self.stream.position) and self.remembered.catalog:
             now = self.remembered.catalog.tables.get(self.oid)
             if now and now.shape == relation_of(self.table).shape:
                 self.texts = self.remembered.found_of(self.oid)
@@ -277,7 +286,7 @@ class Adder:
         assert self.table and self.source
         for it in rows.opening():
             self.push(it, [payload_of(it)])
-        for lines in self.source.plain.copied_blocks(self.table.query(), BLOCK):
+        for lines in () if self.is_gone else self.source.plain.copied_blocks(self.table.query(), BLOCK):
             block = rows.rows(lines)
             if rows.cost > self.options.max_buffered:
                 raise TooLarge(self.too_large(self.table, rows.cost))
@@ -347,6 +356,14 @@ def reason(error: Exception) -> str:
     if isinstance(error, NoSlot):
         return f"the server made no slot in {SLOT:g} seconds, since it waits for all transactions that run"
     return str(error).removesuffix(": nothing was compared")
+
+
+def table_of(relation: Relation | None) -> Table | None:
+    """A table that isn't published any more, as it was described."""
+    if relation is None:
+        return None
+    columns = [TableColumn(it.name, it.type_oid, it.modifier, it.key, it.number) for it in relation.shape.columns]
+    return Table(relation.oid, relation.namespace, relation.name, "r", relation.shape.identity, None, None, columns)
 
 
 def relation_of(table: Table) -> Relation:

@@ -314,7 +314,7 @@ def add_requesting(parser: argparse.ArgumentParser) -> None:
 def add_refreshing(parser: argparse.ArgumentParser) -> None:
     add = parser.add_argument
     add("--store", metavar="FILE", required=True, help="the store that is compared with what is published")
-    add("--yes", action="store_true", help="copy tables anew without asking")
+    add("--yes", action="store_true", help="mend it without asking")
 
 
 # Each subcommand: what adds its options.
@@ -327,7 +327,7 @@ COMMANDS: dict[str, tuple[str, Sequence[Callable[[argparse.ArgumentParser], None
     "snapshot": ("copy a store into one file", (add_reading,)),
     "verify": ("compare the copy of a follower that runs with its server, both at one LSN", (add_server, add_verifying)),
     "add": ("copy tables anew beside what is followed: new ones of the publication, or any whose rows are wrong", (add_server, add_requesting)),
-    "refresh": ("tell which tables lack rows or were altered since they were copied, and copy them anew", (add_server, add_refreshing)),
+    "refresh": ("tell which tables lack rows, were altered, or left the publication, and mend it", (add_server, add_refreshing)),
     "names": ("tell which OID each name of a table has now, and which ones had it before", (add_names,)),
     "status": (probing.ABOUT, (probing.add_options,)),
 }

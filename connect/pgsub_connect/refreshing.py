@@ -1,4 +1,4 @@
-"""`pgsub-connect refresh`: compares the publications with what the copy has, tells it, and has tables copied anew after asking.
+"""`pgsub-connect refresh`: compares the publications with what the copy has, tells it, and has it mended after asking.
 
 What the copy has is known from `STORE.tables`: what was there when its rows were read, what has changed since, and what was found and not
 accepted. Of the server only the catalog is read.
@@ -7,7 +7,7 @@ accepted. Of the server only the catalog is read.
 |---|---|---|
 | `missing` | rows that were there before the table, or a part of it, was published aren't in the copy | copied anew |
 | `changed` | its columns, its rows' filter or its partitions were altered: rows in the copy may be other ones | copied anew |
-| `extra` | it isn't published any more, and its rows are in the copy as they were then | nothing, as in PostgreSQL's own subscriptions |
+| `extra` | it isn't published any more, and its rows are in the copy as they were then | they go |
 | `other` | what is of no one published table | nothing |
 """
 
@@ -110,14 +110,18 @@ def run(options: Options, check: Check) -> int:
     for it in told:
         print(it.line(), flush=True)
     tables = {it.oid: it.table for it in told if it.what in (MISSING, CHANGED)}
-    for oid in [it for it in tables if remembered.wanted.get(it) == ""]:
-        log.info(f"{tables.pop(oid)} is being added already")
-    if not tables:
-        log.info("no table is to be copied anew")
+    extra = {it.oid: it.table for it in told if it.what == EXTRA and remembered.described(it.oid)}
+    for some in (tables, extra):
+        for oid in [it for it in some if remembered.wanted.get(it) == ""]:
+            log.info(f"{some.pop(oid)} is under way already")
+    if not tables and not extra:
+        log.info("there is nothing to do")
         return DONE
-    if not options.yes and not ask_terminal(f"copy {counted(len(tables), 'table')} anew: {names_of(list(tables.values()))}?", check, "refresh"):
+    parts = [f"copy {counted(len(tables), 'table')} anew: {names_of(list(tables.values()))}"] if tables else []
+    parts += [f"remove the rows of {counted(len(extra), 'table')}: {names_of(list(extra.values()))}"] if extra else []
+    if not options.yes and not ask_terminal(f"{'; '.join(parts)}?", check, "refresh"):
         return LEFT
-    return requesting.add(options, tables, check)
+    return requesting.add(options, tables, check, extra)
 
 
 def read_now(options: Options, check: Check) -> Catalog:

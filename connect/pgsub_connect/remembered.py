@@ -17,6 +17,7 @@ As long as nothing was copied it has the first two fields alone.
 | `found` | by kind: the LSN at which the first was found, the texts, and how many more there were |
 | `copied` | while rows are copied first: the OIDs of tables that are stored whole, each with the position from which they are |
 | `wanted` | OIDs of tables whose rows are to be added, and why one was refused, "" where none was |
+| `unwanted` | OIDs of tables that aren't published any more, whose rows are to go |
 | `left` | OIDs of tables that were there once and aren't published any more |
 | `told` | texts that a Relation message up to an LSN may give again, since the look at the server gave them already |
 """
@@ -102,6 +103,7 @@ class Remembered:
         self.left: set[int] = set()
         self.wanted: dict[int, str] = {}
         self.copied: dict[int, int] = {}
+        self.unwanted: set[int] = set()
         self.news: list[str] = []
         self.is_urgent = self.is_changed = False
 
@@ -285,10 +287,17 @@ class Remembered:
             del self.found[kind]
             self.is_urgent = self.is_changed = True
 
-    def want(self, oids: Iterable[int]) -> None:
-        """Notes durably that the rows of tables are to be added, anew where that was refused."""
-        self.wanted |= {oid: "" for oid in oids}
+    def want(self, oids: Iterable[int], unwanted: Iterable[int] = ()) -> None:
+        """Notes durably that the rows of tables are to be added, anew where that was refused, and that those of others are to go."""
+        self.unwanted |= set(unwanted)
+        self.wanted |= {oid: "" for oid in (*oids, *self.unwanted)}
         self.save()
+
+    def described(self, oid: int) -> Relation | None:
+        """A table as it was described last, by which its rows can go; None where that isn't known."""
+        sent = self.sent.get(oid)
+        key = self.held.get(oid) or next((key for key, name in self.names.items() if oid in name.before), None)
+        return Relation(oid, *key, sent.shape) if key and sent and sent.shape else None
 
     def refuse(self, oid: int, why: str) -> None:
         """Notes durably why a table can't be added."""
@@ -298,6 +307,10 @@ class Remembered:
     def added(self, oid: int, texts: Iterable[str] = ()) -> list[str]:
         """Notes durably that a table was added, or isn't to be any more: what was found of it goes. Returns the kinds that go by that."""
         self.wanted.pop(oid, None)
+        if oid in self.unwanted:
+            self.unwanted.discard(oid)
+            self.left.discard(oid)
+            self.sent.pop(oid, None)
         gone = []
         for kind, found in list(self.found.items()):
             found.texts = [it for it in found.texts if it not in texts]
@@ -365,6 +378,7 @@ class Remembered:
         self.left = {int(oid) for oid in said["left"]}
         self.wanted = {int(oid): str(why) for oid, why in said.get("wanted", {}).items()}
         self.copied = {int(oid): int(end) for oid, end in said.get("copied", {}).items()}
+        self.unwanted = {int(oid) for oid in said.get("unwanted", [])}
 
     def written(self) -> dict[str, Any]:
         if self.catalog is None:
@@ -378,6 +392,7 @@ class Remembered:
             "found": {kind: [lsn_text(it.lsn), it.texts, it.more] for kind, it in self.found.items()},
             "copied": self.copied,
             "wanted": self.wanted,
+            "unwanted": sorted(self.unwanted),
             "left": sorted(self.left),
             "told": {text: lsn_text(lsn) for text, lsn in self.told.items()},
         }

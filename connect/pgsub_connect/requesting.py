@@ -9,6 +9,8 @@ from __future__ import annotations
 import contextlib
 import os
 import time
+from collections.abc import Mapping
+from types import MappingProxyType
 from typing import TYPE_CHECKING
 
 from . import log
@@ -49,17 +51,19 @@ def run(options: Options, check: Check) -> int:
     return add(options, {it.oid: it.text() for it in chosen(read_published(options, check), options.table)}, check)
 
 
-def add(options: Options, tables: dict[int, str], check: Check) -> int:
-    """Has tables added, by their OIDs, and waits for it; the exit status."""
-    names = names_of(list(tables.values()))
+def add(options: Options, adds: dict[int, str], check: Check, removes: Mapping[int, str] = MappingProxyType({})) -> int:
+    """Has tables added, by their OIDs, and the rows of others removed, and waits for it; the exit status."""
+    tables = {**adds, **removes}
+    parts = [f"adds {names_of(list(adds.values()))}"] if adds else []
+    names = " and ".join([*parts, *([f"removes the rows of {names_of(list(removes.values()))}"] if removes else [])])
     while True:
         if is_followed(options.store):
-            if ask(options.store, list(tables), check):
+            if ask(options.store, check, add=list(adds), remove=list(removes)):
                 break
-        elif noted(options, list(tables)):
-            log.info(f"{options.store} isn't followed now: the next start adds {names}")
+        elif noted(options, list(adds), list(removes)):
+            log.info(f"{options.store} isn't followed now: the next start {names}")
             return DONE
-    log.info(f"its follower adds {names}")
+    log.info(f"its follower {names}")
     try:
         return wait(options, tables, check)
     except Stopped:
@@ -67,10 +71,10 @@ def add(options: Options, tables: dict[int, str], check: Check) -> int:
         return DONE
 
 
-def ask(store: str, oids: list[int], check: Check) -> bool:
+def ask(store: str, check: Check, **oids: list[int]) -> bool:
     """Asks the follower. Returns false where it has ended meanwhile."""
     request, into = store + ".request", os.path.abspath(own_name(store + ".export"))
-    file = put_request(store, request, into, check, add=oids)
+    file = put_request(store, request, into, check, **oids)
     if file is None:
         return False
     try:
@@ -92,11 +96,11 @@ def ask(store: str, oids: list[int], check: Check) -> bool:
     return True
 
 
-def noted(options: Options, oids: list[int]) -> bool:
+def noted(options: Options, adds: list[int], removes: list[int]) -> bool:
     """Notes what is wanted where nobody follows. Returns false where somebody does by now."""
     try:
         with locked(options.store + ".connector"):
-            Remembered(options.store, options.mode).want(oids)
+            Remembered(options.store, options.mode).want(adds, removes)
     except Passing:
         return False
     return True
@@ -109,7 +113,7 @@ def wait(options: Options, tables: dict[int, str], check: Check) -> int:
         wanted = Remembered(options.store).wanted
         for oid, name in list(left.items()):
             if oid not in wanted:
-                log.info(f"{name} is there")
+                log.info(f"{name} is done")
             elif wanted[oid]:
                 log.error(wanted[oid])
                 status = REFUSED
@@ -120,5 +124,5 @@ def wait(options: Options, tables: dict[int, str], check: Check) -> int:
             raise Passing(f"{options.store} isn't followed any more: the next start adds {names_of(list(left.values()))}")
         check()
         time.sleep(WAIT)
-    log.info(f"{counted(len(tables), 'table')}: {'added' if status == DONE else 'not all were added'}")
+    log.info(f"{counted(len(tables), 'table')}: {'done' if status == DONE else 'not all are done'}")
     return status

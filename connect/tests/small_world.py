@@ -59,7 +59,9 @@ class World:
     """What the server has. `commits`: the payloads of each without Relation messages, with its end."""
 
     def __init__(self, *tables: Table) -> None:
+        # those that are published, and all that there ever were
         self.tables = {it.oid: it for it in tables}
+        self.known = dict(self.tables)
         self.end, self.xid = 0x1000000, 700
         self.commits: list[tuple[int, list[bytes]]] = []
         self.lock = threading.RLock()
@@ -77,6 +79,9 @@ class World:
                 subscriber.take(payload)
         return {oid: rows for oid, rows in subscriber.store.rows().items() if rows}
 
+    def rows_of(self, *oids: int) -> dict[int, collections.Counter[tuple[str | None, ...]]]:
+        return {oid: rows for oid, rows in self.rows().items() if oid in oids}
+
     def described(self, start: int, commits: list[tuple[int, list[bytes]]], sent: set[int] | None = None) -> Iterator[bytes]:
         """What a session from an LSN on sends of commits: Relation messages before the first change of each table."""
         sent = set() if sent is None else sent
@@ -87,7 +92,7 @@ class World:
                 oid = int.from_bytes(payload[26:30], "big")
                 if payload[25:26] in (b"I", b"U", b"D") and oid not in sent:
                     sent.add(oid)
-                    yield data(relation_body(self.tables[oid]))
+                    yield data(relation_body(self.known[oid]))
                 yield payload
 
     def slot(self) -> tuple[int, dict[int, list[bytes]]]:

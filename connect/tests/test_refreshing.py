@@ -10,6 +10,7 @@ import os
 import threading
 import unittest
 from collections.abc import Iterator
+from typing import Any
 from unittest import mock
 
 from pgsub_connect import refreshing, requesting, resting, snapshots
@@ -110,13 +111,13 @@ class Case(Quiet):
         """As while a follower runs that answers requests so, and adds tables, or refuses them where there is a `why`."""
         followed, ended, asked = Snapshots(self.store, None, 0.0), threading.Event(), list[object]()
 
-        def adds(oids: object) -> str | None:
-            asked.append(oids)
+        def adds(words: dict[str, Any]) -> str | None:
+            asked.append(words["add"] + [-oid for oid in words["remove"]])
             remembered = Remembered(self.store)
-            if answer is None and isinstance(oids, list):
-                remembered.want(oids)
+            if answer is None:
+                remembered.want(words["add"], words["remove"])
                 if why is not None:
-                    for oid in oids:
+                    for oid in list(remembered.wanted):
                         remembered.refuse(oid, why) if why else remembered.added(oid)
             return answer
 
@@ -208,7 +209,15 @@ class Refreshes(Case):
     def test_what_is_being_added(self) -> None:
         self.remembered.want([3])
         self.assertEqual(len(self.refresh(0)), 1)
-        self.assertIn("is being added already", self.said[0])
+        self.assertIn("is under way already", self.said[0])
+
+    def test_rows_of_tables_that_left(self) -> None:
+        self.now = a_catalog(ONE, THREE, lsn=200)
+        with self.followed() as asked:
+            lines = self.refresh(0)
+        self.assertEqual(([it["is"] for it in lines], asked), (["missing", "extra"], [[3, -2]]))
+        remembered = Remembered(self.store)
+        self.assertEqual((remembered.unwanted, remembered.wanted, sorted(remembered.sent)), (set(), {}, [1]))
 
     def test_the_file_stays(self) -> None:
         """What is found here is found by the follower too, and noted by it alone."""

@@ -445,11 +445,12 @@ def refreshed(place: Place) -> None:
     place.run("UPDATE parted SET note = 'c'", "UPDATE stock SET price = 6 WHERE sku = 1", "DELETE FROM more WHERE id < 50")
     place.catch_up(child)
     verify(place)
-    if (left := refresh(place)) != ["extra public.gone"]:
-        raise Failed(f"left: {left}")
-    if list(place.found()) != ["publication"]:
+    if refresh(place) or place.found():
         raise Failed(f"found: {place.found()}")
+    place.catch_up(child)
+    check_left(place)
     child.stop()
+    place.equal()
 
 
 CASES = (

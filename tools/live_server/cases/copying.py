@@ -30,12 +30,12 @@ def wanted(place: Place) -> bool:
     return bool(json.loads(place.beside(".tables").read_text())["wanted"] or place.checkpoint().get("adding"))
 
 
-def adds_later(place: Place, *commands: str) -> None:
+def adds_later(place: Place, *commands: str, text: str = "it is added by itself") -> None:
     """Runs commands between the slot and a table's lock, upon which the table has to be added by itself."""
     proxy = place.proxy()
     proxy.before("LOCK TABLE", lambda: place.run(*commands))
-    child = place.start("--create", dsn=place.dsn(proxy.folder))
-    child.wait_for("it is added by itself")
+    child = place.start("--create", "--jobs", "1", dsn=place.dsn(proxy.folder))
+    child.wait_for(text)
     added(place, child)
 
 
@@ -52,7 +52,7 @@ def dropped(place: Place) -> None:
     """A published table is dropped between the slot and the locks: the rest is copied."""
     place.stock(published=False)
     place.run("CREATE TABLE staging (id int PRIMARY KEY)", "CREATE PUBLICATION pgsub FOR ALL TABLES")
-    adds_later(place, "DROP TABLE staging")
+    adds_later(place, "DROP TABLE staging", text="was dropped, or left the publication, while others were copied")
 
 
 def column_dropped(place: Place) -> None:
