@@ -100,8 +100,10 @@ class InTheWay(Case):
     def test_the_others_are_added(self) -> None:
         self.want(T, OTHER)
         self.fails("see", ServerError("permission denied", "42501"))
-        run = self.refused("permission denied")
-        self.assertEqual(list(run.remembered.wanted), [T])
+        run = Run(self)
+        self.assertTrue(run.until(lambda: list(run.remembered.wanted) == [T]), (self.said, run.raised))
+        self.assertIn("permission denied", run.remembered.wanted[T])
+        run.end()
 
     def test_a_filter_that_dies_with_the_rows(self) -> None:
         self.want(T)
