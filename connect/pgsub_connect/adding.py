@@ -65,6 +65,9 @@ class Stream(Protocol):
     def is_stored(self) -> bool:
         """Whether the store has all commits that were passed on."""
 
+    def reached(self) -> int:
+        """An LSN that no commit or keepalive that was passed on is above."""
+
     def push(self, frames: bytes) -> None:
         """Gives the filter frames, and waits until it has room."""
 
@@ -238,6 +241,8 @@ class Adder:
         assert self.source
         try:
             point, snapshot = self.source.make_slot(SLOT)
+            if point <= (reached := self.stream.reached()):
+                raise Passing(f"its slot is at {lsn_text(point)}, and the stream at {lsn_text(reached)}: is it of a standby behind?")
             self.source.see(snapshot)
         except (ServerError, Passing, Unfit, NoSlot) as error:
             self.hold.end()

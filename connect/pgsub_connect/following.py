@@ -14,7 +14,7 @@ from .adding import Adder
 from .checkpoint import Checkpoint, check_gap
 from .errors import Passing, ServerError, Stopped, Unfit
 from .filtering import PIECE, Filter, FilterEnded, asking, flushed
-from .noting import Noting
+from .noting import Noting, final_lsn
 from .postgres import COPY_BOTH, Connection
 from .progress import Progress
 from .recording import Aside
@@ -458,6 +458,11 @@ class Follower:
         """Whether the store has all commits that were passed on."""
         self.forget_confirmed(self.filter.confirmed())
         return not self.noting.ends and not self.filter.waiting
+
+    def reached(self) -> int:
+        """An LSN that no commit or keepalive that was passed on is above."""
+        begun = final_lsn(self.noting.begun) if self.noting.begun else 0
+        return max(self.position, self.filter.confirmed(), begun, int.from_bytes(self.progress.sent_to, "big"))
 
     def push(self, frames: bytes) -> None:
         """Gives the filter frames, and waits until it has room."""

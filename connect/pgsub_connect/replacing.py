@@ -1,6 +1,6 @@
 """Replaces the rows of one table within a stream that goes on: which changes are left out, and the transaction that has the rows.
 
-Let P be the consistent point of a temporary slot that is made while nothing is passed on. As the module `holding` says, a commit whose
+Let P be the consistent point of a temporary slot that is made while nothing is passed on, and above all that was. As the module `holding` says, a commit whose
 final LSN is below P is seen by the slot's snapshot, and any other isn't; P is the end of a record that is no commit (of running
 transactions), and above the final LSN of each commit that was passed on before. So the stream to the filter becomes this:
 

@@ -82,6 +82,7 @@ BUGS = (
     Bug("the LSN isn't noted before commits behind the slot are passed on", "adding.py", "        self.checkpoint.write_adding(adding)\n        self.leaving.set(adding)",
         "        self.leaving.set(adding)", ("test_adding", "test_cutting")),
     Bug("changes of a table are left out of what is streamed", "following.py", "and not self.is_whole", "", ("test_adding", "test_cutting")),
+    Bug("a slot behind the stream is taken", "adding.py", "if point <= (reached :=", "if point < 0 * (reached :=", ("test_refusing",)),
     Bug("the stream is held on where no slot was made", "adding.py", "            self.hold.end()\n            self.phase = IDLE\n", "            self.phase = IDLE\n",
         ("test_refusing",)),
     Bug("a session goes on in which a part of the rows was passed on", "adding.py",

@@ -65,6 +65,20 @@ class InTheWay(Case):
         run.end()
         self.compare()
 
+    def test_a_slot_behind_the_stream(self) -> None:
+        """As of a standby: its LSN is taken by no commit, and the table isn't said to be there."""
+        points = [0x10, self.world.end]
+        real = WorldSource.make_slot
+
+        def make_slot(source: WorldSource, seconds: float) -> tuple[int, str]:
+            found = real(source, seconds)
+            return (points.pop(0), found[1]) if points else found
+
+        self.patch(WorldSource, "make_slot", make_slot)
+        self.want(T)
+        self.goes_on()
+        self.assertEqual(sum("is it of a standby behind?" in it for it in self.said), 2, self.said)
+
     def refused(self, text: str, **options: object) -> Run:
         """Follows until the table is refused, and others are followed on."""
         run = Run(self, **options)
