@@ -360,8 +360,10 @@ class Follower:
             self.checkpoint.write(False, confirmed=max(slot_at, position), position=position)
         else:
             check_gap(known, position, slot_at)
+        # (the session's statuses say what the filter confirms, also where the last session ended before that was noted)
+        confirmed = max(self.filter.confirmed(), self.checkpoint.known.confirmed)
         self.checkpoint.write(
-            True, phase=known_of.FOLLOWING, system=server.system, timeline=server.timeline, started=server.started,
+            True, confirmed=confirmed, phase=known_of.FOLLOWING, system=server.system, timeline=server.timeline, started=server.started,
             database=server.database, slot=self.options.slot, position=max(position, self.checkpoint.known.position),
         )
 
