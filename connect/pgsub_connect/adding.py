@@ -112,23 +112,29 @@ class Adder:
         adds, removes = asked.get("add"), asked.get("remove", [])
         if not all(isinstance(oids, list) and all(isinstance(it, int) for it in oids) for oids in (adds, removes)):
             return "malformed"
-        try:
-            source = Source(self.options, self.checkpoint.known, self.stream.serve_server, "add")
-            try:
-                errors = [text for oid in adds or [] if (text := self.rejection(source, oid))]
-                published = {it.oid for it in source.tables}
-                errors += [f"table {oid} is published, or isn't known" for oid in removes if oid in published or not self.remembered.described(oid)]
-            finally:
-                source.close()
-        except (ServerError, Passing, Unfit) as error:
-            return str(error)
-        except Stopped:
-            return "it is about to end"
+        errors = self.rejections(adds or [], removes)
         if not errors:
             self.remembered.want(adds or [], removes)
             self.next_try = 0.0
             self.show()
         return "; ".join(errors) or None
+
+    def rejections(self, adds: list[int], removes: list[int]) -> list[str]:
+        """Why tables can't be added, or their rows removed. Where the server can't be asked just now, that shows later."""
+        try:
+            source = Source(self.options, self.checkpoint.known, self.stream.serve_server, "add")
+            try:
+                errors = [text for oid in adds if (text := self.rejection(source, oid))]
+                published = {it.oid for it in source.tables}
+            finally:
+                source.close()
+        except ServerError as error:
+            return [str(error)] if error.is_lasting() else []
+        except (Passing, Unfit) as error:
+            return [str(error)]
+        except Stopped:
+            return ["it is about to end"]
+        return errors + [f"table {oid} is published, or isn't known" for oid in removes if oid in published or not self.remembered.described(oid)]
 
     def rejection(self, source: Source, oid: int) -> str:
         """Why a table can't be added, "" where nothing is known to be in the way."""

@@ -8,7 +8,7 @@ from unittest import mock
 
 from pgsub_connect.adding import Adder
 from pgsub_connect.checkpoint import Checkpoint
-from pgsub_connect.errors import ServerError
+from pgsub_connect.errors import Passing, ServerError, Stopped
 from pgsub_connect.remembered import Remembered
 
 from .adding_case import OTHER, THIRD, Case, Run, T
@@ -105,9 +105,19 @@ class Added(Case):
             self.assertIn(f"table {oid} is published, or isn't known", take({"add": [], "remove": [oid]}) or "")
         self.patch(Checkpoint, "has_room_for", lambda *_: False)
         self.assertIn("no room", take({"add": [THIRD]}) or "")
-        WorldSource.hook = staticmethod(mock.Mock(side_effect=ServerError("lost")))
-        self.assertEqual(take({"add": [THIRD]}), "lost")
+        for error, text in ((ServerError("denied", "42501"), "denied"), (Passing("not yet"), "not yet"), (Stopped(), "about to end")):
+            WorldSource.hook = staticmethod(mock.Mock(side_effect=error))
+            self.assertIn(text, take({"add": [THIRD]}) or "")
         self.assertEqual((run.remembered.wanted, WorldSource.open), ({}, 0))
+
+    def test_a_request_while_the_server_is_away(self) -> None:
+        """It is taken, and what is in the way shows later."""
+        self.followed()
+        run = Run(self)
+        self.assertTrue(run.until(lambda: run.progress.state == "following"))
+        WorldSource.hook = staticmethod(mock.Mock(side_effect=ServerError("lost")))
+        self.assertIsNone(run.follower.adder.take({"add": [THIRD]}))
+        self.assertEqual(run.remembered.wanted, {THIRD: ""})
 
 
 if __name__ == "__main__":
