@@ -2,6 +2,7 @@
 
 from __future__ import annotations
 
+import collections
 import contextlib
 import os
 import threading
@@ -48,6 +49,16 @@ class Run:
             self.remembered.save()
         self.snapshots = Snapshots(case.store, None, 0.0)
         self.follower = Follower(chosen, self.checkpoint, self.filter, self.progress, None, self.snapshots, self.remembered)
+        # what the follower's thread calls between payloads
+        self.calls: collections.deque[Callable[[], None]] = collections.deque()
+        real = self.follower.adder.step
+
+        def step() -> None:
+            while self.calls:
+                self.calls.popleft()()
+            real()
+
+        setattr(self.follower.adder, "step", step)
         self.thread = threading.Thread(target=self.run)
         self.thread.start()
         case.addCleanup(self.end)
@@ -60,6 +71,13 @@ class Run:
         finally:
             self.filter.kill()
             os.close(self.checkpoint.file)
+
+    def ask(self, **asked: object) -> str | None:
+        """Has the follower take a request. Returns its answer."""
+        answers: list[str | None] = []
+        self.calls.append(lambda: answers.append(self.follower.adder.take(asked)))
+        assert self.until(lambda: bool(answers))
+        return answers[0]
 
     def end(self) -> None:
         self.follower.stop_asked = True

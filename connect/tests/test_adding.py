@@ -32,7 +32,7 @@ class Added(Case):
         self.spoil()
         run = Run(self)
         self.assertTrue(run.until(lambda: run.progress.state == "following"))
-        self.assertIsNone(run.follower.adder.take({"add": [T, OTHER]}))
+        self.assertIsNone(run.ask(add=[T, OTHER]))
         self.change()
         self.assertTrue(run.until(lambda: self.server.sessions >= 4 and not run.remembered.wanted), (self.said, run.raised))
         self.change()
@@ -85,7 +85,7 @@ class Added(Case):
         del self.world.tables[OTHER]
         run = Run(self)
         self.assertTrue(run.until(lambda: run.progress.state == "following"))
-        self.assertIsNone(run.follower.adder.take({"add": [T], "remove": [OTHER]}))
+        self.assertIsNone(run.ask(add=[T], remove=[OTHER]))
         self.world.commit(insert(T, (500, "x")))
         self.assertTrue(run.until(lambda: not run.remembered.wanted and self.is_stored(run)), (self.said, run.raised))
         run.end()
@@ -98,16 +98,15 @@ class Added(Case):
         self.followed()
         run = Run(self, max_buffered=10)
         self.assertTrue(run.until(lambda: run.progress.state == "following"))
-        take = run.follower.adder.take
         for asked, text in (("x", "malformed"), (["1"], "malformed"), ([5], "table 5 isn't published"), ([T], "--max-buffered")):
-            self.assertIn(text, take({"add": asked}) or "")
+            self.assertIn(text, run.ask(add=asked) or "")
         for oid in (T, 5):
-            self.assertIn(f"table {oid} is published, or isn't known", take({"add": [], "remove": [oid]}) or "")
+            self.assertIn(f"table {oid} is published, or isn't known", run.ask(add=[], remove=[oid]) or "")
         self.patch(Checkpoint, "has_room_for", lambda *_: False)
-        self.assertIn("no room", take({"add": [THIRD]}) or "")
+        self.assertIn("no room", run.ask(add=[THIRD]) or "")
         for error, text in ((ServerError("denied", "42501"), "denied"), (Passing("not yet"), "not yet"), (Stopped(), "about to end")):
             WorldSource.hook = staticmethod(mock.Mock(side_effect=error))
-            self.assertIn(text, take({"add": [THIRD]}) or "")
+            self.assertIn(text, run.ask(add=[THIRD]) or "")
         self.assertEqual((run.remembered.wanted, WorldSource.open), ({}, 0))
 
     def test_a_request_while_the_server_is_away(self) -> None:
@@ -116,7 +115,7 @@ class Added(Case):
         run = Run(self)
         self.assertTrue(run.until(lambda: run.progress.state == "following"))
         WorldSource.hook = staticmethod(mock.Mock(side_effect=ServerError("lost")))
-        self.assertIsNone(run.follower.adder.take({"add": [THIRD]}))
+        self.assertIsNone(run.ask(add=[THIRD]))
         self.assertEqual(run.remembered.wanted, {THIRD: ""})
 
 
