@@ -245,7 +245,8 @@ class Follower:
             raise Unfit(f"the server has no slot {options.slot}")
         self.check_timeline(connection, server)
         self.fit(slot_at, server)
-        if not self.watch.compare(connection, self.position):
+        # (on another connection: what a session's process has in its caches, it would decode older changes by)
+        if not self.watch.look_again(self.check_stop, self.position):
             self.noting.wants_look = True
         self.skipping.begin_session(self.filter.confirmed())
         self.is_whole = self.adder.begin_session(self.position, self.streams)
