@@ -4,7 +4,8 @@
 |---|---|
 | command line | `cli`, `errors`, `log`, `texts`, `limits`, `builds` |
 | following | `following`, `filtering`, `noting`, `checkpoint`, `skipping`, `sizes`, `recording` |
-| publication, slot and first rows | `making`, `publishing`, `comparing`, `copying`, `messages`, `waiting` |
+| publication, slot and first rows | `making`, `publishing`, `comparing`, `copying`, `reading`, `messages`, `waiting` |
+| one table within the stream | `replacing`, `adding`, `requesting`, `refreshing` |
 | the server | `postgres`, `server`, `catalog`, `facts` |
 | what may make the copy wrong | `watching`, `remembered`, `differences` |
 | how it goes | `progress`, `asking`, `lag`, `reporting`, `metrics` |

@@ -6,7 +6,7 @@ one opens the store.
 
 | Field | Means |
 |---|---|
-| `phase` | `new`: nothing yet; `copying`: rows are being copied; `copied`: all rows are in `STORE.copying`, and the slot is made next; `following` |
+| `phase` | `new`: nothing yet; `copying`: a copy begins; `slot`: its slot is made, and rows are read; `copied`: they are in `STORE.copying`; `following` |
 | `system`, `database`, `slot` | whose changes the store holds |
 | `timeline` | the server's timeline in the last session; 0 where it isn't known |
 | `started` | when the server of the last session was started, in microseconds since 1970; 0 where it isn't known |
@@ -14,6 +14,7 @@ one opens the store.
 | `position` | the store's position was at least this |
 | `found` | what may have made the copy wrong, and the LSN at which it was found first; until somebody accepts it |
 | `skipped` | the final LSN of the commit that was skipped last |
+| `adding` | where there are any: the OIDs of tables whose changes are left out until their rows are stored, as the module `replacing` says, each with the LSN at which these will be, 0 where that isn't known |
 """
 
 from __future__ import annotations
@@ -33,7 +34,7 @@ from .texts import lsn_text
 SIZE = 512
 PATIENCE = 60
 TEXT = json.JSONEncoder(separators=(",", ":"))
-NEW, COPYING, COPIED, FOLLOWING = "new", "copying", "copied", "following"
+NEW, COPYING, SLOT, COPIED, FOLLOWING = "new", "copying", "slot", "copied", "following"
 
 
 @dataclasses.dataclass
@@ -50,6 +51,7 @@ class Known:
     position: int = 0
     found: dict[str, str] = dataclasses.field(default_factory=dict)
     skipped: str = ""
+    adding: dict[str, int] = dataclasses.field(default_factory=dict)
 
 
 class Checkpoint:
@@ -96,7 +98,7 @@ class Checkpoint:
     def write(self, durably: bool, **fields: Any) -> None:
         """Changes fields. Where `durably`, the disk has them before this returns."""
         self.known = dataclasses.replace(self.known, **fields)
-        line = TEXT.encode(vars(self.known)).encode()
+        line = encoded(self.known)
         if len(line) >= SIZE:
             raise FileError(f"{self.path}: names too long for a checkpoint")
         try:
@@ -112,7 +114,7 @@ class Checkpoint:
 
     def forget_server(self) -> None:
         """Forgets whose changes the store holds, and how far it was."""
-        self.known = Known(found=self.known.found, skipped=self.known.skipped)
+        self.known = Known(found=self.known.found, skipped=self.known.skipped, adding=self.known.adding)
 
     def note(self, confirmed: int, position: int) -> None:
         """Notes what is about to be confirmed to the server, before it is.
@@ -132,11 +134,36 @@ class Checkpoint:
         self.write(True, found={**self.known.found, kind: lsn_text(lsn)})
         return True
 
+    def adding(self) -> dict[int, int]:
+        """The tables that are being added, each with the LSN at which its rows are stored, 0 where that isn't known."""
+        return {int(oid): lsn for oid, lsn in self.known.adding.items()}
+
+    def write_adding(self, adding: dict[int, int]) -> None:
+        """Notes durably which tables are being added. What it says begins to hold after this."""
+        if adding != self.adding():
+            self.write(True, adding={str(oid): lsn for oid, lsn in adding.items()})
+
+    def has_room_for(self, oid: int) -> bool:
+        """Whether one more table can be noted, whatever else the file will say."""
+        most = (1 << 64) - 1
+        adding = {**self.known.adding, str(oid): most}
+        found = {kind: lsn_text(most) for kind in {*self.known.found, "publication", "values"}}
+        longest = dataclasses.replace(
+            self.known, adding=adding, found=found, confirmed=most, position=most, skipped=lsn_text(most), timeline=(1 << 32) - 1
+        )
+        return len(encoded(longest)) < SIZE
+
     def accept(self, kinds: list[str]) -> None:
         """Forgets what was found of these kinds."""
         left = {kind: lsn for kind, lsn in self.known.found.items() if kind not in kinds and "all" not in kinds}
         if left != self.known.found:
             self.write(True, found=left)
+
+
+def encoded(known: Known) -> bytes:
+    """The line of the file. What came later is left out where there is nothing to say, so that an earlier version reads it too."""
+    fields = vars(known)
+    return TEXT.encode(fields if known.adding else {name: it for name, it in fields.items() if name != "adding"}).encode()
 
 
 def check_gap(known: Known, position: int, slot_at: int) -> None:

@@ -14,7 +14,7 @@ import traceback
 from collections.abc import Callable, Sequence
 from typing import Any, Protocol
 
-from . import VERSION, builds, checking, dropping, exporting, log, probing, taking, verifying
+from . import VERSION, builds, checking, dropping, exporting, log, probing, refreshing, requesting, taking, verifying
 from . import checkpoint as known_of
 from .asking import Asker
 from .checkpoint import Checkpoint
@@ -55,8 +55,12 @@ can't be used; 4 the server rejected a command for good; 5 the store and the slo
 bug; 7 something is in the way only for now, such as a server that isn't there: start it again
 """
 COMPARED = """\
-exit status: 0 equal; 1 the copy differs; 8 the server made no slot in time, so nothing was compared; 2 to 7 as those of `follow`
+exit status: 0 equal, or repaired; 1 the copy differs; 8 the server made no slot in time, so nothing was compared; 2 to 7 as those of `follow`
 """
+ADDED = """\
+exit status: 0 done, or left to the next start; 1 a table is left as it was; 2 to 7 as those of `follow`
+"""
+ENDINGS = {"follow": ENDS, "record": ENDS, "verify": COMPARED, "add": ADDED, "refresh": ADDED}
 TOP = os.path.dirname(os.path.dirname(os.path.dirname(os.path.realpath(__file__))))
 REJECTED, USAGE, FILE, SERVER, UNFIT, BUG, PASSING, NO_SLOT = 1, 2, 3, 4, 5, 6, 7, 8
 KINDS = ("history", "slot", "names", "publication", "values", "gap", "all")
@@ -81,6 +85,7 @@ class Options:
     keyless: str = "refuse"
     failover: bool = False
     no_copy: bool = False
+    jobs: int = 2
     accept: list[str] = dataclasses.field(default_factory=list)
     strict: bool = False
     skip: int = 0
@@ -112,6 +117,7 @@ class Options:
     text: bool = False
     show: int = 20
     hold: float = 10.0
+    repair: bool = False
 
     def accepts(self, kind: str) -> bool:
         """Whether what may be wrong in this way was said to be taken as it is."""
@@ -231,6 +237,7 @@ def add_copying(parser: argparse.ArgumentParser) -> None:
     add = parser.add_argument_group("the initial copy").add_argument
     add_publishing(add)
     add("--no-copy", action="store_true", help="begin a new store where the slot is, without the rows from before")
+    add("--jobs", type=within(1, 64), default=2, metavar="N", help="read N tables at a time (default: 2)")
 
 
 def add_longest(add: Callable[..., object]) -> None:
@@ -292,9 +299,22 @@ def add_verifying(parser: argparse.ArgumentParser) -> None:
     add = parser.add_argument
     add("--store", metavar="FILE", required=True, help="the store, which has to be followed meanwhile")
     add("--table", action="append", default=[], help="compare this table, may be repeated (default: all that are published)")
+    add("--repair", action="store_true", help="have the follower copy the tables that differ anew")
     add("--show", type=within(0, 1 << 20), default=20, metavar="N", help="print at most N keys that differ (default: 20)")
     add("--hold", type=within_seconds(600.0), default=10.0, metavar="N",
         help="hold the stream for at most N seconds until the server has made a slot (default: 10)")
+
+
+def add_requesting(parser: argparse.ArgumentParser) -> None:
+    add = parser.add_argument
+    add("--store", metavar="FILE", required=True, help="the store; its follower adds them, or does so at its next start")
+    add("--table", action="append", required=True, help="a published table, may be repeated; what the copy has of it is replaced")
+
+
+def add_refreshing(parser: argparse.ArgumentParser) -> None:
+    add = parser.add_argument
+    add("--store", metavar="FILE", required=True, help="the store that is compared with what is published")
+    add("--yes", action="store_true", help="mend it without asking")
 
 
 # Each subcommand: what adds its options.
@@ -306,6 +326,8 @@ COMMANDS: dict[str, tuple[str, Sequence[Callable[[argparse.ArgumentParser], None
     "export": ("make ordinary tables of SQLite from the rows of a store, or of a copy of one", (add_reading, add_exporting)),
     "snapshot": ("copy a store into one file", (add_reading,)),
     "verify": ("compare the copy of a follower that runs with its server, both at one LSN", (add_server, add_verifying)),
+    "add": ("copy tables anew beside what is followed: new ones of the publication, or any whose rows are wrong", (add_server, add_requesting)),
+    "refresh": ("tell which tables lack rows, were altered, or left the publication, and mend it", (add_server, add_refreshing)),
     "names": ("tell which OID each name of a table has now, and which ones had it before", (add_names,)),
     "status": (probing.ABOUT, (probing.add_options,)),
 }
@@ -322,7 +344,7 @@ def arguments(words: Sequence[str]) -> Options:
     for name, (about, adds) in COMMANDS.items():
         parsers[name] = commands.add_parser(
             name, help=about.partition("\n")[0], description=about, formatter_class=AsWritten,
-            epilog=ENDS if name in ("follow", "record") else COMPARED if name == "verify" else None,
+            epilog=ENDINGS.get(name),
         )
         for add in adds:
             add(parsers[name])
@@ -341,7 +363,7 @@ def check(parser: argparse.ArgumentParser, options: Options) -> None:
         ("table", "create"), ("all_tables", "create"), ("failover", "create"), ("append", "record"), ("snapshot", "store"),
         ("snapshot_every", "snapshot"), ("skip", "store"), ("strict", "store"),
     ):
-        if options.command not in ("check", "status", "verify") and getattr(options, given) and not getattr(options, needed):
+        if options.command not in ("check", "status", "verify", "add") and getattr(options, given) and not getattr(options, needed):
             parser.error(f"--{given.replace('_', '-')} needs --{needed}")
     if options.command == "follow" and not options.store:
         parser.error("--store is needed")
@@ -539,7 +561,7 @@ def stoppable(call: Callable[[Options, Check], int]) -> Callable[[Options], int]
 RUNS: dict[str, Callable[[Options], Any]] = {
     "follow": follow, "record": record, "check": stoppable(checking.run), "drop": stoppable(dropping.run),
     "export": stoppable(exporting.run), "snapshot": stoppable(taking.run),
-    "verify": stoppable(verifying.run), "names": lambda options: print_names(options.store), "status": probing.run,
+    "verify": stoppable(verifying.run), "add": stoppable(requesting.run), "refresh": stoppable(refreshing.run), "names": lambda options: print_names(options.store), "status": probing.run,
 }
 
 

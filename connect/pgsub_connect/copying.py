@@ -1,11 +1,19 @@
 """The initial copy: the rows that were there before the slot, as transactions that come before all that the slot sends.
 
-The rows are read under the snapshot that the slot exports. Each part of them is a transaction, and their LSNs are 1, 2, 3 ..
-The last transaction is empty and ends at the slot's consistent point, so a store is at that LSN exactly if it has all rows.
+The rows are read under the snapshot that a temporary slot exports, of which the lasting slot is made as a copy at once. Each part of them
+is a transaction, and their LSNs are 1, 2, 3 .. The last transaction is empty and ends at the slot's consistent point P, so a store is at
+that LSN exactly if no more rows come in this way.
 
-The filter works on `STORE.copying`, and the slot is a temporary one, which goes with the connection. Only when the store is
-complete the lasting slot is made as a copy of it, and the file gets its own name. So `STORE` never is a part of the rows, a
-copy that is cut off leaves no slot on the server, and the next start begins anew.
+The filter works on `STORE.copying`, which gets its own name once it is at P. What a fault leaves, by the checkpoint's phase:
+
+| Phase | The lasting slot | How it goes on |
+|---|---|---|
+| `copying` | isn't there | begins anew |
+| `slot` | is there at P, or isn't | the tables whose last part is stored are kept, and follow from the slot; the others are added one by one |
+| `copied` | is there at P | the file gets its name |
+
+It begins anew, and the slot is dropped, where no table is stored whole, or one that isn't is too large to be added by itself. A table
+that was altered, truncated or locked beside the slot is added by itself, too, as the module `adding` says.
 """
 
 from __future__ import annotations
@@ -21,14 +29,16 @@ from typing import TYPE_CHECKING
 
 from . import checkpoint as known_of
 from . import log, sizes
-from .catalog import read_catalog
+from .catalog import Catalog, read_catalog
 from .checking import require, require_reading
+from .differences import PUBLICATION, root_of
 from .errors import FileError, Passing, ServerError, Stopped, Unfit
 from .filtering import Filter, FilterEnded
 from .making import REFUSED, Look, Maker, Wanted, has_publication
-from .messages import InsertHeads, begin, commit, frame, inserts, relation
+from .messages import begin, commit, frame
 from .postgres import QUICK, Check, Connection, never
-from .publishing import Table, are_so_named, estimated_rows, published_tables, stored_in
+from .publishing import Table, are_so_named, estimated_rows, published_tables, sizes_of, stored_in
+from .reading import GONE, LOCK_TIMEOUT, Left, Part, Readers, take_snapshot
 from .server import Server, identify, settle, settle_for_slot, slot_position, tell_plain_text
 from .snapshots import sync_folder
 from .texts import counted, identifier, literal, lsn_text, parse_lsn
@@ -40,18 +50,16 @@ if TYPE_CHECKING:
     from .progress import Progress
     from .remembered import Remembered
 
-PART = 4 << 20
-# how many bytes of rows are encoded at a time
-BLOCK = 1 << 17
 LONGEST_DELAY = 60
-# for how many milliseconds a slot waits for a running transaction while tables are locked
+# for how many milliseconds a lock is waited for where names are compared
 SHORT = 2000
-LOCK_TIMEOUT, DENIED, NO_MEMORY, NO_SNAPSHOT = "55P03", "42501", "53200", "22023"
+NO_MEMORY = "53200"
+# how often it is noted which tables are stored whole, in seconds, and how long it may take to drop a slot of which no copy comes
+NOTED, LIMIT = 1.0, 10.0
 # what the name of a store's log adds to that of its file
 LOG = "-wal"
 # what may be in the way only for now: a table that was altered or dropped while it was to be read
 CHANGED = "the published tables changed while the slot was made"
-GONE = ("42P01", "42703", "42704")
 # The most attempts that the same cause ends: of tables that were changed, of what else may pass by itself, and of all others.
 MOST_CHANGED, MOST_PASSING, MOST = 20, 10, 5
 # after these a command may have had its effect: a lost connection, the end of the session
@@ -89,10 +97,14 @@ class Copier:
         self.options, self.store = options, options.store
         self.checkpoint, self.filter, self.progress, self.remembered = checkpoint, child, progress, remembered
         self.part = self.store + ".copying"
-        self.stop_asked = self.lock_first = self.was_connected = False
+        self.stop_asked = self.was_connected = False
         self.plain: Connection | None = None
+        self.holder: Connection | None = None
         self.replication: Connection | None = None
-        self.lsn, self.delay = 0, 0.0
+        self.lsn, self.delay, self.noted = 0, 0.0, 0.0
+        # what was made before the slot, and why tables are to be added by themselves
+        self.made: dict[str, int] = {}
+        self.later: dict[int, str] = {}
         # the length of the longest row
         self.longest = 0
         self.maker = maker_of(options, self.check_stop, require_reading, remembered)
@@ -100,16 +112,49 @@ class Copier:
     def run(self) -> None:
         """Copies until it is done, anew where the server or the filter is lost. Where no copy comes of it, what was made goes."""
         log_path = self.store + LOG
-        if os.path.exists(log_path) and self.checkpoint.known.phase not in (known_of.COPYING, known_of.COPIED):
+        if os.path.exists(log_path) and self.checkpoint.known.phase not in (known_of.COPYING, known_of.SLOT, known_of.COPIED):
             raise Unfit(f"{log_path} is the log of a store that is gone: remove it to begin anew")
         tries = Tries()
         try:
             while not self.attempted(tries):
                 self.delay = min(2 * self.delay, LONGEST_DELAY) if self.delay else 1.0
                 self.sleep(self.delay)
-        except BaseException:
-            self.maker.take_back()
+        except BaseException as error:
+            self.give_up(error)
             raise
+
+    def give_up(self, error: BaseException) -> None:
+        """Drops what was made, unless the next start can go on with it."""
+        if self.checkpoint.known.phase == known_of.SLOT:
+            is_lasting = isinstance(error, (FilterEnded, Unfit, FileError)) or isinstance(error, ServerError) and error.is_lasting()
+            if self.remembered.copied and not is_lasting:
+                log.info("the slot stays, and the next start goes on with what was copied; `pgsub-connect drop` ends it")
+                return
+            if not self.slot_is_dropped():
+                return
+            self.maker.made = self.made
+        self.maker.take_back()
+
+    def slot_is_dropped(self) -> bool:
+        """Drops the lasting slot, of which no copy comes. Returns whether it is gone."""
+        until, slot = time.monotonic() + LIMIT, self.options.slot
+
+        def check() -> None:
+            if time.monotonic() > until:
+                raise ServerError("no answer")
+
+        query = f"FROM pg_catalog.pg_replication_slots s WHERE s.slot_name = {literal(slot)}"
+        try:
+            with contextlib.closing(Connection(self.options.dsn, name=f"{slot} copy", quiet=True, check=check)) as connection:
+                # (one that was moved since is somebody else's)
+                at = connection.value(f"SELECT s.confirmed_flush_lsn - '0/0'::pg_catalog.pg_lsn {query}")
+                if at == str(self.checkpoint.known.confirmed):
+                    connection.rows(f"SELECT pg_catalog.pg_drop_replication_slot(s.slot_name) {query}")
+        except ServerError as error:
+            log.warning(f"the slot {slot} was made and not dropped again: {error}")
+            return False
+        self.checkpoint.write(True, phase=known_of.COPYING)
+        return True
 
     def attempted(self, tries: Tries) -> bool:
         """One attempt. Returns whether it made the copy, and raises where another one makes no sense."""
@@ -137,13 +182,17 @@ class Copier:
             self.note(str(error))
         finally:
             self.filter.kill()
-            for connection in (self.plain, self.replication):
-                if connection:
-                    connection.close()
+            self.close()
         return False
 
+    def close(self) -> None:
+        for connection in (self.plain, self.holder, self.replication):
+            if connection:
+                connection.close()
+        self.plain = self.holder = self.replication = None
+
     def note(self, text: str) -> None:
-        log.warning(f"{text}: the copy begins anew")
+        log.warning(f"{text}: the copy {'goes on' if self.remembered.copied else 'begins anew'}")
         self.progress.last_error = text
 
     def sleep(self, seconds: float) -> None:
@@ -158,14 +207,14 @@ class Copier:
             raise Stopped
 
     def check_all(self) -> None:
-        """Looks for the end, and whether the replication connection is there: the temporary slot goes with it."""
+        """Looks for the end, and whether the connection is there that holds the snapshot."""
         self.check_stop()
-        if self.replication and select.select([self.replication.socket()], [], [], 0)[0]:
-            self.replication.consume()
+        for connection in (self.replication, self.holder):
+            if connection and select.select([connection.socket()], [], [], 0)[0]:
+                connection.consume()
 
     def attempt(self) -> None:
         options, known = self.options, self.checkpoint.known
-        self.plain = self.replication = None
         self.progress.state = "copying"
         self.replication = replication = Connection(options.dsn, replication=True, name=options.slot, check=self.check_stop)
         if not self.was_connected:
@@ -176,13 +225,18 @@ class Copier:
         self.progress.note_server(replication.version(), server.timeline)
         slot_at = slot_position(replication, options.slot)
         if slot_at is not None:
-            made = (known.phase, known.system, known.slot, known.confirmed)
-            if made != (known_of.COPIED, server.system, options.slot, slot_at) or not self.is_complete(slot_at):
+            is_ours = (known.system, known.slot, known.confirmed) == (server.system, options.slot, slot_at)
+            if not is_ours or known.phase not in (known_of.SLOT, known_of.COPIED) or known.phase == known_of.COPIED and not self.is_complete(slot_at):
                 raise Unfit(
                     f"the slot {options.slot} is there already, and there is no store {self.store}: drop the slot, or name"
                     " another one, or say --no-copy to begin where it is, without the rows from before"
                 )
             options.publication = self.remembered.publications() or options.publication
+            if known.phase == known_of.SLOT and not self.goes_on(slot_at):
+                drop_slot(replication, options.slot)
+                self.checkpoint.write(True, phase=known_of.COPYING)
+                self.maker.made = self.made
+                self.copy_anew(server)
         else:
             self.copy_anew(server)
         set_failover(replication, options.slot, options.failover)
@@ -199,105 +253,165 @@ class Copier:
         self.checkpoint.write(True, phase=known_of.COPYING, **whose)
         self.maker.make()
         options.publication = self.maker.publications
-        temporary, point, tables = self.prepare()
-        assert self.plain is not None
-        self.remembered.begin_copy(read_catalog(self.plain, options.publication), point)
-        self.copy(tables, point)
-        self.remembered.note_made(self.maker.made)
-        self.remembered.save()
-        self.checkpoint.write(True, phase=known_of.COPIED, confirmed=point, position=point)
-        self.make_lasting(self.replication, temporary)
-        if slot_position(self.replication, options.slot) != point:
-            raise ServerError(f"the slot {options.slot} is not at {lsn_text(point)}")
-
-    def make_lasting(self, replication: Connection, temporary: str) -> None:
-        """Makes the lasting slot. The publications stay from here on, unless it is certain that the slot wasn't made."""
-        made = self.maker.keep()
+        tables, point, readers = self.prepare()
         try:
-            replication.rows(
-                f"SELECT pg_catalog.pg_copy_logical_replication_slot({literal(temporary)}, {literal(self.options.slot)}, false)"
-            )
-        except ServerError as error:
-            if error.sqlstate and not error.sqlstate.startswith(LEFT_OPEN):
-                self.maker.made = made
-            raise
+            self.copy(tables, point, readers)
+        finally:
+            readers.close()
 
-    def prepare(self) -> tuple[str, int, list[Table]]:
-        """Makes the temporary slot, and a transaction under its snapshot in which no published table can be altered."""
+    def prepare(self) -> tuple[list[Table], int, Readers]:
+        """Makes the slot, and what reads the tables under its snapshot. Those that were altered meanwhile are left for later."""
         options = self.options
         self.plain = plain = Connection(options.dsn, name=f"{options.slot} copy", check=self.check_all)
         # (from 16 on the server locks a table to say what is published of it)
         plain.check = Waiting(options.dsn, options.slot, self.check_all, lock_text("the copy", plain.pid())).check
         settle(plain)
-        plain.run("SET row_security = off")
-        tables = published_tables(plain, options.publication)
+        tables, stored = published_tables(plain, options.publication), dict[int, str | None]()
         stored = stored_in(plain, tables)
-        self.progress.copy_total_rows = estimated_rows(plain, tables)
-        # Once a table was truncated, or altered so that all rows are written anew, an older snapshot finds it empty. So the tables
-        # are locked, and compared with what they were before the slot. Where they changed meanwhile, they are locked first: then
-        # a transaction that the slot waits for may wait for us, which no deadlock check sees, and so the wait is short.
-        lock_first, self.lock_first = self.lock_first, not self.lock_first
-        plain.run("BEGIN ISOLATION LEVEL REPEATABLE READ READ ONLY")
-        try:
-            if lock_first:
-                lock_tables(plain, tables)
-            temporary, point, snapshot = self.make_temporary(SHORT if lock_first else 0)
-            take_snapshot(plain, snapshot)
-            if not lock_first:
-                lock_tables(plain, tables)
-            if (published_tables(plain, options.publication), stored_in(plain, tables)) != (tables, stored):
-                raise ServerError(CHANGED)
-            check_names(options, tables, self.check_all)
-        except ServerError as error:
-            raise ServerError(CHANGED) if error.sqlstate in GONE else error from None
-        plain.check = self.check_all
+        self.progress.copy_total_rows, self.progress.copy_total_tables = estimated_rows(plain, tables), len(tables)
+        before = read_catalog(plain, options.publication)
+        temporary, point, snapshot = self.make_temporary()
+        own = self.hold_snapshot(snapshot)
+        after = read_catalog(plain, options.publication)
+        self.later = {oid: "it was altered while the slot was made" for oid in altered_tables(before, after)}
+        if before.publications != after.publications:
+            raise ServerError(CHANGED)
+        later = {it.oid: "it was published while the slot was made" for it in published_tables(plain, options.publication) if it not in tables}
+        self.later = {**later, **self.later}
+        sizes = sizes_of(plain, tables)
+        # (from here on another thread asks it)
+        plain.check = self.check_stop
+        self.remembered.begin_copy(after, point)
+        self.remembered.note_made(self.maker.made)
+        self.remembered.save()
+        self.make_lasting(temporary, point)
         log.info(f"copying {counted(len(tables), 'table')} as of {lsn_text(point)}")
-        return temporary, point, tables
+        # (the largest first: what is cut later is what can be added by itself)
+        tables = sorted((it for it in tables if it.oid not in self.later), key=lambda it: -sizes.get(it.oid, 0))
+        return tables, point, Readers(options, own, tables, stored, plain)
 
-    def make_temporary(self, patience: int) -> tuple[str, int, str]:
+    def hold_snapshot(self, snapshot: str) -> str:
+        """Has a transaction without locks keep the slot's snapshot, and export it for others."""
+        self.holder = holder = Connection(self.options.dsn, name=f"{self.options.slot} copy", check=self.check_all)
+        settle(holder)
+        holder.run("BEGIN ISOLATION LEVEL REPEATABLE READ READ ONLY")
+        take_snapshot(holder, snapshot)
+        return holder.text("SELECT pg_catalog.pg_export_snapshot()")
+
+    def make_lasting(self, temporary: str, point: int) -> None:
+        """Makes the lasting slot. The publications stay from here on, unless it is certain that the slot wasn't made."""
+        replication, slot = self.replication, self.options.slot
+        assert replication is not None
+        self.checkpoint.write(True, phase=known_of.SLOT, confirmed=point, position=point)
+        self.made = self.maker.keep()
+        try:
+            replication.rows(f"SELECT pg_catalog.pg_copy_logical_replication_slot({literal(temporary)}, {literal(slot)}, false)")
+        except ServerError as error:
+            if error.sqlstate and not error.sqlstate.startswith(LEFT_OPEN):
+                self.checkpoint.write(True, phase=known_of.COPYING)
+                self.maker.made = self.made
+            raise
+        if slot_position(replication, slot) != point:
+            raise ServerError(f"the slot {slot} is not at {lsn_text(point)}")
+        replication.run(f"DROP_REPLICATION_SLOT {identifier(temporary)}")
+
+    def make_temporary(self) -> tuple[str, int, str]:
         """Makes the temporary slot; its name, its consistent point and its snapshot. The server waits for running transactions."""
         assert self.replication is not None
-        self.replication.run(f"SET lock_timeout = {patience}")
         self.replication.check = Waiting(self.options.dsn, self.options.slot, self.check_stop).check
         try:
             return create_temporary(self.replication, f"{self.options.slot[:40]}_copy")
         finally:
             self.replication.check = self.check_stop
 
-    def copy(self, tables: list[Table], point: int) -> None:
+    def copy(self, tables: list[Table], point: int, readers: Readers) -> None:
         """Sends all rows to a filter on a new file, and waits until the store has them."""
-        assert self.plain is not None
         if self.filter.start(self.check_stop) != 0:
             raise FileError(f"{self.part}: not a new store")
         self.set_mode()
         self.lsn = 0
-        for table in tables:
-            self.copy_table(self.plain, table)
+        readers.begin()
+        while item := self.next_item(readers):
+            if isinstance(item, Left):
+                self.later[item.table.oid] = item.why
+            else:
+                self.send_part(item)
+        self.forget_gone()
+        self.end_copy(point)
+        log.info(f"copied {counted(self.progress.copied_rows, 'row')}")
+
+    def forget_gone(self) -> None:
+        """Forgets tables that were left for later and aren't published any more: nothing of them was stored."""
+        if self.later and self.plain:
+            there = {it.oid for it in published_tables(self.plain, self.options.publication)}
+            for oid in [it for it in self.later if it not in there]:
+                log.info(f"{self.remembered.text_of(oid)} was dropped, or left the publication, while others were copied")
+                self.remembered.never_copied(oid)
+                del self.later[oid]
+
+    def next_item(self, readers: Readers) -> Part | Left | None:
+        """What the connections have read next, None after the last."""
+        self.wait_for(readers.has_news, readers.reads)
+        while not (item := readers.take()) and readers.working:
+            self.wait_for(readers.has_news, readers.reads)
+        return item
+
+    def send_part(self, part: Part) -> None:
+        """Sends some rows as a transaction. The last ones of a table tell that it is stored whole, once they are."""
+        self.progress.copying = part.table.text()
+        self.longest = max(self.longest, part.longest)
+        self.begin_part()
+        for frames in part.frames:
+            self.send(frames)
+        self.end_part()
+        self.progress.copied_rows += part.rows
+        if part.is_last:
+            self.progress.copied_tables += 1
+            self.remembered.copied[part.table.oid] = self.lsn + 1
+            if time.monotonic() - self.noted > NOTED:
+                self.remembered.save()
+                self.noted = time.monotonic()
+
+    def end_copy(self, point: int) -> None:
+        """Brings the store to the slot's consistent point, from where all tables follow; the others are noted before, to be added."""
+        for oid, why in self.later.items():
+            log.warning(f"{self.remembered.text_of(oid)}: {why}: it is added by itself")
+            self.remembered.find(PUBLICATION, point, f"table {self.remembered.text_of(oid)} isn't copied yet: {why}")
+        self.remembered.take_news()
+        self.remembered.want(self.later)
+        self.progress.copying = None
         self.begin_part()
         self.end_part(point)
         self.wait_for(lambda: self.filter.confirmed() == point)
         self.finish_filter()
-        self.plain.run("COMMIT")
-        log.info(f"copied {counted(self.progress.copied_rows, 'row')}")
+        self.checkpoint.write(True, phase=known_of.COPIED, confirmed=point, position=point)
 
-    def copy_table(self, plain: Connection, table: Table) -> None:
-        """Sends the rows of a table, a block at a time, in transactions of about a part."""
-        self.progress.copying = table.text()
-        self.begin_part()
-        self.send(frame(self.lsn, relation(table)))
-        heads, size = InsertHeads(table, self.lsn), 0
-        for lines in plain.copied_blocks(table.query(), BLOCK):
-            self.longest = max(self.longest, len(max(lines, key=len)))
-            if size >= PART:
-                self.end_part()
-                self.begin_part()
-                heads, size = InsertHeads(table, self.lsn), 0
-            block = inserts(lines, heads)
-            size += len(block)
-            self.send(block)
-            self.progress.copied_rows += len(lines)
-        self.end_part()
-        self.progress.copying = None
+    def goes_on(self, point: int) -> bool:
+        """Goes on with the tables that an earlier attempt has stored whole. Returns false where nothing comes of them."""
+        options, copied = self.options, self.remembered.copied
+        if not copied or self.remembered.catalog is None or not os.path.exists(self.part):
+            return False
+        position = self.filter.start(self.check_stop)
+        whole = {oid for oid, end in copied.items() if end <= position}
+        self.plain = plain = Connection(options.dsn, name=f"{options.slot} copy", check=self.check_all)
+        settle(plain)
+        missing = [it for it in published_tables(plain, options.publication) if it.oid not in whole]
+        sizes = sizes_of(plain, missing)
+        large = [it.text() for it in missing if sizes.get(it.oid, 0) > options.max_buffered // 2]
+        if not whole or large or position > point:
+            log.info(f"{large[0]} is too large to be added by itself: the copy begins anew" if large else "the copy begins anew")
+            self.filter.kill()
+            return False
+        log.info(f"{counted(len(whole), 'table')} of an interrupted copy are kept; {counted(len(missing), 'table')} are added one by one")
+        if position == point:
+            self.finish_filter()
+            self.checkpoint.write(True, phase=known_of.COPIED, confirmed=point, position=point)
+            return True
+        self.later = {it.oid: self.later.get(it.oid, "its copy was interrupted") for it in missing}
+        # (a part that has the LSN n ends at n + 1)
+        self.lsn = max(position - 1, 0)
+        self.end_copy(point)
+        return True
 
     def begin_part(self) -> None:
         self.lsn += 1
@@ -312,15 +426,16 @@ class Copier:
         self.check_all()
         self.wait_for(self.filter.has_room)
 
-    def wait_for(self, condition: Callable[[], bool]) -> None:
-        """Serves the filter until something holds."""
+    def wait_for(self, condition: Callable[[], bool], *reads: int) -> None:
+        """Serves the filter until something holds. `reads`: what tells by something to read that it may."""
         while True:
             self.check_stop()
             waits = not condition()
-            watched = [self.replication.socket()] if self.replication else []
-            readable = self.filter.serve(0.5 if waits else 0, watched)[0]
-            if self.replication and watched and watched[0] in readable:
-                self.replication.consume()
+            watched = {it.socket(): it for it in (self.replication, self.holder) if it}
+            readable = self.filter.serve(0.5 if waits else 0, [*watched, *reads])[0]
+            for socket in readable:
+                if socket in watched:
+                    watched[socket].consume()
             if not waits:
                 return
 
@@ -350,7 +465,8 @@ class Copier:
 
     def clear(self) -> None:
         """Removes what an earlier run left."""
-        self.progress.copied_rows = 0
+        self.progress.copied_rows = self.progress.copied_tables = 0
+        self.later = {}
         try:
             for it in (self.part, self.part + LOG, self.store + LOG):
                 with contextlib.suppress(FileNotFoundError):
@@ -370,6 +486,9 @@ class Copier:
 
     def keep(self) -> None:
         """Gives the files their own names, that of the store last."""
+        if self.remembered.copied:
+            self.remembered.copied = {}
+            self.remembered.save()
         self.set_mode()
         try:
             with contextlib.suppress(FileNotFoundError):
@@ -380,18 +499,11 @@ class Copier:
             raise FileError(f"{self.store}: {error.strerror}") from None
 
 
-def lock_tables(plain: Connection, tables: list[Table], waits: bool = True) -> None:
-    """Locks tables against whoever alters or truncates them."""
-    if not tables:
-        return
-    names = ", ".join(table.sql_name() for table in tables)
-    try:
-        plain.run(f"LOCK TABLE {names} IN ACCESS SHARE MODE{'' if waits else ' NOWAIT'}")
-    except ServerError as error:
-        if error.sqlstate != DENIED:
-            raise
-        text = f"{error}; to lock a table while it is read needs SELECT on all of it, and not on some columns"
-        raise ServerError(text, DENIED) from None
+def altered_tables(before: Catalog, after: Catalog) -> list[int]:
+    """The tables that were altered between two readings, or partitions of them."""
+    others = {root_of(it, now) for it in before.partitions.keys() | after.partitions.keys() for now in (before, after)
+              if before.partitions.get(it) != after.partitions.get(it)}
+    return [oid for oid, it in after.tables.items() if oid in before.tables and (it != before.tables[oid] or oid in others)]
 
 
 def check_names(options: Options, tables: list[Table], check: Check) -> None:
@@ -416,14 +528,6 @@ def create_temporary(replication: Connection, name: str) -> tuple[str, int, str]
     command = f"CREATE_REPLICATION_SLOT {identifier(temporary)} TEMPORARY LOGICAL pgoutput EXPORT_SNAPSHOT"
     _, point, snapshot, _ = replication.rows(command)[0]
     return temporary, parse_lsn(point or ""), snapshot or ""
-
-
-def take_snapshot(plain: Connection, snapshot: str) -> None:
-    """Lets the transaction see what the slot's snapshot has. That is gone with the connection of the slot, which may pass."""
-    try:
-        plain.run(f"SET TRANSACTION SNAPSHOT {literal(snapshot)}")
-    except ServerError as error:
-        raise ServerError(str(error), "" if error.sqlstate == NO_SNAPSHOT else error.sqlstate) from None
 
 
 def set_failover(replication: Connection, slot: str, wanted: bool) -> None:

@@ -94,10 +94,10 @@ def files_of(store: str) -> list[str]:
 Ask = Callable[[str], bool]
 
 
-def ask_terminal(question: str, check: Check = never) -> bool:
+def ask_terminal(question: str, check: Check = never, command: str = "drop") -> bool:
     """Asks on the terminal. Nobody there is a no. What `check` raises meanwhile ends it."""
     if not sys.stdin.isatty():
-        raise Unfit("drop asks on the terminal, and there is none: say --yes to drop without asking")
+        raise Unfit(f"{command} asks on the terminal, and there is none: say --yes to {command} without asking")
     sys.stderr.write(f"{log.escaped(question)} [y/N] ")
     sys.stderr.flush()
     while not select.select([sys.stdin], [], [], TICK)[0]:

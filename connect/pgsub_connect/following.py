@@ -10,10 +10,11 @@ from typing import TYPE_CHECKING
 
 from . import checkpoint as known_of
 from . import log, sizes
+from .adding import Adder
 from .checkpoint import Checkpoint, check_gap
 from .errors import Passing, ServerError, Stopped, Unfit
 from .filtering import PIECE, Filter, FilterEnded, asking, flushed
-from .noting import Noting
+from .noting import Noting, final_lsn
 from .postgres import COPY_BOTH, Connection
 from .progress import Progress
 from .recording import Aside
@@ -68,6 +69,8 @@ class Follower:
         self.noting = Noting(progress, remembered)
         self.watch = Watch(options, checkpoint, progress, remembered)
         self.skipping = Skipping(options.skip, checkpoint, progress, remembered)
+        self.adder = Adder(options, checkpoint, progress, remembered, self.watch, self.noting, snapshots.hold, self)
+        snapshots.adds = self.adder.take
         self.kills = sizes.Kills()
         # the greatest end of a commit that was passed on and is confirmed
         self.position = 0
@@ -75,10 +78,13 @@ class Follower:
         # a status that moves a position by a keepalive alone, and waits for its time
         self.held: bytes | None = None
         self.until = options.until if isinstance(options.until, int) else None
+        # whether whole transactions are asked for because of tables that are added
+        self.is_whole = False
 
     def run(self) -> None:
         """Follows until a signal asks for the end. Raises where going on makes no sense."""
         self.watch.begin()
+        self.adder.begin()
         while not self.stop_asked:
             try:
                 self.start_filter()
@@ -239,9 +245,11 @@ class Follower:
             raise Unfit(f"the server has no slot {options.slot}")
         self.check_timeline(connection, server)
         self.fit(slot_at, server)
-        if not self.watch.compare(connection, self.position):
+        # (on another connection: what a session's process has in its caches, it would decode older changes by)
+        if not self.watch.look_again(self.check_stop, self.position):
             self.noting.wants_look = True
         self.skipping.begin_session(self.filter.confirmed())
+        self.is_whole = self.adder.begin_session(self.position, self.streams)
         self.noting.begin_session()
         if options.until == "now" and self.until is None:
             self.until = log_end(connection)
@@ -353,14 +361,16 @@ class Follower:
             self.checkpoint.write(False, confirmed=max(slot_at, position), position=position)
         else:
             check_gap(known, position, slot_at)
+        # (the session's statuses say what the filter confirms, also where the last session ended before that was noted)
+        confirmed = max(self.filter.confirmed(), self.checkpoint.known.confirmed)
         self.checkpoint.write(
-            True, phase=known_of.FOLLOWING, system=server.system, timeline=server.timeline, started=server.started,
+            True, confirmed=confirmed, phase=known_of.FOLLOWING, system=server.system, timeline=server.timeline, started=server.started,
             database=server.database, slot=self.options.slot, position=max(position, self.checkpoint.known.position),
         )
 
     def is_streaming(self) -> bool:
         """Whether large transactions are to come while they run."""
-        return self.streams and not self.skipping.is_pending
+        return self.streams and not self.skipping.is_pending and not self.is_whole
 
     def command(self, at: int) -> str:
         options = self.options
@@ -383,6 +393,10 @@ class Follower:
             self.progress.beat()
             if self.progress.was_promoted:
                 raise ServerError("the standby was promoted: a session with the new primary is begun")
+            if self.adder.wants_session():
+                self.renew(connection)
+                return
+            self.adder.step()
             room = not self.holds_for_snapshot() and self.filter.has_room()
             if more and room:
                 more = self.take_payloads(connection)
@@ -430,6 +444,37 @@ class Follower:
             self.release()
             self.send(asking(self.filter.status) if waits or silent > limit / 2 else self.filter.status)
 
+    def renew(self, connection: Connection) -> None:
+        """Ends a session so that another one begins, with whole transactions where a table is added, or again without."""
+        log.info("a session begins anew, because of tables that are added")
+        self.delay = 0.0
+        connection.end_copy()
+
+    def attend(self) -> None:
+        """Keeps server and filter content in a session while something else is waited for."""
+        self.check_stop()
+        if self.filter.is_running():
+            self.forward(self.filter.serve(0)[2])
+        self.keep_alive(0.0)
+
+    def is_stored(self) -> bool:
+        """Whether the store has all commits that were passed on."""
+        self.forget_confirmed(self.filter.confirmed())
+        return not self.noting.ends and not self.filter.waiting
+
+    def reached(self) -> int:
+        """An LSN that no commit or keepalive that was passed on is above."""
+        begun = final_lsn(self.noting.begun) if self.noting.begun else 0
+        return max(self.position, self.filter.confirmed(), begun, int.from_bytes(self.progress.sent_to, "big"))
+
+    def push(self, frames: bytes) -> None:
+        """Gives the filter frames, and waits until it has room."""
+        self.filter.push(frames)
+        self.attend()
+        while not self.filter.has_room():
+            self.forward(self.filter.serve(STEP)[2])
+            self.attend()
+
     def serve_server(self) -> None:
         """Keeps the server content while another connection is waited for."""
         self.check_stop()
@@ -442,8 +487,11 @@ class Follower:
         if not payloads:
             return more
         payloads = hold.passing(payloads, bool(self.noting.begun))
+        recorded = payloads
+        if self.adder.leaving.points:
+            payloads = self.adder.leaving.passing(payloads)
         if self.recording:
-            for payload in payloads:
+            for payload in recorded:
                 self.recording.write_payload(payload)
         if self.skipping.is_pending:
             payloads = [payload for payload in payloads if self.skipping.passes(payload)]
@@ -533,6 +581,7 @@ class Follower:
 
     def disconnect(self) -> None:
         self.held = None
+        self.adder.end_session()
         self.snapshots.hold.end_session()
         self.watch.finish()
         if self.connection:

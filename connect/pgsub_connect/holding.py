@@ -1,4 +1,4 @@
-"""What a follower does for `pgsub-connect verify`: it stops between two commits, so that its copy is exactly that of one LSN.
+"""Stops the stream between two commits, so that the copy is exactly that of one LSN: for `pgsub-connect verify`, or to add a table.
 
 That LSN is a slot's consistent point P, and the server is read under the snapshot that the slot exports. It "will show exactly the
 state of the database after which all changes will be included in the change stream" (PostgreSQL's documentation, Logical Decoding
@@ -49,6 +49,8 @@ class Hold:
     """Whether payloads are held, and which of them come before the LSN at which the copy is taken."""
 
     def __init__(self) -> None:
+        self.is_held = False
+        # the file that is to be copied to, None where the stream is held for a table that is added
         self.into: str | None = None
         self.point: int | None = None
         self.until = 0.0
@@ -56,9 +58,9 @@ class Hold:
         self.is_there = False
         self.kept: list[bytes] = []
 
-    def begin(self, into: str, seconds: float) -> None:
+    def begin(self, into: str | None, seconds: float) -> None:
         """Nothing is passed on from now on."""
-        self.into, self.point, self.is_there = into, None, False
+        self.is_held, self.into, self.point, self.is_there = True, into, None, False
         self.until = time.monotonic() + seconds
 
     def go(self, point: int) -> None:
@@ -67,7 +69,7 @@ class Hold:
 
     def end(self) -> None:
         """All goes on, with what was kept back."""
-        self.into, self.point, self.is_there = None, None, False
+        self.is_held, self.into, self.point, self.is_there = False, None, None, False
 
     def end_session(self) -> None:
         """The server sends again what was kept back, and what the filter may have lost."""
@@ -75,7 +77,11 @@ class Hold:
 
     def stops(self) -> bool:
         """Whether nothing may be passed on now."""
-        return self.into is not None and (self.point is None or self.is_there)
+        return self.is_held and (self.point is None or self.is_there)
+
+    def is_for_copy(self) -> bool:
+        """Whether it is held for a copy that somebody has asked for."""
+        return self.into is not None
 
     def is_going(self) -> bool:
         """Whether payloads are passed on up to the point."""

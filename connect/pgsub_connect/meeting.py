@@ -1,6 +1,6 @@
 """Brings a server and the copy of a running follower to one LSN, for `pgsub-connect verify`; the module `holding` says how.
 
-The server gets a temporary slot for that, which goes as soon as its snapshot is taken.
+A follower that adds a table reads it in the same way. The server gets a temporary slot for that, which goes as soon as its snapshot is taken.
 """
 
 from __future__ import annotations
@@ -8,14 +8,16 @@ from __future__ import annotations
 import contextlib
 import os
 import time
+from collections.abc import Iterable
 from typing import TYPE_CHECKING
 
 from .checkpoint import FOLLOWING, Known
-from .copying import CHANGED, GONE, LOCK_TIMEOUT, check_names, create_temporary, lock_tables, take_snapshot
+from .copying import CHANGED, check_names, create_temporary
 from .errors import NoSlot, Passing, ServerError, Unfit
 from .holding import write_request
 from .postgres import Check, Connection
 from .publishing import Table, published_tables, stored_in
+from .reading import GONE, LOCK_TIMEOUT, lock_tables, take_snapshot
 from .resting import LOOK, is_followed, own_name, put_request, read_request, remove_files, wait_for_copy
 from .server import identify, settle
 from .snapshots import remove
@@ -81,8 +83,10 @@ class Request:
 class Source:
     """The server: its published tables, and a transaction that sees them as they were at the LSN of a slot."""
 
-    def __init__(self, options: Options, known: Known, check: Check) -> None:
-        self.options, self.check = options, check
+    def __init__(self, options: Options, known: Known, check: Check, purpose: str = "verify") -> None:
+        self.options, self.check, self.purpose = options, check, purpose
+        # how long tables may be locked by others, in seconds
+        self.patience = PATIENCE
         # what is closed at the end, and what is once the snapshot is taken: the slot goes with its connection
         self.closing, self.slot = contextlib.ExitStack(), contextlib.ExitStack()
         try:
@@ -90,7 +94,9 @@ class Source:
             self.check_server(known)
             self.plain = self.connect(self.closing, replication=False)
             self.plain.run("SET row_security = off")
-            self.tables = published_tables(self.plain, options.publication)
+            # the OID of the table that alone is looked at, 0 for all
+            self.only = 0
+            self.tables = self.published()
             self.stored = stored_in(self.plain, self.tables)
             self.encoding = self.plain.text("SELECT pg_catalog.current_setting('server_encoding')")
         except BaseException:
@@ -98,7 +104,7 @@ class Source:
             raise
 
     def connect(self, closing: contextlib.ExitStack, replication: bool) -> Connection:
-        connection = Connection(self.options.dsn, replication=replication, name=f"{self.options.slot} verify", check=self.check)
+        connection = Connection(self.options.dsn, replication=replication, name=f"{self.options.slot} {self.purpose}", check=self.check)
         closing.callback(connection.close)
         settle(connection)
         return connection
@@ -129,7 +135,7 @@ class Source:
         self.replication.run(f"SET lock_timeout = {round(seconds * 1000)}")
         self.replication.check = check
         try:
-            _, point, snapshot = create_temporary(self.replication, f"{self.options.slot[:40]}_verify")
+            _, point, snapshot = create_temporary(self.replication, f"{self.options.slot[:40]}_{self.purpose}")
         except ServerError as error:
             raise no_slot(seconds) if error.sqlstate == LOCK_TIMEOUT else error from None
         finally:
@@ -143,7 +149,7 @@ class Source:
             plain.run("BEGIN ISOLATION LEVEL REPEATABLE READ READ ONLY")
             take_snapshot(plain, snapshot)
             self.lock()
-            if (published_tables(plain, self.options.publication), stored_in(plain, self.tables)) != (self.tables, self.stored):
+            if (self.published(), stored_in(plain, self.tables)) != (self.tables, self.stored):
                 raise ServerError(CHANGED)
             check_names(self.options, self.tables, self.check)
         except ServerError as error:
@@ -152,13 +158,25 @@ class Source:
             raise
         self.slot.close()
 
+    def narrow(self, oid: int) -> Table | None:
+        """Looks at one table alone from now on. Returns it, None where it isn't published."""
+        self.only = oid
+        self.tables = [it for it in self.tables if it.oid == oid]
+        self.stored = stored_in(self.plain, self.tables)
+        return self.tables[0] if self.tables else None
+
+    def published(self) -> list[Table]:
+        """The published tables that are looked at, as they are now."""
+        found = published_tables(self.plain, self.options.publication)
+        return [it for it in found if self.only in (0, it.oid)]
+
     def lock(self) -> None:
         """Locks the tables. None is waited for while others are locked: that could end an application's transaction by a deadlock."""
-        until = time.monotonic() + PATIENCE
+        until = time.monotonic() + self.patience
         self.plain.run("SAVEPOINT unlocked")
         while not self.has_locked():
             if time.monotonic() > until:
-                raise Passing(f"published tables are locked by others for {PATIENCE:.0f} seconds: nothing was compared")
+                raise Passing(f"published tables are locked by others for {self.patience:.0f} seconds: nothing was compared")
             self.check()
             time.sleep(LOOK)
 
@@ -175,14 +193,19 @@ class Source:
 
     def chosen(self, names: list[str]) -> list[Table]:
         """The tables with these names, or all where none is named."""
-        known = {name: it for it in self.tables for name in ([it.name, it.text()] if it.namespace == "public" else [it.text()])}
-        if unknown := [name for name in names if name not in known]:
-            raise Unfit(f"there is no published table {unknown[0]}")
-        return list({known[name].oid: known[name] for name in names}.values()) if names else self.tables
+        return chosen(self.tables, names) if names else self.tables
 
     def close(self) -> None:
         self.slot.close()
         self.closing.close()
+
+
+def chosen(tables: Iterable[Table], names: list[str]) -> list[Table]:
+    """The published tables with these names; those of the schema `public` have short ones too."""
+    known = {name: it for it in tables for name in ([it.name, it.text()] if it.namespace == "public" else [it.text()])}
+    if unknown := [name for name in names if name not in known]:
+        raise Unfit(f"there is no published table {unknown[0]}")
+    return list({known[name].oid: known[name] for name in names}.values())
 
 
 def no_slot(seconds: float) -> NoSlot:

@@ -23,12 +23,13 @@ def frame(lsn: int, body: bytes) -> bytes:
     return struct.pack(">cIcQQq", b"d", 29 + len(body), b"w", lsn, lsn, 0) + body
 
 
-def begin(lsn: int) -> bytes:
-    return struct.pack(">cQqI", b"B", lsn, 0, lsn & 0x7FFFFFFF)
+def begin(lsn: int, xid: int | None = None, clock: int = 0) -> bytes:
+    """A Begin; its xid is made of the LSN where none is given. `clock`: when, in microseconds since 2000."""
+    return struct.pack(">cQqI", b"B", lsn, clock, lsn & 0x7FFFFFFF if xid is None else xid)
 
 
-def commit(lsn: int, end: int) -> bytes:
-    return struct.pack(">cBQQq", b"C", 0, lsn, end, 0)
+def commit(lsn: int, end: int, clock: int = 0) -> bytes:
+    return struct.pack(">cBQQq", b"C", 0, lsn, end, clock)
 
 
 def relation(table: Table) -> bytes:

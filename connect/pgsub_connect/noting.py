@@ -131,6 +131,12 @@ class Noting:
         self.total = total
         self.last = payloads[-1] if payloads else self.last
 
+    def note_rows(self, oid: int, count: int, size: int) -> None:
+        """Notes Inserts of a table in the transaction that is under way, of so many bytes together."""
+        key = b"I" + oid.to_bytes(4, "big")
+        self.counts[key] = self.counts.get(key, 0) + count
+        self.total += size
+
     def note_other(self, letter: int, payload: bytes) -> None:
         if letter == RELATION:
             self.relations.append((payload[26:30], payload[self.end - 4 :]))

@@ -11,8 +11,8 @@ from .texts import lsn_text
 
 # What a follower may be at.
 STATES = (
-    "starting", "copying", "opening the store", "connecting", "following", "copying the store", "waiting to connect again", "stopping",
-    "stopped", "failed",
+    "starting", "copying", "opening the store", "connecting", "following", "copying the store", "adding a table",
+    "waiting to connect again", "stopping", "stopped", "failed",
 )
 
 
@@ -32,14 +32,17 @@ class Progress:
         self.passed_changes = self.passed_commits = 0
         self.sent_to = b"\0" * 8
         self.confirmed = self.position = 0
-        self.sessions = self.restarts = self.copied_rows = 0
+        self.sessions = self.restarts = self.copied_rows = self.copied_tables = 0
         self.copying: str | None = None
         # by the server's statistics: None where it has none
         self.copy_total_rows: int | None = None
+        self.copy_total_tables: int | None = None
         self.last_error: str | None = None
         self.version = self.timeline = 0
         self.found: dict[str, str] = {}
         self.skipped = ""
+        # the tables that are being added, and how that goes
+        self.adding: dict[str, str] = {}
         self.lag, self.slot = Lag(), Slot()
         self.last_message: float | None = None
         # of the session's server: when it was started, whether it was a standby then, and whether it was promoted since
@@ -96,11 +99,14 @@ class Progress:
             "filter_restarts": self.restarts,
             "copied_rows": self.copied_rows,
             "copy_total_rows": self.copy_total_rows,
+            "copied_tables": self.copied_tables if self.copy_total_tables is not None else None,
+            "copy_total_tables": self.copy_total_tables,
             "copy_seconds_left": self.copy_seconds_left(rate),
             "copying_table": self.copying,
             "last_error": self.last_error,
             "found": self.found or None,
             "skipped": self.skipped or None,
+            "adding": self.adding or None,
             "server_version": self.version or None,
             "timeline": self.timeline or None,
             "connector_version": VERSION,

@@ -89,9 +89,8 @@ def tables_of(connection: Connection, publication: str) -> list[Table]:
         oid, namespace, name, kind, identity = (it or "" for it in row[:5])
         where, attributes = row[5:]
         numbers = [int(it) for it in attributes.split(",")] if attributes else None
-        table = Table(int(oid), namespace, name, kind, identity, where, numbers)
-        table.columns = published_columns(connection, table)
-        tables.append(table)
+        tables.append(Table(int(oid), namespace, name, kind, identity, where, numbers))
+    put_columns(connection, tables)
     return tables
 
 
@@ -121,29 +120,31 @@ def united(tables: list[Table]) -> Table:
     return dataclasses.replace(first, row_filter=filters[0] if len(filters) == 1 else row_filter)
 
 
-def published_columns(connection: Connection, table: Table) -> list[Column]:
-    """The columns that are sent: not those that are dropped, nor those that a column list leaves out, nor, before PostgreSQL 18,
-    those that are generated.
+def put_columns(connection: Connection, tables: list[Table]) -> None:
+    """Gives tables the columns that are sent: not those that are dropped, nor those that a column list leaves out, nor, before
+    PostgreSQL 18, those that are generated. One query reads those of all tables.
 
     A key column is one of the replica identity's index, or any one under REPLICA IDENTITY FULL.
     """
-    exact = connection.version() >= EXACT and table.listed is not None
-    generated = "" if exact or connection.version() < 120000 else " AND a.attgenerated = ''"
-    keys = "i.indnkeyatts" if connection.version() >= 110000 else "i.indnatts"
+    version = connection.version()
+    generated = "a.attgenerated <> ''" if version >= 120000 else "false"
+    keys = "i.indnkeyatts" if version >= 110000 else "i.indnatts"
+    oids = ", ".join(str(table.oid) for table in tables)
     rows = connection.rows(
-        "SELECT a.attname, a.atttypid, a.atttypmod, a.attnum,"
-        f" {literal(table.identity)} = 'f' OR EXISTS (SELECT FROM pg_catalog.pg_index i"
+        f"SELECT a.attrelid, a.attname, a.atttypid, a.atttypmod, a.attnum, {generated},"
+        " c.relreplident = 'f' OR EXISTS (SELECT FROM pg_catalog.pg_index i"
         f"  WHERE i.indrelid = a.attrelid AND {UNIQUE}"
-        f"  AND CASE {literal(table.identity)} WHEN 'd' THEN i.indisprimary WHEN 'i' THEN i.indisreplident ELSE false END"
+        "  AND CASE c.relreplident WHEN 'd' THEN i.indisprimary WHEN 'i' THEN i.indisreplident ELSE false END"
         f"   AND a.attnum = ANY ((i.indkey::pg_catalog.int2[])[0:{keys} - 1]))"
-        " FROM pg_catalog.pg_attribute a"
-        f" WHERE a.attrelid = {table.oid} AND a.attnum > 0 AND NOT a.attisdropped{generated} ORDER BY a.attnum"
-    )
-    return [
-        Column(name or "", int(type_oid or 0), int(modifier or 0), key == "t", int(number or 0))
-        for name, type_oid, modifier, number, key in rows
-        if table.listed is None or int(number or 0) in table.listed
-    ]
+        " FROM pg_catalog.pg_attribute a JOIN pg_catalog.pg_class c ON c.oid = a.attrelid"
+        f" WHERE a.attrelid IN ({oids}) AND a.attnum > 0 AND NOT a.attisdropped ORDER BY a.attrelid, a.attnum"
+    ) if tables else []
+    by_oid = {table.oid: table for table in tables}
+    for oid, name, type_oid, modifier, number, computed, key in rows:
+        table = by_oid[int(oid or 0)]
+        exact = version >= EXACT and table.listed is not None
+        if (exact or computed != "t") and (table.listed is None or int(number or 0) in table.listed):
+            table.columns.append(Column(name or "", int(type_oid or 0), int(modifier or 0), key == "t", int(number or 0)))
 
 
 def stored_in(connection: Connection, tables: list[Table]) -> dict[int, str | None]:
@@ -182,6 +183,19 @@ def are_so_named(connection: Connection, tables: list[Table]) -> bool:
         and all((str(table.oid), str(it.number), it.name, str(it.type_oid), str(it.modifier)) in have for it in table.columns)
         for table in tables
     )
+
+
+def sizes_of(connection: Connection, tables: list[Table]) -> dict[int, int]:
+    """How many bytes the files of each table have, with those of its partitions."""
+    oids = ", ".join(str(table.oid) for table in tables)
+    if not oids:
+        return {}
+    rows = connection.rows(
+        "SELECT c.oid, pg_catalog.sum(pg_catalog.pg_table_size(t.relid))::pg_catalog.int8 FROM pg_catalog.pg_class c,"
+        " LATERAL (SELECT c.oid AS relid UNION SELECT i.relid FROM pg_catalog.pg_partition_tree(c.oid) i) t"
+        f" WHERE c.oid IN ({oids}) GROUP BY c.oid"
+    )
+    return {int(oid or 0): int(size or 0) for oid, size in rows}
 
 
 def estimated_rows(connection: Connection, tables: list[Table]) -> int | None:

@@ -15,6 +15,9 @@ As long as nothing was copied it has the first two fields alone.
 | `sent` | by OID: the last Relation message of a change, and the LSN of its commit |
 | `names` | which OID each name has, since when, and which OIDs had it before |
 | `found` | by kind: the LSN at which the first was found, the texts, and how many more there were |
+| `copied` | while rows are copied first: the OIDs of tables that are stored whole, each with the position from which they are |
+| `wanted` | OIDs of tables whose rows are to be added, and why one was refused, "" where none was |
+| `unwanted` | OIDs of tables that aren't published any more, whose rows are to go |
 | `left` | OIDs of tables that were there once and aren't published any more |
 | `told` | texts that a Relation message up to an LSN may give again, since the look at the server gave them already |
 """
@@ -25,6 +28,7 @@ import contextlib
 import dataclasses
 import json
 import os
+from collections.abc import Iterable
 from typing import Any
 
 from .catalog import Catalog, Column, Part, Partition, Publication, Shape, Table
@@ -97,6 +101,9 @@ class Remembered:
         self.found: dict[str, Found] = {}
         self.told: dict[str, int] = {}
         self.left: set[int] = set()
+        self.wanted: dict[int, str] = {}
+        self.copied: dict[int, int] = {}
+        self.unwanted: set[int] = set()
         self.news: list[str] = []
         self.is_urgent = self.is_changed = False
 
@@ -280,6 +287,60 @@ class Remembered:
             del self.found[kind]
             self.is_urgent = self.is_changed = True
 
+    def want(self, oids: Iterable[int], unwanted: Iterable[int] = ()) -> None:
+        """Notes durably that the rows of tables are to be added, anew where that was refused, and that those of others are to go."""
+        self.unwanted |= set(unwanted)
+        self.wanted |= {oid: "" for oid in (*oids, *self.unwanted)}
+        self.save()
+
+    def described(self, oid: int) -> Relation | None:
+        """A table as it was described last, by which its rows can go; None where that isn't known."""
+        sent = self.sent.get(oid)
+        key = self.held.get(oid) or next((key for key, name in self.names.items() if oid in name.before), None)
+        return Relation(oid, *key, sent.shape) if key and sent and sent.shape else None
+
+    def refuse(self, oid: int, why: str) -> None:
+        """Notes durably why a table can't be added."""
+        self.wanted[oid] = why
+        self.save()
+
+    def added(self, oid: int, texts: Iterable[str] = ()) -> list[str]:
+        """Notes durably that a table was added, or isn't to be any more: what was found of it goes. Returns the kinds that go by that."""
+        self.wanted.pop(oid, None)
+        if oid in self.unwanted:
+            self.unwanted.discard(oid)
+            self.left.discard(oid)
+            self.sent.pop(oid, None)
+        gone = []
+        for kind, found in list(self.found.items()):
+            found.texts = [it for it in found.texts if it not in texts]
+            if not found.texts and not found.more:
+                del self.found[kind]
+                gone.append(kind)
+        self.save()
+        return gone
+
+    def found_of(self, oid: int) -> list[str]:
+        """What was found of the rows of a table. That two tables have had one name stays so, whatever rows they have."""
+        told = {f" {self.text_of(oid)}", *(f" {'.'.join(key)} ({oid})" for key in self.names)}
+        texts = [it for kind, found in self.found.items() if kind != NAMES for it in found.texts]
+        return [text for text in texts if any(it in f" {text}" for it in told)]
+
+    def never_copied(self, oid: int) -> None:
+        """Forgets a table that went before any row of it was copied."""
+        self.sent.pop(oid, None)
+        if self.catalog:
+            self.catalog.tables.pop(oid, None)
+        if key := self.held.get(oid):
+            self.release(key)
+            self.names[key].before.remove(oid)
+        self.is_changed = True
+
+    def replaced(self, relation: Relation, lsn: int) -> None:
+        """Notes that a table's rows are those of a commit with this LSN: a Relation message up to there tells nothing new."""
+        self.sent[relation.oid] = Sent(lsn, relation.shape)
+        self.is_changed = True
+
     def read(self) -> None:
         try:
             with open(self.path, encoding="utf-8") as file:
@@ -315,6 +376,9 @@ class Remembered:
         self.found = {kind: Found(parse_lsn(lsn), list(texts), int(more)) for kind, (lsn, texts, more) in said["found"].items()}
         self.told = {text: parse_lsn(lsn) for text, lsn in said["told"].items()}
         self.left = {int(oid) for oid in said["left"]}
+        self.wanted = {int(oid): str(why) for oid, why in said.get("wanted", {}).items()}
+        self.copied = {int(oid): int(end) for oid, end in said.get("copied", {}).items()}
+        self.unwanted = {int(oid) for oid in said.get("unwanted", [])}
 
     def written(self) -> dict[str, Any]:
         if self.catalog is None:
@@ -326,6 +390,9 @@ class Remembered:
             "sent": {oid: [lsn_text(it.lsn), it.shape and [it.shape.identity, it.shape.columns]] for oid, it in self.sent.items()},
             "names": [[*key, it.oid, lsn_text(it.since), it.before] for key, it in sorted(self.names.items())],
             "found": {kind: [lsn_text(it.lsn), it.texts, it.more] for kind, it in self.found.items()},
+            "copied": self.copied,
+            "wanted": self.wanted,
+            "unwanted": sorted(self.unwanted),
             "left": sorted(self.left),
             "told": {text: lsn_text(lsn) for text, lsn in self.told.items()},
         }

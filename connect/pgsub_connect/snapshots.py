@@ -27,7 +27,8 @@ class Snapshots:
     """Copies a store to another file: each so many seconds, when a signal asks for it, and when a request does.
 
     A request is the file `STORE.request`, a JSON object whose `into` names a file in the store's own folder. It goes when the copy
-    is there, or gets the field `error`. One with `hold` is for a copy at one LSN, as the module `holding` says.
+    is there, or gets the field `error`. One with `hold` is for a copy at one LSN, as the module `holding` says; one with `add` asks for
+    no copy: it has the OIDs of tables to add, and as `remove` those of which the rows are to go, and goes once that is noted.
     """
 
     def __init__(self, store: str, path: str | None, every: float, mode: int = 0o600) -> None:
@@ -39,10 +40,15 @@ class Snapshots:
         self.wanted: str | None = None
         self.finishing: threading.Thread | None = None
         self.hold = Hold()
+        # takes the tables of a request to add some, and returns why it doesn't
+        self.adds: Callable[[dict[str, Any]], str | None] = lambda asked: "no table can be added"
 
     def is_due(self, position: int) -> bool:
         """Whether to copy a store that is at this position: where it was asked for, or it is time and the last copy is older."""
         now = time.monotonic()
+        if self.hold.is_held and not self.hold.is_for_copy():
+            # (a table is being added: copies wait)
+            return False
         if now - self.looked >= (SOON if self.hold.into else LOOK):
             self.looked = now
             self.look(position)
@@ -70,6 +76,9 @@ class Snapshots:
         if not isinstance(into, str):
             return None
         into = os.path.abspath(into)
+        if "add" in asked:
+            self.answer(into, self.adds(asked))
+            return None
         folders = {os.path.realpath(os.path.dirname(it)) for it in (into, os.path.abspath(self.store))}
         if len(folders) > 1 or os.path.lexists(into):
             self.answer(into, "the copy has to be a new file in the store's folder")

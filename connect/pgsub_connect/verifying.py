@@ -3,6 +3,9 @@
 Of each table the sums of the module `digests` are compared, chunk by chunk. Of chunks that differ, as many as rows are to be shown, the
 rows are read on both sides in the order of their keys, and those that differ are printed, a JSON object on each line. A value of more
 than some hundred characters is cut, and its length and hash are told.
+
+With `--repair` the follower then copies the tables that differ anew, as the module `adding` says: not single rows, so that what makes a
+difference needn't be known, nor the rows of the copy be held for as long as they are compared.
 """
 
 from __future__ import annotations
@@ -16,7 +19,8 @@ import sqlite3
 from collections.abc import Iterable, Iterator
 from typing import TYPE_CHECKING
 
-from . import log
+from . import log, requesting
+from .checkpoint import Known
 from .digests import Field, Fields, NotText, Plan, Queries, Summing, Sums, chunks_for, fields_in, fields_of, text_of
 from .dropping import read_known
 from .errors import FileError, Passing, Stopped, Unfit
@@ -141,14 +145,17 @@ class Verifier:
         self.options, self.source, self.copy = options, source, copy
         self.left = options.show
         self.rows = 0
+        # the tables that differ
+        self.different: list[Table] = []
 
     def run(self, tables: list[Table]) -> bool:
         """Compares all of these. Returns whether they are equal."""
         fitting = [it for it in tables if self.has_columns(it)]
         plans = [Plan(it, chunks_for(self.about(it))) for it in fitting]
         ours = self.copy.sums(plans)
-        differing = sum(not self.is_equal(it, ours[it.table.oid]) for it in plans)
-        return not differing and len(fitting) == len(tables)
+        equal = {it.table.oid for it in plans if self.is_equal(it, ours[it.table.oid])}
+        self.different = [it for it in tables if it.oid not in equal]
+        return not self.different
 
     def has_columns(self, table: Table) -> bool:
         """Whether a table has the same columns on both sides; tells where it hasn't."""
@@ -232,6 +239,14 @@ def run(options: Options, check: Check) -> int:
 
 
 def verify(options: Options, check: Check) -> int:
+    different = compare(options, check)
+    if different and options.repair:
+        return requesting.add(options, {it.oid: it.text() for it in different}, check)
+    return DIFFERENT if different else EQUAL
+
+
+def compare(options: Options, check: Check) -> list[Table]:
+    """Compares, and tells what differs. Returns the tables that do."""
     check_there(options.store)
     known = read_known(options.store + ".connector")
     options.slot = known.slot or options.slot
@@ -240,7 +255,7 @@ def verify(options: Options, check: Check) -> int:
         if not is_followed(options.store):
             raise request.ended()
         source = stack.enter_context(contextlib.closing(Source(options, known, check)))
-        tables = source.chosen(options.table)
+        tables = settled(source.chosen(options.table), known)
         point = meet(request, source, options.hold)
         copy = stack.enter_context(contextlib.closing(Copy(request.copied(), options.store, point, check)))
         tell_left(copy, source)
@@ -248,7 +263,14 @@ def verify(options: Options, check: Check) -> int:
         is_equal = verifier.run(tables)
     text = f"{counted(len(tables), 'table')}, {counted(verifier.rows, 'row')} on the server at {lsn_text(point)}"
     log.info(f"{text}: {'equal' if is_equal else 'the copy differs'}")
-    return EQUAL if is_equal else DIFFERENT
+    return verifier.different
+
+
+def settled(tables: list[Table], known: Known) -> list[Table]:
+    """Tables none of which is being added, since of such a one the copy has no state of the server."""
+    if going := [it.text() for it in tables if str(it.oid) in known.adding]:
+        raise Passing(f"being added just now, or refused: {names_of(going)}: nothing was compared. Wait for it, or choose others by --table")
+    return tables
 
 
 def meet(request: Request, source: Source, seconds: float) -> int:

@@ -58,11 +58,18 @@ class Watch:
             return ["see the log of the run that found it"]
         return [*found.texts, *([f"and {found.more} more"] if found.more else [])]
 
+    def lasting_of(self, kind: str) -> list[str]:
+        """What was found of this kind but for tables whose rows are being added, by which it goes."""
+        remembered = self.remembered
+        going = {text for oid, why in remembered.wanted.items() if not why for text in remembered.found_of(oid)}
+        return [it for it in self.texts_of(kind) if it not in going]
+
     def show(self) -> None:
         """Tells the progress what was found, and ends the following where it is to be strict."""
         self.progress.found = {kind: "; ".join(self.texts_of(kind)) for kind in self.checkpoint.known.found}
-        if self.progress.found and self.options.strict:
-            texts = "\n".join(f"{kind}: {text}" for kind, text in self.progress.found.items())
+        lasting = {kind: text for kind in self.checkpoint.known.found if (text := "; ".join(self.lasting_of(kind)))}
+        if lasting and self.options.strict:
+            texts = "\n".join(f"{kind}: {text}" for kind, text in lasting.items())
             raise Unfit(f"the copy may be wrong (copy anew, or take it as it is by --accept KIND)\n{texts}")
 
     def compare(self, connection: Connection, position: int) -> bool:

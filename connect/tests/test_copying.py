@@ -2,6 +2,7 @@
 
 from __future__ import annotations
 
+import dataclasses
 import os
 import time
 import unittest
@@ -10,11 +11,12 @@ from typing import cast
 from unittest import mock
 
 from pgsub_connect import checkpoint as known_of
-from pgsub_connect import copying, making, waiting
-from pgsub_connect.catalog import Catalog
+from pgsub_connect import copying, making, reading, waiting
+from pgsub_connect.catalog import Catalog, Partition
+from pgsub_connect.catalog import Table as CatalogTable
 from pgsub_connect.checkpoint import Checkpoint
 from pgsub_connect.cli import Options
-from pgsub_connect.copying import CHANGED, Copier, Tries, create_slot
+from pgsub_connect.copying import CHANGED, Copier, Tries, altered_tables, create_slot
 from pgsub_connect.errors import Passing, ServerError, Stopped, Unfit, UsageError
 from pgsub_connect.filtering import Filter, FilterEnded
 from pgsub_connect.messages import InsertHeads, begin, commit, frame, inserts, relation
@@ -22,6 +24,8 @@ from pgsub_connect.progress import Progress
 from pgsub_connect.publishing import Column, Table
 from pgsub_connect.remembered import Remembered
 from tests.fake_server import FakeServer, Quiet, Row
+from tests.row_filter import Store, Subscriber
+from tests.vectors import PGSUB, a_catalog, a_table
 
 POINT = 0x1000028
 STOCK = Table(16385, "public", "stock", "r", "d", None, None, [Column("id", 23, -1, True, 1), Column("n", 23, -1, False, 2)])
@@ -89,11 +93,15 @@ class Copying(Quiet):
         server.answer("SELECT c.oid, n.nspname, c.relname FROM pg_catalog.pg_class c JOIN", self.names)
         server.answer("FROM pg_catalog.pg_attribute a WHERE a.attrelid IN", self.columns)
         server.answer("s.confirmed_flush_lsn - '0/0'", lambda _: self.slots)
+        server.answer("SELECT s.confirmed_flush_lsn", lambda _: [[it[3]] for it in self.slots])
         server.answer("pg_copy_logical_replication_slot", self.slot_copied)
+        server.answer('DROP_REPLICATION_SLOT "pgsub"', self.slot_dropped)
+        server.answer("pg_drop_replication_slot", self.slot_dropped)
         server.lines = [b"1\t5\n", b"2\t\\N\n"]
         self.tables = [STOCK]
-        for module in (copying, making, waiting):
+        for module in (copying, making, waiting, reading):
             self.patch(module, "Connection", server.connect)
+        self.patch(reading, "LOOK", 0.001)
         self.patch(copying, "published_tables", lambda *_: list(self.tables))
         self.patch(making, "publishable_tables", lambda _: ['"public"."stock"'])
         self.patch(Copier, "sleep", lambda copier, seconds: self.slept.append(seconds))
@@ -112,6 +120,16 @@ class Copying(Quiet):
     def slot_copied(self, _: str) -> list[Row]:
         self.slots = [["pgoutput", "t", "f", str(POINT)]]
         return [["pgsub", "0/1000028"]]
+
+    def slot_dropped(self, _: str) -> list[Row]:
+        self.slots = []
+        return []
+
+    def later(self) -> dict[int, str]:
+        """The tables that are to be added by themselves; each was found to be missing."""
+        remembered = Remembered(self.store)
+        self.assertEqual(len(remembered.found["publication"].texts if remembered.wanted else []), len(remembered.wanted))
+        return remembered.wanted
 
     def copier(self, **options: object) -> Copier:
         self.checkpoint = Checkpoint(self.store)
@@ -144,7 +162,19 @@ class Locks(Copying):
         self.assertEqual(self.check_at("CREATE PUBLICATION"), ["the publication waits for the locks of process 8 (app, database shop) for 12 s"])
 
     def test_of_rows(self) -> None:
-        self.assertIn("the copy waits for the locks of process 8 (app, database shop) for 12 s", self.check_at("LOCK TABLE"))
+        """A table that is locked by others is tried again; the server isn't let wait."""
+        left = [ServerError("could not obtain lock", "55P03")] * 3
+
+        def lock(command: str) -> list[Row]:
+            self.assertTrue(command.endswith("NOWAIT"))
+            if left:
+                raise left.pop()
+            return []
+
+        self.server.answer("LOCK TABLE", lock)
+        self.copier().run()
+        self.assertEqual((self.said.count("public.stock is locked by others: it is read later"), self.progress.copied_rows), (1, 2))
+        self.assertEqual((len(self.server.told("LOCK TABLE")), len(self.server.told("ROLLBACK")), self.later()), (4, 3, {}))
 
 
 class Sent(Copying):
@@ -156,11 +186,11 @@ class Sent(Copying):
 
     def test_transactions(self) -> None:
         self.copier().run()
-        rows = inserts(self.server.lines, InsertHeads(STOCK, 1))
+        rows = inserts(self.server.lines, InsertHeads(STOCK, 0))
         self.assertEqual(
             self.filter.sent.hex(" "),
             b"".join((
-                frame(1, begin(1)), frame(1, relation(STOCK)), rows, frame(1, commit(1, 2)), frame(2, begin(2)), frame(2, commit(2, POINT)),
+                frame(1, begin(1)), frame(0, relation(STOCK)), rows, frame(1, commit(1, 2)), frame(2, begin(2)), frame(2, commit(2, POINT)),
             )).hex(" "),
         )
         self.assertEqual((self.progress.copied_rows, self.progress.copy_total_rows, self.progress.copying), (2, 3, None))
@@ -171,21 +201,21 @@ class Sent(Copying):
 
     def test_parts(self) -> None:
         """A part ends with the block that fills it, and each part is a transaction."""
-        self.patch(copying, "PART", 200)
-        self.patch(copying, "BLOCK", 1)
+        self.patch(reading, "PART", 200)
+        self.patch(reading, "BLOCK", 1)
         self.server.lines = [b"%d\t0\n" % number for number in range(5)]
         self.copier().run()
-        wanted, lines = [frame(1, begin(1)), frame(1, relation(STOCK))], self.server.lines
+        wanted, lines = [frame(1, begin(1)), frame(0, relation(STOCK))], self.server.lines
         for lsn, some in ((1, lines[:4]), (2, lines[4:])):
             wanted += [frame(2, begin(2))] if lsn == 2 else []
-            wanted += [inserts(some, InsertHeads(STOCK, lsn)), frame(lsn, commit(lsn, lsn + 1))]
+            wanted += [inserts(some, InsertHeads(STOCK, 0)), frame(lsn, commit(lsn, lsn + 1))]
         wanted += [frame(3, begin(3)), frame(3, commit(3, POINT))]
         self.assertEqual(self.filter.sent.hex(" "), b"".join(wanted).hex(" "))
 
     def test_an_empty_table(self) -> None:
         self.server.lines = []
         self.copier().run()
-        self.assertTrue(self.filter.sent.startswith(frame(1, begin(1)) + frame(1, relation(STOCK)) + frame(1, commit(1, 2))))
+        self.assertTrue(self.filter.sent.startswith(frame(1, begin(1)) + frame(0, relation(STOCK)) + frame(1, commit(1, 2))))
 
     def test_no_table(self) -> None:
         self.tables = []
@@ -200,62 +230,94 @@ class Sent(Copying):
 
 
 class Order(Copying):
-    def test_checks_publication_slot_locks_rows_lasting_slot(self) -> None:
+    def test_checks_publication_slots_locks_rows(self) -> None:
         self.copier().run()
         parts = [
-            "pg_settings", "CREATE PUBLICATION", "COMMIT", "BEGIN ISOLATION LEVEL REPEATABLE READ READ ONLY", "CREATE_REPLICATION_SLOT",
-            "SET TRANSACTION SNAPSHOT 'snap''1'", "LOCK TABLE", "COPY (SELECT", "pg_copy_logical_replication_slot",
+            "pg_settings", "CREATE PUBLICATION", "COMMIT", "CREATE_REPLICATION_SLOT", "BEGIN ISOLATION LEVEL REPEATABLE READ READ ONLY",
+            "SET TRANSACTION SNAPSHOT 'snap''1'", "pg_export_snapshot", "pg_copy_logical_replication_slot", "DROP_REPLICATION_SLOT",
+            "LOCK TABLE", "COPY (SELECT",
         ]
         order = [self.server.index(part) for part in parts]
         self.assertEqual(order, sorted(order))
         self.assertEqual(self.made(), {"pgsub": 777})
-        self.assertEqual(self.server.told("DROP"), [])
+        self.assertEqual(self.server.told("DROP"), ['DROP_REPLICATION_SLOT "' + self.server.told("CREATE_REPL")[0].split('"')[1] + '"'])
 
-    def test_locks_come_first_where_tables_changed(self) -> None:
-        left = [[STOCK], [], [STOCK], [STOCK]]
-        self.patch(copying, "published_tables", lambda *_: left.pop(0))
-        self.copier().run()
-        self.assertEqual(self.slept, [1.0])
-        commands = [it for it in self.server.commands if it.startswith(("LOCK", "CREATE_REPL", "SET lock_timeout"))]
-        words = ["SET", "CREATE_REPLICATION_SLOT", "LOCK", "LOCK", "SET", "CREATE_REPLICATION_SLOT"]
-        self.assertEqual([it.split()[0] for it in commands[:6]], words)
-        self.assertEqual([it for it in commands[:6] if it.startswith("SET")], ["SET lock_timeout = 0", "SET lock_timeout = 2000"])
+    def test_a_table_that_is_altered_beside_the_slot_is_added_by_itself(self) -> None:
+        other = Table(16385, "public", "stock", "r", "d", None, None, [*STOCK.columns, Column("more", 23, -1, False, 3)])
+        for after in ([other], [STOCK, Table(16390, "public", "new", "r", "d", None, None, [])]):
+            left = [[STOCK], after, after]
+            self.setUp()
+            self.patch(copying, "published_tables", lambda *_, left=left: left.pop(0))
+            self.copier().run()
+            self.assertEqual(list(self.later()), [after[-1].oid])
+            self.assertEqual(self.progress.copied_rows, 2 if len(after) > 1 else 0)
 
-    def test_what_is_gone_before_the_first_row(self) -> None:
+    def test_altered_tables(self) -> None:
+        one, two = a_table(1, "one"), a_table(2, "two", kind="p")
+        leaf = Partition(3, 2, "two_1", True)
+        before = a_catalog(one, two, partitions=[Partition(2, 0, "two", False), leaf])
+        cases: list[tuple[Sequence[CatalogTable], list[Partition], list[int]]] = [
+            ((one, two), [leaf], []), ((a_table(1, "other"), two), [leaf], [1]), ((one,), [leaf], []), ((one, two, a_table(9, "new")), [leaf], []),
+            ((one, two), [], [2]), ((one, two), [leaf, Partition(4, 2, "two_2", True)], [2]), ((one, two), [Partition(3, 2, "two_1", True, node=5)], [2]),
+        ]
+        for tables, partitions, wanted in cases:
+            after = a_catalog(*tables, partitions=[Partition(2, 0, "two", False), *partitions])
+            self.assertEqual(altered_tables(before, after), wanted)
+
+    def test_what_is_gone_before_the_first_row_is_added_by_itself(self) -> None:
         for sqlstate in ("42P01", "42703", "42704"):
-            left = [ServerError("gone", sqlstate)]
-
-            def lock(_: str, left: list[ServerError] = left) -> list[Row]:
-                if left:
-                    raise left.pop()
-                return []
-
             with self.subTest(sqlstate):
                 self.setUp()
-                self.server.answer("LOCK TABLE", lock)
+                self.server.answer("LOCK TABLE", ServerError("gone", sqlstate))
                 self.copier().run()
-                self.assertIn(f"warning: {CHANGED}: the copy begins anew", self.said)
+                self.assertEqual(self.later(), {16385: ""})
+                self.assertEqual((self.server.told("COPY ("), self.checkpoint.known.phase), ([], known_of.COPIED))
 
     def test_what_is_gone_in_the_midst_of_rows_is_lasting(self) -> None:
         self.server.answer("COPY (", ServerError("gone", "42P01"))
         with self.assertRaisesRegex(ServerError, "gone"):
             self.copier().run()
 
-    def test_names_are_compared_under_the_locks(self) -> None:
-        """As where tables changed their names between the snapshot and the locks. It takes no lock to see that."""
-        left: list[list[Row]] = [[["16385", "public", "stock_old"]]]
-        self.server.answer("SELECT c.oid, n.nspname, c.relname FROM", lambda _: left.pop() if left else self.names)
+    def test_names_are_compared_under_the_lock(self) -> None:
+        """As where tables changed their names between the snapshot and the lock. It takes no lock to see that."""
+        self.names[0] = ["16385", "public", "stock_old"]
         self.copier().run()
-        self.assertIn(f"warning: {CHANGED}: the copy begins anew", self.said)
-        locks, names = self.server.index("LOCK TABLE"), self.server.index("SELECT c.oid, n.nspname, c.relname FROM")
-        self.assertEqual((self.server.commands[names - 1], locks < names), ("SET lock_timeout = 2000", True))
+        self.assertEqual((self.later(), self.server.told("COPY (")), ({16385: ""}, []))
+        self.assertLess(self.server.index("LOCK TABLE"), self.server.index("SELECT c.oid, n.nspname, c.relname FROM"))
 
-    def test_columns_are_compared_under_the_locks(self) -> None:
+    def test_columns_are_compared_under_the_lock(self) -> None:
         """As where two columns changed their names."""
-        left: list[list[Row]] = [[["16385", "2", "id", "23", "-1"], ["16385", "1", "n", "23", "-1"]]]
-        self.server.answer("FROM pg_catalog.pg_attribute a WHERE a.attrelid IN", lambda _: left.pop() if left else self.columns)
+        self.columns[:2] = [["16385", "2", "id", "23", "-1"], ["16385", "1", "n", "23", "-1"]]
         self.copier().run()
-        self.assertIn(f"warning: {CHANGED}: the copy begins anew", self.said)
+        self.assertEqual((self.later(), self.server.told("COPY (")), ({16385: ""}, []))
+
+    def test_files_are_compared_under_the_lock(self) -> None:
+        """As where a table was truncated: an older snapshot finds it empty."""
+        files = iter(range(1, 1000))
+        self.server.answer("pg_relation_filenode", lambda _: [["16385", str(next(files))]])
+        self.copier().run()
+        self.assertEqual((self.later(), self.server.told("COPY (")), ({16385: ""}, []))
+
+    def test_a_table_that_goes_meanwhile_is_forgotten(self) -> None:
+        """Nothing of it was stored, so nothing is wrong."""
+        self.patch(copying, "read_catalog", lambda *_: a_catalog(a_table(16385, "stock")))
+
+        def lock(_: str) -> list[Row]:
+            self.tables = []
+            raise ServerError("gone", "42P01")
+
+        self.server.answer("LOCK TABLE", lock)
+        self.copier().run()
+        remembered = Remembered(self.store)
+        self.assertEqual((self.later(), remembered.found, remembered.sent, remembered.catalog and remembered.catalog.tables), ({}, {}, {}, {}))
+        self.assertEqual(remembered.look(a_catalog()), [])
+        self.assertEqual(remembered.found, {})
+
+    def test_a_table_that_others_keep_locked_is_added_by_itself(self) -> None:
+        self.patch(reading, "PATIENCE", 0.02)
+        self.server.answer("LOCK TABLE", ServerError("could not obtain lock", "55P03"))
+        self.copier().run()
+        self.assertEqual((self.later(), self.server.told("COPY (")), ({16385: ""}, []))
 
     def test_failover(self) -> None:
         self.server.server_version = 170000
@@ -294,6 +356,9 @@ class Ends(Copying):
         def fail(_: str) -> list[Row]:
             raise error
 
+        return self.failing_by(fail, kind, part, attempts)
+
+    def failing_by(self, fail: Callable[[str], list[Row]], kind: type[Exception], part: str, attempts: int = 1) -> Exception:
         self.server.answer(part, fail)
         with self.assertRaises(kind) as raised:
             self.copier().run()
@@ -319,20 +384,13 @@ class Ends(Copying):
                 self.setUp()
                 self.failing(ServerError("lost", sqlstate), Passing, attempts=10)
 
-    def test_tables_that_change_at_each_attempt(self) -> None:
-        """As by TRUNCATE without a pause."""
-        files = iter(range(1, 1000))
-        self.server.answer("pg_relation_filenode", lambda _: [["16385", str(next(files))]])
+    def test_publications_that_change_at_each_attempt(self) -> None:
+        numbers = iter(range(1000))
+        self.patch(copying, "read_catalog", lambda *_: a_catalog(publication=dataclasses.replace(PGSUB, oid=next(numbers))))
         with self.assertRaisesRegex(Passing, f"{CHANGED}; 20 attempts to copy"):
             self.copier().run()
         self.assertEqual((len(self.slept), set(self.slept)), (19, {1.0}))
         self.assertEqual((self.server.told("COPY ("), len(self.server.told('DROP PUBLICATION "pgsub"'))), ([], 1))
-
-    def test_locks_that_cant_be_had_at_any_attempt(self) -> None:
-        self.server.answer("LOCK TABLE", ServerError("lock timeout", "55P03"))
-        with self.assertRaises(Passing):
-            self.copier().run()
-        self.assertEqual(len(self.server.told("LOCK TABLE")), 20)
 
     def test_signal(self) -> None:
         self.failing(Stopped(), Stopped)
@@ -351,15 +409,17 @@ class Ends(Copying):
         with self.assertRaises(Passing):
             self.copier().run()
 
-    def test_a_complete_copy_keeps_its_publication(self) -> None:
-        """From here on the slot may be there, so the next start may need it."""
-        def fail(_: str) -> list[Row]:
-            raise Stopped
+    def test_a_slot_that_may_be_there(self) -> None:
+        """It is looked for, and dropped; but not one that was moved since."""
+        for at, dropped in ((POINT, 1), (POINT + 8, 0), (0, 0)):
+            def fail(_: str, at: int = at) -> list[Row]:
+                self.slots = [["pgoutput", "t", "f", str(at)]] if at else []
+                raise Stopped
 
-        self.server.answer("pg_copy_logical_replication_slot", fail)
-        with self.assertRaises(Stopped):
-            self.copier().run()
-        self.assertEqual((self.server.told("DROP"), self.made()), ([], {"pgsub": 777}))
+            with self.subTest(at=at):
+                self.setUp()
+                self.failing_by(fail, Stopped, "pg_copy_logical_replication_slot")
+                self.assertEqual(len(self.server.told("pg_drop_replication_slot")), dropped)
 
     def test_a_slot_that_is_rejected(self) -> None:
         """The slot isn't there, so the publication isn't needed."""
@@ -392,7 +452,7 @@ class Ends(Copying):
         self.patch(FakeFilter, "serve", lambda _, timeout, reads=(): (list(reads), [], []))
         with self.assertRaises(Passing):
             copier.run()
-        self.assertEqual(len(self.server.told("SET TRANSACTION SNAPSHOT")), 10)
+        self.assertEqual(len(self.server.told("pg_export_snapshot")), 10)
         self.assertEqual(self.progress.copied_rows, 0)
 
     def test_a_slot_that_is_there(self) -> None:
@@ -422,6 +482,140 @@ class Ends(Copying):
         self.assertEqual(copier.options.publication, ["pgsub", "pgsub_inserts"])
 
 
+OTHER = Table(16390, "public", "other", "r", "d", None, None, [Column("id", 23, -1, True, 1), Column("n", 23, -1, False, 2)])
+
+
+class Kept(Copying):
+    """Two tables, of which one is stored whole when the copy is cut."""
+
+    def setUp(self) -> None:
+        super().setUp()
+        self.tables = [STOCK, OTHER]
+        self.position = 0
+        self.names.append(["16390", "public", "other"])
+        self.columns += [["16390", "1", "id", "23", "-1"], ["16390", "2", "n", "23", "-1"]]
+        self.server.answer("pg_relation_filenode", [["16385", "1"], ["16390", "2"]])
+        real = FakeFilter.start
+
+        def start(fake: FakeFilter, check: Callable[[], None]) -> int:
+            real(fake, check)
+            return self.position
+
+        self.patch(FakeFilter, "start", start)
+
+    def breaks(self, error: BaseException) -> None:
+        """Makes the COPY of a table fail, once the parts before it were taken, for the first time."""
+        left: list[BaseException] = [error]
+
+        def copied(_: str) -> list[Row]:
+            if left:
+                until = time.monotonic() + 5
+                while not Remembered(self.store).copied and time.monotonic() < until:
+                    time.sleep(0.001)
+                raise left.pop()
+            return []
+
+        self.server.answer('FROM ONLY "public"."other"', copied)
+
+    def cut(self) -> None:
+        """Is ended within the second table."""
+        self.breaks(Stopped())
+        with self.assertRaises(Stopped):
+            self.copier(jobs=1).run()
+        self.assertEqual((self.checkpoint.known.phase, Remembered(self.store).copied), (known_of.SLOT, {16385: 2}))
+        self.assertEqual((self.server.told("DROP PUB"), len(self.slots)), ([], 1))
+        os.close(self.checkpoint.file)
+        self.patch(os, "close", lambda number: None)
+        self.server.commands.clear()
+
+    def test_tables_that_are_whole_follow_and_others_are_added(self) -> None:
+        self.cut()
+        self.position = 2
+        self.copier().run()
+        self.assertEqual(self.filter.sent, frame(2, begin(2)) + frame(2, commit(2, POINT)))
+        self.assertEqual((self.later(), self.checkpoint.known.phase), ({16390: ""}, known_of.COPIED))
+        self.assertEqual((self.server.told("COPY ("), self.server.told("CREATE"), self.made()), ([], [], {"pgsub": 777}))
+        self.assertTrue(os.path.exists(self.store))
+        self.assertEqual(Remembered(self.store).copied, {})
+
+    def test_so_it_is_within_one_run(self) -> None:
+        self.breaks(ServerError("lost", "57P01"))
+        real = FakeFilter.start
+
+        def start(fake: FakeFilter, check: Callable[[], None]) -> int:
+            real(fake, check)
+            return 2 if fake.sent else 0
+
+        self.patch(FakeFilter, "start", start)
+        self.copier(jobs=1).run()
+        self.assertTrue(self.filter.sent.endswith(frame(2, begin(2)) + frame(2, commit(2, POINT))))
+        self.assertIn("warning: lost: the copy goes on", self.said)
+        self.assertEqual(self.later(), {16390: ""})
+
+    def test_it_begins_anew_where_nothing_is_stored_whole(self) -> None:
+        self.cut()
+        self.position = 1
+
+        def dropped(_: str) -> list[Row]:
+            self.position = 0
+            return self.slot_dropped(_)
+
+        self.server.answer('DROP_REPLICATION_SLOT "pgsub"', dropped)
+        self.copier(jobs=1).run()
+        self.assertEqual((self.progress.copied_rows, self.progress.copied_tables, self.later()), (4, 2, {}))
+        self.assertEqual(len(self.server.told("pg_copy_logical_replication_slot")), 1)
+
+    def is_begun_anew(self, size: str) -> bool:
+        """Whether the copy begins anew where the other table has so many bytes, and 1000 may be buffered."""
+        self.cut()
+        self.position = 2
+        self.server.answer("pg_table_size", [["16390", size]])
+        with mock.patch.object(Copier, "copy_anew") as fresh:
+            self.copier(max_buffered=1000).run()
+        self.assertEqual(len(self.slots), 0 if fresh.called else 1)
+        return bool(fresh.called)
+
+    def test_it_begins_anew_where_a_table_is_too_large_to_be_added(self) -> None:
+        self.assertTrue(self.is_begun_anew("501"))
+
+    def test_it_goes_on_where_a_table_can_be_added(self) -> None:
+        self.assertFalse(self.is_begun_anew("500"))
+
+    def test_all_rows_are_stored_and_it_is_not_noted(self) -> None:
+        self.cut()
+        self.position = POINT
+        self.copier().run()
+        self.assertEqual((self.filter.sent, self.checkpoint.known.phase), (b"", known_of.COPIED))
+
+    def test_a_slot_that_was_moved_is_left_alone(self) -> None:
+        self.cut()
+        self.slots = [["pgoutput", "t", "f", str(POINT + 8)]]
+        with self.assertRaisesRegex(Unfit, "is there already"):
+            self.copier().run()
+        self.assertEqual((self.server.told("DROP"), len(self.slots)), ([], 1))
+
+    def test_what_lasts_leaves_no_slot(self) -> None:
+        self.breaks(ServerError("denied", "42501"))
+        with self.assertRaisesRegex(ServerError, "denied"):
+            self.copier(jobs=1).run()
+        self.assertEqual((self.slots, len(self.server.told('DROP PUBLICATION "pgsub"'))), ([], 1))
+
+    def test_several_connections(self) -> None:
+        """Each part is one transaction, with the rows of one table."""
+        self.patch(reading, "PART", 300)
+        self.patch(reading, "BLOCK", 1)
+        self.server.lines = [b"%d\t%d\n" % (it, it * it) for it in range(200)]
+        self.copier(jobs=2).run()
+        self.assertGreater(self.server.opened, 4)
+        subscriber, sent, at = Subscriber(Store(":memory:")), self.filter.sent, 0
+        while at < len(sent):
+            size = int.from_bytes(sent[at + 1 : at + 5], "big") + 1
+            subscriber.take(sent[at + 5 : at + size])
+            at += size
+        self.assertEqual({oid: len(rows) for oid, rows in subscriber.store.rows().items()}, {16385: 200, 16390: 200})
+        self.assertEqual((subscriber.store.position, self.progress.copied_tables, self.server.opened), (POINT, 2, self.server.closed))
+
+
 class Left(Copying):
     """A publication that a run has left which was killed."""
 
@@ -429,7 +623,7 @@ class Left(Copying):
         """Is killed while it copies."""
         copier = self.copier(**options)
         self.server.answer("COPY (", ServerError("", "42000"))
-        self.patch(copier.maker, "take_back", lambda: None)
+        self.patch(copier, "give_up", lambda _: None)
         with self.assertRaises(ServerError):
             copier.run()
         os.close(self.checkpoint.file)

@@ -131,6 +131,29 @@ class Sessions(Case):
         self.server.to_send = [keepalive(0x1000, asks=True)]
         self.run_until(follower, lambda: self.confirmed() == 0x1000)
 
+    def test_the_catalog_is_read_on_another_connection(self) -> None:
+        """A session's process would decode older changes by what it has in its caches."""
+        follower, seen = self.follower(), list[bool]()
+
+        def compare(_: object, connection: object, position: int) -> bool:
+            seen.append(connection is follower.connection)
+            return True
+
+        self.patch(watching.Watch, "compare", compare)
+        self.run_until(follower, lambda: self.server.sessions == 1)
+        self.assertEqual(seen, [False])
+
+    def test_a_status_that_waited_at_the_end_of_a_session_is_noted(self) -> None:
+        """The next session repeats it, so it has to be on the disk before."""
+        self.patch(following, "QUIET", 30.0)
+        follower = self.follower()
+        follower.last_moved = time.monotonic()
+        self.server.to_send = [keepalive(0x1000)]
+        ends = iter([True])
+        self.patch(follower.adder, "wants_session", lambda: follower.held is not None and next(ends, False))
+        self.run_until(follower, lambda: self.server.sessions == 2 and self.confirmed() == 0x1000)
+        self.assertEqual(self.checkpoint.read().confirmed, 0x1000)
+
     def test_until(self) -> None:
         for until, end in ((0x104, 0x108), ("now", 0x800)):
             self.server.to_send = [begin(0x100, 7), insert(1), commit(0x100, 0x108), keepalive(0x800)]

@@ -251,7 +251,8 @@ class Servers(Quiet):
         self.assertEqual(commands, ["SAVEPOINT", "LOCK", "ROLLBACK", "LOCK", "ROLLBACK", "LOCK"])
         self.assertTrue(all(it.endswith("NOWAIT") for it in self.server.told("LOCK TABLE")))
         self.server.answer("LOCK TABLE", ServerError("could not obtain lock", "55P03"))
-        with mock.patch.object(meeting, "PATIENCE", 0.01), self.assertRaisesRegex(Passing, "locked by others"):
+        source.patience = 0.01
+        with self.assertRaisesRegex(Passing, "locked by others"):
             source.see("snap")
 
     def test_rights(self) -> None:

@@ -2,13 +2,14 @@
 
 from __future__ import annotations
 
+import re
 import unittest
 from unittest import mock
 
 from pgsub_connect import making
 from pgsub_connect.errors import ServerError, Stopped
 from pgsub_connect.making import Maker, Wanted, identity, names_of, publishable_tables
-from pgsub_connect.publishing import Column, Table, published_columns, published_tables, united
+from pgsub_connect.publishing import Column, Table, published_tables, put_columns, united
 from tests.fake_server import FakeServer, Quiet, Row, connection_to
 
 KEY, OTHER = Column("id", 23, -1, True), Column("Q\"x", 25, -1, False)
@@ -56,13 +57,20 @@ def row(oid: int, name: str, kind: str = "r", row_filter: str | None = None, lis
     return [str(oid), "public", name, kind, "d", row_filter, listed]
 
 
-ATTRIBUTES: list[list[str | None]] = [["id", "23", "-1", "1", "t"], ["v", "25", "-1", "2", "f"], ["g", "25", "-1", "3", "f"]]
+ATTRIBUTES = (("id", "23", "-1", "1", "f", "t"), ("v", "25", "-1", "2", "f", "f"), ("g", "25", "-1", "3", "t", "f"), ("w", "25", "-1", "4", "f", "f"))
+
+
+def attributes(command: str) -> list[Row]:
+    """The columns of each table that a query asks for."""
+    found = re.search(r"attrelid IN \(([^)]*)\)", command)
+    assert found
+    return [[oid, *it] for oid in found[1].split(", ") for it in ATTRIBUTES]
 
 
 class Published(unittest.TestCase):
     def setUp(self) -> None:
         self.server = FakeServer()
-        self.server.answer("FROM pg_catalog.pg_attribute", ATTRIBUTES)
+        self.server.answer("FROM pg_catalog.pg_attribute", attributes)
 
     def test_union_by_oid(self) -> None:
         self.server.answer("('a')", [row(9, "x"), row(5, "y")])
@@ -78,7 +86,7 @@ class Published(unittest.TestCase):
 
     def test_a_list_of_all_columns_is_none(self) -> None:
         self.server.answer("('a')", [row(5, "t")])
-        self.server.answer("('b')", [row(5, "t", listed="1,2,3")])
+        self.server.answer("('b')", [row(5, "t", listed="1,2,4")])
         self.assertEqual(len(published_tables(connection_to(self.server), ["a", "b"])[0].columns), 3)
 
     def test_lists_before_15(self) -> None:
@@ -89,17 +97,25 @@ class Published(unittest.TestCase):
 
     def columns(self, version: int, listed: list[int] | None) -> tuple[list[str], str]:
         server = FakeServer(version)
-        server.answer("FROM pg_catalog.pg_attribute", ATTRIBUTES)
-        found = published_columns(connection_to(server), Table(5, "public", "t", "r", "d", None, listed))
-        return [it.name for it in found], server.commands[-1]
+        server.answer("FROM pg_catalog.pg_attribute", attributes)
+        tables = [Table(5, "public", "t", "r", "d", None, listed), Table(6, "public", "u", "r", "d", None, [2])]
+        put_columns(connection_to(server), tables)
+        self.assertEqual([it.name for it in tables[1].columns], ["v"])
+        self.assertEqual(len(server.commands), 1)
+        return [it.name for it in tables[0].columns], server.commands[-1]
 
     def test_generated_columns(self) -> None:
         """From 18 on what the server says is exact."""
-        for version, listed, excluded in ((150018, None, True), (150018, [1, 3], True), (180006, [1, 3], False), (180006, None, True)):
-            names, query = self.columns(version, listed)
-            self.assertEqual("attgenerated" in query, excluded, (version, listed))
-            self.assertEqual(names, ["id", "g"] if listed else ["id", "v", "g"])
+        for version, listed, wanted in (
+            (150018, None, ["id", "v", "w"]), (150018, [1, 3], ["id"]), (180006, [1, 3], ["id", "g"]), (180006, None, ["id", "v", "w"]),
+        ):
+            self.assertEqual(self.columns(version, listed)[0], wanted, (version, listed))
         self.assertNotIn("attgenerated", self.columns(110000, None)[1])
+
+    def test_one_query_reads_the_columns_of_all(self) -> None:
+        self.server.answer("('a')", [row(9, "x"), row(5, "y"), row(7, "z")])
+        self.assertEqual([len(it.columns) for it in published_tables(connection_to(self.server), ["a"])], [3, 3, 3])
+        self.assertEqual(len(self.server.told("pg_attribute")), 1)
 
     def test_tables_that_may_be_listed(self) -> None:
         for version, roots in ((150018, True), (120000, False)):

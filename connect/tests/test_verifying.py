@@ -11,7 +11,8 @@ from types import SimpleNamespace
 from typing import Any, cast
 from unittest import mock
 
-from pgsub_connect import cli, verifying
+from pgsub_connect import cli, requesting, verifying
+from pgsub_connect.checkpoint import FOLLOWING, Known
 from pgsub_connect.cli import Options
 from pgsub_connect.digests import NotText, Plan, Summing, fields_of, text_of
 from pgsub_connect.errors import FileError, NoSlot, Passing, Stopped, Unfit
@@ -249,6 +250,31 @@ class Reads(Case):
         self.store.base.execute("UPDATE held SET body = x'0002' WHERE rowid = 5")
         with self.assertRaises(Malformed):
             self.compare()
+
+    def test_what_differs_is_repaired_where_that_is_asked_for(self) -> None:
+        for different, repair, status, asked in (
+            ([], False, 0, None), ([], True, 0, None), ([WHOLE], False, 1, None), ([WHOLE], True, 7, {WHOLE.oid: WHOLE.text()}),
+        ):
+            self.options.repair = repair
+            with mock.patch.object(verifying, "compare", lambda *_, it=different: it), mock.patch.object(requesting, "add", return_value=7) as add:
+                self.assertEqual(verifying.run(self.options, never), status)
+            self.assertEqual(add.call_args and add.call_args.args[1], asked)
+
+    def test_which_tables_differ(self) -> None:
+        """Those that were compared and aren't equal, and those that couldn't be."""
+        source = cast(Source, SimpleNamespace(plain=connection_to(self.server), encoding="UTF8", tables=list(self.tables)))
+        for columns, equal, different in ((True, True, []), (True, False, [KEYED, WHOLE]), (False, True, [KEYED, WHOLE])):
+            with contextlib.closing(Copy(self.path, self.path, 0x130, never)) as copy:
+                verifier = Verifier(self.options, source, copy)
+                with mock.patch.multiple(verifier, has_columns=lambda _, it=columns: it, is_equal=lambda *_, it=equal: it):
+                    self.assertEqual(verifier.run(list(self.tables)), not different)
+                self.assertEqual(verifier.different, different)
+
+    def test_what_is_being_added_is_not_compared(self) -> None:
+        known = Known(FOLLOWING, adding={"2": 0})
+        self.assertEqual(verifying.settled([KEYED], known), [KEYED])
+        with self.assertRaisesRegex(Passing, "being added just now, or refused: public.whole"):
+            verifying.settled([KEYED, WHOLE], known)
 
     def test_nobody_follows(self) -> None:
         with self.assertRaisesRegex(Passing, "a follower has to run"):

@@ -48,6 +48,7 @@ class Words(Quiet):
             "follow --store s --record f --start 0/5", "follow --store s --record f --streaming", "record --record f --store s",
             "record --record f --no-copy", "record --record f --strict", "record --record f --table t", "record --create --until now",
             "verify", "verify --store s --hold 0", "verify --store s --hold 601", "verify --store s --show -1", "verify --store s --create",
+            "follow --store s --jobs 0", "follow --store s --jobs 65", "follow --store s --repair", "add --store s --table t --jobs 2",
         ):
             self.assertIn("usage: ", self.rejected(words), words)
 

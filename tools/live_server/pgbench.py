@@ -20,14 +20,14 @@ RATE = 200
 class PgBench(threading.Thread):
     """Runs pgbench, again and again where a killed server ends it."""
 
-    def __init__(self, cluster: Cluster) -> None:
+    def __init__(self, cluster: Cluster, scale: int = SCALE, rate: int = RATE) -> None:
         super().__init__(daemon=True)
         self.cluster, self.ended = cluster, threading.Event()
         self.child: subprocess.Popen[bytes] | None = None
         place = ["-h", cluster.installed.inside(cluster.folder), "-p", str(cluster.port), "-U", cluster.user, "shop"]
-        cluster.call("pgbench", "-i", "-q", "-s", str(SCALE), *place)
+        cluster.call("pgbench", "-i", "-q", "-s", str(scale), *place)
         cluster.run("ALTER TABLE pgbench_history REPLICA IDENTITY FULL", "CREATE PUBLICATION pgsub FOR ALL TABLES")
-        more = ["-n", "-c", str(CLIENTS), "-j", "2", "-R", str(RATE), "-T", "100000"]
+        more = ["-n", "-c", str(CLIENTS), "-j", "2", "-R", str(rate), "-T", "100000"]
         self.words = cluster.installed.words("pgbench", *more, *place)
 
     def begin(self) -> None:

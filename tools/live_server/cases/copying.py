@@ -2,29 +2,48 @@
 
 from __future__ import annotations
 
+import itertools
+import json
 import threading
+import time
 
+from ..child import Child
 from ..errors import Failed
 from ..follower import wait_until
 from ..place import SERVER, Place
 from .case import Case
 
 
-def copies_anew(place: Place, *commands: str) -> None:
-    """Runs commands between the slot and the locks, upon which the copy has to begin anew."""
+def added(place: Place, child: Child) -> None:
+    """Waits until each table is there, and compares."""
+    child.wait_for("following slot")
+    wait_until(lambda: not wanted(place), "adding tables", 60, child.check)
+    place.catch_up(child)
+    child.stop()
+    if place.found():
+        raise Failed(f"found: {place.found()}")
+    place.equal()
+
+
+def wanted(place: Place) -> bool:
+    """Whether tables are still to be added."""
+    return bool(json.loads(place.beside(".tables").read_text())["wanted"] or place.checkpoint().get("adding"))
+
+
+def adds_later(place: Place, *commands: str, text: str = "it is added by itself") -> None:
+    """Runs commands between the slot and a table's lock, upon which the table has to be added by itself."""
     proxy = place.proxy()
     proxy.before("LOCK TABLE", lambda: place.run(*commands))
-    said = place.follow("--create", dsn=place.dsn(proxy.folder))
-    if "begins anew" not in said:
-        raise Failed(f"the copy didn't begin anew: {said}")
-    place.equal()
+    child = place.start("--create", "--jobs", "1", dsn=place.dsn(proxy.folder))
+    child.wait_for(text)
+    added(place, child)
 
 
 def swapped(place: Place) -> None:
     """A table is swapped by renames between the slot and the locks: its own rows are copied, and not the other one's."""
     place.stock()
     place.run("CREATE TABLE stock_new (LIKE stock INCLUDING ALL)", "INSERT INTO stock_new VALUES (7, 7)")
-    copies_anew(place, "ALTER TABLE stock RENAME TO stock_old", "ALTER TABLE stock_new RENAME TO stock")
+    adds_later(place, "ALTER TABLE stock RENAME TO stock_old", "ALTER TABLE stock_new RENAME TO stock")
     if place.rows() != {("public", "stock_old"): {("1", "5"): 1, ("2", "0"): 1}}:
         raise Failed(f"{place.rows()}")
 
@@ -33,19 +52,64 @@ def dropped(place: Place) -> None:
     """A published table is dropped between the slot and the locks: the rest is copied."""
     place.stock(published=False)
     place.run("CREATE TABLE staging (id int PRIMARY KEY)", "CREATE PUBLICATION pgsub FOR ALL TABLES")
-    copies_anew(place, "DROP TABLE staging")
+    adds_later(place, "DROP TABLE staging", text="was dropped, or left the publication, while others were copied")
 
 
 def column_dropped(place: Place) -> None:
     """So it is where a column is."""
     place.stock()
-    copies_anew(place, "ALTER TABLE stock DROP COLUMN quantity")
+    adds_later(place, "ALTER TABLE stock DROP COLUMN quantity")
 
 
 def truncated(place: Place) -> None:
     """So it is where a table is truncated: an older snapshot would find it empty."""
     place.stock()
-    copies_anew(place, "TRUNCATE stock", "INSERT INTO stock VALUES (3, 3)")
+    adds_later(place, "TRUNCATE stock", "INSERT INTO stock VALUES (3, 3)")
+
+
+def locks_are_short(place: Place) -> None:
+    """A table that is locked while others are read is read later; one that was read can be altered while others are read."""
+    place.stock()
+    place.run("CREATE TABLE other (id int PRIMARY KEY)", "INSERT INTO other VALUES (1)", "ALTER PUBLICATION pgsub ADD TABLE other")
+    proxy, reads, goes_on = place.proxy(), threading.Event(), threading.Event()
+
+    def hold() -> None:
+        reads.set()
+        goes_on.wait(60)
+
+    proxy.before('ONLY "public"."other"', hold)
+    child = place.start("--create", "--jobs", "2", dsn=place.dsn(proxy.folder))
+    wait_until(reads.is_set, "reading rows", 60, child.check)
+    wait_until(lambda: place.value("SELECT count(*) FROM pg_locks WHERE relation = 'stock'::regclass") == "0", "reading the other table", 60)
+    place.run("ALTER TABLE stock ADD COLUMN price int", "UPDATE stock SET price = 7", "TRUNCATE stock", "INSERT INTO stock VALUES (5, 5, 5)")
+    goes_on.set()
+    place.catch_up(child)
+    child.stop()
+    place.equal()
+
+
+def cut(place: Place) -> None:
+    """A copy of ten tables is killed: those that were stored whole follow, and the others are added one by one."""
+    tables = [f"part{it}" for it in range(10)]
+    for it in tables:
+        place.run(f"CREATE TABLE {it} (id int PRIMARY KEY, note text)", f"INSERT INTO {it} SELECT it, '{it} ' || it FROM generate_series(1, 3000) it")
+    proxy, count = place.proxy(), itertools.count()
+
+    def hold() -> None:
+        time.sleep(0.4)
+        if next(count) == 6:
+            child.kill()
+
+    proxy.before("COPY (", hold, 10)
+    child = place.start("--create", "--all-tables", dsn=place.dsn(proxy.folder))
+    wait_until(lambda: not child.is_running(), "the kill", 60)
+    for it in tables:
+        place.run(f"UPDATE {it} SET note = 'new' WHERE id % 10 = 0", f"DELETE FROM {it} WHERE id < 10", f"INSERT INTO {it} VALUES (0, NULL)")
+    child = place.start("--create", "--all-tables")
+    child.wait_for("of an interrupted copy are kept")
+    added(place, child)
+    if place.value("SELECT count(*) FROM pg_replication_slots") != "1":
+        raise Failed("a slot is left")
 
 
 def never_possible(place: Place) -> None:
@@ -115,6 +179,8 @@ def waits_for_a_lock(place: Place, *words: str) -> None:
 CASES = (
     Case("table-swapped-while-copied", swapped),
     Case("table-dropped-while-copied", dropped),
+    Case("locks-are-short", locks_are_short),
+    Case("copy-of-ten-tables-cut", cut),
     Case("column-dropped-while-copied", column_dropped),
     Case("table-truncated-while-copied", truncated),
     Case("copy-that-never-works", never_possible),

@@ -13,6 +13,7 @@ from ..follower import wait_until
 from ..place import FILE, LOG, PASSING, REJECTED, SERVER, UNFIT, USAGE, Place, killed_at
 from ..rows import compare, quoted, rows_of_server, rows_of_store
 from .case import Case
+from .copying import added
 
 
 def move(source: Path, target: Path) -> None:
@@ -274,10 +275,11 @@ def without_copy(place: Place) -> None:
 def cut_copy(name: str, after: bool, place: Place) -> None:
     """Begins anew or goes on after a copy that was cut off there."""
     place.stock()
+    place.run("CREATE TABLE other (id int PRIMARY KEY)", "INSERT INTO other VALUES (1), (2)", "ALTER PUBLICATION pgsub ADD TABLE other")
     killed_at(place, name, after)
     place.change()
-    place.follow("--create")
-    place.equal()
+    place.run("DELETE FROM other WHERE id = 1", "INSERT INTO other VALUES (3)")
+    added(place, place.start("--create"))
     if place.beside(".copying").exists():
         raise Failed("copy.db.copying is left")
     if place.value("SELECT count(*) FROM pg_replication_slots") != "1":
@@ -288,9 +290,12 @@ CUTS = (
     ("before-anything-was-made", "slot_position", True),
     ("before-the-temporary-slot", "published_tables", True),
     ("before-the-snapshot-was-taken", "take_snapshot", False),
-    ("before-the-first-row", "Copier.copy_table", False),
-    ("with-a-part-of-the-rows", "Copier.end_part", True),
     ("before-the-lasting-slot", "Copier.make_lasting", False),
+    ("behind-the-lasting-slot", "Copier.make_lasting", True),
+    ("before-the-first-row", "Copier.send_part", False),
+    ("with-a-part-of-the-rows", "Copier.send_part", True),
+    ("before-the-last-commit", "Copier.end_copy", False),
+    ("with-all-rows", "Copier.finish_filter", True),
     ("with-all-rows-and-the-slot", "Copier.keep", False),
     ("between-its-two-renames", "os.rename", True),
     ("after-it-was-complete", "Copier.keep", True),

@@ -11,7 +11,7 @@ from ..errors import Unusable
 from ..options import Options
 from ..place import Place, Shared
 from . import (
-    altering, copying, names, operating, privacy, publications, reaching, shapes, sideroads, silence, slots, standbys, starts, stops,
+    adding, altering, copying, names, operating, privacy, publications, reaching, shapes, sideroads, silence, slots, standbys, starts, stops,
     timelines, values, verifying, versions,
 )
 from .case import Case
@@ -24,6 +24,7 @@ THEMES: dict[str, Sequence[Case]] = {
     "values": values.CASES,
     "exports": EXPORTS,
     "verifying": verifying.CASES,
+    "adding": adding.CASES,
     "timelines": timelines.CASES,
     "slots": slots.CASES,
     "copying": copying.CASES,

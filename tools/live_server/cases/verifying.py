@@ -206,7 +206,8 @@ PLANTED: dict[str, tuple[Callable[[Editor], None], list[Line]]] = {
 
 def plant(place: Place, good: Path, change: Callable[[Editor], None]) -> None:
     """Makes the store's file anew, with a difference."""
-    shutil.copyfile(good, place.store)
+    if good != place.store:
+        shutil.copyfile(good, place.store)
     with contextlib.closing(sqlite3.connect(place.store)) as base:
         change(Editor(place, base))
         base.commit()

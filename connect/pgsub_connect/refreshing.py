@@ -1,0 +1,133 @@
+"""`pgsub-connect refresh`: compares the publications with what the copy has, tells it, and has it mended after asking.
+
+What the copy has is known from `STORE.tables`: what was there when its rows were read, what has changed since, and what was found and not
+accepted. Of the server only the catalog is read.
+
+| Told | Means | Done |
+|---|---|---|
+| `missing` | rows that were there before the table, or a part of it, was published aren't in the copy | copied anew |
+| `changed` | its columns, its rows' filter or its partitions were altered: rows in the copy may be other ones | copied anew |
+| `extra` | it isn't published any more, and its rows are in the copy as they were then | they go |
+| `other` | what is of no one published table | nothing |
+"""
+
+from __future__ import annotations
+
+import json
+import re
+from typing import TYPE_CHECKING, NamedTuple
+
+from . import log, requesting
+from .catalog import Catalog, Table, read_catalog
+from .differences import PUBLICATION, VALUES, gone_text
+from .dropping import ask_terminal, read_known
+from .errors import FileError
+from .making import names_of
+from .postgres import Check, Connection
+from .remembered import Remembered
+from .resting import check_there
+from .server import settle
+from .texts import counted
+
+if TYPE_CHECKING:
+    from .cli import Options
+
+DONE, LEFT = 0, 1
+MISSING, CHANGED, EXTRA, OTHER = "missing", "changed", "extra", "other"
+TYPE = re.compile(r"type .* \((\d+)\)")
+
+
+class Told(NamedTuple):
+    """What is wrong of a table, by its OID and name; 0 and "" of what is of no one table."""
+
+    what: str
+    oid: int
+    table: str
+    why: list[str]
+
+    def line(self) -> str:
+        named = {"table": self.table, "oid": self.oid} if self.oid else {}
+        return log.escaped(json.dumps({"is": self.what, **named, "why": self.why}, ensure_ascii=False))
+
+
+def compared(remembered: Remembered, now: Catalog) -> list[Told]:
+    """All that is wrong by what is remembered, which is changed by that, and by what a server has now."""
+    before = remembered.catalog
+    assert before is not None
+    known = set(before.tables)
+    remembered.look(now)
+    found: dict[int, list[str]] = {}
+    others = []
+    for kind in (PUBLICATION, VALUES):
+        for text in texts_of(remembered, kind):
+            tables = tables_of(text, now)
+            for it in tables:
+                found.setdefault(it.oid, []).append(text)
+            if not tables:
+                others.append(text)
+    told = [Told(what_is(it, known, found[oid]), oid, name(it), found[oid]) for oid, it in sorted(now.tables.items()) if oid in found]
+    gone = {gone_text(remembered.text_of(oid)): oid for oid in remembered.left}
+    for text in others:
+        oid = gone.get(text, 0)
+        told.append(Told(EXTRA if oid else OTHER, oid, remembered.text_of(oid).rpartition(" ")[0] if oid else "", [text]))
+    return told
+
+
+def texts_of(remembered: Remembered, kind: str) -> list[str]:
+    found = remembered.found.get(kind)
+    if found is None:
+        return []
+    return [*found.texts, *([f"{kind}: and {found.more} more, see the log"] if found.more else [])]
+
+
+def name(table: Table) -> str:
+    return f"{table.namespace}.{table.name}"
+
+
+def tables_of(text: str, now: Catalog) -> list[Table]:
+    """The published tables that a text is about: that are named in it, or are of its publication, or have a column of its type."""
+    tables = list(now.tables.values())
+    if found := TYPE.match(text):
+        return [it for it in tables if any(column.type_oid == int(found[1]) for column in it.shape.columns)]
+    for publication in now.publications:
+        if text.startswith(f"publication {publication} "):
+            return [it for it in tables if publication in it.parts]
+    return [it for it in tables if f" {it.text()}" in text]
+
+
+def what_is(table: Table, known: set[int], texts: list[str]) -> str:
+    return MISSING if table.oid not in known or any("missing" in it or "aren't sent" in it for it in texts) else CHANGED
+
+
+def run(options: Options, check: Check) -> int:
+    """Compares, asks and has it done; the exit status."""
+    check_there(options.store)
+    options.slot = read_known(options.store + ".connector").slot or options.slot
+    remembered = Remembered(options.store, options.mode)
+    if remembered.catalog is None:
+        raise FileError(f"{remembered.path}: there is no such file yet: the next session makes it")
+    told = compared(remembered, read_now(options, check))
+    for it in told:
+        print(it.line(), flush=True)
+    tables = {it.oid: it.table for it in told if it.what in (MISSING, CHANGED)}
+    extra = {it.oid: it.table for it in told if it.what == EXTRA and remembered.described(it.oid)}
+    for some in (tables, extra):
+        for oid in [it for it in some if remembered.wanted.get(it) == ""]:
+            log.info(f"{some.pop(oid)} is under way already")
+    if not tables and not extra:
+        log.info("there is nothing to do")
+        return DONE
+    parts = [f"copy {counted(len(tables), 'table')} anew: {names_of(list(tables.values()))}"] if tables else []
+    parts += [f"remove the rows of {counted(len(extra), 'table')}: {names_of(list(extra.values()))}"] if extra else []
+    if not options.yes and not ask_terminal(f"{'; '.join(parts)}?", check, "refresh"):
+        return LEFT
+    return requesting.add(options, tables, check, extra)
+
+
+def read_now(options: Options, check: Check) -> Catalog:
+    connection = Connection(options.dsn, name=f"{options.slot} tables", check=check)
+    try:
+        settle(connection)
+        return read_catalog(connection, options.publication)
+    finally:
+        connection.close()

@@ -1,0 +1,123 @@
+"""Tables that are added to a running copy: what the store has in the end, and what is noted, wherever it is cut."""
+
+from __future__ import annotations
+
+import contextlib
+import unittest
+from unittest import mock
+
+from pgsub_connect.adding import Adder
+from pgsub_connect.checkpoint import Checkpoint
+from pgsub_connect.errors import Passing, ServerError, Stopped
+from pgsub_connect.remembered import Remembered
+
+from .adding_case import OTHER, THIRD, Case, Run, T
+from .row_filter import Store
+from .small_world import WorldSource, insert
+
+
+class Added(Case):
+    def test_rows_that_are_wrong_are_replaced(self) -> None:
+        self.followed()
+        self.spoil()
+        self.want(T)
+        self.change()
+        run = self.goes_on()
+        self.assertEqual(run.progress.adding, {})
+        self.assertIn("public.t: 27 rows as of", " ".join(self.said))
+
+    def test_a_request_while_it_runs(self) -> None:
+        """The session begins anew with whole transactions, and at the end anew without."""
+        self.followed()
+        self.spoil()
+        run = Run(self)
+        self.assertTrue(run.until(lambda: run.progress.state == "following"))
+        self.assertIsNone(run.ask(add=[T, OTHER]))
+        self.change()
+        self.assertTrue(run.until(lambda: self.server.sessions >= 4 and not run.remembered.wanted), (self.said, run.raised))
+        self.change()
+        self.assertTrue(run.until(lambda: self.is_stored(run)))
+        run.end()
+        self.compare()
+        streams = ["streaming" in words for _, words in self.server.started[-3:]]
+        self.assertEqual(streams, [True, False, True])
+
+    def test_several_tables_have_their_own_lsn(self) -> None:
+        self.followed()
+        self.spoil()
+        self.want(THIRD, T, OTHER)
+        points = []
+        real = Adder.finish
+
+        def finish(adder: Adder, oid: int, point: int) -> None:
+            points.append((oid, point))
+            self.change()
+            real(adder, oid, point)
+
+        self.patch(Adder, "finish", finish)
+        self.goes_on()
+        self.assertEqual([oid for oid, _ in points], [THIRD, T, OTHER])
+        self.assertEqual(sorted(point for _, point in points), [point for _, point in points])
+
+    def test_commits_come_at_each_moment(self) -> None:
+        """Beside the slot, its snapshot, and the rows; before P and behind it."""
+        self.followed()
+        self.spoil()
+        for moment in ("Source", "make_slot", "see", "COPY", "block"):
+            self.want(T)
+            WorldSource.hook = staticmethod(lambda name, moment=moment: self.change() if name == moment else None)
+            self.goes_on()
+
+    def test_a_table_that_is_not_published(self) -> None:
+        self.followed()
+        del self.world.tables[THIRD]
+        self.want(THIRD)
+        self.goes_on()
+        self.assertIn("isn't published any more", " ".join(self.said))
+
+    def test_rows_of_a_table_that_left(self) -> None:
+        """They go as one transaction, and nothing is wrong any more."""
+        self.followed()
+        remembered = Remembered(self.store)
+        remembered.left.add(OTHER)
+        remembered.find("publication", 1, "table public.other (16390) was dropped, or left the publication: the rows that it had stay")
+        remembered.save()
+        del self.world.tables[OTHER]
+        run = Run(self)
+        self.assertTrue(run.until(lambda: run.progress.state == "following"))
+        self.assertIsNone(run.ask(add=[T], remove=[OTHER]))
+        self.world.commit(insert(T, (500, "x")))
+        self.assertTrue(run.until(lambda: not run.remembered.wanted and self.is_stored(run)), (self.said, run.raised))
+        run.end()
+        remembered, rows = Remembered(self.store), self.world.rows_of(T)
+        self.assertEqual((remembered.found, remembered.unwanted, OTHER in remembered.sent), ({}, set(), False))
+        with contextlib.closing(Store(self.store).base):
+            self.assertEqual(Store(self.store).rows(), rows)
+
+    def test_requests_that_are_rejected(self) -> None:
+        self.followed()
+        run = Run(self, max_buffered=10)
+        self.assertTrue(run.until(lambda: run.progress.state == "following"))
+        for asked, text in (("x", "malformed"), (["1"], "malformed"), ([5], "table 5 isn't published"), ([T], "--max-buffered")):
+            self.assertIn(text, run.ask(add=asked) or "")
+        for oid in (T, 5):
+            self.assertIn(f"table {oid} is published, or isn't known", run.ask(add=[], remove=[oid]) or "")
+        self.patch(Checkpoint, "has_room_for", lambda *_: False)
+        self.assertIn("no room", run.ask(add=[THIRD]) or "")
+        for error, text in ((ServerError("denied", "42501"), "denied"), (Passing("not yet"), "not yet"), (Stopped(), "about to end")):
+            WorldSource.hook = staticmethod(mock.Mock(side_effect=error))
+            self.assertIn(text, run.ask(add=[THIRD]) or "")
+        self.assertEqual((run.remembered.wanted, WorldSource.open), ({}, 0))
+
+    def test_a_request_while_the_server_is_away(self) -> None:
+        """It is taken, and what is in the way shows later."""
+        self.followed()
+        run = Run(self)
+        self.assertTrue(run.until(lambda: run.progress.state == "following"))
+        WorldSource.hook = staticmethod(mock.Mock(side_effect=ServerError("lost")))
+        self.assertIsNone(run.ask(add=[THIRD]))
+        self.assertEqual(run.remembered.wanted, {THIRD: ""})
+
+
+if __name__ == "__main__":
+    unittest.main()

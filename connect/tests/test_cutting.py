@@ -1,0 +1,97 @@
+"""A follower that ends at once while it adds a table: what is noted, and how the next one goes on."""
+
+from __future__ import annotations
+
+import contextlib
+import unittest
+from collections.abc import Callable
+from unittest import mock
+
+from pgsub_connect.adding import Adder
+from pgsub_connect.checkpoint import Checkpoint
+from pgsub_connect.dropping import read_known
+from pgsub_connect.following import Follower
+from pgsub_connect.remembered import Remembered
+
+from .adding_case import Case, Run, T
+from .small_world import WorldSource
+
+
+class Cut(BaseException):
+    """Ends a follower at once, as a kill does."""
+
+
+class Cuts(Case):
+    """A run that ends at once, wherever that is, leaves what the next one goes on from."""
+
+    def setUp(self) -> None:
+        super().setUp()
+        self.followed()
+        self.spoil()
+
+    def cut(self, patches: list[tuple[object, str]], after: bool, times: int = 0) -> dict[str, int]:
+        """Follows until a call is made for the last time. Returns what the checkpoint says then."""
+        left, stack = [times], contextlib.ExitStack()
+        for where, name in patches:
+            real = getattr(where, name)
+
+            def call(*words: object, real: Callable[..., object] = real, **more: object) -> object:
+                if left[0]:
+                    left[0] -= 1
+                    return real(*words, **more)
+                if after:
+                    real(*words, **more)
+                raise Cut
+
+            stack.enter_context(mock.patch.object(where, name, call))
+        self.want(T)
+        self.change()
+        with stack:
+            run = Run(self)
+            self.assertFalse(run.until(lambda: False))
+        self.assertIsInstance(run.raised, Cut)
+        WorldSource.open = 0
+        return read_known(self.store + ".connector").adding
+
+    def test_all(self) -> None:
+        for name, after, times, noted in (
+            ("fill", False, 0, {}), ("fill", True, 0, {str(T): 0}), ("prepare", True, 0, {str(T): 0}), ("meet", False, 0, {str(T): 0}),
+            ("meet", True, 0, {str(T): 1}), ("send", False, 0, {str(T): 1}), ("push", True, 2, {str(T): 1}), ("push", True, 4, {str(T): 1}),
+            ("send", True, 0, {str(T): 1}), ("finish", False, 0, {str(T): 1}), ("forget", True, 0, {}),
+        ):
+            with self.subTest(name=name, after=after):
+                found = self.cut([(Adder, name)], after, times)
+                self.assertEqual({oid: min(point, 1) for oid, point in found.items()}, noted)
+                self.change()
+                self.goes_on()
+
+    def test_between_two_files(self) -> None:
+        """The table isn't wanted any more, and the checkpoint has it still."""
+        self.assertEqual(list(self.cut([(Remembered, "added")], True)), [str(T)])
+        self.goes_on()
+
+    def test_the_rows_are_stored_before_it_is_noted(self) -> None:
+        """The store's position tells so, and they aren't read again."""
+        found = self.cut([(Adder, "finish")], False)
+        WorldSource.hook = staticmethod(mock.Mock())
+        self.goes_on()
+        WorldSource.hook.assert_not_called()  # type: ignore[attr-defined]
+        self.assertGreater(found[str(T)], 0)
+
+    def test_an_lsn_without_its_rows_is_forgotten(self) -> None:
+        """Before a session passes anything on, since the position may pass that LSN by."""
+        self.cut([(Adder, "send")], False)
+        noted = []
+        real = Follower.start_replication
+
+        def start(follower: Follower, *words: object) -> None:
+            noted.append(dict(Checkpoint.read(follower.checkpoint).adding))
+            real(follower, *words)  # type: ignore[arg-type]
+
+        self.patch(Follower, "start_replication", start)
+        self.goes_on()
+        self.assertEqual(noted[0], {str(T): 0})
+
+
+if __name__ == "__main__":
+    unittest.main()

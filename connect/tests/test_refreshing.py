@@ -1,0 +1,241 @@
+"""What `refresh` and `add` tell, ask, and have done."""
+
+from __future__ import annotations
+
+import contextlib
+import fcntl
+import io
+import json
+import os
+import threading
+import unittest
+from collections.abc import Iterator
+from typing import Any
+from unittest import mock
+
+from pgsub_connect import refreshing, requesting, resting, snapshots
+from pgsub_connect.catalog import Catalog, Part
+from pgsub_connect.cli import Options, arguments
+from pgsub_connect.errors import FileError, Passing, ServerError, Stopped, Unfit
+from pgsub_connect.postgres import Check, never
+from pgsub_connect.refreshing import CHANGED, EXTRA, MISSING, OTHER, Told, compared
+from pgsub_connect.remembered import Remembered
+from pgsub_connect.snapshots import Snapshots
+
+from .fake_server import FakeServer, Quiet
+from .small_world import table
+from .vectors import ID, NAME, a_catalog, a_shape, a_table
+
+ONE, TWO, THREE = a_table(1, "one"), a_table(2, "two"), a_table(3, "three")
+
+
+class Compared(unittest.TestCase):
+    def told(self, before: Catalog, now: Catalog, *found: tuple[str, str]) -> list[tuple[str, int, int]]:
+        """What is told of which table, and in how many words, of two readings and what was found before."""
+        remembered = Remembered("/nonexistent/s")
+        remembered.begin_copy(before, 100)
+        for kind, text in found:
+            remembered.find(kind, 50, text)
+        return [(it.what, it.oid, len(it.why)) for it in compared(remembered, now)]
+
+    def test_all(self) -> None:
+        both, one = a_catalog(ONE, TWO), a_catalog(ONE)
+        wide = a_table(1, "one", a_shape((ID, NAME, (0, "more", 23, -1))))
+        other = a_table(1, "one", a_shape(((1, "id", 20, -1), NAME)))
+        filtered = a_table(2, "two", part=Part("id > 5", None, False))
+        joined = ("publication", f"table {TWO.text()} joined: the rows that it had before are missing")
+        anew = ("publication", "publication pgsub was dropped and made anew: changes in between aren't sent")
+        enum = ("values", "type mood (25): a became b: values that were there have the old labels")
+        for before, now, found, wanted in (
+            (one, one, (), []),
+            (one, both, (), [(MISSING, 2, 1)]),
+            (both, both, (joined,), [(MISSING, 2, 1)]),
+            (both, a_catalog(wide, TWO, lsn=200), (), [(CHANGED, 1, 1)]),
+            (both, a_catalog(other, filtered, lsn=200), (joined,), [(CHANGED, 1, 1), (MISSING, 2, 2)]),
+            (both, one, (), [(EXTRA, 2, 1)]),
+            (both, one, (joined,), [(OTHER, 0, 1), (EXTRA, 2, 1)]),
+            (both, both, (anew,), [(MISSING, 1, 1), (MISSING, 2, 1)]),
+            (both, both, (enum,), [(CHANGED, 1, 1), (CHANGED, 2, 1)]),
+            (both, both, (("history", "lost"), ("names", "x")), []),
+            (both, both, (("values", "of what is gone"),), [(OTHER, 0, 1)]),
+        ):
+            self.assertEqual(self.told(before, now, *found), wanted, found)
+
+    def test_a_name_that_begins_another_one(self) -> None:
+        """`one (1)` isn't `one (11)` nor `public.one_1`."""
+        longer = a_table(11, "one"), a_table(4, "one_1"), a_table(5, "xpublic.one")
+        now = a_catalog(ONE, *longer)
+        text = ("values", f"column c of {ONE.text()} was added or renamed: rows that were there have nulls in it")
+        self.assertEqual(self.told(now, now, text), [(CHANGED, 1, 1)])
+
+    def test_lines(self) -> None:
+        self.assertEqual(json.loads(Told(MISSING, 2, "public.two", ["why"]).line()), {"is": MISSING, "table": "public.two", "oid": 2, "why": ["why"]})
+        self.assertEqual(json.loads(Told(OTHER, 0, "", ["why"]).line()), {"is": OTHER, "why": ["why"]})
+
+
+class Case(Quiet):
+    """A store's files, of which nobody follows into; and a follower in a thread, where one is wanted."""
+
+    def setUp(self) -> None:
+        super().setUp()
+        self.store = self.make_folder() + "/copy.db"
+        for path in (self.store, self.store + ".connector"):
+            open(path, "w").close()
+        self.remembered = Remembered(self.store)
+        self.remembered.begin_copy(a_catalog(ONE, TWO), 100)
+        self.remembered.save()
+        self.server = FakeServer()
+        self.now = a_catalog(ONE, TWO, THREE)
+        for where, what, by in (
+            (requesting, "Connection", self.server.connect), (refreshing, "Connection", self.server.connect), (requesting, "LOOK", 0.005), (requesting, "WAIT", 0.005),
+            (refreshing, "read_catalog", lambda *_: self.now), (resting, "LOOK", 0.005), (snapshots, "LOOK", 0.005),
+            (requesting, "published_tables", lambda *_: [table(it.oid, it.name) for it in self.now.tables.values()]),
+        ):
+            patch = mock.patch.object(where, what, by)
+            patch.start()
+            self.addCleanup(patch.stop)
+
+    def options(self, *names: str, yes: bool = True) -> Options:
+        return Options(store=self.store, publication=["pgsub"], table=list(names), yes=yes)
+
+    def refresh(self, status: int, yes: bool = True, answer: bool = False, check: Check = never) -> list[dict[str, object]]:
+        with contextlib.redirect_stdout(io.StringIO()) as out, mock.patch.object(refreshing, "ask_terminal", lambda *_: answer):
+            self.assertEqual(refreshing.run(self.options(yes=yes), check), status)
+        return [json.loads(it) for it in out.getvalue().splitlines()]
+
+    def wanted(self) -> dict[int, str]:
+        return Remembered(self.store).wanted
+
+    @contextlib.contextmanager
+    def followed(self, answer: str | None = None, why: str | None = "") -> Iterator[list[object]]:
+        """As while a follower runs that answers requests so, and adds tables, or refuses them where there is a `why`."""
+        followed, ended, asked = Snapshots(self.store, None, 0.0), threading.Event(), list[object]()
+
+        def adds(words: dict[str, Any]) -> str | None:
+            asked.append(words["add"] + [-oid for oid in words["remove"]])
+            remembered = Remembered(self.store)
+            if answer is None:
+                remembered.want(words["add"], words["remove"])
+                if why is not None:
+                    for oid in list(remembered.wanted):
+                        remembered.refuse(oid, why) if why else remembered.added(oid)
+            return answer
+
+        def follow() -> None:
+            followed.adds = adds
+            while not ended.wait(0.002):
+                followed.is_due(0x130)
+
+        thread = threading.Thread(target=follow)
+        with open(self.store + ".connector", "w") as file:
+            fcntl.flock(file, fcntl.LOCK_EX)
+            thread.start()
+            try:
+                yield asked
+            finally:
+                ended.set()
+                thread.join()
+
+
+class Adds(Case):
+    def test_by_the_follower(self) -> None:
+        with self.followed() as asked:
+            self.assertEqual(requesting.run(self.options("one", "public.two", "one"), never), 0)
+        self.assertEqual((asked, self.wanted()), ([[1, 2]], {}))
+        self.assertEqual(sorted(os.listdir(os.path.dirname(self.store))), ["copy.db", "copy.db.connector", "copy.db.tables"])
+
+    def test_by_the_next_start(self) -> None:
+        self.assertEqual(requesting.run(self.options("two"), never), 0)
+        self.assertEqual(self.wanted(), {2: ""})
+        self.assertIn("the next start adds public.two", self.said[-1])
+
+    def test_refused(self) -> None:
+        with self.followed(why="public.one can't be read"):
+            self.assertEqual(requesting.run(self.options("one"), never), 1)
+        self.assertIn("error: public.one can't be read", self.said)
+        with self.followed("it is too large"), self.assertRaisesRegex(ServerError, "adds none: it is too large") as raised:
+            requesting.run(self.options("one"), never)
+        self.assertTrue(raised.exception.is_lasting())
+        self.assertFalse(os.path.exists(self.store + ".request"))
+
+    def test_a_table_that_is_not_published(self) -> None:
+        with self.assertRaisesRegex(Unfit, "no published table four"):
+            requesting.run(self.options("four"), never)
+
+    def test_an_end_while_it_waits(self) -> None:
+        """The follower goes on with it, or the next start does."""
+        calls = 0
+
+        def check() -> None:
+            nonlocal calls
+            calls += 1
+            if self.wanted():
+                raise Stopped
+
+        with self.followed(why=None):
+            self.assertEqual(requesting.run(self.options("one"), check), 0)
+        self.assertIn("goes on with it", self.said[-1])
+        self.assertEqual(self.wanted(), {1: ""})
+        with self.assertRaisesRegex(Passing, "the next start adds public.one"):
+            requesting.wait(self.options(), {1: "public.one"}, never)
+
+    def test_words(self) -> None:
+        options = arguments("add --store s --table one --table two".split())
+        self.assertEqual((options.command, options.table), ("add", ["one", "two"]))
+        options = arguments("refresh --store s --yes --publication p".split())
+        self.assertEqual((options.command, options.yes, options.publication), ("refresh", True, ["p"]))
+        for words in ("add --store s", "add --table t", "refresh", "refresh --store s --table t"):
+            with contextlib.redirect_stderr(io.StringIO()), self.assertRaises(SystemExit):
+                arguments(words.split())
+
+
+class Refreshes(Case):
+    def test_nothing_to_do(self) -> None:
+        self.now = a_catalog(ONE, TWO)
+        self.assertEqual(self.refresh(0, yes=False), [])
+
+    def test_after_asking(self) -> None:
+        lines = self.refresh(1, yes=False)
+        self.assertEqual([(it["is"], it["table"]) for it in lines], [("missing", "public.three")])
+        self.assertEqual(self.wanted(), {})
+        self.refresh(0, yes=False, answer=True)
+        self.assertEqual(self.wanted(), {3: ""})
+
+    def test_without_asking(self) -> None:
+        with self.followed() as asked:
+            self.refresh(0)
+        self.assertEqual(asked, [[3]])
+
+    def test_what_is_being_added(self) -> None:
+        self.remembered.want([3])
+        self.assertEqual(len(self.refresh(0)), 1)
+        self.assertIn("is under way already", self.said[0])
+
+    def test_rows_of_tables_that_left(self) -> None:
+        self.now = a_catalog(ONE, THREE, lsn=200)
+        with self.followed() as asked:
+            lines = self.refresh(0)
+        self.assertEqual(([it["is"] for it in lines], asked), (["missing", "extra"], [[3, -2]]))
+        remembered = Remembered(self.store)
+        self.assertEqual((remembered.unwanted, remembered.wanted, sorted(remembered.sent)), (set(), {}, [1]))
+
+    def test_the_file_stays(self) -> None:
+        """What is found here is found by the follower too, and noted by it alone."""
+        with open(self.store + ".tables", encoding="utf-8") as file:
+            before = file.read()
+        self.refresh(1, yes=False)
+        with open(self.store + ".tables", encoding="utf-8") as file:
+            self.assertEqual(file.read(), before)
+
+    def test_nothing_is_remembered(self) -> None:
+        os.unlink(self.store + ".tables")
+        with self.assertRaisesRegex(FileError, "no such file yet"):
+            self.refresh(0)
+
+    def test_it_needs_a_terminal(self) -> None:
+        with contextlib.redirect_stdout(io.StringIO()), mock.patch("sys.stdin.isatty", lambda: False), self.assertRaisesRegex(Unfit, "refresh asks on"):
+            refreshing.run(self.options(yes=False), never)
+
+
+if __name__ == "__main__":
+    unittest.main()

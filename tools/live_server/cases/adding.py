@@ -1,0 +1,471 @@
+"""`add`: tables are copied one by one beside a running stream, under load, cut at each step, and refused."""
+
+from __future__ import annotations
+
+import json
+import os
+import random
+import signal
+import sys
+import time
+from collections.abc import Callable, Sequence
+
+from ..child import Child
+from ..errors import Failed
+from ..follower import Supervisor, filters_of, wait_until
+from ..load import SCHEMA, Worker, final_statements
+from ..pgbench import PgBench
+from ..place import OK, PASSING, REJECTED, SERVER, Place
+from .case import Case
+from .exports import Load
+from .verifying import PLANTED, TABLES, plant, verified, verify
+
+REFUSED = 1
+
+
+def words(place: Place, *tables: str) -> list[str]:
+    named = [word for it in tables for word in ("--table", it)]
+    return [str(place.options.connect), "add", "--dsn", place.dsn(), "--store", str(place.store), *named]
+
+
+def add(place: Place, *tables: str, status: int = OK, text: str = "", seconds: float = 90) -> str:
+    """Adds tables, and waits until they are there."""
+    return place.has_ended(place.started(words(place, *tables)), status, text, seconds)
+
+
+def check_left(place: Place) -> None:
+    """Fails where a table is still being added, or the server has a slot of it."""
+    slots = "SELECT string_agg(slot_name, ' ') FROM pg_replication_slots"
+    wait_until(lambda: place.value(slots) == place.slot, "dropping the temporary slot", 20)
+    if place.beside(".request").exists() or place.checkpoint().get("adding"):
+        raise Failed(f"left: {place.checkpoint()}")
+
+
+def joined(place: Place) -> None:
+    """A table with rows joins the publication: its rows are there after it was added, and nothing is wrong any more."""
+    place.stock()
+    place.run("CREATE TABLE more (id int PRIMARY KEY, note text)", "INSERT INTO more SELECT it, 'note ' || it FROM generate_series(1, 20000) it")
+    child = place.start("--create")
+    place.catch_up(child)
+    place.run("ALTER PUBLICATION pgsub ADD TABLE more", "INSERT INTO more VALUES (0, E'a\\tb\\\\c\\nd'), (-1, NULL)", "UPDATE more SET note = 'x' WHERE id = 7")
+    place.catch_up(child)
+    wait_until(lambda: "publication" in place.found(), "finding it", 30, child.check)
+    add(place, "more")
+    if place.found():
+        raise Failed(f"it still has {place.found()}")
+    place.change()
+    place.run("UPDATE more SET note = 'y' WHERE id > 19990", "DELETE FROM more WHERE id = 3")
+    place.catch_up(child)
+    verify(place)
+    check_left(place)
+    child.stop()
+    place.equal()
+
+
+def under_load(place: Place) -> None:
+    """Tables are added again and again while moves between accounts are followed; large transactions come in parts before and after."""
+    place.run(
+        "CREATE TABLE account (id int PRIMARY KEY, amount int)", "INSERT INTO account SELECT it, 100 FROM generate_series(0, 19) it",
+        "CREATE TABLE move (id int PRIMARY KEY, source int, target int, padding int)",
+        "CREATE TABLE padding (move int, id int, PRIMARY KEY (move, id))", "CREATE PUBLICATION pgsub FOR ALL TABLES",
+    )
+    place.set(logical_decoding_work_mem="64kB")
+    child = place.start("--create")
+    place.catch_up(child)
+    load = Load(place)
+    load.thread.start()
+    try:
+        for tables in (("account",), ("padding", "move"), ("account", "padding", "move")):
+            add(place, *tables)
+            child.check()
+    finally:
+        load.ended.set()
+        load.thread.join(60)
+    verify(place)
+    check_left(place)
+    place.catch_up(child)
+    child.stop()
+    place.equal()
+
+
+def under_all(place: Place) -> None:
+    """So they are while changes of every kind are followed, TRUNCATEs and rolled-back subtransactions among them."""
+    place.run(*SCHEMA, "CREATE PUBLICATION pgsub FOR ALL TABLES")
+    tables = place.value("SELECT string_agg(relname, ' ') FROM pg_class WHERE relkind = 'r' AND relnamespace = 'public'::regnamespace").split()
+    child = place.start("--create")
+    place.catch_up(child)
+    workers = [Worker(place.cluster, f"add {it}", 0.05) for it in range(3)]
+    for it in workers:
+        it.start()
+    try:
+        for table in tables[:4]:
+            add(place, table)
+            child.check()
+    finally:
+        for it in workers:
+            it.ended.set()
+        for it in workers:
+            it.join(60)
+    place.run(*final_statements())
+    place.catch_up(child)
+    verified(place)
+    child.stop()
+    place.equal()
+
+
+def stopped(place: Place) -> None:
+    """Where nobody follows, the next start adds them."""
+    place.stock()
+    place.follow("--create")
+    place.change()
+    if "the next start adds public.stock" not in add(place, "stock"):
+        raise Failed("it doesn't say when")
+    child = place.start()
+    child.wait_for("is there, complete as of")
+    place.change()
+    place.catch_up(child)
+    check_left(place)
+    child.stop()
+    place.equal()
+
+
+def clashes(place: Place) -> None:
+    """A table that the follower ends with, by a Clash, is added: it goes on."""
+    place.stock()
+    place.follow("--create")
+    # (the column that is the key by now has equal values in old rows of the copy)
+    place.run("UPDATE stock SET quantity = 4", "ALTER PUBLICATION pgsub SET (publish = 'insert')")
+    place.follow()
+    place.run(
+        "UPDATE stock SET sku = sku + 10", "ALTER PUBLICATION pgsub SET (publish = 'insert, update, delete, truncate')",
+        "INSERT INTO stock VALUES (1, 7)",
+    )
+    place.ends(REJECTED, "Clash")
+    add(place, "stock")
+    child = place.start()
+    child.wait_for("is there, complete as of")
+    place.change()
+    place.catch_up(child)
+    verify(place)
+    child.stop()
+    place.equal()
+
+
+# Runs the connector, which is killed where a call is made.
+KILLED_AT = """
+import os, sys
+sys.path.insert(0, {house!r})
+from pgsub_connect import adding, cli
+where, name = adding.{where}, {name!r}
+real, left = getattr(where, name), [{times}]
+def last(*words, **more):
+    if left[0]:
+        left[0] -= 1
+        return real(*words, **more)
+    {before}
+    os._exit(77)
+setattr(where, name, last)
+sys.argv[0] = {house!r} + "/pgsub-connect"
+cli.run()
+"""
+
+
+def killed_at(place: Place, where: str, name: str, after: bool, times: int = 0) -> Child:
+    """Starts the connector, which ends at once where it makes a call of its module `adding` for so many times and once more."""
+    before = "real(*words, **more)" if after else "pass"
+    code = KILLED_AT.format(house=str(place.options.connect.parent), where=where, name=name, before=before, times=times)
+    return place.started([sys.executable, "-c", code, *place.words()[1:]])
+
+
+# What is cut: a call of the module `adding`, whether before or after it was made, and how often it is made before.
+CUTS = (
+    ("Adder", "fill", False, 0), ("Adder", "fill", True, 0), ("Adder", "prepare", True, 0), ("Adder", "meet", False, 0),
+    ("Source", "make_slot", True, 0), ("Source", "see", True, 0), ("Adder", "meet", True, 0), ("Adder", "send", False, 0),
+    ("Adder", "push", True, 3), ("Adder", "push", True, 5), ("Rows", "closing", True, 0), ("Adder", "send", True, 0),
+    ("Adder", "finish", False, 0), ("Remembered", "added", True, 0), ("Adder", "forget", True, 0),
+)
+
+
+def cut(place: Place) -> None:
+    """The connector is killed at each step: it goes on, and the copy is that of the server."""
+    place.stock()
+    place.run("CREATE TABLE more (id int PRIMARY KEY, note text)", "INSERT INTO more SELECT it, 'note ' || it FROM generate_series(1, 20000) it")
+    place.follow("--create")
+    place.run("ALTER PUBLICATION pgsub ADD TABLE more", "INSERT INTO more VALUES (-1, 'new')")
+    place.follow()
+    for where, name, after, times in CUTS:
+        add(place, "more")
+        change_all(place)
+        place.has_ended(killed_at(place, where, name, after, times), 77, "")
+        change_all(place)
+        goes_on(place, f"cut at {name}")
+
+
+def change_all(place: Place) -> None:
+    place.change()
+    place.run(
+        "UPDATE more SET note = note || '.' WHERE id % 1000 = 0", "DELETE FROM more WHERE id = (SELECT max(id) FROM more)",
+        "INSERT INTO more SELECT min(id) - 1, 'new' FROM more",
+    )
+
+
+def goes_on(place: Place, what: str) -> None:
+    """A start goes on with what was cut, up to the end, and the rows are the server's."""
+    child = place.start()
+    place.catch_up(child)
+    wait_until(lambda: not place.checkpoint().get("adding"), f"adding the table, {what}", 60, child.check)
+    place.run("UPDATE more SET note = note || '!' WHERE id % 2000 = 0")
+    place.catch_up(child)
+    check_left(place)
+    child.stop()
+    place.equal()
+
+
+def parts_killed(place: Place) -> None:
+    """Filter, session and the connection that reads rows are lost while a table is added: it is tried again."""
+    place.stock()
+    place.run("CREATE TABLE more (id int PRIMARY KEY, note text)", "INSERT INTO more SELECT it, 'note ' || it FROM generate_series(1, 20000) it")
+    place.run("ALTER PUBLICATION pgsub ADD TABLE more")
+    place.follow("--create")
+    proxy = place.proxy()
+
+    def lose(kind: str) -> Callable[[], None]:
+        return lambda: place.run(f"SELECT pg_terminate_backend(pid) FROM pg_stat_activity WHERE {kind} AND pid <> pg_backend_pid()")
+
+    def kill() -> None:
+        for it in filters_of(child.process.pid):
+            os.kill(it, signal.SIGKILL)
+
+    copying = "query LIKE 'COPY%'"
+    for call in (lose("backend_type = 'walsender'"), lose(copying), kill):
+        proxy.before("COPY ", call)
+        child = place.start(dsn=place.dsn(proxy.folder))
+        child.wait_for("following slot")
+        adding = place.started(words(place, "more"))
+        change_all(place)
+        place.has_ended(adding, OK, "")
+        change_all(place)
+        place.catch_up(child)
+        check_left(place)
+        child.stop()
+        place.equal()
+
+
+def repaired(place: Place) -> None:
+    """`verify --repair` mends each of the planted differences, beside other changes."""
+    place.run(*TABLES)
+    place.follow("--create")
+    for name, (change, _) in PLANTED.items():
+        plant(place, place.store, change)
+        child = place.start()
+        child.wait_for("following slot")
+        place.run("UPDATE other SET note = note || '.' WHERE sku > 3", "INSERT INTO stock SELECT max(sku) + 1, 'new', NULL FROM stock")
+        if not verify(place, "--repair")[0]:
+            raise Failed(f"{name}: nothing was found")
+        place.run("UPDATE stock SET note = 'x' WHERE sku % 50 = 0", "INSERT INTO log VALUES ('line 3', NULL)")
+        verify(place)
+        child.stop()
+    place.follow()
+    place.equal()
+
+
+def too_large(place: Place) -> None:
+    """A table above what may be buffered is refused before anything is done; one that isn't known to be keeps its old rows, and is told."""
+    place.stock()
+    place.run("CREATE TABLE more (id int PRIMARY KEY, note text)", "INSERT INTO more SELECT it, repeat('x', 100) FROM generate_series(1, 5000) it")
+    place.follow("--create")
+    child = place.start("--max-buffered", "100000")
+    child.wait_for("following slot")
+    place.run("ALTER PUBLICATION pgsub ADD TABLE more")
+    add(place, "more", status=SERVER, text="--max-buffered")
+    place.change()
+    place.catch_up(child)
+    child.stop()
+    child = place.start("--max-buffered", "600000")
+    child.wait_for("following slot")
+    add(place, "more", status=REFUSED, text="--max-buffered")
+    place.finds("publication", "can't be added", child.said())
+    place.change()
+    place.catch_up(child)
+    child.stop()
+    child = place.start()
+    child.wait_for("is there, complete as of")
+    place.catch_up(child)
+    child.stop()
+    place.equal()
+
+
+def altered(place: Place) -> None:
+    """A table that is truncated between slot and lock is read again; one that is altered then is that of the slot, and it is told."""
+    place.stock()
+    place.follow("--create")
+    proxy = place.proxy()
+    proxy.before("LOCK TABLE", lambda: place.run("TRUNCATE stock", "INSERT INTO stock VALUES (3, 3)"))
+    child = place.start(dsn=place.dsn(proxy.folder))
+    child.wait_for("following slot")
+    add(place, "stock")
+    if "it is added later" not in child.said() or place.found():
+        raise Failed(child.said())
+    place.catch_up(child)
+    verify(place)
+    proxy.before("LOCK TABLE", lambda: place.run("ALTER TABLE stock ADD COLUMN price int DEFAULT 5"))
+    add(place, "stock")
+    place.finds("values", "price", child.said())
+    add(place, "stock")
+    if place.found():
+        raise Failed(f"it still has {place.found()}")
+    child.stop()
+    place.equal()
+
+
+def long_transaction(place: Place) -> None:
+    """Following goes on while the server makes no slot because of a transaction that runs; the table is added once it has ended."""
+    place.stock()
+    place.follow("--create")
+    child = place.start()
+    child.wait_for("following slot")
+    with place.cluster.connect(place.database) as writer:
+        writer.run("BEGIN", "INSERT INTO stock VALUES (50, 50)")
+        adding = place.started(words(place, "stock"))
+        child.wait_for("made no slot", 40)
+        place.change()
+        end = place.value("SELECT pg_current_wal_insert_lsn()")
+        wait_until(lambda: place.has_confirmed(end, place.cluster), "following meanwhile", 40, child.check)
+        writer.run("COMMIT")
+    place.has_ended(adding, OK, "", 120)
+    place.catch_up(child)
+    check_left(place)
+    child.stop()
+    place.equal()
+
+
+def synchronous(place: Place) -> None:
+    """Commits that wait for the follower may keep the slot from being made; they go on, and the table is added."""
+    place.stock()
+    place.follow("--create")
+    place.set(synchronous_standby_names="pgsub")
+    child = place.start()
+    child.wait_for("following slot")
+    adding = place.started(words(place, "stock"))
+    for _ in range(10):
+        place.change()
+        time.sleep(0.05)
+    place.has_ended(adding, OK, "", 120)
+    place.catch_up(child)
+    child.stop()
+    place.equal()
+    place.set(synchronous_standby_names="")
+
+
+PUBLISHED = ("pgbench_accounts", "pgbench_tellers", "pgbench_branches")
+
+
+def under_kills(place: Place) -> None:
+    """Tables are added, copied anew and taken out of the publication under pgbench's load, while filter, connector, session and server are killed."""
+    rng = random.Random(f"add {place.options.seed}")
+    load = PgBench(place.cluster, 1, 50)
+    place.run("DROP PUBLICATION pgsub", f"CREATE PUBLICATION pgsub FOR TABLE {', '.join(PUBLISHED)}")
+    supervisor = Supervisor(place.words("--create"), place.log)
+    load.begin()
+    supervisor.begin()
+    try:
+        wait_until(place.store.exists, "the first copy", 120, supervisor.check)
+        for _ in range(10):
+            is_there = place.value("SELECT count(*) FROM pg_publication_tables WHERE tablename = 'pgbench_history'") == "1"
+            if rng.random() < 0.5:
+                place.run(f"ALTER PUBLICATION pgsub {'DROP' if is_there else 'ADD'} TABLE pgbench_history")
+                is_there = not is_there
+            tables = rng.sample([*PUBLISHED, *(["pgbench_history"] if is_there else [])], 2)
+            child = place.started(words(place, *tables))
+            time.sleep(rng.random() * 3)
+            kill(place, supervisor, rng.choice(("filter", "filter", "connector", "connector", "session", "server", "nothing")))
+            status = child.end(120)
+            if status not in (OK, PASSING):
+                raise Failed(f"status {status}: {child.said()[-3000:]}")
+        if place.value("SELECT count(*) FROM pg_publication_tables WHERE tablename = 'pgbench_history'") == "0":
+            place.run("ALTER PUBLICATION pgsub ADD TABLE pgbench_history")
+        wait_until(lambda: has_added(place, (*PUBLISHED, "pgbench_history")), "adding all tables", 180, supervisor.check)
+        load.end()
+        verify(place)
+    finally:
+        load.end()
+        supervisor.finish()
+    place.equal()
+
+
+def has_added(place: Place, tables: Sequence[str]) -> bool:
+    """Adds tables. Returns whether they are there, and all else that was to be added."""
+    status = place.started(words(place, *tables)).end(120)
+    wanted = json.loads(place.beside(".tables").read_text())["wanted"]
+    return status == OK and not wanted and not place.checkpoint().get("adding")
+
+
+def kill(place: Place, supervisor: Supervisor, victim: str) -> None:
+    if victim == "filter":
+        supervisor.kill_filter()
+    elif victim == "connector":
+        supervisor.kill_connector()
+    elif victim == "session":
+        place.value("SELECT count(pg_terminate_backend(active_pid)) FROM pg_replication_slots WHERE active")
+    elif victim == "server":
+        place.cluster.stop("immediate")
+        place.cluster.start()
+
+
+def refresh(place: Place, status: int = OK) -> list[str]:
+    """Has all copied anew that isn't right. Returns what was told, of which table."""
+    words = [str(place.options.connect), "refresh", "--dsn", place.dsn(), "--store", str(place.store), "--yes"]
+    said = place.has_ended(place.started(words), status, "")
+    return [f"{it['is']} {it.get('table')}" for it in map(json.loads, [it for it in said.splitlines() if it.startswith("{")])]
+
+
+def refreshed(place: Place) -> None:
+    """Tables, partitions and columns that were added, and a table that left: all is told, copied anew, and nothing is wrong any more."""
+    place.stock()
+    place.run(
+        "CREATE TABLE gone (id int PRIMARY KEY)", "INSERT INTO gone VALUES (1)", "ALTER PUBLICATION pgsub ADD TABLE gone",
+        "CREATE TABLE parted (id int PRIMARY KEY, note text) PARTITION BY RANGE (id)",
+        "CREATE TABLE parted_1 PARTITION OF parted FOR VALUES FROM (0) TO (10)", "INSERT INTO parted VALUES (1, 'a')",
+        "CREATE TABLE parted_2 (LIKE parted INCLUDING ALL)", "INSERT INTO parted_2 VALUES (11, 'b')",
+        "ALTER PUBLICATION pgsub ADD TABLE parted", "ALTER PUBLICATION pgsub SET (publish_via_partition_root = true)",
+    )
+    place.follow("--create")
+    child = place.start()
+    place.catch_up(child)
+    if refresh(place):
+        raise Failed("it tells what isn't so")
+    place.run(
+        "CREATE TABLE more (id int PRIMARY KEY, note text)", "INSERT INTO more SELECT it, 'note ' || it FROM generate_series(1, 100) it",
+        "ALTER PUBLICATION pgsub ADD TABLE more", "ALTER PUBLICATION pgsub DROP TABLE gone",
+        "ALTER TABLE stock ADD COLUMN price int DEFAULT 5", "ALTER TABLE parted ATTACH PARTITION parted_2 FOR VALUES FROM (10) TO (20)",
+    )
+    told = refresh(place)
+    if told != ["changed public.stock", "missing public.parted", "missing public.more", "extra public.gone"]:
+        raise Failed(f"told: {told}")
+    place.run("UPDATE parted SET note = 'c'", "UPDATE stock SET price = 6 WHERE sku = 1", "DELETE FROM more WHERE id < 50")
+    place.catch_up(child)
+    verify(place)
+    if refresh(place) or place.found():
+        raise Failed(f"found: {place.found()}")
+    place.catch_up(child)
+    check_left(place)
+    child.stop()
+    place.equal()
+
+
+CASES = (
+    Case("add-a-table-that-joined", joined),
+    Case("add-under-moves", under_load),
+    Case("add-under-every-change", under_all),
+    Case("add-while-stopped", stopped),
+    Case("add-a-table-that-clashes", clashes),
+    Case("add-cut-at-each-step", cut),
+    Case("add-parts-killed", parts_killed),
+    Case("verify-repairs-what-is-planted", repaired),
+    Case("add-too-large", too_large),
+    Case("add-altered-meanwhile", altered),
+    Case("add-beside-a-long-transaction", long_transaction),
+    Case("add-synchronous", synchronous),
+    Case("refresh", refreshed, since=15),
+    Case("add-under-kills", under_kills),
+)
