@@ -70,10 +70,51 @@ impl<C: ReplicaStore + Drop> ReplicaStore for Watched<C> {
 
     ghost place = { λ s. C.place s.store };
 
+    ghost stages = { λ s tables. C.stages s.store tables };
+
+    ghost reach = { λ s. C.reach s.store };
+
     ghost reopens = { λ s other. C.reopens s.store other.store };
 
     fn position(&self) -> Lsn {
         self.store.position()
+    }
+
+    fn reached(&self) -> Lsn {
+        self.store.reached()
+    }
+
+    fn unstage(&mut self) {
+        self.store.unstage();
+    }
+
+    /// Stages the changes of a commit as the store within does, and notes their relations first.
+    fn stage(&mut self, end: Lsn, work: &Work<'_>) -> Result<(), StoreFault>
+        requires { C.reach self.old.store < end }
+        ensures noted { OnOk result (self.new.changed.items
+            ≡ noted self.old.changed.items work.now.definitions) }
+        ensures staged { C.serves self.new.store → OnOk result
+            (Folds C.stages self.old.store self.new.store work.now.changes) }
+        ensures end { OnOk result (C.reach self.new.store ≡ end) }
+        ensures undone { C.serves self.new.store → OnErr result
+            (Stays C.stages self.old.store self.new.store) }
+        ensures reach { OnErr result (C.reach self.new.store ≡ C.reach self.old.store) }
+        ensures fault { C.serves self.new.store → IfErr result
+            (RefusesWork C.stages self.old.store work.now.changes) }
+        ensures unchanged { C.serves self.new.store → Stays C.holds self.old.store self.new.store }
+        ensures position { C.place self.new.store ≡ C.place self.old.store }
+        ensures served { C.serves self.new.store → C.serves self.old.store }
+        ensures open { C.is_honest self.new.store → OnOk result (C.serves self.new.store) }
+        ensures honest { C.is_honest self.new.store → C.is_honest self.old.store }
+        ensures crash { C.is_honest self.new.store → (other : C) →
+            C.reopens self.new.store other → C.reopens self.old.store other }
+    {
+        self.note(work)?;
+        self.store.stage(end, work)
+    }
+
+    fn settle(&mut self) -> Result<(), StoreFault> {
+        self.store.settle()
     }
 
     /// Takes the changes of a commit as the store within does, and notes their relations first.
