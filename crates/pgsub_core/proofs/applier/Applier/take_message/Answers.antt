@@ -14,13 +14,13 @@ use Rattle.pgsub_core.proofs.applier.Applier.take_message.Goals as goal
 
 pub returns-in-Err-clause-refused : goal.returns-in-Err-clause-refused
 returns-in-Err-clause-refused g c serves now clock =
-    order_refuses g.C.ReplicaStore.holds g.C.ReplicaStore.place (message_value c.args.message.now) c.args.start c.args.end _ c.args.self.now c.self.view_is c.step.new.self.state c.step.new.self.version c.step.ensures.version
+    order_refuses g.C.ReplicaStore.stages g.C.ReplicaStore.reach (message_value c.args.message.now) c.args.start c.args.end _ c.args.self.now c.self.view_is c.step.new.self.state c.step.new.self.version c.step.ensures.version
     c.in-Err.fault c.order_fault.result c.order_fault.ensures.fault c.in-Err.ensures.fault now clock
 
 pub returns-in_err-take_event-clause-refused : goal.returns-in_err-take_event-clause-refused
 returns-in_err-take_event-clause-refused g c serves =
-    let holds = g.C.ReplicaStore.holds in
-    let place = g.C.ReplicaStore.place in
+    let holds = g.C.ReplicaStore.stages in
+    let place = g.C.ReplicaStore.reach in
     let f = c.in_err-take_event.field-0.0 in
     let stops = c.in_err-take_event.ensures.refused serves in
     let taken = c.in-Ok.ensures.taken in
@@ -35,7 +35,7 @@ returns-clause-takes g c serves now clock =
     let goes = c.in_ok-take_event.ensures.goes (subst (λ (a : Applied g.row.C.Denot). g.C.ReplicaStore.serves a.store) own serves) in
     let raised : c.later-self-inside.result ≡ max c.self-2.inside.confirmed (max c.self-2.inside.received (max c.args.start c.args.end)) =
     c.later-self-inside.ensures ∙ ap (max c.self-2.inside.confirmed) (c.later-2.ensures ∙ ap (max c.self-2.inside.received) c.later.ensures) in
-    event_takes g.C.ReplicaStore.holds g.C.ReplicaStore.place (message_value c.args.message.now) c.args.start c.args.end _ c.args.self.now c.self.view_is c.step.new.self.state c.step.new.self.version c.step.ensures.version
+    event_takes g.C.ReplicaStore.stages g.C.ReplicaStore.reach (message_value c.args.message.now) c.args.start c.args.end _ c.args.self.now c.self.view_is c.step.new.self.state c.step.new.self.version c.step.ensures.version
     c.in-Ok.event taken _ c.take_event.new.self own goes c.in_ok-take_event.ensures.room c.take_event.ensures.beside c.later-self-inside.result raised now clock
 
 pub returns-clause-opened : goal.returns-clause-opened
@@ -48,18 +48,3 @@ returns-clause-opened g c =
     let was : AreOpened c.self.inside.order.state (g.P.Spools.held c.self.inside.spools) = subst (λ (a : Applied g.row.C.Denot). AreOpened a.order a.held) (sym c.self.view_is) c.requires.opened in
     let opened = event_opens c.self.inside.order.version c.self.inside.order.state c.step.new.self.state (message_value c.args.message.now) c.in-Ok.event (g.P.Spools.held c.self.inside.spools) was taken c.take_event.new.self.held c.in_ok-take_event.ensures.opened in
     rw (order_now, held_now) opened
-
-pub returns-in_err-take_event-clause-crash : goal.returns-in_err-take_event-clause-crash
-returns-in_err-take_event-clause-crash g c honest =
-    let it = g.C.ReplicaStore in
-    let over = message_over it.holds it.place (message_value c.args.message.now) c.args.start c.args.end _ c.args.self.now c.self.view_is c.step.new.self.state c.step.new.self.version c.step.ensures.version c.in-Ok.event c.in-Ok.ensures.taken in
-    subst (λ (a : Applied g.row.C.Denot). LeavesOldOr it.place it.reopens it.serves (λ other. (now clock : ℤ) → Over (Goes it.holds it.place (λ s. take now s (Data c.args.start c.args.end clock (message_value c.args.message.now))) c.args.self.now) other) a.store c.take_event.new.self.store) c.self.view_is
-    (leaves_as it.place it.reopens it.serves _ _ c.self.inside.store c.take_event.new.self.store (c.take_event.ensures.crash honest) over)
-
-pub returns-clause-crash : goal.returns-clause-crash
-returns-clause-crash g c honest =
-    let it = g.C.ReplicaStore in
-    let over = message_over it.holds it.place (message_value c.args.message.now) c.args.start c.args.end _ c.args.self.now c.self.view_is c.step.new.self.state c.step.new.self.version c.step.ensures.version c.in-Ok.event c.in-Ok.ensures.taken in
-    subst (λ (a : Applied g.row.C.Denot). LeavesOldOr it.place it.reopens it.serves (λ other. (now clock : ℤ) → Over (Goes it.holds it.place (λ s. take now s (Data c.args.start c.args.end clock (message_value c.args.message.now))) c.args.self.now) other) a.store c.self-2.inside.store) c.self.view_is
-    (subst (λ (w : Applied g.row.C.Denot). LeavesOldOr it.place it.reopens it.serves (λ other. (now clock : ℤ) → Over (Goes it.holds it.place (λ s. take now s (Data c.args.start c.args.end clock (message_value c.args.message.now))) c.args.self.now) other) c.self.inside.store w.store) (sym c.self-2.view_is)
-    (leaves_as it.place it.reopens it.serves _ _ c.self.inside.store c.take_event.new.self.store (c.take_event.ensures.crash (subst (λ (a : Applied g.row.C.Denot). it.is_honest a.store) c.self-2.view_is honest)) over))
