@@ -4,6 +4,7 @@ ghost use Rattle.std.specs.Prelude.{◌≡◌, ◌<◌, ◌⊎◌, [], OnOk, OnE
 ghost use Rattle.pgapply.specs.Noted.{noted};
 ghost use Rattle.pgapply.specs.Taken.{Folds, LeavesFold, Stays, RefusesWork};
 
+use crate::commit::Commit;
 use crate::replica_store::ReplicaStore;
 use crate::rows::{DumpRow, StoreFault};
 use crate::work::Work;
@@ -89,18 +90,18 @@ impl<C: ReplicaStore + Drop> ReplicaStore for Watched<C> {
     }
 
     /// Stages the changes of a commit as the store within does, and notes their relations first.
-    fn stage(&mut self, end: Lsn, work: &Work<'_>) -> Result<(), StoreFault>
-        requires { C.reach self.old.store < end }
+    fn stage(&mut self, commit: &Commit<'_, '_>) -> Result<(), StoreFault>
+        requires { C.reach self.old.store < commit.now.end }
         ensures noted { OnOk result (self.new.changed.items
-            ≡ noted self.old.changed.items work.now.definitions) }
+            ≡ noted self.old.changed.items commit.now.work.now.definitions) }
         ensures staged { C.serves self.new.store → OnOk result
-            (Folds C.stages self.old.store self.new.store work.now.changes) }
-        ensures end { OnOk result (C.reach self.new.store ≡ end) }
+            (Folds C.stages self.old.store self.new.store commit.now.work.now.changes) }
+        ensures end { OnOk result (C.reach self.new.store ≡ commit.now.end) }
         ensures undone { C.serves self.new.store → OnErr result
             (Stays C.stages self.old.store self.new.store) }
         ensures reach { OnErr result (C.reach self.new.store ≡ C.reach self.old.store) }
         ensures fault { C.serves self.new.store → IfErr result
-            (RefusesWork C.stages self.old.store work.now.changes) }
+            (RefusesWork C.stages self.old.store commit.now.work.now.changes) }
         ensures unchanged { C.serves self.new.store → Stays C.holds self.old.store self.new.store }
         ensures position { C.place self.new.store ≡ C.place self.old.store }
         ensures served { C.serves self.new.store → C.serves self.old.store }
@@ -109,8 +110,8 @@ impl<C: ReplicaStore + Drop> ReplicaStore for Watched<C> {
         ensures crash { C.is_honest self.new.store → (other : C) →
             C.reopens self.new.store other → C.reopens self.old.store other }
     {
-        self.note(work)?;
-        self.store.stage(end, work)
+        self.note(commit.work)?;
+        self.store.stage(commit)
     }
 
     fn settle(&mut self) -> Result<(), StoreFault> {

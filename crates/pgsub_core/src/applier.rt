@@ -26,7 +26,7 @@ ghost use Rattle.pgsub_core.specs.Staging.{Rests, Grows, KeepsItsSettings, IsMar
 ghost use Rattle.pgsub_core.specs.Events.{HasRoom, IsFull, FindsRoom, EventGoes, EventStops, StaysBeside};
 ghost use Rattle.pgsub_core.specs.Faults.{fault_of_decode, fault_of_order, fault_of_spool, IsOfFeeding, IsReadFault};
 
-use crate::committing::{commit, later, store_fault};
+use crate::committing::{Ending, about_of, commit, later, store_fault};
 use crate::fault::Fault;
 use bytes::BytesMut;
 use pgapply::{DumpRow, ReplicaStore};
@@ -325,17 +325,17 @@ impl<P: Spools + Drop, C: ReplicaStore + Drop> Applier<P, C> {
     }
 
     // Commits a transaction, whose items are buffered no longer.
-    fn commit(&mut self, xid: u32, end: Lsn) -> Result<(), Fault>
+    fn commit(&mut self, ending: Ending) -> Result<(), Fault>
         ensures taken { C.serves self.new.store →
-            OnOk result (Commits C.stages C.reach end
-            (items_of (held_of self.old.held xid)) self.old.store self.old.confirmed
+            OnOk result (Commits C.stages C.reach ending.end
+            (items_of (held_of self.old.held ending.xid)) self.old.store self.old.confirmed
             self.old.relations self.new.store self.new.confirmed self.new.relations) }
         ensures refused { C.serves self.new.store →
-            IfErr result (RefusesCommit C.stages C.reach end
-            (items_of (held_of self.old.held xid)) self.old.store self.old.confirmed
+            IfErr result (RefusesCommit C.stages C.reach ending.end
+            (items_of (held_of self.old.held ending.xid)) self.old.store self.old.confirmed
             self.old.relations self.new.store) }
         ensures own { IfErr result IsOfFeeding }
-        ensures held { OnOk result (self.new.held ≡ map.remove self.old.held xid) }
+        ensures held { OnOk result (self.new.held ≡ map.remove self.old.held ending.xid) }
         ensures beside { StaysBeside self.old self.new }
         ensures kept { OnErr result (IsKept C.reach self.old self.new) }
         ensures served { C.serves self.new.store → C.serves self.old.store }
@@ -345,14 +345,14 @@ impl<P: Spools + Drop, C: ReplicaStore + Drop> Applier<P, C> {
         ensures rests { Rests C.holds C.place C.reopens C.serves C.is_honest self.old.store
             self.new.store }
     {
+        let xid = ending.xid;
         let confirmed = commit(
             self.alloc,
             &mut self.book,
             &self.spools,
             &mut self.store,
             self.confirmed,
-            xid,
-            end,
+            ending,
         )?;
         self.confirmed = confirmed;
         self.spools.drop_xid(xid);
@@ -396,7 +396,8 @@ impl<P: Spools + Drop, C: ReplicaStore + Drop> Applier<P, C> {
                 Ok(())
             }
             Event::CommitPair { xid, end, .. } | Event::CommitStream { xid, end, .. } => {
-                self.commit(xid, end)
+                let about = about_of(message, xid);
+                self.commit(Ending { xid, end, about })
             }
         }
     }

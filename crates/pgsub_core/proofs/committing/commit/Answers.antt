@@ -9,43 +9,43 @@ use Rattle.pgsub_core.proofs.committing.commit.Goals as goal
 
 pub returns-then-le-clause-taken : goal.returns-then-le-clause-taken
 returns-then-le-clause-taken g c serves =
-    let items = items_of (held_of (g.P.Spools.held c.args.spools.now) c.args.xid) in
+    let items = items_of (held_of (g.P.Spools.held c.args.spools.now) c.args.ending.xid) in
     let test = c.if-le.true in
     let below = c.le.ensures in
     let standing = c.reached.ensures.reach in
-    let not_below : nat_lt (g.C.ReplicaStore.reach c.args.store.now) c.args.end ≡ false = grind (arith, nat_tests) in
-    commits_again g.C.ReplicaStore.stages g.C.ReplicaStore.reach c.args.end items c.args.store.now c.args.store.now c.args.confirmed c.args.book.now c.cache_relations.new.book not_below c.in_ok-cache_relations.ensures.cached
+    let not_below : nat_lt (g.C.ReplicaStore.reach c.args.store.now) c.args.ending.end ≡ false = grind (arith, nat_tests) in
+    commits_again g.C.ReplicaStore.stages g.C.ReplicaStore.reach c.args.ending.end items c.args.store.now c.args.store.now c.args.confirmed c.args.book.now c.cache_relations.new.book not_below c.in_ok-cache_relations.ensures.cached
 
 pub returns-in_err-work-clause-refused : goal.returns-in_err-work-clause-refused
 returns-in_err-work-clause-refused g c serves =
-    let items = items_of (held_of (g.P.Spools.held c.args.spools.now) c.args.xid) in
+    let items = items_of (held_of (g.P.Spools.held c.args.spools.now) c.args.ending.xid) in
     let test = c.if-le.false in
     let below = c.le.ensures in
     let standing = c.reached.ensures.reach in
-    let lt : nat_lt (g.C.ReplicaStore.reach c.args.store.now) c.args.end ≡ true = grind (arith, nat_tests) in
+    let lt : nat_lt (g.C.ReplicaStore.reach c.args.store.now) c.args.ending.end ≡ true = grind (arith, nat_tests) in
     on_residual c.from_residual-in_err-work.result c.in_err-work.field-0.0 _ c.from_residual-in_err-work.ensures.1
-    (refuses_undescribed g.C.ReplicaStore.stages g.C.ReplicaStore.reach c.args.end items c.args.store.now c.args.store.now c.args.confirmed c.args.book.now c.args.book.now lt c.in_err-work.field-0.0 c.in_err-work.ensures.refused)
+    (refuses_undescribed g.C.ReplicaStore.stages g.C.ReplicaStore.reach c.args.ending.end items c.args.store.now c.args.store.now c.args.confirmed c.args.book.now c.args.book.now lt c.in_err-work.field-0.0 c.in_err-work.ensures.refused)
 
 pub returns-in-Ok-clause-taken : goal.returns-in-Ok-clause-taken
 returns-in-Ok-clause-taken g c serves =
-    let items = items_of (held_of (g.P.Spools.held c.args.spools.now) c.args.xid) in
+    let items = items_of (held_of (g.P.Spools.held c.args.spools.now) c.args.ending.xid) in
     let test = c.if-le.false in
     let below = c.le.ensures in
     let standing = c.reached.ensures.reach in
-    let lt : nat_lt (g.C.ReplicaStore.reach c.args.store.now) c.args.end ≡ true = grind (arith, nat_tests) in
-    commits_changes g.C.ReplicaStore.stages g.C.ReplicaStore.reach c.args.end items c.args.store.now c.stage.new.self c.args.confirmed c.args.book.now c.describe.new.book lt c.later.result c.in_ok-work.work.changes
+    let lt : nat_lt (g.C.ReplicaStore.reach c.args.store.now) c.args.ending.end ≡ true = grind (arith, nat_tests) in
+    commits_changes g.C.ReplicaStore.stages g.C.ReplicaStore.reach c.args.ending.end items c.args.store.now c.stage.new.self c.args.confirmed c.args.book.now c.describe.new.book lt c.later.result c.in_ok-work.work.changes
     c.in_ok-work.ensures.changes c.in_ok-work.ensures.cached (c.in-Ok.ensures.staged serves) c.in-Ok.ensures.end c.later.ensures
 
 pub returns-clause-refused : goal.returns-clause-refused
 returns-clause-refused g c serves =
-    let items = items_of (held_of (g.P.Spools.held c.args.spools.now) c.args.xid) in
+    let items = items_of (held_of (g.P.Spools.held c.args.spools.now) c.args.ending.xid) in
     let test = c.if-le.false in
     let below = c.le.ensures in
     let standing = c.reached.ensures.reach in
-    let lt : nat_lt (g.C.ReplicaStore.reach c.args.store.now) c.args.end ≡ true = grind (arith, nat_tests) in
-    let less : g.C.ReplicaStore.reach c.args.store.now < c.args.end = grind (arith, nat_tests) in
+    let lt : nat_lt (g.C.ReplicaStore.reach c.args.store.now) c.args.ending.end ≡ true = grind (arith, nat_tests) in
+    let less : g.C.ReplicaStore.reach c.args.store.now < c.args.ending.end = grind (arith, nat_tests) in
     rw c.store_fault.ensures.fault
-    (refuses_work g.C.ReplicaStore.stages g.C.ReplicaStore.reach c.args.end items c.args.store.now c.stage.new.self c.args.confirmed c.args.book.now c.describe.new.book lt less c.in_ok-work.work.changes c.in-Err.fault
+    (refuses_work g.C.ReplicaStore.stages g.C.ReplicaStore.reach c.args.ending.end items c.args.store.now c.stage.new.self c.args.confirmed c.args.book.now c.describe.new.book lt less c.in_ok-work.work.changes c.in-Err.fault
     c.in_ok-work.ensures.changes (c.in-Err.ensures.undone serves) (c.in-Err.ensures.fault serves))
 
 pub returns-then-le-clause-rests : goal.returns-then-le-clause-rests

@@ -6,7 +6,7 @@ use Rattle.pgapply.proofs.watched.WatchedReplicaStore.stage.Goals as goal
 pub returns-clause-staged : goal.returns-clause-staged
 returns-clause-staged g c =
     let it = g.C.ReplicaStore in
-    subst (λ s. it.serves c.stage.new.self → OnOk c.stage.result (Folds it.stages s c.stage.new.self c.args.work.now.changes)) c.in_ok-note.ensures.store c.stage.ensures.staged
+    subst (λ s. it.serves c.stage.new.self → OnOk c.stage.result (Folds it.stages s c.stage.new.self c.args.commit.now.work.now.changes)) c.in_ok-note.ensures.store c.stage.ensures.staged
 
 pub returns-clause-undone : goal.returns-clause-undone
 returns-clause-undone g c =
@@ -16,7 +16,7 @@ returns-clause-undone g c =
 pub returns-clause-fault : goal.returns-clause-fault
 returns-clause-fault g c =
     let it = g.C.ReplicaStore in
-    subst (λ s. it.serves c.stage.new.self → IfErr c.stage.result (RefusesWork it.stages s c.args.work.now.changes)) c.in_ok-note.ensures.store c.stage.ensures.fault
+    subst (λ s. it.serves c.stage.new.self → IfErr c.stage.result (RefusesWork it.stages s c.args.commit.now.work.now.changes)) c.in_ok-note.ensures.store c.stage.ensures.fault
 
 pub returns-clause-unchanged : goal.returns-clause-unchanged
 returns-clause-unchanged g c =

@@ -7,5 +7,5 @@ use Rattle.pgsub_core.proofs.applier.Applier.commit.Goals as goal
 
 pub returns-clause-taken : goal.returns-clause-taken
 returns-clause-taken g c serves =
-    subst (λ (a : Applied g.row.C.Denot). Commits g.C.ReplicaStore.stages g.C.ReplicaStore.reach c.args.end (items_of (held_of a.held c.args.xid)) a.store a.confirmed a.relations c.commit.new.store c.in_ok-confirmed.confirmed c.commit.new.book) c.self.view_is
+    subst (λ (a : Applied g.row.C.Denot). Commits g.C.ReplicaStore.stages g.C.ReplicaStore.reach c.args.ending.end (items_of (held_of a.held c.args.ending.xid)) a.store a.confirmed a.relations c.commit.new.store c.in_ok-confirmed.confirmed c.commit.new.book) c.self.view_is
     (c.in_ok-confirmed.ensures.taken serves)
