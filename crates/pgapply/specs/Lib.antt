@@ -1,6 +1,7 @@
 pub mod Value
 pub mod Apply
 pub mod Dump
+pub mod Given
 pub mod Stored
 pub mod Works
 pub mod Noted

@@ -7,6 +7,7 @@ ghost use Rattle.pgapply.specs.Taken.{Folds, LeavesFold, Stays, RefusesWork};
 use crate::commit::Commit;
 use crate::replica_store::ReplicaStore;
 use crate::rows::{DumpRow, StoreFault};
+use crate::sink::DumpSink;
 use crate::work::Work;
 use pglsn::Lsn;
 use std::alloc::{AllocError, Global};
@@ -145,5 +146,13 @@ impl<C: ReplicaStore + Drop> ReplicaStore for Watched<C> {
 
     fn rows(&mut self) -> Result<Vec<DumpRow>, StoreFault> {
         self.store.rows()
+    }
+
+    fn each_row<T: DumpSink + Drop>(&mut self, sink: T) -> (Result<bool, StoreFault>, T) {
+        self.store.each_row(sink)
+    }
+
+    fn cause(&self) -> Option<&str> {
+        self.store.cause()
     }
 }
