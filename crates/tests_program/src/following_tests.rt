@@ -1,7 +1,7 @@
 //! A server is followed over a store: what is written, what is stored, and how it ends.
 
 use crate::runs::File;
-use pgapply::{DumpRow, ReplicaStore, StoreFault, Work};
+use pgapply::{Commit, DumpRow, DumpSink, ReplicaStore, StoreFault, Work};
 use pgcommand::Limits;
 use pgfollow::{Clock, Link};
 use pglsn::Lsn;
@@ -335,10 +335,28 @@ impl ReplicaStore for Failing {
 
     ghost place = { λ _. 0 };
 
+    ghost stages = { λ _ _. ⊥ };
+
+    ghost reach = { λ _. 0 };
+
     ghost reopens = { λ _ _. ⊥ };
 
     fn position(&self) -> Lsn {
         Lsn(0)
+    }
+
+    fn reached(&self) -> Lsn {
+        Lsn(0)
+    }
+
+    fn unstage(&mut self) {}
+
+    fn stage(&mut self, _commit: &Commit<'_, '_>) -> Result<(), StoreFault> {
+        Err(self.fault)
+    }
+
+    fn settle(&mut self) -> Result<(), StoreFault> {
+        Ok(())
     }
 
     fn take(&mut self, _end: Lsn, _work: &Work<'_>) -> Result<(), StoreFault> {
@@ -347,6 +365,10 @@ impl ReplicaStore for Failing {
 
     fn rows(&mut self) -> Result<Vec<DumpRow>, StoreFault> {
         Ok(Vec::new(self.alloc))
+    }
+
+    fn each_row<T: DumpSink + Drop>(&mut self, sink: T) -> (Result<bool, StoreFault>, T) {
+        (Ok(true), sink)
     }
 }
 
