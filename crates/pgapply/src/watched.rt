@@ -1,8 +1,12 @@
 //! A store that notes which relations its commits change, as a cache beside it needs.
 
-ghost use Rattle.std.specs.Prelude.{◌≡◌, ◌<◌, ◌⊎◌, [], OnOk, OnErr, IfErr};
-ghost use Rattle.pgapply.specs.Noted.{noted};
-ghost use Rattle.pgapply.specs.Taken.{Folds, LeavesFold, Stays, RefusesWork};
+ghost use Rattle.std.specs.Prelude.{◌≡◌, ◌<◌, ◌⊎◌, [], true, false, OnOk, OnErr, IfOk, IfErr};
+ghost use Rattle.pgapply.specs.Value.{Tables};
+ghost use Rattle.pgapply.specs.Dump.{dump};
+ghost use Rattle.pgapply.specs.Given.{GivesFront, GivesAll};
+ghost use Rattle.pgapply.specs.Noted.{noted, KeepsNotes};
+ghost use Rattle.pgapply.specs.Stored.{IsOwnFault};
+ghost use Rattle.pgapply.specs.Taken.{Folds, LeavesFold, LeavesStaged, Begins, Settles, Stays, RefusesWork, Shows};
 
 use crate::commit::Commit;
 use crate::replica_store::ReplicaStore;
@@ -55,6 +59,7 @@ impl<C: ReplicaStore + Drop> Watched<C> {
         ensures store { self.new.store ≡ self.old.store }
         ensures noted { OnOk result (self.new.changed.items
             ≡ noted self.old.changed.items work.now.definitions) }
+        ensures kept { KeepsNotes self.old.changed.items self.new.changed.items }
     {
         for def in work.definitions() {
             self.changed.push(def.oid)?;
@@ -86,7 +91,20 @@ impl<C: ReplicaStore + Drop> ReplicaStore for Watched<C> {
         self.store.reached()
     }
 
-    fn unstage(&mut self) {
+    /// Drops what is staged in the store within. What is noted stays.
+    fn unstage(&mut self)
+        ensures noted { self.new.changed.items ≡ self.old.changed.items }
+        ensures reach { C.reach self.new.store ≡ C.place self.old.store }
+        ensures position { C.place self.new.store ≡ C.place self.old.store }
+        ensures unchanged { Stays C.holds self.old.store self.new.store }
+        ensures staged { Begins C.holds C.stages self.old.store self.new.store }
+        ensures serves { C.serves self.old.store → C.serves self.new.store }
+        ensures served { C.serves self.new.store → C.serves self.old.store }
+        ensures stays_honest { C.is_honest self.old.store → C.is_honest self.new.store }
+        ensures honest { C.is_honest self.new.store → C.is_honest self.old.store }
+        ensures crash { (other : C) →
+            C.reopens self.new.store other → C.reopens self.old.store other }
+    {
         self.store.unstage();
     }
 
@@ -95,6 +113,7 @@ impl<C: ReplicaStore + Drop> ReplicaStore for Watched<C> {
         requires { C.reach self.old.store < commit.now.end }
         ensures noted { OnOk result (self.new.changed.items
             ≡ noted self.old.changed.items commit.now.work.now.definitions) }
+        ensures kept { KeepsNotes self.old.changed.items self.new.changed.items }
         ensures staged { C.serves self.new.store → OnOk result
             (Folds C.stages self.old.store self.new.store commit.now.work.now.changes) }
         ensures end { OnOk result (C.reach self.new.store ≡ commit.now.end) }
@@ -115,7 +134,29 @@ impl<C: ReplicaStore + Drop> ReplicaStore for Watched<C> {
         self.store.stage(commit)
     }
 
-    fn settle(&mut self) -> Result<(), StoreFault> {
+    /// Takes all that is staged in the store within. What is noted stays.
+    fn settle(&mut self) -> Result<(), StoreFault>
+        ensures noted { self.new.changed.items ≡ self.old.changed.items }
+        ensures settled { C.serves self.new.store → OnOk result
+            (Settles C.holds C.stages self.old.store self.new.store) }
+        ensures end { OnOk result (C.place self.new.store ≡ C.reach self.old.store) }
+        ensures unchanged { C.serves self.new.store → OnErr result
+            (Stays C.holds self.old.store self.new.store) }
+        ensures position { OnErr result (C.place self.new.store ≡ C.place self.old.store) }
+        ensures some { OnErr result (C.place self.old.store < C.reach self.old.store) }
+        ensures nothing { C.reach self.old.store ≡ C.place self.old.store →
+            self.new ≡ self.old }
+        ensures fault { IfErr result IsOwnFault }
+        ensures served { C.serves self.new.store → C.serves self.old.store }
+        ensures open { C.is_honest self.new.store →
+            C.place self.old.store < C.reach self.old.store →
+            OnOk result (C.serves self.new.store) }
+        ensures honest { C.is_honest self.new.store → C.is_honest self.old.store }
+        ensures crash { C.is_honest self.new.store → (other : C) →
+            C.reopens self.new.store other → C.reopens self.old.store other
+            ⊎ (C.serves self.old.store
+            × LeavesStaged C.holds C.place C.stages C.reach self.old.store other) }
+    {
         self.store.settle()
     }
 
@@ -124,6 +165,7 @@ impl<C: ReplicaStore + Drop> ReplicaStore for Watched<C> {
         requires { C.place self.old.store < end }
         ensures noted { OnOk result (self.new.changed.items
             ≡ noted self.old.changed.items work.now.definitions) }
+        ensures kept { KeepsNotes self.old.changed.items self.new.changed.items }
         ensures taken { C.serves self.new.store → OnOk result
             (Folds C.holds self.old.store self.new.store work.now.changes) }
         ensures end { OnOk result (C.place self.new.store ≡ end) }
@@ -144,11 +186,45 @@ impl<C: ReplicaStore + Drop> ReplicaStore for Watched<C> {
         self.store.take(end, work)
     }
 
-    fn rows(&mut self) -> Result<Vec<DumpRow>, StoreFault> {
+    /// All rows of the store within. What is noted stays.
+    fn rows(&mut self) -> Result<Vec<DumpRow>, StoreFault>
+        ensures noted { self.new.changed.items ≡ self.old.changed.items }
+        ensures rows { C.serves self.new.store → IfOk result
+            (λ rows. Shows C.holds self.old.store rows.items) }
+        ensures unchanged { C.serves self.new.store → Stays C.holds self.old.store self.new.store }
+        ensures position { C.place self.new.store ≡ C.place self.old.store }
+        ensures fault { C.is_honest self.new.store → IfErr result IsOwnFault }
+        ensures serving_fault { C.serves self.new.store → IfErr result IsOwnFault }
+        ensures served { C.serves self.new.store → C.serves self.old.store }
+        ensures open { C.is_honest self.new.store → OnOk result (C.serves self.new.store) }
+        ensures honest { C.is_honest self.new.store → C.is_honest self.old.store }
+        ensures crash { C.is_honest self.new.store → (other : C) →
+            C.reopens self.new.store other → C.reopens self.old.store other }
+    {
         self.store.rows()
     }
 
-    fn each_row<T: DumpSink + Drop>(&mut self, sink: T) -> (Result<bool, StoreFault>, T) {
+    /// Gives a sink the rows of the store within. What is noted stays.
+    fn each_row<T: DumpSink + Drop>(&mut self, sink: T) -> (Result<bool, StoreFault>, T)
+        ensures noted { self.new.changed.items ≡ self.old.changed.items }
+        ensures front { C.is_honest self.new.store → (tables : Tables) →
+            C.holds self.old.store tables → (start : T) →
+            GivesFront (dump tables) (T.has_taken start sink) (T.has_taken start result.1) }
+        ensures all { C.is_honest self.new.store → IfOk result.0 (λ all. all ≡ true →
+            (tables : Tables) → C.holds self.old.store tables → (start : T) →
+            GivesAll (dump tables) (T.has_taken start sink) (T.has_taken start result.1)) }
+        ensures stopped { C.is_honest self.new.store → IfOk result.0 (λ all. all ≡ false →
+            T.has_stopped result.1) }
+        ensures unchanged { C.serves self.new.store → Stays C.holds self.old.store self.new.store }
+        ensures position { C.place self.new.store ≡ C.place self.old.store }
+        ensures fault { C.is_honest self.new.store → IfErr result.0 IsOwnFault }
+        ensures serving_fault { C.serves self.new.store → IfErr result.0 IsOwnFault }
+        ensures served { C.serves self.new.store → C.serves self.old.store }
+        ensures open { C.is_honest self.new.store → OnOk result.0 (C.serves self.new.store) }
+        ensures honest { C.is_honest self.new.store → C.is_honest self.old.store }
+        ensures crash { C.is_honest self.new.store → (other : C) →
+            C.reopens self.new.store other → C.reopens self.old.store other }
+    {
         self.store.each_row(sink)
     }
 
