@@ -122,6 +122,8 @@ impl<C: ReplicaStore + Drop> ReplicaStore for Watched<C> {
         ensures reach { OnErr result (C.reach self.new.store ≡ C.reach self.old.store) }
         ensures fault { C.serves self.new.store → IfErr result
             (RefusesWork C.stages self.old.store commit.now.work.now.changes) }
+        ensures why { C.is_honest self.new.store → C.serves self.old.store → IfErr result
+            (RefusesWork C.stages self.old.store commit.now.work.now.changes) }
         ensures unchanged { C.serves self.new.store → Stays C.holds self.old.store self.new.store }
         ensures position { C.place self.new.store ≡ C.place self.old.store }
         ensures served { C.serves self.new.store → C.serves self.old.store }
@@ -147,6 +149,7 @@ impl<C: ReplicaStore + Drop> ReplicaStore for Watched<C> {
         ensures nothing { C.reach self.old.store ≡ C.place self.old.store →
             self.new ≡ self.old }
         ensures fault { IfErr result IsOwnFault }
+        ensures none { C.reach self.new.store ≡ C.place self.new.store }
         ensures served { C.serves self.new.store → C.serves self.old.store }
         ensures open { C.is_honest self.new.store →
             C.place self.old.store < C.reach self.old.store →
@@ -174,6 +177,9 @@ impl<C: ReplicaStore + Drop> ReplicaStore for Watched<C> {
         ensures position { OnErr result (C.place self.new.store ≡ C.place self.old.store) }
         ensures fault { C.serves self.new.store → IfErr result
             (RefusesWork C.holds self.old.store work.now.changes) }
+        ensures why { C.is_honest self.new.store → C.serves self.old.store → IfErr result
+            (RefusesWork C.holds self.old.store work.now.changes) }
+        ensures none { OnOk result (C.reach self.new.store ≡ C.place self.new.store) }
         ensures served { C.serves self.new.store → C.serves self.old.store }
         ensures open { C.is_honest self.new.store → OnOk result (C.serves self.new.store) }
         ensures honest { C.is_honest self.new.store → C.is_honest self.old.store }
@@ -195,6 +201,7 @@ impl<C: ReplicaStore + Drop> ReplicaStore for Watched<C> {
         ensures position { C.place self.new.store ≡ C.place self.old.store }
         ensures fault { C.is_honest self.new.store → IfErr result IsOwnFault }
         ensures serving_fault { C.serves self.new.store → IfErr result IsOwnFault }
+        ensures none { C.reach self.new.store ≡ C.place self.new.store }
         ensures served { C.serves self.new.store → C.serves self.old.store }
         ensures open { C.is_honest self.new.store → OnOk result (C.serves self.new.store) }
         ensures honest { C.is_honest self.new.store → C.is_honest self.old.store }
@@ -219,6 +226,7 @@ impl<C: ReplicaStore + Drop> ReplicaStore for Watched<C> {
         ensures position { C.place self.new.store ≡ C.place self.old.store }
         ensures fault { C.is_honest self.new.store → IfErr result.0 IsOwnFault }
         ensures serving_fault { C.serves self.new.store → IfErr result.0 IsOwnFault }
+        ensures none { C.reach self.new.store ≡ C.place self.new.store }
         ensures served { C.serves self.new.store → C.serves self.old.store }
         ensures open { C.is_honest self.new.store → OnOk result.0 (C.serves self.new.store) }
         ensures honest { C.is_honest self.new.store → C.is_honest self.old.store }

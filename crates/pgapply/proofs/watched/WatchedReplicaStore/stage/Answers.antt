@@ -27,3 +27,8 @@ pub returns-clause-crash : goal.returns-clause-crash
 returns-clause-crash g c honest other left =
     let it = g.C.ReplicaStore in
     subst (λ s. it.reopens s other) c.in_ok-note.ensures.store (c.stage.ensures.crash honest other left)
+
+pub returns-clause-why : goal.returns-clause-why
+returns-clause-why g c =
+    let it = g.C.ReplicaStore in
+    subst (λ s. it.is_honest c.stage.new.self → it.serves s → IfErr c.stage.result (RefusesWork it.stages s c.args.commit.now.work.now.changes)) c.in_ok-note.ensures.store c.stage.ensures.why

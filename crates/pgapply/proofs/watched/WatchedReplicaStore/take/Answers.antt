@@ -23,3 +23,8 @@ returns-clause-crash g c honest other left =
     let it = g.C.ReplicaStore in
     subst (λ s. it.reopens s other ⊎ (it.serves s × LeavesFold it.holds it.place s c.args.work.now.changes c.args.end other)) c.in_ok-note.ensures.store
     (c.take.ensures.crash honest other left)
+
+pub returns-clause-why : goal.returns-clause-why
+returns-clause-why g c =
+    let it = g.C.ReplicaStore in
+    subst (λ s. it.is_honest c.take.new.self → it.serves s → IfErr c.take.result (RefusesWork it.holds s c.args.work.now.changes)) c.in_ok-note.ensures.store c.take.ensures.why
