@@ -24,7 +24,7 @@ use Rattle.pgsub_core.specs.Following.{FeedsSession, FeedsSessionUntil, FeedsSes
 use Rattle.pgsub_core.specs.Crashing.{LeavesOldOr, Over, FedOver, StandsAs, StandsAsFed, LeavesHistory}
 use Rattle.pgsub_core.proofs.PayloadStops.{unchanged}
 use Rattle.pgsub_core.proofs.FeedSteps.{goes_then}
-use Rattle.pgsub_core.proofs.FeedStops.{stopped_at}
+use Rattle.pgsub_core.proofs.FeedStops.{for_memory, stopped_at}
 use Rattle.pgsub_core.proofs.Starting.{feeds_until}
 use Rattle.pgsub_core.proofs.FollowSteps.{session_stops, follows_stops, follows}
 use Rattle.pgsub_core.proofs.Crashes.{leaves_then, leaves_as}
@@ -87,9 +87,12 @@ module _ {C : Type 0} (holds : C → Tables → Type 0) (place : C → ℕ) (now
   pub feed_over : (other : C) → Over (λ a. FeedStops holds place now d₀ a₀ piece a fault.Memory) other → FedOver (λ s. FeedsUntil holds place now old piece s fault.Memory) other
   feed_over other over = (record { applied = over.0; framing = framing_of d₀ true }, over.1, feeds_until holds place now piece d₀ d₀ a₀ over.0 closed old fault.Memory is refl same over.2)
 
-  pub feed_stands : (d : Deframed) (new : Applied C) → StandsAs place (λ a. FeedStops holds place now d₀ a₀ piece a fault.Memory) new
-      → StandsAsFed place (λ s. FeedsUntil holds place now old piece s fault.Memory) (record { applied = new; framing = framing_of d true })
-  feed_stands d new stands = (record { applied = stands.0; framing = framing_of d₀ true }, stands.1, feeds_until holds place now piece d₀ d₀ a₀ stands.0 closed old fault.Memory is refl same stands.2)
+  pub feed_stands : (d : Deframed) (new : Applied C) (f : Fault) → StandsAs place (λ a. FeedStops holds place now d₀ a₀ piece a f) new → StandsAsFed place (λ s. FeedsUntil holds place now old piece s f) (record { applied = new; framing = framing_of d true })
+  feed_stands d new f stands = (record { applied = stands.0; framing = framing_of d₀ true }, stands.1, feeds_until holds place now piece d₀ d₀ a₀ stands.0 closed old f is refl same stands.2)
+
+  -- want of memory might have stopped it there
+  pub feed_stands_memory : (d : Deframed) (new : Applied C) (f : Fault) → StandsAs place (λ a. FeedStops holds place now d₀ a₀ piece a f) new → StandsAsFed place (λ s. FeedsUntil holds place now old piece s fault.Memory) (record { applied = new; framing = framing_of d true })
+  feed_stands_memory d new f stands = feed_stands d new fault.Memory (stands.0, stands.1, for_memory holds place now d₀ a₀ piece stands.0 f stands.2)
 
 -- ---- pieces and sessions
 
@@ -106,8 +109,8 @@ module _ {C : Type 0} (serves : C → Type 0) (holds : C → Tables → Type 0) 
         leaves_then place reopens serves _ _ old.applied.store mid.applied.store new.applied.store before one served
         (λ other own has. (has.0, has.1, session_stops holds place now old mid has.0 pieces items same i piece fault.Memory lt is (so own) fed that has.2))
 
-    pub session_stands : serves mid.applied.store → StandsAsFed place (λ s. FeedsUntil holds place now mid fed s fault.Memory) new → StandsAsFed place (λ s. FeedsSessionUntil holds place now old all s fault.Memory) new
-    session_stands own stands = (stands.0, stands.1, session_stops holds place now old mid stands.0 pieces items same i piece fault.Memory lt is (so own) fed that stands.2)
+    pub session_stands : serves mid.applied.store → (f : Fault) → StandsAsFed place (λ s. FeedsUntil holds place now mid fed s f) new → StandsAsFed place (λ s. FeedsSessionUntil holds place now old all s f) new
+    session_stands own f stands = (stands.0, stands.1, session_stops holds place now old mid stands.0 pieces items same i piece f lt is (so own) fed that stands.2)
 
   module _ (sessions : List Session) (i : ℕ) (session : Session) (lt : i < length sessions) (is : session ≡ get_or sessions i session) (so : serves mid.applied.store → FeedsSessions holds place now old (bytes_of (take i sessions)) mid None) where
     pub leaves_sessions : LeavesOldOr place reopens serves (FedOver (λ s. FeedsSessions holds place now old (bytes_of sessions) s (Some fault.Memory))) old.applied.store mid.applied.store
@@ -117,9 +120,8 @@ module _ {C : Type 0} (serves : C → Type 0) (holds : C → Tables → Type 0) 
         leaves_then place reopens serves _ _ old.applied.store mid.applied.store new.applied.store before one served
         (λ other own has. (has.0, has.1, follows_stops holds place now old mid has.0 sessions i session fault.Memory lt is (so own) has.2))
 
-    pub sessions_stand : serves mid.applied.store → StandsAsFed place (λ s. FeedsSessionUntil holds place now mid (session_bytes session) s fault.Memory) new
-        → StandsAsFed place (λ s. FeedsSessions holds place now old (bytes_of sessions) s (Some fault.Memory)) new
-    sessions_stand own stands = (stands.0, stands.1, follows_stops holds place now old mid stands.0 sessions i session fault.Memory lt is (so own) stands.2)
+    pub sessions_stand : serves mid.applied.store → (f : Fault) → StandsAsFed place (λ s. FeedsSessionUntil holds place now mid (session_bytes session) s f) new → StandsAsFed place (λ s. FeedsSessions holds place now old (bytes_of sessions) s (Some f)) new
+    sessions_stand own f stands = (stands.0, stands.1, follows_stops holds place now old mid stands.0 sessions i session f lt is (so own) stands.2)
 
 -- ---- of a history
 
@@ -209,5 +211,5 @@ module _ {C : Type 0} (holds : C → Tables → Type 0) (place : C → ℕ) (now
         (λ other has. let so = has.2 in (has.0, has.1, record { pieces = so.pieces; are_read = record { each = so.are_read.each; read = kept_on a b c (bytes_in so.pieces) so.are_read.read next }; stops = so.stops }))
 
     pub read_stands : (reads reads' : ℕ) (mid : SubscriberValue C) (piece : List ℕ) → Pumps holds place now a b reads reads' old mid → Consumes b c piece → IsPiece piece
-        → StandsAsFed place (λ s. FeedsUntil holds place now mid piece s fault.Memory) new → StandsAsFed place (λ s. PumpsUntil holds place now a c old s fault.Memory) new
-    read_stands reads reads' mid piece so next is stands = (stands.0, stands.1, pumps_until holds place now a b c reads reads' old mid stands.0 piece fault.Memory so next is stands.2)
+        → (f : Fault) → StandsAsFed place (λ s. FeedsUntil holds place now mid piece s f) new → StandsAsFed place (λ s. PumpsUntil holds place now a c old s f) new
+    read_stands reads reads' mid piece so next is f stands = (stands.0, stands.1, pumps_until holds place now a b c reads reads' old mid stands.0 piece f so next is stands.2)

@@ -18,12 +18,12 @@ use Rattle.pgsub_core.specs.Taking.{take_frames}
 use Rattle.pgsub_core.specs.Handled.{IsLeft}
 use Rattle.pgsub_core.specs.Feeding.{IsFedWhole, IsFedUntil}
 use Rattle.pgsub_core.specs.Applied.{Applied, Framing, subscribed, IsKept}
-use Rattle.pgsub_core.specs.Framing.{framing_of, framing_behind, FramesGo, FeedGoes, FeedStops, StopsAt, IsStopped, IsFedTo}
+use Rattle.pgsub_core.specs.Framing.{framing_of, framing_behind, FramesGo, FeedGoes, FeedStops, IsFedTo}
 use Rattle.pgsub_core.specs.Crashing.{LeavesOldOr, Over, StandsAs}
 use Rattle.pgsub_core.specs.Faults.{IsReadFault, IsOfFeeding}
 use Rattle.pgsub_core.specs.Staging.{Rests, Grows, KeepsItsSettings, IsMark, IsMarked, IsRenewed, GoesBack, StandsStaged}
 use Rattle.pgsub_core.proofs.PayloadStops.{unchanged}
-use Rattle.pgsub_core.proofs.FeedStops.{stops_by_frame, taken_to}
+use Rattle.pgsub_core.proofs.FeedStops.{for_memory, stops_by_frame, taken_to}
 use Rattle.pgsub_core.proofs.LeftPieces.{piece_stands}
 use Rattle.pgsub_core.proofs.Staged.{frame_moves}
 use Rattle.pgsub_core.proofs.Pieces.{stop_stands}
@@ -77,6 +77,7 @@ module _ {C : Type 0} (holds : C → Tables → Type 0) (place : C → ℕ) (reo
       still = still;
       memory = memory;
       refused = λ own less. absurd (omega (arith, settled, less));
+      refused_still = λ clean own less. absurd (omega (arith, settled, less));
     }
 
     -- the mark before a frame: of this where nothing is staged, else an earlier one
@@ -102,8 +103,9 @@ module _ {C : Type 0} (holds : C → Tables → Type 0) (place : C → ℕ) (reo
     -- one frame, whether it is taken or not
     pub marked_then : (a b : Applied C) (c r n : ℕ) → Head c r n a → Rests holds place reopens serves is_honest a.store b.store → Rests holds place reopens serves is_honest start a.store → Grows a.replies b.replies → KeepsItsSettings a b
         → (serves b.store → serves a.store) → (is_honest b.store → is_honest a.store) → (is_honest a.store → serves start → serves a.store) → (serves a.store → stops a fault.Memory)
-        → (serves b.store → reach a.store ≡ place a.store → place b.store < reach b.store → stops a (fault.Store store.Refused)) → IsMarked holds place reopens serves is_honest stages reach stops start c r n b
-    marked_then a b c r n (inl here) one whole grows settings served honest still memory refused = record {
+        → (serves b.store → reach a.store ≡ place a.store → place b.store < reach b.store → stops a (fault.Store store.Refused))
+        → (is_honest b.store → serves start → reach a.store ≡ place a.store → place b.store < reach b.store → stops a (fault.Store store.Refused)) → IsMarked holds place reopens serves is_honest stages reach stops start c r n b
+    marked_then a b c r n (inl here) one whole grows settings served honest still memory refused refused_still = record {
       at = a;
       confirmed_is = here.2.confirmed_is;
       received_is = here.2.received_is;
@@ -118,8 +120,9 @@ module _ {C : Type 0} (holds : C → Tables → Type 0) (place : C → ℕ) (reo
       still = λ clean own. still (honest clean) own;
       memory = memory;
       refused = λ own less. refused own here.0 less;
+      refused_still = λ clean own less. refused_still clean own here.0 less;
     }
-    marked_then a b c r n (inr before) one whole grows settings served honest still memory refused = record {
+    marked_then a b c r n (inr before) one whole grows settings served honest still memory refused refused_still = record {
       at = before.1.at;
       confirmed_is = before.1.confirmed_is;
       received_is = before.1.received_is;
@@ -134,6 +137,7 @@ module _ {C : Type 0} (holds : C → Tables → Type 0) (place : C → ℕ) (reo
       still = λ clean own. before.1.still (honest clean) own;
       memory = before.1.memory;
       refused = λ own further. before.1.refused (served own) before.0;
+      refused_still = λ clean own further. before.1.refused_still (honest clean) own before.0;
     }
 
 -- ---- what stands once it is settled
@@ -210,13 +214,7 @@ module _ {C : Type 0} (holds : C → Tables → Type 0) (place : C → ℕ) (sta
         (x, refl, settled_stops piece w x fault.Memory stops became settles)
 
 module _ {C : Type 0} (holds : C → Tables → Type 0) (place : C → ℕ) (now : ℤ) (d₀ : Deframed) (a₀ : Applied C) where
-  -- want of memory can stop it where a fault does, and behind all of a piece
-  pub for_memory : (piece : List ℕ) (a : Applied C) (f : Fault) → FeedStops holds place now d₀ a₀ piece a f → FeedStops holds place now d₀ a₀ piece a fault.Memory
-  for_memory piece a f stops closed tables is max h =
-      let one = stops closed tables is max h in
-      let u = one.2 in
-      (one.0, one.1, record { fs = u.fs; rest = u.rest; state = u.state; whole = u.whole; each = u.each; takes = u.takes; left = u.left; closed = u.closed; why = tt })
-
+  -- want of memory can stop it behind all of a piece
   pub behind_all : (piece : List ℕ) (d : Deframed) (a : Applied C) → d.max ≡ d₀.max → FeedGoes holds place now d₀ a₀ piece d a → FeedStops holds place now d₀ a₀ piece a fault.Memory
   behind_all piece d a same goes closed tables is max h =
       let one = goes false tables h in
@@ -266,15 +264,17 @@ module _ {C : Type 0} (holds : C → Tables → Type 0) (place : C → ℕ) (reo
       → IsFedTo stages reach now serves d₀ a₀ piece d a taken → Rests holds place reopens serves is_honest a.store b.store → Rests holds place reopens serves is_honest a₀.store a.store → Grows a.replies b.replies → KeepsItsSettings a b
       → (serves b.store → serves a.store) → (is_honest b.store → is_honest a.store) → (is_honest a.store → serves a₀.store → serves a.store)
       → (serves b.store → reach a.store < reach b.store → (f : Frame) × Stands d f × FramesGo stages reach now (f ∷ []) a b)
+      → (is_honest b.store → serves a.store → reach a.store < reach b.store → serves b.store)
       → IsMarked holds place reopens serves is_honest stages reach (FeedStops stages reach now d₀ a₀ piece) a₀.store c r n b
-  marked_frame d a b taken c r n head to one whole grows settings served honest still moved =
+  marked_frame d a b taken c r n head to one whole grows settings served honest still moved opens =
+      let further : reach a.store ≡ place a.store → place b.store < reach b.store → reach a.store < reach b.store = λ settled less. let same = one.position in omega (arith, settled, less, same) in
+      let refused : serves b.store → reach a.store < reach b.store → FeedStops stages reach now d₀ a₀ piece a (fault.Store store.Refused) = λ own more.
+      let frame = moved own more in
+      commit_refused serves stages reach now d₀ a₀ piece d a b taken to (served own) frame.0 frame.1 frame.2 more in
       marked_then holds place reopens serves is_honest stages reach (FeedStops stages reach now d₀ a₀ piece) a₀.store a b c r n head one whole grows settings served honest still
       (λ own. piece_stands serves stages reach now d₀ a₀ piece d a taken (taken_to serves stages reach now d₀ a₀ piece d a taken to) own)
-      (λ own settled less.
-      let same = one.position in
-      let further : reach a.store < reach b.store = omega (arith, settled, less, same) in
-      let frame = moved own further in
-      commit_refused serves stages reach now d₀ a₀ piece d a b taken to (served own) frame.0 frame.1 frame.2 further)
+      (λ own settled less. refused own (further settled less))
+      (λ clean own settled less. let more = further settled less in refused (opens clean (still (honest clean) own) more) more)
 
 -- ---- a whole piece
 
@@ -317,9 +317,9 @@ module _ {C : Type 0} (holds : C → Tables → Type 0) (place : C → ℕ) (reo
   all_settled f stops is to settles = settled_stops holds place stages reach now d₀ old s begins at piece a b f stops (became_all is to) settles
 
   -- nothing was staged, and the store may have shut
-  pub settled_stands : StandsStaged holds place stages reach (λ w. Stops w fault.Memory) a → reach a.store ≡ place a.store → b ≡ record a { store = b.store } → place b.store ≡ reach a.store
-      → StandsAs place (λ x. FeedStops holds place now d₀ old piece x fault.Memory) b
-  settled_stands stands none is to =
+  pub settled_stands : (f : Fault) → StandsStaged holds place stages reach (λ w. Stops w f) a → reach a.store ≡ place a.store → b ≡ record a { store = b.store } → place b.store ≡ reach a.store
+      → StandsAs place (λ x. FeedStops holds place now d₀ old piece x f) b
+  settled_stands f stands none is to =
       let w = stands.0 in
       let kept = stands.1 in
       let settled = stands.3 none in
@@ -333,7 +333,7 @@ module _ {C : Type 0} (holds : C → Tables → Type 0) (place : C → ℕ) (reo
           limit = ap (λ (x : Applied C). x.limit) is ∙ kept.limit;
           replies = ap (λ (x : Applied C). x.replies) is ∙ kept.replies;
         },
-        settled_stops holds place stages reach now d₀ old s begins at piece w w fault.Memory stands.2 here settled.1,
+        settled_stops holds place stages reach now d₀ old s begins at piece w w f stands.2 here settled.1,
       )
 
   module _ (c r n : ℕ) (m : IsMarked holds place reopens serves is_honest stages reach Stops s c r n a) where
@@ -359,9 +359,13 @@ module _ {C : Type 0} (holds : C → Tables → Type 0) (place : C → ℕ) (reo
     none_settled f is own less back stays same =
         settled_stops holds place stages reach now d₀ old s begins at piece m.at b f (stops_for f is own less) (at_mark b (back_at back stays)) (λ tables h. same tables (m.rests.stays own tables (m.held tables h)))
 
-    pub none_stands : serves m.at.store → GoesBack c r n a b → place b.store ≡ place a.store → StandsAs place (λ x. FeedStops holds place now d₀ old piece x fault.Memory) b
-    none_stands own back stays =
-        (m.at, back_at back stays, settled_stops holds place stages reach now d₀ old s begins at piece m.at m.at fault.Memory (m.memory own) (at_mark m.at (unchanged place m.at)) m.held)
+    stops_still : (f : Fault) → IsReadFault f → is_honest a.store → serves s → place a.store < reach a.store → Stops m.at f
+    stops_still f (inl memory) clean own less = subst (Stops m.at) (sym memory) (m.memory (m.still clean own))
+    stops_still f (inr refused) clean own less = subst (Stops m.at) (sym refused) (m.refused_still clean own less)
+
+    pub none_stands : (f : Fault) → IsReadFault f → is_honest a.store → serves s → place a.store < reach a.store → GoesBack c r n a b → place b.store ≡ place a.store → StandsAs place (λ x. FeedStops holds place now d₀ old piece x f) b
+    none_stands f is clean own less back stays =
+        (m.at, back_at back stays, settled_stops holds place stages reach now d₀ old s begins at piece m.at m.at f (stops_still f is clean own less) (at_mark m.at (unchanged place m.at)) m.held)
 
     -- ---- what a crash leaves
 

@@ -1,33 +1,28 @@
 -- While the commits of a piece are staged: what the mark says, and what settling makes of it.
-use Rattle.std.proofs.Common.{◌≡◌, ◌≢◌, ◌<◌, ◌≤◌, ◌⊎◌, inl, inr, ◌++◌, [], ◌∷◌, ℕ, ℤ, List, Bool, true, false, cond, Option, Some, None, Result, Ok, Err, length, take, refl, sym, ap, subst, ◌∙◌, arith, append-nil, append_assoc}
-use Rattle.std.specs.Prelude.{nat_lt, if◌then◌else◌}
-use Rattle.std.proofs.Math.Seq.{take-length}
+use Rattle.std.proofs.Common.{◌≡◌, ◌<◌, ℕ, ℤ, List, Bool, true, false, cond, Option, Some, Result, Ok, Err, refl, sym, ap, ◌∙◌, arith}
+use Rattle.std.specs.Prelude.{nat_lt}
 use Rattle.pglogical.specs.declared.fault.DecodeFault.{DecodeFault}
 use Rattle.pglogical.specs.declared.item.Item.{Item}
 use Rattle.pglogical.specs.declared.message.Message.{Message}
-use Rattle.pglogical.specs.Reading.{message_at}
-use Rattle.pgorder.specs.States.{is_in_block, is_outside}
+use Rattle.pgorder.specs.States.{is_outside}
 use Rattle.pgorder.specs.Steps.{OrderState, StepResult, order_step}
 use Rattle.pgorder.specs.declared.Event.{Event}
 use Rattle.pgorder.specs.declared.Event.TheVariants as event
-use Rattle.pgorder.specs.declared.OrderFault.{OrderFault}
 use Rattle.pgorder.specs.declared.Version.{Version}
 use Rattle.pgspool.specs.Labels.{items_of, held_of}
 use Rattle.pgwire.specs.Frames as wire
 use Rattle.pgwire.specs.Payloads.{payload_at}
 use Rattle.pgwire.specs.declared.fault.WireFault.{WireFault}
 use Rattle.pgapply.specs.declared.rows.StoreFault.{StoreFault}
-use Rattle.pgapply.specs.declared.rows.StoreFault.TheVariants as store
 use Rattle.pgapply.specs.Value.{Tables}
-use Rattle.pgapply.specs.Apply.{Change, fold_changes}
+use Rattle.pgapply.specs.Apply.{Change}
 use Rattle.pgsub_core.specs.declared.fault.Fault.{Fault}
-use Rattle.pgsub_core.specs.declared.fault.Fault.TheVariants as fault
-use Rattle.pgsub_core.specs.Stream.{Sent, Data, Keepalive, kind}
-use Rattle.pgsub_core.specs.Replica.{Replica, RelationCache, Halt, Outcome, Running, Stopped, stored, taken, on_commit, on_keepalive, then_run}
+use Rattle.pgsub_core.specs.Stream.{Data, Keepalive, kind}
+use Rattle.pgsub_core.specs.Replica.{Replica, RelationCache, Halt, Outcome, Running, Stopped, stored, taken, on_commit, on_keepalive}
 use Rattle.pgsub_core.specs.ApplyState.{ApplyState, ApplyResult, committed, on_event, on_message, step}
 use Rattle.pgsub_core.specs.Subscribed.{Subscribed, apply_state_of, replica_of}
-use Rattle.pgsub_core.specs.Taking.{take as take_one, taken_with, message_passes_limit, handled, take_message, take_payload, take_frame, take_frames, ReachesStore}
-use Rattle.pgsub_core.specs.Handled.{commit_end, end_by_kind, IsLeft}
+use Rattle.pgsub_core.specs.Taking.{take as take_one, take_message, take_payload, take_frame, ReachesStore}
+use Rattle.pgsub_core.specs.Handled.{commit_end, end_by_kind}
 use Rattle.pgsub_core.specs.Feeding.{IsCommitFrame}
 use Rattle.pgsub_core.proofs.Stops.{end_of_event, event_end}
 

@@ -52,6 +52,7 @@ module _ {C : Type 0} (holds : C → Tables → Type 0) (place : C → ℕ) wher
         pub still : is_honest a.store → serves start → serves at.store
         pub memory : serves at.store → stops at fault.Memory
         pub refused : serves a.store → place a.store < reach a.store → stops at (fault.Store store.Refused)
+        pub refused_still : is_honest a.store → serves start → place a.store < reach a.store → stops at (fault.Store store.Refused)
 
   module _ (stages : C → Tables → Type 0) (reach : C → ℕ) where
     -- the mark is of this, where nothing is staged; else it is the one before
@@ -60,6 +61,6 @@ module _ {C : Type 0} (holds : C → Tables → Type 0) (place : C → ℕ) wher
         ((reach a.store ≡ place a.store) × Settles holds stages a.store a.store × IsMark a confirmed' received' replies')
         ⊎ ((place a.store < reach a.store) × (confirmed' ≡ confirmed) × (received' ≡ received) × (replies' ≡ replies))
 
-    -- As one that want of memory stopped somewhere (see StandsAs), with what it stages; where nothing is staged, it holds that.
+    -- As one that stopped somewhere (see StandsAs), with what it stages; where nothing is staged, it holds that.
     abbrev pub StandsStaged : (Applied C → Type 0) → Applied C → Type 0
     StandsStaged took new = (a : Applied C) × IsKept reach a new × took a × (reach new.store ≡ place new.store → (reach a.store ≡ place a.store) × Settles holds stages a.store a.store)

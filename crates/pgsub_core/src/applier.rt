@@ -334,6 +334,10 @@ impl<P: Spools + Drop, C: ReplicaStore + Drop> Applier<P, C> {
             IfErr result (RefusesCommit C.stages C.reach ending.end
             (items_of (held_of self.old.held ending.xid)) self.old.store self.old.confirmed
             self.old.relations self.new.store) }
+        ensures why { C.is_honest self.new.store → C.serves self.old.store →
+            IfErr result (RefusesCommit C.stages C.reach ending.end
+            (items_of (held_of self.old.held ending.xid)) self.old.store self.old.confirmed
+            self.old.relations self.old.store) }
         ensures own { IfErr result IsOfFeeding }
         ensures held { OnOk result (self.new.held ≡ map.remove self.old.held ending.xid) }
         ensures beside { StaysBeside self.old self.new }
@@ -373,6 +377,9 @@ impl<P: Spools + Drop, C: ReplicaStore + Drop> Applier<P, C> {
         ensures refused { C.serves self.new.store →
             IfErr result (EventStops C.stages C.reach
             (message_value message.now) event self.old self.new) }
+        ensures why { C.is_honest self.new.store → C.serves self.old.store →
+            IfErr result (EventStops C.stages C.reach
+            (message_value message.now) event self.old self.old) }
         ensures own { IfErr result IsOfFeeding }
         ensures beside { StaysBeside self.old self.new }
         ensures kept { OnErr result (IsKept C.reach self.old self.new) }
@@ -424,6 +431,10 @@ impl<P: Spools + Drop, C: ReplicaStore + Drop> Applier<P, C> {
             IfErr result (λ fault. (now clock : ℤ) →
             Stops C.stages C.reach now (Data start end clock (message_value message.now)) self.old
             self.new fault) }
+        ensures why { C.is_honest self.new.store → C.serves self.old.store →
+            IfErr result (λ fault. (now clock : ℤ) →
+            Stops C.stages C.reach now (Data start end clock (message_value message.now)) self.old
+            self.old fault) }
         ensures own { IfErr result IsOfFeeding }
         ensures kept { OnErr result (IsKept C.reach self.old self.new) }
         ensures served { C.serves self.new.store → C.serves self.old.store }
@@ -451,6 +462,9 @@ impl<P: Spools + Drop, C: ReplicaStore + Drop> Applier<P, C> {
         ensures refused { C.serves self.new.store →
             IfErr result (IsStopped C.stages C.reach
             (StopsAt (CopyData payload.now) now) self.old self.new) }
+        ensures why { C.is_honest self.new.store → C.serves self.old.store →
+            IfErr result (IsStopped C.stages C.reach
+            (StopsAt (CopyData payload.now) now) self.old self.old) }
         ensures own { IfErr result IsOfFeeding }
         ensures grows { Grows self.old.replies self.new.replies }
         ensures settings { KeepsItsSettings self.old self.new }
@@ -488,6 +502,10 @@ impl<P: Spools + Drop, C: ReplicaStore + Drop> Applier<P, C> {
         ensures refused { C.serves self.new.store →
             IfErr result (λ f. (now clock : ℤ) →
             IsStopped C.stages C.reach (StopsAtBody now start end clock body.now) self.old self.new
+            f) }
+        ensures why { C.is_honest self.new.store → C.serves self.old.store →
+            IfErr result (λ f. (now clock : ℤ) →
+            IsStopped C.stages C.reach (StopsAtBody now start end clock body.now) self.old self.old
             f) }
         ensures own { IfErr result IsOfFeeding }
         ensures silent { self.new.replies ≡ self.old.replies }

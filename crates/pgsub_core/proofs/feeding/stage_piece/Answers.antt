@@ -1,8 +1,6 @@
-use Rattle.std.proofs.Common.{◌≡◌, ◌≢◌, ◌<◌, ◌⊎◌, ◌++◌, inl, ℕ, ℤ, List, Ok, Err, take, drop, to_z, of_z, refl, sym, ap, subst, ◌∙◌, arith}
+use Rattle.std.proofs.Common.{◌≡◌, ◌≢◌, ◌<◌, ◌⊎◌, inl, ℕ, ℤ, List, Ok, Err, take, refl, sym, ap, subst, ◌∙◌, arith}
 use Rattle.std.specs.Int.{w64}
 use Rattle.std.proofs.lemmas.Int.{to_z-of_z}
-use Rattle.std.proofs.lemmas.List.{take-append-drop}
-use Rattle.std.proofs.Math.Seq.{take-add}
 use Rattle.pgwire.specs.Deframed.{Deframed, IsFed}
 use Rattle.pgsub_core.specs.Applied.{Applied}
 use Rattle.pgwire.specs.declared.fault.WireFault.{WireFault}
@@ -13,9 +11,9 @@ use Rattle.pgsub_core.proofs.DescribedChanges.{on_residual}
 use Rattle.pgsub_core.proofs.PayloadStops.{unchanged}
 use Rattle.pgsub_core.specs.Staging.{IsMarked}
 use Rattle.pgsub_core.proofs.Marks.{rests_same, rests_then, renewed, of_head, head_held, mark_here, marked_frame}
-use Rattle.pgsub_core.proofs.LeftPieces.{on_err, piece_stands}
-use Rattle.pgsub_core.proofs.FeedStops.{stops_by_bytes, stops_by_frame, start_to, released_to, taken_to}
-use Rattle.pgsub_core.proofs.FeedSteps.{fed_start, fed_one, fed_whole, fed_front, fed_less, fed_to_front, all_taken, released_waits, rest_of, some_taken, take_whole}
+use Rattle.pgsub_core.proofs.LeftPieces.{piece_stands}
+use Rattle.pgsub_core.proofs.FeedStops.{stops_by_bytes, stops_by_frame, start_to, released_to}
+use Rattle.pgsub_core.proofs.FeedSteps.{fed_start, fed_one, fed_whole, fed_front, fed_less, all_taken, released_waits, rest_of, some_taken, take_whole}
 use Rattle.pgsub_core.proofs.feeding.stage_piece.Goals as goal
 
 pub loop-applier-init : goal.loop-applier-init
@@ -57,7 +55,7 @@ loop-applier-preserved g c = let it = g.C.ReplicaStore in (
       (marked_frame it.holds it.place it.reopens it.serves it.is_honest it.stages it.reach _ c.args.deframer.now c.args.applier.now c.args.piece.now c.loop-applier.deframer c.loop-applier.applier c.take_whole.new.applier
       c.loop-applier.taken c.loop-applier.mark.confirmed c.loop-applier.mark.received c.loop-applier.mark.replies c.loop-applier.invariant.7 c.loop-applier.invariant.2 c.take_whole.ensures.rests c.loop-applier.invariant.6
       c.take_whole.ensures.grows c.take_whole.ensures.settings c.take_whole.ensures.served c.take_whole.ensures.honest c.loop-applier.invariant.5
-      (λ own further. let released = c.in_ok-take_whole.ensures.released c.if-branch.true in (released.frame, released.stood, c.in_ok-take_whole.ensures.goes own c.if-branch.true released.frame released.stood))),
+      (λ own further. let released = c.in_ok-take_whole.ensures.released c.if-branch.true in (released.frame, released.stood, c.in_ok-take_whole.ensures.goes own c.if-branch.true released.frame released.stood)) (λ honest own further. c.in_ok-take_whole.ensures.open honest own)),
 )
 
 pub returns-clause-fed : goal.returns-clause-fed
@@ -125,49 +123,57 @@ returns-in_err-taken-2-clause-refused g c serves =
     (released_to g.C.ReplicaStore.serves g.C.ReplicaStore.stages g.C.ReplicaStore.reach _ c.args.deframer.now c.args.applier.now c.args.piece.now c.loop-applier.deframer c.take_whole.new.deframer c.loop-applier.applier c.take_whole.new.applier c.loop-applier.taken to released
     c.take_whole.ensures.served (λ own frame stands. c.in_ok-take_whole.ensures.goes own c.if-branch.true frame stands)) serves sound f refused))
 
-pub returns-in_err-taken-clause-stands : goal.returns-in_err-taken-clause-stands
-returns-in_err-taken-clause-stands g c honest serves =
+pub returns-in_err-taken-clause-why : goal.returns-in_err-taken-clause-why
+returns-in_err-taken-clause-why g c honest serves =
     let it = g.C.ReplicaStore in
-    on_err c.from_residual.result _ (
+    on_residual c.from_residual.result c.in_err-taken.field-0.0 _ c.from_residual.ensures.1 (
       c.args.applier.now,
       unchanged it.reach c.args.applier.now,
-      piece_stands it.serves it.stages it.reach c.args.now c.args.deframer.now c.args.applier.now c.args.piece.now c.args.deframer.now c.args.applier.now 0
-          (start_to it.serves it.stages it.reach c.args.now c.args.deframer.now c.args.applier.now c.args.piece.now c.requires.waits c.requires.sound) serves,
+      stops_by_bytes it.serves it.stages it.reach c.args.now c.args.deframer.now c.args.applier.now c.args.piece.now c.args.deframer.now c.feed_frames.new.deframer c.args.applier.now 0
+          (start_to it.serves it.stages it.reach c.args.now c.args.deframer.now c.args.applier.now c.args.piece.now c.requires.waits c.requires.sound) serves c.requires.sound c.in_err-taken.field-0.0 c.in_err-taken.ensures.refused,
       λ none. (c.requires.settled, c.requires.held),
     )
 
-pub returns-in_err-take_whole-clause-stands : goal.returns-in_err-take_whole-clause-stands
-returns-in_err-take_whole-clause-stands g c honest serves =
+pub returns-in_err-take_whole-clause-why : goal.returns-in_err-take_whole-clause-why
+returns-in_err-take_whole-clause-why g c honest serves =
     let it = g.C.ReplicaStore in
-    on_err c.from_residual-in_err-take_whole.result _ (
+    let f = c.in_err-take_whole.field-0.0 in
+    let own = c.loop-applier.invariant.5 (c.take_whole.ensures.honest honest) serves in
+    let stopped = c.in_err-take_whole.ensures.why honest own in
+    on_residual c.from_residual-in_err-take_whole.result f _ c.from_residual-in_err-take_whole.ensures.1 (
       c.loop-applier.applier,
       c.in_err-take_whole.ensures.kept,
-      subst (λ (z : ℤ). FeedStops it.stages it.reach z c.args.deframer.now c.args.applier.now c.args.piece.now c.loop-applier.applier fault.Memory) (to_z-of_z w64 c.args.now c.ranges.now)
-          (piece_stands it.serves it.stages it.reach _ c.args.deframer.now c.args.applier.now c.args.piece.now c.loop-applier.deframer c.loop-applier.applier c.loop-applier.taken
-          (taken_to it.serves it.stages it.reach _ c.args.deframer.now c.args.applier.now c.args.piece.now c.loop-applier.deframer c.loop-applier.applier c.loop-applier.taken c.loop-applier.invariant.2)
-          (c.loop-applier.invariant.5 (c.take_whole.ensures.honest honest) serves)),
+      subst (λ (z : ℤ). FeedStops it.stages it.reach z c.args.deframer.now c.args.applier.now c.args.piece.now c.loop-applier.applier f) (to_z-of_z w64 c.args.now c.ranges.now)
+          (stops_by_frame it.serves it.stages it.reach _ c.args.deframer.now c.args.applier.now c.args.piece.now c.loop-applier.deframer c.loop-applier.applier c.loop-applier.applier c.loop-applier.taken c.loop-applier.invariant.2
+          own f stopped.0 stopped.1 stopped.2),
       λ none. head_held it.holds it.place it.reopens it.serves it.is_honest it.stages it.reach _ c.args.applier.now.store c.loop-applier.applier c.take_whole.new.applier _ _ _ c.loop-applier.invariant.7 c.in_err-take_whole.ensures.kept.position
           c.take_whole.ensures.rests.position none,
     )
 
-pub returns-in_err-taken-2-clause-stands : goal.returns-in_err-taken-2-clause-stands
-returns-in_err-taken-2-clause-stands g c honest serves =
+pub returns-in_err-taken-2-clause-why : goal.returns-in_err-taken-2-clause-why
+returns-in_err-taken-2-clause-why g c honest serves =
     let it = g.C.ReplicaStore in
-    on_err c.from_residual-in_err-taken-2.result _ (
+    let f = c.in_err-taken-2.field-0.0 in
+    let to = c.loop-applier.invariant.2 in
+    let released = c.in_ok-take_whole.ensures.released c.if-branch.true in
+    let sound = ap (λ (x : Deframed). x.fault) released.released ∙ to.fault in
+    let refused = subst (λ (bytes : List ℕ). ((f ≡ fault.Memory) × (c.feed_frames-in-loop-applier.new.deframer ≡ c.take_whole.new.deframer))
+    ⊎ ((k : WireFault) × (k ≢ wire_fault.Memory) × (f ≡ fault.Wire k) × IsFed c.take_whole.new.deframer bytes (Err k) c.feed_frames-in-loop-applier.new.deframer)) (rest_of c.args.piece.now c.loop-applier.taken) c.in_err-taken-2.ensures.refused in
+    on_residual c.from_residual-in_err-taken-2.result f _ c.from_residual-in_err-taken-2.ensures.1 (
       c.take_whole.new.applier,
       unchanged it.reach c.take_whole.new.applier,
-      subst (λ (z : ℤ). FeedStops it.stages it.reach z c.args.deframer.now c.args.applier.now c.args.piece.now c.take_whole.new.applier fault.Memory) (to_z-of_z w64 c.args.now c.ranges.now)
-          (piece_stands it.serves it.stages it.reach _ c.args.deframer.now c.args.applier.now c.args.piece.now c.take_whole.new.deframer c.take_whole.new.applier c.loop-applier.taken
-          (released_to it.serves it.stages it.reach _ c.args.deframer.now c.args.applier.now c.args.piece.now c.loop-applier.deframer c.take_whole.new.deframer c.loop-applier.applier c.take_whole.new.applier c.loop-applier.taken c.loop-applier.invariant.2
-          (c.in_ok-take_whole.ensures.released c.if-branch.true) c.take_whole.ensures.served (λ own frame stands. c.in_ok-take_whole.ensures.goes own c.if-branch.true frame stands))
-          (c.in_ok-take_whole.ensures.open honest (c.loop-applier.invariant.5 (c.take_whole.ensures.honest honest) serves))),
+      subst (λ (z : ℤ). FeedStops it.stages it.reach z c.args.deframer.now c.args.applier.now c.args.piece.now c.take_whole.new.applier f) (to_z-of_z w64 c.args.now c.ranges.now)
+          (stops_by_bytes it.serves it.stages it.reach _ c.args.deframer.now c.args.applier.now c.args.piece.now c.take_whole.new.deframer c.feed_frames-in-loop-applier.new.deframer c.take_whole.new.applier c.loop-applier.taken
+          (released_to it.serves it.stages it.reach _ c.args.deframer.now c.args.applier.now c.args.piece.now c.loop-applier.deframer c.take_whole.new.deframer c.loop-applier.applier c.take_whole.new.applier c.loop-applier.taken to released
+          c.take_whole.ensures.served (λ own frame stands. c.in_ok-take_whole.ensures.goes own c.if-branch.true frame stands))
+          (c.in_ok-take_whole.ensures.open honest (c.loop-applier.invariant.5 (c.take_whole.ensures.honest honest) serves)) sound f refused),
       λ none. head_held it.holds it.place it.reopens it.serves it.is_honest it.stages it.reach _ c.args.applier.now.store c.take_whole.new.applier c.take_whole.new.applier _ _ _
           (renewed it.holds it.place it.reopens it.serves it.is_honest it.stages it.reach _ c.args.applier.now.store c.take_whole.new.applier c.loop-applier.mark.confirmed c.loop-applier.mark.received c.loop-applier.mark.replies
           c.renew-in-loop-applier.new.mark.confirmed c.renew-in-loop-applier.new.mark.received c.renew-in-loop-applier.new.mark.replies c.renew-in-loop-applier.ensures
           (marked_frame it.holds it.place it.reopens it.serves it.is_honest it.stages it.reach _ c.args.deframer.now c.args.applier.now c.args.piece.now c.loop-applier.deframer c.loop-applier.applier c.take_whole.new.applier
           c.loop-applier.taken c.loop-applier.mark.confirmed c.loop-applier.mark.received c.loop-applier.mark.replies c.loop-applier.invariant.7 c.loop-applier.invariant.2 c.take_whole.ensures.rests c.loop-applier.invariant.6
           c.take_whole.ensures.grows c.take_whole.ensures.settings c.take_whole.ensures.served c.take_whole.ensures.honest c.loop-applier.invariant.5
-          (λ own further. let released = c.in_ok-take_whole.ensures.released c.if-branch.true in (released.frame, released.stood, c.in_ok-take_whole.ensures.goes own c.if-branch.true released.frame released.stood)))) refl refl none,
+          (λ own further. let released = c.in_ok-take_whole.ensures.released c.if-branch.true in (released.frame, released.stood, c.in_ok-take_whole.ensures.goes own c.if-branch.true released.frame released.stood)) (λ honest own further. c.in_ok-take_whole.ensures.open honest own))) refl refl none,
     )
 
 pub returns-then-is_done-clause-marked : goal.returns-then-is_done-clause-marked
@@ -181,7 +187,7 @@ returns-then-is_done-clause-marked g c =
     (marked_frame it.holds it.place it.reopens it.serves it.is_honest it.stages it.reach _ c.args.deframer.now c.args.applier.now c.args.piece.now c.loop-applier.deframer c.loop-applier.applier c.take_whole.new.applier
     c.loop-applier.taken c.loop-applier.mark.confirmed c.loop-applier.mark.received c.loop-applier.mark.replies c.loop-applier.invariant.7 c.loop-applier.invariant.2 c.take_whole.ensures.rests c.loop-applier.invariant.6
     c.take_whole.ensures.grows c.take_whole.ensures.settings c.take_whole.ensures.served c.take_whole.ensures.honest c.loop-applier.invariant.5
-    (λ own further. let released = c.in_ok-take_whole.ensures.released c.if-branch.true in (released.frame, released.stood, c.in_ok-take_whole.ensures.goes own c.if-branch.true released.frame released.stood))))
+    (λ own further. let released = c.in_ok-take_whole.ensures.released c.if-branch.true in (released.frame, released.stood, c.in_ok-take_whole.ensures.goes own c.if-branch.true released.frame released.stood)) (λ honest own further. c.in_ok-take_whole.ensures.open honest own)))
     (rests_then it.holds it.place it.reopens it.serves it.is_honest c.args.applier.now.store c.loop-applier.applier.store c.take_whole.new.applier.store c.loop-applier.invariant.6 c.take_whole.ensures.rests
     c.take_whole.ensures.served c.take_whole.ensures.honest) (λ honest serves. c.in_ok-take_whole.ensures.open honest (c.loop-applier.invariant.5 (c.take_whole.ensures.honest honest) serves))
     (λ own. piece_stands it.serves it.stages it.reach _ c.args.deframer.now c.args.applier.now c.args.piece.now c.take_whole.new.deframer c.take_whole.new.applier c.loop-applier.taken
@@ -199,7 +205,7 @@ returns-in_err-taken-2-clause-marked g c =
     (marked_frame it.holds it.place it.reopens it.serves it.is_honest it.stages it.reach _ c.args.deframer.now c.args.applier.now c.args.piece.now c.loop-applier.deframer c.loop-applier.applier c.take_whole.new.applier
     c.loop-applier.taken c.loop-applier.mark.confirmed c.loop-applier.mark.received c.loop-applier.mark.replies c.loop-applier.invariant.7 c.loop-applier.invariant.2 c.take_whole.ensures.rests c.loop-applier.invariant.6
     c.take_whole.ensures.grows c.take_whole.ensures.settings c.take_whole.ensures.served c.take_whole.ensures.honest c.loop-applier.invariant.5
-    (λ own further. let released = c.in_ok-take_whole.ensures.released c.if-branch.true in (released.frame, released.stood, c.in_ok-take_whole.ensures.goes own c.if-branch.true released.frame released.stood))))
+    (λ own further. let released = c.in_ok-take_whole.ensures.released c.if-branch.true in (released.frame, released.stood, c.in_ok-take_whole.ensures.goes own c.if-branch.true released.frame released.stood)) (λ honest own further. c.in_ok-take_whole.ensures.open honest own)))
     (rests_then it.holds it.place it.reopens it.serves it.is_honest c.args.applier.now.store c.loop-applier.applier.store c.take_whole.new.applier.store c.loop-applier.invariant.6 c.take_whole.ensures.rests
     c.take_whole.ensures.served c.take_whole.ensures.honest) (λ honest serves. c.in_ok-take_whole.ensures.open honest (c.loop-applier.invariant.5 (c.take_whole.ensures.honest honest) serves))
     (λ own. piece_stands it.serves it.stages it.reach _ c.args.deframer.now c.args.applier.now c.args.piece.now c.take_whole.new.deframer c.take_whole.new.applier c.loop-applier.taken
@@ -215,7 +221,8 @@ returns-clause-marked g c =
     (marked_frame it.holds it.place it.reopens it.serves it.is_honest it.stages it.reach _ c.args.deframer.now c.args.applier.now c.args.piece.now c.loop-applier.deframer c.loop-applier.applier c.take_whole.new.applier
     c.loop-applier.taken c.loop-applier.mark.confirmed c.loop-applier.mark.received c.loop-applier.mark.replies c.loop-applier.invariant.7 c.loop-applier.invariant.2 c.take_whole.ensures.rests c.loop-applier.invariant.6
     c.take_whole.ensures.grows c.take_whole.ensures.settings c.take_whole.ensures.served c.take_whole.ensures.honest c.loop-applier.invariant.5
-    (λ own further. let same = ap (λ (a : Applied g.row.C.Denot). it.reach a.store) none.2 in absurd (omega (arith, further, same))))
+    (λ own further. let same = ap (λ (a : Applied g.row.C.Denot). it.reach a.store) none.2 in absurd (omega (arith, further, same)))
+    (λ honest own further. c.in_ok-take_whole.ensures.open honest own))
 
 pub returns-in_err-take_whole-clause-marked : goal.returns-in_err-take_whole-clause-marked
 returns-in_err-take_whole-clause-marked g c =
@@ -225,7 +232,8 @@ returns-in_err-take_whole-clause-marked g c =
     (marked_frame it.holds it.place it.reopens it.serves it.is_honest it.stages it.reach _ c.args.deframer.now c.args.applier.now c.args.piece.now c.loop-applier.deframer c.loop-applier.applier c.take_whole.new.applier
     c.loop-applier.taken c.loop-applier.mark.confirmed c.loop-applier.mark.received c.loop-applier.mark.replies c.loop-applier.invariant.7 c.loop-applier.invariant.2 c.take_whole.ensures.rests c.loop-applier.invariant.6
     c.take_whole.ensures.grows c.take_whole.ensures.settings c.take_whole.ensures.served c.take_whole.ensures.honest c.loop-applier.invariant.5
-    (λ own further. let same = c.in_err-take_whole.ensures.kept.position in absurd (omega (arith, further, same))))
+    (λ own further. let same = c.in_err-take_whole.ensures.kept.position in absurd (omega (arith, further, same)))
+    (λ honest own further. let same = c.in_err-take_whole.ensures.kept.position in absurd (omega (arith, further, same))))
 
 pub returns-in_err-taken-clause-marked : goal.returns-in_err-taken-clause-marked
 returns-in_err-taken-clause-marked g c =

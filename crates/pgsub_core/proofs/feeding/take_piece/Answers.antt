@@ -1,9 +1,8 @@
-use Rattle.std.proofs.Common.{◌≡◌, ◌<◌, inl, inr, ℕ, ℤ, to_z, of_z, List, Result, Ok, Err, OnOk, OnErr, take, refl, sym, ap, subst, ◌∙◌}
+use Rattle.std.proofs.Common.{inl, inr, ℤ, to_z, of_z, OnOk, OnErr, take, sym, subst, ◌∙◌}
 use Rattle.std.specs.Prelude.{IfOk, IfErr}
 use Rattle.std.specs.Int.{w64}
 use Rattle.std.proofs.lemmas.Int.{to_z-of_z}
 use Rattle.pgapply.specs.Taken as held
-use Rattle.pgsub_core.specs.declared.fault.Fault.{Fault}
 use Rattle.pgsub_core.specs.declared.fault.Fault.TheVariants as fault
 use Rattle.pgsub_core.specs.Applied.{Applied}
 use Rattle.pgsub_core.specs.Framing.{FeedGoes, FeedStops}
@@ -11,8 +10,8 @@ use Rattle.pgsub_core.specs.Crashing.{LeavesOldOr, Over, StandsAs}
 use Rattle.pgsub_core.specs.Staging.{IsMarked, StandsStaged}
 use Rattle.pgsub_core.proofs.DescribedChanges.{if_err, on_residual}
 use Rattle.pgsub_core.proofs.PayloadStops.{unchanged}
-use Rattle.pgsub_core.proofs.LeftPieces.{on_err, on_err_as}
-use Rattle.pgsub_core.proofs.Marks.{all_settled, none_settled, none_stands, leaves_none, leaves_all, over_all, settled_goes, any_stops, for_memory, behind_all, some_or_none, of_feeding, if_ok_as, if_ok_under, on_ok_here, held_err, settled_stands}
+use Rattle.pgsub_core.proofs.LeftPieces.{on_err}
+use Rattle.pgsub_core.proofs.Marks.{all_settled, none_settled, none_stands, leaves_none, leaves_all, over_all, settled_goes, any_stops, behind_all, some_or_none, of_feeding, if_ok_as, if_ok_under, on_ok_here, settled_stands}
 use Rattle.pgsub_core.proofs.feeding.take_piece.Goals as goal
 
 pub returns-clause-refused : goal.returns-clause-refused
@@ -61,8 +60,8 @@ pub returns-in_err-settle-clause-own : goal.returns-in_err-settle-clause-own
 returns-in_err-settle-clause-own g c =
     on_residual c.from_residual.result c.in_err-settle.field-0.0 _ c.from_residual.ensures.1 (of_feeding c.in_err-settle.field-0.0 c.in_err-settle.ensures.fault)
 
-pub returns-in_err-settle-clause-stands : goal.returns-in_err-settle-clause-stands
-returns-in_err-settle-clause-stands g c honest serves =
+pub returns-in_err-settle-clause-why : goal.returns-in_err-settle-clause-why
+returns-in_err-settle-clause-why g c honest serves =
     let it = g.C.ReplicaStore in
     let z = to_z w64 (of_z w64 c.args.now) in
     let u = c.unstage.new.self in
@@ -70,36 +69,35 @@ returns-in_err-settle-clause-stands g c honest serves =
     let b = c.settle.new.self in
     let m = subst (λ (x : Applied g.row.C.Denot). IsMarked it.holds it.place it.reopens it.serves it.is_honest it.stages it.reach (FeedStops it.stages it.reach z c.args.deframer.now x c.args.piece.now) u.store
     c.stage_piece-taken.new.mark.confirmed c.stage_piece-taken.new.mark.received c.stage_piece-taken.new.mark.replies a) c.unstage.ensures.beside c.stage_piece-taken.ensures.marked in
-    subst (λ (y : ℤ). OnErr c.from_residual.result (StandsAs it.place (λ x. FeedStops it.holds it.place y c.args.deframer.now c.args.applier.now c.args.piece.now x fault.Memory) c.settle.new.self)) (to_z-of_z w64 c.args.now c.ranges.now) (
-    on_err c.from_residual.result _
+    let f = c.in_err-settle.field-0.0 in
+    subst (λ (y : ℤ). IfErr c.from_residual.result (λ f. StandsAs it.place (λ x. FeedStops it.holds it.place y c.args.deframer.now c.args.applier.now c.args.piece.now x f) c.settle.new.self)) (to_z-of_z w64 c.args.now c.ranges.now) (
+    on_residual c.from_residual.result f _ c.from_residual.ensures.1
     (none_stands it.holds it.place it.reopens it.serves it.is_honest it.stages it.reach z c.args.deframer.now c.args.applier.now u.store c.unstage.ensures.staged c.unstage.ensures.reach c.args.piece.now a b
-    c.stage_piece-taken.new.mark.confirmed c.stage_piece-taken.new.mark.received c.stage_piece-taken.new.mark.replies m (m.still (c.settle.ensures.honest honest) (c.unstage.ensures.serves serves)) c.in_err-settle.ensures.back
+    c.stage_piece-taken.new.mark.confirmed c.stage_piece-taken.new.mark.received c.stage_piece-taken.new.mark.replies m f c.in_err-settle.ensures.fault (c.settle.ensures.honest honest) (c.unstage.ensures.serves serves) c.in_err-settle.ensures.some c.in_err-settle.ensures.back
     c.in_err-settle.ensures.position))
 
-pub returns-clause-stands : goal.returns-clause-stands
-returns-clause-stands g c honest serves =
+pub returns-clause-why : goal.returns-clause-why
+returns-clause-why g c honest serves =
     let it = g.C.ReplicaStore in
     let z = to_z w64 (of_z w64 c.args.now) in
     let u = c.unstage.new.self in
     let a = c.stage_piece-taken.new.applier in
     let b = c.settle.new.self in
-    let took = λ (x : Applied g.row.C.Denot). FeedStops it.holds it.place z c.args.deframer.now c.args.applier.now c.args.piece.now x fault.Memory in
-    subst (λ (y : ℤ). OnErr c.stage_piece-taken.result (StandsAs it.place (λ x. FeedStops it.holds it.place y c.args.deframer.now c.args.applier.now c.args.piece.now x fault.Memory) c.settle.new.self)) (to_z-of_z w64 c.args.now c.ranges.now) (
+    subst (λ (y : ℤ). IfErr c.stage_piece-taken.result (λ f. StandsAs it.place (λ x. FeedStops it.holds it.place y c.args.deframer.now c.args.applier.now c.args.piece.now x f) c.settle.new.self)) (to_z-of_z w64 c.args.now c.ranges.now) (
     elim (some_or_none (it.place a.store) (it.reach a.store) c.settle.ensures.order) [
       | inl less ↦
           let own = c.in_ok-settle.ensures.open honest less in
-          on_err_as c.stage_piece-taken.result _ _ (held_err c.stage_piece-taken.result _ (c.stage_piece-taken.ensures.refused (c.settle.ensures.served own))) (λ stops. (
+          if_err c.stage_piece-taken.result _ _ (c.stage_piece-taken.ensures.refused (c.settle.ensures.served own)) (λ f stops. (
             b,
             unchanged it.place b,
-            for_memory it.holds it.place z c.args.deframer.now c.args.applier.now c.args.piece.now b stops.0
-                (all_settled it.holds it.place it.reopens it.serves it.is_honest it.stages it.reach z c.args.deframer.now c.args.applier.now u.store c.unstage.ensures.staged c.unstage.ensures.reach c.args.piece.now a b stops.0
-                (subst (λ (x : Applied g.row.C.Denot). FeedStops it.stages it.reach z c.args.deframer.now x c.args.piece.now a stops.0) c.unstage.ensures.beside stops.1) c.in_ok-settle.ensures.beside c.in_ok-settle.ensures.end
-                (c.in_ok-settle.ensures.settled own)),
+            all_settled it.holds it.place it.reopens it.serves it.is_honest it.stages it.reach z c.args.deframer.now c.args.applier.now u.store c.unstage.ensures.staged c.unstage.ensures.reach c.args.piece.now a b f
+                (subst (λ (x : Applied g.row.C.Denot). FeedStops it.stages it.reach z c.args.deframer.now x c.args.piece.now a f) c.unstage.ensures.beside stops) c.in_ok-settle.ensures.beside c.in_ok-settle.ensures.end
+                (c.in_ok-settle.ensures.settled own),
           ))
       | inr none ↦
-          on_err_as c.stage_piece-taken.result _ _ (c.stage_piece-taken.ensures.stands (c.settle.ensures.honest honest) (c.unstage.ensures.serves serves)) (λ stands.
-          settled_stands it.holds it.place it.reopens it.serves it.is_honest it.stages it.reach z c.args.deframer.now c.args.applier.now u.store c.unstage.ensures.staged c.unstage.ensures.reach c.args.piece.now a b
-          (subst (λ (x : Applied g.row.C.Denot). StandsStaged it.holds it.place it.stages it.reach (λ w. FeedStops it.stages it.reach z c.args.deframer.now x c.args.piece.now w fault.Memory) a) c.unstage.ensures.beside stands)
+          if_err c.stage_piece-taken.result _ _ (c.stage_piece-taken.ensures.why (c.settle.ensures.honest honest) (c.unstage.ensures.serves serves)) (λ f stands.
+          settled_stands it.holds it.place it.reopens it.serves it.is_honest it.stages it.reach z c.args.deframer.now c.args.applier.now u.store c.unstage.ensures.staged c.unstage.ensures.reach c.args.piece.now a b f
+          (subst (λ (x : Applied g.row.C.Denot). StandsStaged it.holds it.place it.stages it.reach (λ w. FeedStops it.stages it.reach z c.args.deframer.now x c.args.piece.now w f) a) c.unstage.ensures.beside stands)
           none c.in_ok-settle.ensures.beside c.in_ok-settle.ensures.end)
     ])
 

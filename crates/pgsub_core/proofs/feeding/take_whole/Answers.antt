@@ -6,7 +6,6 @@ use Rattle.pgwire.specs.Frames.{Frame}
 use Rattle.pgwire.specs.Lent.{frame_value}
 use Rattle.pgsub_core.specs.Framing.{FramesGo, IsStopped, StopsAt}
 use Rattle.pgsub_core.proofs.DescribedChanges.{on_residual}
-use Rattle.pgsub_core.proofs.Crashes.{leaves_as}
 use Rattle.pgsub_core.proofs.FeedSteps.{one_done, one_stands}
 use Rattle.pgsub_core.proofs.feeding.take_whole.Goals as goal
 
@@ -29,4 +28,13 @@ returns-in_err-take_frame-clause-refused g c serves =
       frame_value c.in-Some.frame,
       c.in-Some.ensures,
       subst (λ (z : ℤ). IsStopped g.C.ReplicaStore.stages g.C.ReplicaStore.reach (StopsAt (frame_value c.in-Some.frame) z) c.args.applier.now c.take_frame.new.applier f) (to_z-of_z w64 c.args.now c.ranges.now) (c.in_err-take_frame.ensures.refused serves),
+    )
+
+pub returns-in_err-take_frame-clause-why : goal.returns-in_err-take_frame-clause-why
+returns-in_err-take_frame-clause-why g c honest serves =
+    let f = c.in_err-take_frame.field-0.0 in
+    on_residual c.from_residual.result f _ c.from_residual.ensures.1 (
+      frame_value c.in-Some.frame,
+      c.in-Some.ensures,
+      subst (λ (z : ℤ). IsStopped g.C.ReplicaStore.stages g.C.ReplicaStore.reach (StopsAt (frame_value c.in-Some.frame) z) c.args.applier.now c.args.applier.now f) (to_z-of_z w64 c.args.now c.ranges.now) (c.in_err-take_frame.ensures.why honest serves),
     )

@@ -69,4 +69,14 @@ returns-in_err-feed-clause-stands g c honest serves =
     on_err c.from_residual.result _
     (subst (λ (z : ℤ). StandsAsFed it.place (λ s. FeedsSessionUntil it.holds it.place z c.args.subscriber.now (session_bytes c.args.session.now) s fault.Memory) c.feed.new.self) (to_z-of_z w64 c.args.now c.ranges.now)
     (session_stands it.serves it.holds it.place it.reopens _ c.args.subscriber.now c.loop-piece.subscriber c.feed.new.self c.loop-piece.invariant.1 c.args.session.now.pieces c.as_slice-piece-items.result.now c.as_slice-piece-items.ensures
-    c.loop-piece.piece-index c.piece-item.result c.loop-piece-test.true c.piece-item.is c.loop-piece.invariant.0 c.as_slice.result.now c.as_slice.ensures own (c.in_err-feed.ensures.stands honest own c.loop-piece.invariant.2)))
+    c.loop-piece.piece-index c.piece-item.result c.loop-piece-test.true c.piece-item.is c.loop-piece.invariant.0 c.as_slice.result.now c.as_slice.ensures own fault.Memory (c.in_err-feed.ensures.stands honest own c.loop-piece.invariant.2)))
+
+pub returns-in_err-feed-clause-why : goal.returns-in_err-feed-clause-why
+returns-in_err-feed-clause-why g c honest serves =
+    let it = g.C.ReplicaStore in
+    let own = c.loop-piece.invariant.4 (c.feed.ensures.honest honest) serves in
+    let f = c.in_err-feed.field-0.0 in
+    on_residual c.from_residual.result f _ c.from_residual.ensures.1
+    (subst (λ (z : ℤ). StandsAsFed it.place (λ s. FeedsSessionUntil it.holds it.place z c.args.subscriber.now (session_bytes c.args.session.now) s f) c.feed.new.self) (to_z-of_z w64 c.args.now c.ranges.now)
+    (session_stands it.serves it.holds it.place it.reopens _ c.args.subscriber.now c.loop-piece.subscriber c.feed.new.self c.loop-piece.invariant.1 c.args.session.now.pieces c.as_slice-piece-items.result.now c.as_slice-piece-items.ensures
+    c.loop-piece.piece-index c.piece-item.result c.loop-piece-test.true c.piece-item.is c.loop-piece.invariant.0 c.as_slice.result.now c.as_slice.ensures own f (c.in_err-feed.ensures.why honest own c.loop-piece.invariant.2)))

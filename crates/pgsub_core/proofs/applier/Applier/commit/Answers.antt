@@ -2,7 +2,6 @@ use Rattle.std.proofs.Common.{subst}
 use Rattle.pgspool.specs.Labels.{items_of, held_of}
 use Rattle.pgsub_core.specs.Applied.{Applied}
 use Rattle.pgsub_core.specs.Committing.{Commits}
-use Rattle.pgsub_core.specs.Crashing.{LeavesOldOr, HasCommit}
 use Rattle.pgsub_core.proofs.applier.Applier.commit.Goals as goal
 
 pub returns-clause-taken : goal.returns-clause-taken

@@ -10,7 +10,6 @@ use Rattle.pgsub_core.specs.Opened.{Fits, under_way_behind}
 use Rattle.pgsub_core.specs.Events.{event_end}
 use Rattle.pgsub_core.proofs.Opening.{key_inserted, key_removed}
 use Rattle.pgsub_core.proofs.DescribedChanges.{on_ok, on_ok_two, if_err}
-use Rattle.pgsub_core.proofs.Crashes.{event_over, leaves_as}
 use Rattle.pgsub_core.proofs.EventSteps.{goes_by, goes_commit, stops_commit, pushed_keys, cut_when_open}
 use Rattle.pgsub_core.proofs.applier.Applier.take_event.Goals as goal
 
@@ -85,6 +84,12 @@ pub returns-in-CommitPair-clause-refused : goal.returns-in-CommitPair-clause-ref
 returns-in-CommitPair-clause-refused g c serves = if_err c.commit.result _ _ (c.commit.ensures.refused serves) (λ f refuses. elim c.in-CommitPair.is [
   | inl is ↦ stops_commit g.C.ReplicaStore.stages g.C.ReplicaStore.reach (message_value c.args.message.now) c.args.event c.args.self.now c.commit.new.self c.in-CommitPair.end c.in-CommitPair.xid (λ st. rw is.1 refl) (ap event_end is.1) f refuses
   | inr is ↦ stops_commit g.C.ReplicaStore.stages g.C.ReplicaStore.reach (message_value c.args.message.now) c.args.event c.args.self.now c.commit.new.self c.in-CommitPair.end c.in-CommitPair.xid (λ st. rw is.1 refl) (ap event_end is.1) f refuses
+])
+
+pub returns-in-CommitPair-clause-why : goal.returns-in-CommitPair-clause-why
+returns-in-CommitPair-clause-why g c honest serves = if_err c.commit.result _ _ (c.commit.ensures.why honest serves) (λ f refuses. elim c.in-CommitPair.is [
+  | inl is ↦ stops_commit g.C.ReplicaStore.stages g.C.ReplicaStore.reach (message_value c.args.message.now) c.args.event c.args.self.now c.args.self.now c.in-CommitPair.end c.in-CommitPair.xid (λ st. rw is.1 refl) (ap event_end is.1) f refuses
+  | inr is ↦ stops_commit g.C.ReplicaStore.stages g.C.ReplicaStore.reach (message_value c.args.message.now) c.args.event c.args.self.now c.args.self.now c.in-CommitPair.end c.in-CommitPair.xid (λ st. rw is.1 refl) (ap event_end is.1) f refuses
 ])
 
 pub returns-in-Begin-clause-goes : goal.returns-in-Begin-clause-goes

@@ -1,15 +1,12 @@
-use Rattle.std.proofs.Common.{◌≡◌, ℤ, max, sym, ap, subst, ◌∙◌}
+use Rattle.std.proofs.Common.{◌≡◌, max, sym, ap, subst, ◌∙◌}
 use Rattle.pglogical.specs.Lent.{message_value}
 use Rattle.pgsub_core.specs.Stream.{Data}
 use Rattle.pgsub_core.specs.Applied.{Applied, Stops}
 use Rattle.pgsub_core.specs.Opened.{AreOpened}
 use Rattle.pgsub_core.proofs.Opening.{event_opens}
 use Rattle.pgsub_core.proofs.DescribedChanges.{on_residual}
-use Rattle.pgsub_core.specs.Crashing.{LeavesOldOr, Over}
-use Rattle.pgsub_core.specs.Taking.{take}
-use Rattle.pgsub_core.specs.Applied.{Goes}
-use Rattle.pgsub_core.proofs.Crashes.{message_over, leaves_as}
 use Rattle.pgsub_core.proofs.MessageSteps.{order_refuses, event_takes, message_stops}
+use Rattle.pgsub_core.proofs.PayloadStops.{unchanged, stops_here}
 use Rattle.pgsub_core.proofs.applier.Applier.take_message.Goals as goal
 
 pub returns-in-Err-clause-refused : goal.returns-in-Err-clause-refused
@@ -27,6 +24,24 @@ returns-in_err-take_event-clause-refused g c serves =
     on_residual c.from_residual.result f _ c.from_residual.ensures.1 (λ now clock.
     subst (λ (a : Applied g.row.C.Denot). Stops holds place now (Data c.args.start c.args.end clock (message_value c.args.message.now)) a c.take_event.new.self f) c.self.view_is
     (message_stops holds place (message_value c.args.message.now) c.args.start c.args.end _ c.step.new.self.state c.in-Ok.event c.step.new.self.version taken c.take_event.new.self f stops c.in_err-take_event.ensures.kept c.step.ensures.version now clock))
+
+pub returns-in-Err-clause-why : goal.returns-in-Err-clause-why
+returns-in-Err-clause-why g c honest serves now clock =
+    stops_here g.C.ReplicaStore.stages g.C.ReplicaStore.reach now (Data c.args.start c.args.end clock (message_value c.args.message.now)) c.args.self.now _ _
+    (order_refuses g.C.ReplicaStore.stages g.C.ReplicaStore.reach (message_value c.args.message.now) c.args.start c.args.end _ c.args.self.now c.self.view_is c.step.new.self.state c.step.new.self.version c.step.ensures.version
+    c.in-Err.fault c.order_fault.result c.order_fault.ensures.fault c.in-Err.ensures.fault now clock)
+
+pub returns-in_err-take_event-clause-why : goal.returns-in_err-take_event-clause-why
+returns-in_err-take_event-clause-why g c honest serves =
+    let holds = g.C.ReplicaStore.stages in
+    let place = g.C.ReplicaStore.reach in
+    let f = c.in_err-take_event.field-0.0 in
+    let stops = c.in_err-take_event.ensures.why honest (subst (λ (a : Applied g.row.C.Denot). g.C.ReplicaStore.serves a.store) (sym c.self.view_is) serves) in
+    let taken = c.in-Ok.ensures.taken in
+    on_residual c.from_residual.result f _ c.from_residual.ensures.1 (λ now clock.
+    subst (λ (a : Applied g.row.C.Denot). Stops holds place now (Data c.args.start c.args.end clock (message_value c.args.message.now)) a a f) c.self.view_is
+    (stops_here holds place now (Data c.args.start c.args.end clock (message_value c.args.message.now)) _ _ f
+    (message_stops holds place (message_value c.args.message.now) c.args.start c.args.end _ c.step.new.self.state c.in-Ok.event c.step.new.self.version taken _ f stops (unchanged place _) c.step.ensures.version now clock)))
 
 pub returns-clause-takes : goal.returns-clause-takes
 returns-clause-takes g c serves now clock =

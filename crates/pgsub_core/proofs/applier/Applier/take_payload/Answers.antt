@@ -1,4 +1,4 @@
-use Rattle.std.proofs.Common.{ℤ, Ok, ap, subst, ◌∙◌}
+use Rattle.std.proofs.Common.{ℤ, Ok, refl, ap, subst, ◌∙◌}
 use Rattle.std.specs.Int.{w64}
 use Rattle.std.proofs.lemmas.Int.{to_z-of_z}
 use Rattle.pgwire.specs.declared.message.ServerMsg.{ServerMsg}
@@ -7,9 +7,8 @@ use Rattle.pgsub_core.specs.Stream.{Keepalive}
 use Rattle.pgsub_core.specs.Taking.{take}
 use Rattle.pgsub_core.specs.Applied.{Goes}
 use Rattle.pgsub_core.proofs.DescribedChanges.{on_ok, if_err, if_err_kept}
-use Rattle.pgsub_core.proofs.Crashes.{leaves_as}
 use Rattle.pgsub_core.proofs.PayloadSteps.{data_goes, keepalive_goes}
-use Rattle.pgsub_core.proofs.PayloadStops.{data_stops, keepalive_stops, payload_stops}
+use Rattle.pgsub_core.proofs.PayloadStops.{unchanged, data_stops, keepalive_stops, payload_stops}
 use Rattle.pgsub_core.proofs.applier.Applier.take_payload.Goals as goal
 
 pub returns-in-Data-clause-takes : goal.returns-in-Data-clause-takes
@@ -35,4 +34,17 @@ returns-in-Keepalive-clause-refused g c serves = if_err_kept c.take_keepalive.re
 
 pub returns-in-Err-clause-refused : goal.returns-in-Err-clause-refused
 returns-in-Err-clause-refused g c serves =
+    payload_stops g.C.ReplicaStore.stages g.C.ReplicaStore.reach c.args.now c.args.payload.now c.args.self.now c.args.self.now c.in-Err.fault c.in-Err.ensures.first c.in-Err.ensures.gives
+
+pub returns-in-Data-clause-why : goal.returns-in-Data-clause-why
+returns-in-Data-clause-why g c honest serves = if_err c.take_body.result _ _ (c.take_body.ensures.why honest serves) (λ f stops.
+    data_stops g.C.ReplicaStore.stages g.C.ReplicaStore.reach c.args.now c.args.payload.now c.args.self.now c.args.self.now c.in-Data.clock c.in-Data.start c.in-Data.end c.in-Data.body.now
+    (c.in-Ok.ensures.gives ∙ ap (λ (m : ServerMsg). Ok (message_value m)) c.in-Data.is) f (stops c.args.now c.in-Data.clock))
+
+pub returns-in-Keepalive-clause-why : goal.returns-in-Keepalive-clause-why
+returns-in-Keepalive-clause-why g c honest serves = if_err_kept c.take_keepalive.result _ _ _ c.take_keepalive.ensures.memory c.take_keepalive.ensures.kept (λ f is kept.
+    keepalive_stops g.C.ReplicaStore.stages g.C.ReplicaStore.reach c.args.now c.args.payload.now c.args.self.now c.args.self.now f is (unchanged g.C.ReplicaStore.reach c.args.self.now) refl)
+
+pub returns-in-Err-clause-why : goal.returns-in-Err-clause-why
+returns-in-Err-clause-why g c honest serves =
     payload_stops g.C.ReplicaStore.stages g.C.ReplicaStore.reach c.args.now c.args.payload.now c.args.self.now c.args.self.now c.in-Err.fault c.in-Err.ensures.first c.in-Err.ensures.gives

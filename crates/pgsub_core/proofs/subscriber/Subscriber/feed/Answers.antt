@@ -5,6 +5,7 @@ use Rattle.pgwire.specs.declared.fault.WireFault.TheVariants as wire_fault
 use Rattle.pgsub_core.specs.declared.fault.Fault.TheVariants as fault
 use Rattle.pgsub_core.specs.SubscriberValue.{SubscriberValue, Feeds, FeedsUntil}
 use Rattle.pgsub_core.specs.Crashing.{LeavesOldOr, FedOver, StandsAsFed}
+use Rattle.pgsub_core.proofs.DescribedChanges.{on_residual}
 use Rattle.pgsub_core.proofs.FeedSteps.{take_whole}
 use Rattle.pgsub_core.proofs.LeftPieces.{on_err}
 use Rattle.pgsub_core.proofs.PayloadStops.{unchanged}
@@ -69,3 +70,24 @@ returns-then-taken-piece-clause-crash g c honest =
     subst (λ (s : SubscriberValue g.row.C.Denot). LeavesOldOr it.place it.reopens it.serves (FedOver (λ x. FeedsUntil it.holds it.place c.args.now c.args.self.now c.args.piece.now x fault.Memory)) c.args.self.now.applied.store s.applied.store) (sym c.self.view_is)
     (subst (λ (z : ℤ). LeavesOldOr it.place it.reopens it.serves (FedOver (λ x. FeedsUntil it.holds it.place z c.args.self.now c.args.piece.now x fault.Memory)) c.args.self.now.applied.store c.feed_session.new.self.applied.store)
     (to_z-of_z w64 c.args.now c.ranges.now) (leaves_front it.holds it.place _ c.args.self.now c.args.piece.now c.in_ok-taken.taken it.reopens it.serves c.feed_session.new.self.applied.store (c.in_ok-taken.ensures.crash was)))
+
+pub returns-in_err-taken-clause-why : goal.returns-in_err-taken-clause-why
+returns-in_err-taken-clause-why g c honest serves unclosed =
+    let it = g.C.ReplicaStore in
+    let f = c.in_err-taken.field-0.0 in
+    on_residual c.from_residual.result f _ c.from_residual.ensures.1
+    (subst (λ (z : ℤ). StandsAsFed it.place (λ s. FeedsUntil it.holds it.place z c.args.self.now c.args.piece.now s f) c.feed_session.new.self) (to_z-of_z w64 c.args.now c.ranges.now)
+    (c.in_err-taken.ensures.why honest serves unclosed))
+
+pub returns-then-taken-piece-clause-why : goal.returns-then-taken-piece-clause-why
+returns-then-taken-piece-clause-why g c honest serves unclosed =
+    let it = g.C.ReplicaStore in
+    let more : c.in_ok-taken.taken < length c.args.piece.now = c.if-taken-piece.true in
+    let was = subst (λ (s : SubscriberValue g.row.C.Denot). it.is_honest s.applied.store) c.self.view_is honest in
+    let fed = c.in_ok-taken.ensures.fed (c.in_ok-taken.ensures.still_serves was serves) in (
+      shut (record { applied = c.self.inside.applier; framing = c.feed_session.new.self.framing }),
+      unchanged it.place c.self.inside.applier,
+      subst (λ (s : SubscriberValue g.row.C.Denot). FeedsUntil it.holds it.place c.args.now c.args.self.now c.args.piece.now (shut (record { applied = s.applied; framing = c.feed_session.new.self.framing })) (fault.Wire wire_fault.AfterDone)) (sym c.self.view_is)
+          (subst (λ (z : ℤ). FeedsUntil it.holds it.place z c.args.self.now c.args.piece.now (shut c.feed_session.new.self) (fault.Wire wire_fault.AfterDone)) (to_z-of_z w64 c.args.now c.ranges.now)
+          (until_after_done it.holds it.place _ c.args.self.now c.feed_session.new.self c.args.piece.now c.in_ok-taken.taken more (ended _ _ _ c.in_ok-taken.ensures.cut more) fed)),
+    )

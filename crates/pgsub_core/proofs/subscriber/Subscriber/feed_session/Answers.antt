@@ -5,7 +5,7 @@ use Rattle.std.proofs.lemmas.Int.{to_z-of_z}
 use Rattle.pgsub_core.specs.Framing.{FeedGoes, FeedStops}
 use Rattle.pgsub_core.specs.Crashing.{LeavesOldOr, FedOver, Over, StandsAs}
 use Rattle.pgsub_core.proofs.Crashes.{leaves_as}
-use Rattle.pgsub_core.proofs.LeftPieces.{feed_over, feed_stands}
+use Rattle.pgsub_core.proofs.LeftPieces.{feed_over, feed_stands, feed_stands_memory}
 use Rattle.pgsub_core.specs.declared.fault.Fault.TheVariants as fault
 use Rattle.pgsub_core.specs.SubscriberValue.{FeedsUntil}
 use Rattle.pgsub_core.proofs.Starting.{feeds, feeds_until}
@@ -50,6 +50,13 @@ returns-in-Err-clause-crash_refused g c honest =
 pub returns-in-Err-clause-stands : goal.returns-in-Err-clause-stands
 returns-in-Err-clause-stands g c honest serves unclosed =
     let it = g.C.ReplicaStore in
-    feed_stands it.holds it.place c.args.now c.args.piece.now c.self.inside.deframer c.self.inside.applier c.self.inside.closed c.args.self.now c.if-self.false c.self.view_is c.take_piece.new.deframer c.take_piece.new.applier
-    (subst (λ (z : ℤ). StandsAs it.place (λ a. FeedStops it.holds it.place z c.self.inside.deframer c.self.inside.applier c.args.piece.now a fault.Memory) c.take_piece.new.applier) (to_z-of_z w64 c.args.now c.ranges.now)
-    (c.in-Err.ensures.stands honest (subst (λ (x : SubscriberValue g.row.C.Denot). it.serves x.applied.store) (sym c.self.view_is) serves)))
+    feed_stands_memory it.holds it.place c.args.now c.args.piece.now c.self.inside.deframer c.self.inside.applier c.self.inside.closed c.args.self.now c.if-self.false c.self.view_is c.take_piece.new.deframer c.take_piece.new.applier c.in-Err.fault
+    (subst (λ (z : ℤ). StandsAs it.place (λ a. FeedStops it.holds it.place z c.self.inside.deframer c.self.inside.applier c.args.piece.now a c.in-Err.fault) c.take_piece.new.applier) (to_z-of_z w64 c.args.now c.ranges.now)
+    (c.in-Err.ensures.why honest (subst (λ (x : SubscriberValue g.row.C.Denot). it.serves x.applied.store) (sym c.self.view_is) serves)))
+
+pub returns-in-Err-clause-why : goal.returns-in-Err-clause-why
+returns-in-Err-clause-why g c honest serves unclosed =
+    let it = g.C.ReplicaStore in
+    feed_stands it.holds it.place c.args.now c.args.piece.now c.self.inside.deframer c.self.inside.applier c.self.inside.closed c.args.self.now c.if-self.false c.self.view_is c.take_piece.new.deframer c.take_piece.new.applier c.in-Err.fault
+    (subst (λ (z : ℤ). StandsAs it.place (λ a. FeedStops it.holds it.place z c.self.inside.deframer c.self.inside.applier c.args.piece.now a c.in-Err.fault) c.take_piece.new.applier) (to_z-of_z w64 c.args.now c.ranges.now)
+    (c.in-Err.ensures.why honest (subst (λ (x : SubscriberValue g.row.C.Denot). it.serves x.applied.store) (sym c.self.view_is) serves)))
