@@ -2,6 +2,7 @@ pub mod Value
 pub mod Apply
 pub mod Dump
 pub mod Given
+pub mod Missing
 pub mod Stored
 pub mod Works
 pub mod Noted
