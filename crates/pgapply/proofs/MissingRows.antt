@@ -1,17 +1,15 @@
 -- Which changes find no row, as the definitions give it, and how they are counted.
 -- PostgreSQL documentation, Logical Replication, Conflicts, update_missing and delete_missing.
-use Rattle.std.proofs.Common.{◌≡◌, ◌∷◌, [], List, ℕ, Some, None, Ok, Err, true, false, refl}
+use Rattle.std.proofs.Common.{◌≡◌, ◌∷◌, [], ℕ, Some, None, Err, true, false, refl}
 use Rattle.std.specs.FinMap as map
 use Rattle.pgtuple.specs.Cells.{tuple_spelling}
 use Rattle.pgtuple.specs.declared.cell.Cell.TheVariants.{Null, Unchanged}
 use Rattle.pglogical.specs.declared.item.OldKind.TheVariants.{Key, Full}
-use Rattle.pgapply.specs.declared.misses.Misses.{Misses}
 use Rattle.pgapply.specs.declared.op.Op.TheVariants as op
 use Rattle.pgapply.specs.declared.rows.StoreFault.TheVariants as fault
-use Rattle.pgapply.specs.Value.{Tables}
 use Rattle.pgapply.specs.Apply.{Change, apply, rows_after}
-use Rattle.pgapply.specs.Missing.{finds_none, missing, missing_in, all_missing, nothing_missed, with_misses}
-use Rattle.pgapply.proofs.Relations.{text, t, f, n, x, y, place, row_of, rows_1, rows_x, tables_1, lookups}
+use Rattle.pgapply.specs.Missing.{finds_none, missing_in, all_missing, nothing_missed, with_misses}
+use Rattle.pgapply.proofs.Relations.{text, t, f, x, y, rows_1, rows_x, tables_1, lookups}
 
 -- ---- one change
 

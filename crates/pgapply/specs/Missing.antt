@@ -1,6 +1,6 @@
 -- Which changes find no row, and how they are counted.
 -- PostgreSQL documentation, Logical Replication, Conflicts, update_missing and delete_missing.
-use Rattle.std.specs.Prelude.{◌≡◌, ◌+◌, ◌-◌, ◌^◌, ◌++◌, min, ℕ, List, [], ◌∷◌, Bool, true, false, Option, Some, None, Result, Ok, Err, is_none, if◌then◌else◌}
+use Rattle.std.specs.Prelude.{◌≡◌, ◌+◌, ◌-◌, ◌^◌, ◌++◌, min, ℕ, List, [], ◌∷◌, Bool, false, Option, Some, None, Result, Ok, Err, is_none, if◌then◌else◌}
 use Rattle.std.specs.FinMap as map
 use Rattle.pgtuple.specs.declared.cell.Cell.{Cell}
 use Rattle.pglogical.specs.declared.item.RelationDef.{RelationDef}
@@ -11,7 +11,7 @@ use Rattle.pgapply.specs.declared.op.Op.TheVariants.{Insert, Update, Delete, Tru
 use Rattle.pgapply.specs.declared.misses.Miss.{Miss}
 use Rattle.pgapply.specs.declared.misses.Misses.{Misses}
 use Rattle.pgapply.specs.declared.rows.StoreFault.{StoreFault}
-use Rattle.pgapply.specs.Value.{Rows, Table, Tables}
+use Rattle.pgapply.specs.Value.{Rows, Tables}
 use Rattle.pgapply.specs.Apply.{Change, found_rows, row_at, apply}
 
 -- no row has the identity that is searched; a search that is refused finds nothing out

@@ -4,11 +4,13 @@ ghost use Rattle.std.specs.Prelude.{◌≡◌, ◌<◌, ◌⊎◌, [], true, fal
 ghost use Rattle.pgapply.specs.Value.{Tables};
 ghost use Rattle.pgapply.specs.Dump.{dump};
 ghost use Rattle.pgapply.specs.Given.{GivesFront, GivesAll};
+ghost use Rattle.pgapply.specs.Missing.{Counts};
 ghost use Rattle.pgapply.specs.Noted.{noted, KeepsNotes};
 ghost use Rattle.pgapply.specs.Stored.{IsOwnFault};
 ghost use Rattle.pgapply.specs.Taken.{Folds, LeavesFold, LeavesStaged, Begins, Settles, Stays, RefusesWork, Shows};
 
 use crate::commit::Commit;
+use crate::misses::Misses;
 use crate::replica_store::ReplicaStore;
 use crate::rows::{DumpRow, StoreFault};
 use crate::sink::DumpSink;
@@ -81,6 +83,10 @@ impl<C: ReplicaStore + Drop> ReplicaStore for Watched<C> {
 
     ghost reach = { λ s. C.reach s.store };
 
+    ghost missed = { λ s. C.missed s.store };
+
+    ghost stages_missed = { λ s. C.stages_missed s.store };
+
     ghost reopens = { λ s other. C.reopens s.store other.store };
 
     fn position(&self) -> Lsn {
@@ -98,6 +104,8 @@ impl<C: ReplicaStore + Drop> ReplicaStore for Watched<C> {
         ensures position { C.place self.new.store ≡ C.place self.old.store }
         ensures unchanged { Stays C.holds self.old.store self.new.store }
         ensures staged { Begins C.holds C.stages self.old.store self.new.store }
+        ensures missed { C.missed self.new.store ≡ C.missed self.old.store }
+        ensures unstaged { C.stages_missed self.new.store ≡ C.missed self.old.store }
         ensures serves { C.serves self.old.store → C.serves self.new.store }
         ensures served { C.serves self.new.store → C.serves self.old.store }
         ensures stays_honest { C.is_honest self.old.store → C.is_honest self.new.store }
@@ -126,6 +134,10 @@ impl<C: ReplicaStore + Drop> ReplicaStore for Watched<C> {
             (RefusesWork C.stages self.old.store commit.now.work.now.changes) }
         ensures unchanged { C.serves self.new.store → Stays C.holds self.old.store self.new.store }
         ensures position { C.place self.new.store ≡ C.place self.old.store }
+        ensures counts { C.serves self.new.store → OnOk result (Counts C.stages self.old.store
+            commit.now.work.now.changes commit.now.end (C.stages_missed self.old.store) (C.stages_missed self.new.store)) }
+        ensures uncounted { OnErr result (C.stages_missed self.new.store ≡ C.stages_missed self.old.store) }
+        ensures missed { C.missed self.new.store ≡ C.missed self.old.store }
         ensures served { C.serves self.new.store → C.serves self.old.store }
         ensures open { C.is_honest self.new.store → OnOk result (C.serves self.new.store) }
         ensures honest { C.is_honest self.new.store → C.is_honest self.old.store }
@@ -150,6 +162,8 @@ impl<C: ReplicaStore + Drop> ReplicaStore for Watched<C> {
             self.new ≡ self.old }
         ensures fault { IfErr result IsOwnFault }
         ensures none { C.reach self.new.store ≡ C.place self.new.store }
+        ensures counts { OnOk result (C.missed self.new.store ≡ C.stages_missed self.old.store) }
+        ensures uncounted { OnErr result (C.missed self.new.store ≡ C.missed self.old.store) }
         ensures served { C.serves self.new.store → C.serves self.old.store }
         ensures open { C.is_honest self.new.store →
             C.place self.old.store < C.reach self.old.store →
@@ -180,6 +194,9 @@ impl<C: ReplicaStore + Drop> ReplicaStore for Watched<C> {
         ensures why { C.is_honest self.new.store → C.serves self.old.store → IfErr result
             (RefusesWork C.holds self.old.store work.now.changes) }
         ensures none { OnOk result (C.reach self.new.store ≡ C.place self.new.store) }
+        ensures counts { C.serves self.new.store → OnOk result (Counts C.holds self.old.store
+            work.now.changes end (C.missed self.old.store) (C.missed self.new.store)) }
+        ensures uncounted { OnErr result (C.missed self.new.store ≡ C.missed self.old.store) }
         ensures served { C.serves self.new.store → C.serves self.old.store }
         ensures open { C.is_honest self.new.store → OnOk result (C.serves self.new.store) }
         ensures honest { C.is_honest self.new.store → C.is_honest self.old.store }
@@ -202,6 +219,7 @@ impl<C: ReplicaStore + Drop> ReplicaStore for Watched<C> {
         ensures fault { C.is_honest self.new.store → IfErr result IsOwnFault }
         ensures serving_fault { C.serves self.new.store → IfErr result IsOwnFault }
         ensures none { C.reach self.new.store ≡ C.place self.new.store }
+        ensures missed { C.missed self.new.store ≡ C.missed self.old.store }
         ensures served { C.serves self.new.store → C.serves self.old.store }
         ensures open { C.is_honest self.new.store → OnOk result (C.serves self.new.store) }
         ensures honest { C.is_honest self.new.store → C.is_honest self.old.store }
@@ -227,6 +245,7 @@ impl<C: ReplicaStore + Drop> ReplicaStore for Watched<C> {
         ensures fault { C.is_honest self.new.store → IfErr result.0 IsOwnFault }
         ensures serving_fault { C.serves self.new.store → IfErr result.0 IsOwnFault }
         ensures none { C.reach self.new.store ≡ C.place self.new.store }
+        ensures missed { C.missed self.new.store ≡ C.missed self.old.store }
         ensures served { C.serves self.new.store → C.serves self.old.store }
         ensures open { C.is_honest self.new.store → OnOk result.0 (C.serves self.new.store) }
         ensures honest { C.is_honest self.new.store → C.is_honest self.old.store }
@@ -234,6 +253,10 @@ impl<C: ReplicaStore + Drop> ReplicaStore for Watched<C> {
             C.reopens self.new.store other → C.reopens self.old.store other }
     {
         self.store.each_row(sink)
+    }
+
+    fn misses(&self) -> Misses {
+        self.store.misses()
     }
 
     fn cause(&self) -> Option<&str> {

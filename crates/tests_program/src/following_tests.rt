@@ -1,7 +1,9 @@
 //! A server is followed over a store: what is written, what is stored, and how it ends.
 
+ghost use Rattle.pgapply.specs.Missing.{nothing_missed};
+
 use crate::runs::File;
-use pgapply::{Commit, DumpRow, DumpSink, ReplicaStore, StoreFault, Work};
+use pgapply::{Commit, DumpRow, DumpSink, Misses, ReplicaStore, StoreFault, Work};
 use pgcommand::Limits;
 use pgfollow::{Clock, Link};
 use pglsn::Lsn;
@@ -339,6 +341,10 @@ impl ReplicaStore for Failing {
 
     ghost reach = { λ _. 0 };
 
+    ghost missed = { λ _. nothing_missed };
+
+    ghost stages_missed = { λ _. nothing_missed };
+
     ghost reopens = { λ _ _. ⊥ };
 
     fn position(&self) -> Lsn {
@@ -369,6 +375,10 @@ impl ReplicaStore for Failing {
 
     fn each_row<T: DumpSink + Drop>(&mut self, sink: T) -> (Result<bool, StoreFault>, T) {
         (Ok(true), sink)
+    }
+
+    fn misses(&self) -> Misses {
+        Misses::none()
     }
 }
 

@@ -1,6 +1,7 @@
 use Rattle.std.proofs.Common.{OnOk, OnErr, subst}
 use Rattle.std.specs.Prelude.{IfErr}
 use Rattle.pgapply.specs.Taken.{Folds, RefusesWork, Stays}
+use Rattle.pgapply.specs.Missing.{Counts}
 use Rattle.pgapply.proofs.watched.WatchedReplicaStore.stage.Goals as goal
 
 pub returns-clause-staged : goal.returns-clause-staged
@@ -32,3 +33,8 @@ pub returns-clause-why : goal.returns-clause-why
 returns-clause-why g c =
     let it = g.C.ReplicaStore in
     subst (λ s. it.is_honest c.stage.new.self → it.serves s → IfErr c.stage.result (RefusesWork it.stages s c.args.commit.now.work.now.changes)) c.in_ok-note.ensures.store c.stage.ensures.why
+
+pub returns-clause-counts : goal.returns-clause-counts
+returns-clause-counts g c =
+    let it = g.C.ReplicaStore in
+    subst (λ s. it.serves c.stage.new.self → OnOk c.stage.result (Counts it.stages s c.args.commit.now.work.now.changes c.args.commit.now.end (it.stages_missed s) (it.stages_missed c.stage.new.self))) c.in_ok-note.ensures.store c.stage.ensures.counts
