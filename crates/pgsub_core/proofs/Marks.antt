@@ -20,6 +20,8 @@ use Rattle.pgsub_core.specs.Feeding.{IsFedWhole, IsFedUntil}
 use Rattle.pgsub_core.specs.Applied.{Applied, Framing, subscribed, IsKept}
 use Rattle.pgsub_core.specs.Framing.{framing_of, framing_behind, FramesGo, FeedGoes, FeedStops, IsFedTo}
 use Rattle.pgsub_core.specs.Crashing.{LeavesOldOr, Over, StandsAs}
+use Rattle.pgapply.specs.declared.misses.Misses.{Misses}
+use Rattle.pgsub_core.specs.Counted.{IsCountedWhole, IsCountedFront, FeedCounts, FeedCountsFront}
 use Rattle.pgsub_core.specs.Faults.{IsReadFault, IsOfFeeding}
 use Rattle.pgsub_core.specs.Staging.{Rests, Grows, KeepsItsSettings, IsMark, IsMarked, IsRenewed, GoesBack, StandsStaged}
 use Rattle.pgsub_core.proofs.PayloadStops.{unchanged}
@@ -204,6 +206,22 @@ module _ {C : Type 0} (holds : C → Tables → Type 0) (place : C → ℕ) (sta
           subst (λ (n : Subscribed). IsFedWhole now (subscribed place (framing_of d₀ closed) old tables) piece n) as_new
               (subst (λ (o : Subscribed). IsFedWhole now o piece (subscribed reach (framing_of d closed) a one.0)) (as_old (framing_of d₀ closed) tables) one.2),
         )
+
+    -- what was counted of what was staged
+    module _ (staged missed : C → Misses) (piece : List ℕ) (a b : C) (from : staged s ≡ missed old.store) (to : missed b ≡ staged a) (stands : place b ≡ reach a) where
+      pub settled_counts : FeedCounts stages reach staged now d₀ start piece a → FeedCounts holds place missed now d₀ old piece b
+      settled_counts counts closed tables h =
+          let new : Subscribed = subscribed reach (framing_of d₀ closed) start tables in
+          subst (λ (o : Subscribed). IsCountedWhole now o piece (place b) (missed old.store) (missed b)) (as_old (framing_of d₀ closed) tables)
+          (subst (λ (m : Misses). IsCountedWhole now new piece (place b) m (missed b)) from
+          (subst (IsCountedWhole now new piece (place b) (staged s)) (sym to) (subst (λ (p : ℕ). IsCountedWhole now new piece p (staged s) (staged a)) (sym stands) (counts closed tables (begins tables h)))))
+
+      pub settled_front : FeedCountsFront stages reach staged now d₀ start piece a → FeedCountsFront holds place missed now d₀ old piece b
+      settled_front counts closed tables h =
+          let new : Subscribed = subscribed reach (framing_of d₀ closed) start tables in
+          subst (λ (o : Subscribed). IsCountedFront now o piece (place b) (missed old.store) (missed b)) (as_old (framing_of d₀ closed) tables)
+          (subst (λ (m : Misses). IsCountedFront now new piece (place b) m (missed b)) from
+          (subst (IsCountedFront now new piece (place b) (staged s)) (sym to) (subst (λ (p : ℕ). IsCountedFront now new piece p (staged s) (staged a)) (sym stands) (counts closed tables (begins tables h)))))
 
     -- a store that a crash leaves with all that was staged
     pub left_over : (piece : List ℕ) (w : Applied C) (other : C) → FeedStops stages reach now d₀ start piece w fault.Memory → held.Settles holds stages w.store other → place other ≡ reach w.store

@@ -22,6 +22,7 @@ ghost use Rattle.pgsub_core.specs.Opened.{AreOpened, Fits, under_way_behind};
 ghost use Rattle.pgapply.specs.Taken.{Begins, Leaves, LeavesStaged, Settles, Stays, Shows};
 ghost use Rattle.pgsub_core.specs.Applied.{Goes, Stops, IsKept, StaysBesideStore};
 ghost use Rattle.pgsub_core.specs.Committing.{Commits, RefusesCommit};
+ghost use Rattle.pgsub_core.specs.Counted.{message_counted, decoded_counted, frame_counted, CountsCommit, CountsEvent, CountsBy};
 ghost use Rattle.pgsub_core.specs.Staging.{Rests, Grows, KeepsItsSettings, IsMark, GoesBack};
 ghost use Rattle.pgsub_core.specs.Events.{HasRoom, IsFull, FindsRoom, EventGoes, EventStops, StaysBeside};
 ghost use Rattle.pgsub_core.specs.Faults.{fault_of_decode, fault_of_order, fault_of_spool, IsOfFeeding, IsReadFault};
@@ -29,7 +30,7 @@ ghost use Rattle.pgsub_core.specs.Faults.{fault_of_decode, fault_of_order, fault
 use crate::committing::{Ending, about_of, commit, later, store_fault};
 use crate::fault::Fault;
 use bytes::BytesMut;
-use pgapply::{DumpRow, ReplicaStore};
+use pgapply::{DumpRow, Misses, ReplicaStore};
 use pglogical::{DecodeFault, MessageRef, Reason, decode_ref};
 use pglsn::Lsn;
 use pgorder::{Event, Order, OrderFault, Version};
@@ -247,6 +248,8 @@ impl<P: Spools + Drop, C: ReplicaStore + Drop> Applier<P, C> {
         ensures unchanged { Stays C.holds self.old.store self.new.store }
         ensures staged { Begins C.holds C.stages self.old.store self.new.store }
         ensures settled { Settles C.holds C.stages self.new.store self.new.store }
+        ensures missed { C.missed self.new.store ≡ C.missed self.old.store }
+        ensures unstaged { C.stages_missed self.new.store ≡ C.missed self.old.store }
         ensures serves { C.serves self.old.store → C.serves self.new.store }
         ensures served { C.serves self.new.store → C.serves self.old.store }
         ensures stays_honest { C.is_honest self.old.store → C.is_honest self.new.store }
@@ -297,6 +300,8 @@ impl<P: Spools + Drop, C: ReplicaStore + Drop> Applier<P, C> {
         ensures nothing { C.reach self.old.store ≡ C.place self.old.store →
             self.new.store ≡ self.old.store }
         ensures fault { IfErr result IsReadFault }
+        ensures counts { OnOk result (C.missed self.new.store ≡ C.stages_missed self.old.store) }
+        ensures uncounted { OnErr result (C.missed self.new.store ≡ C.missed self.old.store) }
         ensures served { C.serves self.new.store → C.serves self.old.store }
         ensures open { C.is_honest self.new.store →
             C.place self.old.store < C.reach self.old.store →
@@ -338,6 +343,13 @@ impl<P: Spools + Drop, C: ReplicaStore + Drop> Applier<P, C> {
             IfErr result (RefusesCommit C.stages C.reach ending.end
             (items_of (held_of self.old.held ending.xid)) self.old.store self.old.confirmed
             self.old.relations self.old.store) }
+        ensures counts { C.serves self.new.store →
+            OnOk result (CountsCommit C.stages C.reach C.stages_missed ending.end
+            (items_of (held_of self.old.held ending.xid)) self.old.store self.old.confirmed
+            self.old.relations self.new.store) }
+        ensures uncounted { OnErr result (C.stages_missed self.new.store
+            ≡ C.stages_missed self.old.store) }
+        ensures missed { C.missed self.new.store ≡ C.missed self.old.store }
         ensures own { IfErr result IsOfFeeding }
         ensures held { OnOk result (self.new.held ≡ map.remove self.old.held ending.xid) }
         ensures beside { StaysBeside self.old self.new }
@@ -380,6 +392,11 @@ impl<P: Spools + Drop, C: ReplicaStore + Drop> Applier<P, C> {
         ensures why { C.is_honest self.new.store → C.serves self.old.store →
             IfErr result (EventStops C.stages C.reach
             (message_value message.now) event self.old self.old) }
+        ensures counts { C.serves self.new.store →
+            OnOk result (CountsEvent C.stages C.reach C.stages_missed event self.old self.new) }
+        ensures uncounted { OnErr result (C.stages_missed self.new.store
+            ≡ C.stages_missed self.old.store) }
+        ensures missed { C.missed self.new.store ≡ C.missed self.old.store }
         ensures own { IfErr result IsOfFeeding }
         ensures beside { StaysBeside self.old self.new }
         ensures kept { OnErr result (IsKept C.reach self.old self.new) }
@@ -435,6 +452,12 @@ impl<P: Spools + Drop, C: ReplicaStore + Drop> Applier<P, C> {
             IfErr result (λ fault. (now clock : ℤ) →
             Stops C.stages C.reach now (Data start end clock (message_value message.now)) self.old
             self.old fault) }
+        ensures counts { C.serves self.new.store →
+            OnOk result (CountsBy C.stages C.reach C.stages_missed
+            (λ s. message_counted s (message_value message.now)) self.old self.new) }
+        ensures uncounted { OnErr result (C.stages_missed self.new.store
+            ≡ C.stages_missed self.old.store) }
+        ensures missed { C.missed self.new.store ≡ C.missed self.old.store }
         ensures own { IfErr result IsOfFeeding }
         ensures kept { OnErr result (IsKept C.reach self.old self.new) }
         ensures served { C.serves self.new.store → C.serves self.old.store }
@@ -465,6 +488,12 @@ impl<P: Spools + Drop, C: ReplicaStore + Drop> Applier<P, C> {
         ensures why { C.is_honest self.new.store → C.serves self.old.store →
             IfErr result (IsStopped C.stages C.reach
             (StopsAt (CopyData payload.now) now) self.old self.old) }
+        ensures counts { C.serves self.new.store →
+            OnOk result (CountsBy C.stages C.reach C.stages_missed
+            (λ s. frame_counted s (CopyData payload.now)) self.old self.new) }
+        ensures uncounted { OnErr result (C.stages_missed self.new.store
+            ≡ C.stages_missed self.old.store) }
+        ensures missed { C.missed self.new.store ≡ C.missed self.old.store }
         ensures own { IfErr result IsOfFeeding }
         ensures grows { Grows self.old.replies self.new.replies }
         ensures settings { KeepsItsSettings self.old self.new }
@@ -507,6 +536,13 @@ impl<P: Spools + Drop, C: ReplicaStore + Drop> Applier<P, C> {
             IfErr result (λ f. (now clock : ℤ) →
             IsStopped C.stages C.reach (StopsAtBody now start end clock body.now) self.old self.old
             f) }
+        ensures counts { C.serves self.new.store →
+            OnOk result (CountsBy C.stages C.reach C.stages_missed
+            (λ s. decoded_counted s (message_at (is_in_block s.order.context) body.now)) self.old
+            self.new) }
+        ensures uncounted { OnErr result (C.stages_missed self.new.store
+            ≡ C.stages_missed self.old.store) }
+        ensures missed { C.missed self.new.store ≡ C.missed self.old.store }
         ensures own { IfErr result IsOfFeeding }
         ensures silent { self.new.replies ≡ self.old.replies }
         ensures settings { KeepsItsSettings self.old self.new }
@@ -606,11 +642,19 @@ impl<P: Spools + Drop, C: ReplicaStore + Drop> Applier<P, C> {
         append_reply(true, &status, &mut self.replies)
     }
 
+    /// How many changes of taken commits found no row.
+    pub fn misses(&self) -> Misses
+        ensures { result ≡ C.missed self.now.store }
+    {
+        self.store.misses()
+    }
+
     /// All rows of the store. Nothing changes.
     pub fn rows(&mut self) -> Result<Vec<DumpRow>, Fault>
         ensures rows { C.serves self.new.store →
             IfOk result (λ rows. Shows C.holds self.old.store rows.items) }
         ensures unchanged { C.serves self.new.store → Stays C.holds self.old.store self.new.store }
+        ensures missed { C.missed self.new.store ≡ C.missed self.old.store }
         ensures kept { IsKept C.place self.old self.new }
         ensures beside { StaysBesideStore self.old self.new }
         ensures fault { C.is_honest self.new.store → IfErr result IsReadFault }

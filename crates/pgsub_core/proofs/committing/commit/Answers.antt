@@ -74,3 +74,19 @@ pub returns-then-le-clause-rests : goal.returns-then-le-clause-rests
 returns-then-le-clause-rests g c =
     let it = g.C.ReplicaStore in
     rests_same it.holds it.place it.reopens it.serves it.is_honest c.args.store.now c.args.store.now refl
+
+pub returns-then-le-clause-counts : goal.returns-then-le-clause-counts
+returns-then-le-clause-counts g c serves tables h =
+    let test = c.if-le.true in
+    let below = c.le.ensures in
+    let standing = c.reached.ensures.reach in
+    let not_below : nat_lt (g.C.ReplicaStore.reach c.args.store.now) c.args.ending.end ≡ false = grind (arith, nat_tests) in
+    rw not_below refl
+
+pub returns-in-Ok-clause-counts : goal.returns-in-Ok-clause-counts
+returns-in-Ok-clause-counts g c serves tables h =
+    let test = c.if-le.false in
+    let below = c.le.ensures in
+    let standing = c.reached.ensures.reach in
+    let lt : nat_lt (g.C.ReplicaStore.reach c.args.store.now) c.args.ending.end ≡ true = grind (arith, nat_tests) in
+    rw (lt, c.in_ok-work.ensures.changes) (c.in-Ok.ensures.counts serves tables h)

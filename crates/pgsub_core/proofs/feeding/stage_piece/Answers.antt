@@ -11,9 +11,11 @@ use Rattle.pgsub_core.proofs.DescribedChanges.{on_residual}
 use Rattle.pgsub_core.proofs.PayloadStops.{unchanged}
 use Rattle.pgsub_core.specs.Staging.{IsMarked}
 use Rattle.pgsub_core.proofs.Marks.{rests_same, rests_then, renewed, of_head, head_held, mark_here, marked_frame}
-use Rattle.pgsub_core.proofs.LeftPieces.{piece_stands}
+use Rattle.pgsub_core.proofs.LeftPieces.{piece_stands, on_err}
 use Rattle.pgsub_core.proofs.FeedStops.{stops_by_bytes, stops_by_frame, start_to, released_to}
 use Rattle.pgsub_core.proofs.FeedSteps.{fed_start, fed_one, fed_whole, fed_front, fed_less, all_taken, released_waits, rest_of, some_taken, take_whole}
+use Rattle.pgsub_core.specs.Counted.{FeedCounts, FeedCountsFront}
+use Rattle.pgsub_core.proofs.CountedPieces.{counted_zero, counted_stops, counted_released, counted_start, counted_one, counted_whole, counted_front}
 use Rattle.pgsub_core.proofs.feeding.stage_piece.Goals as goal
 
 pub loop-applier-init : goal.loop-applier-init
@@ -31,6 +33,8 @@ loop-applier-init g c = let it = g.C.ReplicaStore in (
       c.requires.settled c.requires.held c.requires.marked (rests_same it.holds it.place it.reopens it.serves it.is_honest c.args.applier.now.store c.args.applier.now.store refl) (λ honest own. own)
       (λ own. piece_stands it.serves it.stages it.reach _ c.args.deframer.now c.args.applier.now c.args.piece.now c.args.deframer.now c.args.applier.now 0
       (start_to it.serves it.stages it.reach _ c.args.deframer.now c.args.applier.now c.args.piece.now c.requires.waits c.requires.sound) own)),
+  counted_start it.serves it.stages it.reach it.stages_missed _ c.args.deframer.now c.feed_frames.new.deframer c.args.applier.now c.args.piece.now c.in_ok-taken.taken c.requires.waits c.requires.sound c.in_ok-taken.ensures.fed,
+  refl,
 )
 
 pub loop-applier-smaller : goal.loop-applier-smaller
@@ -56,6 +60,11 @@ loop-applier-preserved g c = let it = g.C.ReplicaStore in (
       c.loop-applier.taken c.loop-applier.mark.confirmed c.loop-applier.mark.received c.loop-applier.mark.replies c.loop-applier.invariant.7 c.loop-applier.invariant.2 c.take_whole.ensures.rests c.loop-applier.invariant.6
       c.take_whole.ensures.grows c.take_whole.ensures.settings c.take_whole.ensures.served c.take_whole.ensures.honest c.loop-applier.invariant.5
       (λ own further. let released = c.in_ok-take_whole.ensures.released c.if-branch.true in (released.frame, released.stood, c.in_ok-take_whole.ensures.goes own c.if-branch.true released.frame released.stood)) (λ honest own further. c.in_ok-take_whole.ensures.open honest own)),
+  counted_one it.serves it.stages it.reach it.stages_missed _ c.args.deframer.now c.loop-applier.deframer c.take_whole.new.deframer c.args.applier.now c.loop-applier.applier c.take_whole.new.applier c.args.piece.now c.loop-applier.taken c.loop-applier.invariant.8
+      (c.in_ok-take_whole.ensures.released c.if-branch.true) c.take_whole.ensures.served (λ own frame stands. c.in_ok-take_whole.ensures.goes own c.if-branch.true frame stands)
+      (λ own frame stands. c.in_ok-take_whole.ensures.counts own c.if-branch.true frame stands) c.feed_frames-in-loop-applier.new.deframer c.in_ok-taken-2.field-0
+      (subst (λ (bytes : List ℕ). IsFed c.take_whole.new.deframer bytes (Ok c.in_ok-taken-2.field-0) c.feed_frames-in-loop-applier.new.deframer) (rest_of c.args.piece.now c.loop-applier.taken) c.in_ok-taken-2.ensures.fed),
+  c.take_whole.ensures.missed ∙ c.loop-applier.invariant.9,
 )
 
 pub returns-clause-fed : goal.returns-clause-fed
@@ -242,3 +251,59 @@ returns-in_err-taken-clause-marked g c =
     c.requires.settled c.requires.held c.requires.marked (rests_same it.holds it.place it.reopens it.serves it.is_honest c.args.applier.now.store c.args.applier.now.store refl) (λ honest own. own)
     (λ own. piece_stands it.serves it.stages it.reach c.args.now c.args.deframer.now c.args.applier.now c.args.piece.now c.args.deframer.now c.args.applier.now 0
     (start_to it.serves it.stages it.reach c.args.now c.args.deframer.now c.args.applier.now c.args.piece.now c.requires.waits c.requires.sound) own)
+
+pub returns-clause-counts : goal.returns-clause-counts
+returns-clause-counts g c serves =
+    let it = g.C.ReplicaStore in
+    let none = c.in_ok-take_whole.ensures.none c.if-branch.false in
+    let all = all_taken it.serves it.stages it.reach _ c.args.deframer.now c.loop-applier.deframer c.args.applier.now c.loop-applier.applier c.args.piece.now c.loop-applier.taken c.loop-applier.invariant.2 none.0 in
+    subst (λ (p : List ℕ). FeedCounts it.stages it.reach it.stages_missed c.args.now c.args.deframer.now c.args.applier.now p c.take_whole.new.applier.store) (sym (take_whole c.args.piece.now c.loop-applier.taken all))
+    (subst (λ (a : Applied g.row.C.Denot). FeedCounts it.stages it.reach it.stages_missed c.args.now c.args.deframer.now c.args.applier.now c.args.piece.now a.store) (sym none.2)
+    (subst (λ (z : ℤ). FeedCounts it.stages it.reach it.stages_missed z c.args.deframer.now c.args.applier.now c.args.piece.now c.loop-applier.applier.store) (to_z-of_z w64 c.args.now c.ranges.now)
+    (counted_whole it.serves it.stages it.reach it.stages_missed _ c.args.deframer.now c.loop-applier.deframer c.args.applier.now c.loop-applier.applier c.args.piece.now c.loop-applier.taken c.loop-applier.invariant.8 none.0 all
+    (subst (λ (a : Applied g.row.C.Denot). it.serves a.store) none.2 serves))))
+
+pub returns-then-is_done-clause-counts : goal.returns-then-is_done-clause-counts
+returns-then-is_done-clause-counts g c serves =
+    let it = g.C.ReplicaStore in
+    subst (λ (z : ℤ). FeedCounts it.stages it.reach it.stages_missed z c.args.deframer.now c.args.applier.now (take c.loop-applier.taken c.args.piece.now) c.take_whole.new.applier.store) (to_z-of_z w64 c.args.now c.ranges.now)
+    (counted_front it.serves it.stages it.reach it.stages_missed _ c.args.deframer.now c.loop-applier.deframer c.take_whole.new.deframer c.args.applier.now c.loop-applier.applier c.take_whole.new.applier c.args.piece.now c.loop-applier.taken c.loop-applier.invariant.8
+    c.loop-applier.invariant.2.within (c.in_ok-take_whole.ensures.released c.if-branch.true) c.take_whole.ensures.served (λ own frame stands. c.in_ok-take_whole.ensures.goes own c.if-branch.true frame stands)
+    (λ own frame stands. c.in_ok-take_whole.ensures.counts own c.if-branch.true frame stands) serves)
+
+pub returns-clause-missed : goal.returns-clause-missed
+returns-clause-missed g c = c.take_whole.ensures.missed ∙ c.loop-applier.invariant.9
+
+pub returns-then-is_done-clause-missed : goal.returns-then-is_done-clause-missed
+returns-then-is_done-clause-missed g c = c.take_whole.ensures.missed ∙ c.loop-applier.invariant.9
+
+pub returns-in_err-take_whole-clause-missed : goal.returns-in_err-take_whole-clause-missed
+returns-in_err-take_whole-clause-missed g c = c.take_whole.ensures.missed ∙ c.loop-applier.invariant.9
+
+pub returns-in_err-taken-2-clause-missed : goal.returns-in_err-taken-2-clause-missed
+returns-in_err-taken-2-clause-missed g c = c.take_whole.ensures.missed ∙ c.loop-applier.invariant.9
+
+pub returns-in_err-taken-clause-counts_refused : goal.returns-in_err-taken-clause-counts_refused
+returns-in_err-taken-clause-counts_refused g c serves =
+    let it = g.C.ReplicaStore in
+    on_err c.from_residual.result _
+    (counted_stops it.serves it.stages it.reach it.stages_missed c.args.now c.args.deframer.now c.args.deframer.now c.args.applier.now c.args.applier.now c.args.applier.now.store c.args.piece.now 0
+    (counted_zero it.serves it.stages it.reach it.stages_missed c.args.now c.args.deframer.now c.args.applier.now c.args.piece.now c.requires.waits c.requires.sound) serves refl refl)
+
+pub returns-in_err-take_whole-clause-counts_refused : goal.returns-in_err-take_whole-clause-counts_refused
+returns-in_err-take_whole-clause-counts_refused g c serves =
+    let it = g.C.ReplicaStore in
+    on_err c.from_residual-in_err-take_whole.result _
+    (subst (λ (z : ℤ). FeedCountsFront it.stages it.reach it.stages_missed z c.args.deframer.now c.args.applier.now c.args.piece.now c.take_whole.new.applier.store) (to_z-of_z w64 c.args.now c.ranges.now)
+    (counted_stops it.serves it.stages it.reach it.stages_missed _ c.args.deframer.now c.loop-applier.deframer c.args.applier.now c.loop-applier.applier c.take_whole.new.applier.store c.args.piece.now c.loop-applier.taken c.loop-applier.invariant.8
+    (c.take_whole.ensures.served serves) c.in_err-take_whole.ensures.kept.position c.in_err-take_whole.ensures.uncounted))
+
+pub returns-in_err-taken-2-clause-counts_refused : goal.returns-in_err-taken-2-clause-counts_refused
+returns-in_err-taken-2-clause-counts_refused g c serves =
+    let it = g.C.ReplicaStore in
+    on_err c.from_residual-in_err-taken-2.result _
+    (subst (λ (z : ℤ). FeedCountsFront it.stages it.reach it.stages_missed z c.args.deframer.now c.args.applier.now c.args.piece.now c.take_whole.new.applier.store) (to_z-of_z w64 c.args.now c.ranges.now)
+    (counted_stops it.serves it.stages it.reach it.stages_missed _ c.args.deframer.now c.take_whole.new.deframer c.args.applier.now c.take_whole.new.applier c.take_whole.new.applier.store c.args.piece.now c.loop-applier.taken
+    (counted_released it.serves it.stages it.reach it.stages_missed _ c.args.deframer.now c.loop-applier.deframer c.take_whole.new.deframer c.args.applier.now c.loop-applier.applier c.take_whole.new.applier c.args.piece.now c.loop-applier.taken c.loop-applier.invariant.8
+    (c.in_ok-take_whole.ensures.released c.if-branch.true) c.take_whole.ensures.served (λ own frame stands. c.in_ok-take_whole.ensures.goes own c.if-branch.true frame stands)
+    (λ own frame stands. c.in_ok-take_whole.ensures.counts own c.if-branch.true frame stands)) serves refl refl))

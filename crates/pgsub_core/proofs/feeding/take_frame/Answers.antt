@@ -21,3 +21,9 @@ returns-in-Data-clause-refused g c serves = if_err c.take_payload.result _ _ (c.
 pub returns-in-Data-clause-why : goal.returns-in-Data-clause-why
 returns-in-Data-clause-why g c honest serves = if_err c.take_payload.result _ _ (c.take_payload.ensures.why honest serves) (λ f stops.
     subst (λ (z : ℤ). IsStopped g.C.ReplicaStore.stages g.C.ReplicaStore.reach (StopsAt (frame_value c.args.frame.now) z) c.args.applier.now c.args.applier.now f) (to_z-of_z w64 c.args.now c.ranges.now) (rw c.in-Data.is stops))
+
+pub returns-in-Data-clause-counts : goal.returns-in-Data-clause-counts
+returns-in-Data-clause-counts g c serves = on_ok c.take_payload.result _ _ (c.take_payload.ensures.counts serves) (λ counts framing tables h. rw c.in-Data.is (counts framing tables h))
+
+pub returns-in-Done-clause-counts : goal.returns-in-Done-clause-counts
+returns-in-Done-clause-counts g c serves framing tables h = rw c.in-Done.is refl

@@ -10,8 +10,10 @@ use Rattle.pgsub_core.specs.Crashing.{LeavesOldOr, Over, StandsAs}
 use Rattle.pgsub_core.specs.Staging.{IsMarked, StandsStaged}
 use Rattle.pgsub_core.proofs.DescribedChanges.{if_err, on_residual}
 use Rattle.pgsub_core.proofs.PayloadStops.{unchanged}
-use Rattle.pgsub_core.proofs.LeftPieces.{on_err}
-use Rattle.pgsub_core.proofs.Marks.{all_settled, none_settled, none_stands, leaves_none, leaves_all, over_all, settled_goes, any_stops, behind_all, some_or_none, of_feeding, if_ok_as, if_ok_under, on_ok_here, settled_stands}
+use Rattle.pgsub_core.proofs.LeftPieces.{on_err, on_err_as}
+use Rattle.pgsub_core.specs.Counted.{FeedCounts, FeedCountsFront}
+use Rattle.pgsub_core.proofs.Marks.{settled_counts, settled_front, all_settled, none_settled, none_stands, leaves_none, leaves_all, over_all, settled_goes, any_stops, behind_all, some_or_none, of_feeding, if_ok_as, if_ok_under, on_ok_here, settled_stands}
+use Rattle.pgsub_core.proofs.CountedPieces.{counted_zero, counted_stops}
 use Rattle.pgsub_core.proofs.feeding.take_piece.Goals as goal
 
 pub returns-clause-refused : goal.returns-clause-refused
@@ -191,3 +193,39 @@ returns-clause-crash g c honest =
       | inr none ↦
           leaves_none it.holds it.place it.reopens it.serves it.is_honest it.stages it.reach z c.args.deframer.now c.args.applier.now u.store c.unstage.ensures.staged c.unstage.ensures.reach c.args.piece.now a b c.stage_piece-taken.new.mark.confirmed c.stage_piece-taken.new.mark.received c.stage_piece-taken.new.mark.replies m c.unstage.ensures.position c.unstage.ensures.crash clean _ (c.in_ok-settle.ensures.end ∙ none) to_old c.settle.ensures.order (λ other left. inl (subst (λ (s : g.row.C.Denot). it.reopens s other) (c.settle.ensures.nothing none) left)) over
     ]))
+
+pub returns-clause-counts : goal.returns-clause-counts
+returns-clause-counts g c serves =
+    let it = g.C.ReplicaStore in
+    let z = to_z w64 (of_z w64 c.args.now) in
+    let u = c.unstage.new.self in
+    let a = c.stage_piece-taken.new.applier in
+    let b = c.settle.new.self in
+    subst (λ (y : ℤ). IfOk c.stage_piece-taken.result (λ n. FeedCounts it.holds it.place it.missed y c.args.deframer.now c.args.applier.now (take n c.args.piece.now) c.settle.new.self.store)) (to_z-of_z w64 c.args.now c.ranges.now) (
+    if_ok_as c.stage_piece-taken.result _ _ (c.stage_piece-taken.ensures.counts (c.settle.ensures.served serves)) (λ n counts.
+    settled_counts it.holds it.place it.stages it.reach z c.args.deframer.now c.args.applier.now u.store c.unstage.ensures.staged c.unstage.ensures.reach it.stages_missed it.missed (take n c.args.piece.now) a.store b.store
+    c.unstage.ensures.unstaged c.in_ok-settle.ensures.counts c.in_ok-settle.ensures.end
+    (subst (λ (x : Applied g.row.C.Denot). FeedCounts it.stages it.reach it.stages_missed z c.args.deframer.now x (take n c.args.piece.now) a.store) c.unstage.ensures.beside counts)))
+
+pub returns-clause-counts_refused : goal.returns-clause-counts_refused
+returns-clause-counts_refused g c serves =
+    let it = g.C.ReplicaStore in
+    let z = to_z w64 (of_z w64 c.args.now) in
+    let u = c.unstage.new.self in
+    let a = c.stage_piece-taken.new.applier in
+    let b = c.settle.new.self in
+    subst (λ (y : ℤ). OnErr c.stage_piece-taken.result (FeedCountsFront it.holds it.place it.missed y c.args.deframer.now c.args.applier.now c.args.piece.now c.settle.new.self.store)) (to_z-of_z w64 c.args.now c.ranges.now) (
+    on_err_as c.stage_piece-taken.result _ _ (c.stage_piece-taken.ensures.counts_refused (c.settle.ensures.served serves)) (λ counts.
+    settled_front it.holds it.place it.stages it.reach z c.args.deframer.now c.args.applier.now u.store c.unstage.ensures.staged c.unstage.ensures.reach it.stages_missed it.missed c.args.piece.now a.store b.store
+    c.unstage.ensures.unstaged c.in_ok-settle.ensures.counts c.in_ok-settle.ensures.end
+    (subst (λ (x : Applied g.row.C.Denot). FeedCountsFront it.stages it.reach it.stages_missed z c.args.deframer.now x c.args.piece.now a.store) c.unstage.ensures.beside counts)))
+
+pub returns-in_err-settle-clause-counts_refused : goal.returns-in_err-settle-clause-counts_refused
+returns-in_err-settle-clause-counts_refused g c serves =
+    let it = g.C.ReplicaStore in
+    on_err c.from_residual.result _
+    (counted_stops it.serves it.holds it.place it.missed c.args.now c.args.deframer.now c.args.deframer.now c.args.applier.now c.args.applier.now c.settle.new.self.store c.args.piece.now 0
+    (counted_zero it.serves it.holds it.place it.missed c.args.now c.args.deframer.now c.args.applier.now c.args.piece.now c.requires.waits c.requires.sound)
+    (c.unstage.ensures.served (c.stage_piece-taken.ensures.served (c.settle.ensures.served serves)))
+    (c.in_err-settle.ensures.position ∙ c.stage_piece-taken.ensures.marked.whole.position ∙ c.unstage.ensures.position)
+    (c.in_err-settle.ensures.uncounted ∙ c.stage_piece-taken.ensures.missed ∙ c.unstage.ensures.missed))

@@ -4,6 +4,7 @@ use Rattle.std.proofs.lemmas.Int.{to_z-of_z}
 use Rattle.pgwire.specs.Deframed.{Deframed, Stands}
 use Rattle.pgwire.specs.Frames.{Frame}
 use Rattle.pgwire.specs.Lent.{frame_value}
+use Rattle.pgsub_core.specs.Counted.{frame_counted, CountsBy}
 use Rattle.pgsub_core.specs.Framing.{FramesGo, IsStopped, StopsAt}
 use Rattle.pgsub_core.proofs.DescribedChanges.{on_residual}
 use Rattle.pgsub_core.proofs.FeedSteps.{one_done, one_stands}
@@ -38,3 +39,9 @@ returns-in_err-take_frame-clause-why g c honest serves =
       c.in-Some.ensures,
       subst (λ (z : ℤ). IsStopped g.C.ReplicaStore.stages g.C.ReplicaStore.reach (StopsAt (frame_value c.in-Some.frame) z) c.args.applier.now c.args.applier.now f) (to_z-of_z w64 c.args.now c.ranges.now) (c.in_err-take_frame.ensures.why honest serves),
     )
+
+pub returns-clause-counts : goal.returns-clause-counts
+returns-clause-counts g c serves stood_one f stands =
+    let it = g.C.ReplicaStore in
+    subst (λ (x : Frame). CountsBy it.stages it.reach it.stages_missed (λ s. frame_counted s x) c.args.applier.now c.take_frame.new.applier) (one_stands c.args.deframer.now (frame_value c.in-Some.frame) f c.in-Some.ensures stands)
+    (c.in_ok-take_frame.ensures.counts serves)

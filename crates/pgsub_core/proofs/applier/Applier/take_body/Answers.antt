@@ -4,6 +4,7 @@ use Rattle.pglogical.specs.Lent.{message_value}
 use Rattle.pgorder.specs.States.{is_in_block}
 use Rattle.pgsub_core.specs.Applied.{Applied}
 use Rattle.pgsub_core.proofs.DescribedChanges.{on_ok, if_err}
+use Rattle.pgsub_core.proofs.Counts.{counts_body}
 use Rattle.pgsub_core.proofs.PayloadStops.{body_stops, refused_body}
 use Rattle.pgsub_core.proofs.applier.Applier.take_body.Goals as goal
 
@@ -38,3 +39,10 @@ returns-in-Err-clause-why g c honest serves now clock =
     let here = c.in_block.ensures ∙ ap (λ (x : Applied g.row.C.Denot). is_in_block x.order.context) c.self.view_is in
     refused_body g.C.ReplicaStore.stages g.C.ReplicaStore.reach now clock c.args.start c.args.end c.args.body.now c.args.self.now c.args.self.now c.in-Err.fault c.decode_fault.result c.decode_fault.ensures.fault
     (inr (subst (λ (b : Bool). message_at b c.args.body.now ≡ Err c.in-Err.fault) here c.in-Err.ensures.exact))
+
+pub returns-in-Ok-clause-counts : goal.returns-in-Ok-clause-counts
+returns-in-Ok-clause-counts g c serves =
+    let here = c.in_block.ensures ∙ ap (λ (x : Applied g.row.C.Denot). is_in_block x.order.context) c.self.view_is in
+    on_ok c.take_message.result _ _ (c.take_message.ensures.counts serves)
+    (counts_body g.C.ReplicaStore.stages g.C.ReplicaStore.reach g.C.ReplicaStore.stages_missed (message_value c.in-Ok.message) c.args.body.now c.args.self.now c.take_message.new.self
+    (subst (λ (b : Bool). message_at b c.args.body.now ≡ Ok (message_value c.in-Ok.message)) here c.in-Ok.ensures.exact))

@@ -106,3 +106,31 @@ returns-in-Begin-clause-opened g c = on_ok c.open.result _ _ c.open.ensures.ok (
       | inl is ↦ ap (λ (e : Event). under_way_behind e (map.contains_key c.args.self.now.held) x) (sym is)
       | inr is ↦ ap (λ (e : Event). under_way_behind e (map.contains_key c.args.self.now.held) x) (sym is)
     ])
+
+pub returns-in-Ignore-clause-counts : goal.returns-in-Ignore-clause-counts
+returns-in-Ignore-clause-counts g c serves tables h = elim c.in-Ignore.is [
+  | inl is ↦ rw is refl
+  | inr (inl is) ↦ rw is.1 refl
+  | inr (inr is) ↦ rw is refl
+]
+
+pub returns-in-Hold-clause-counts : goal.returns-in-Hold-clause-counts
+returns-in-Hold-clause-counts g c serves = on_ok c.hold.result _ _ c.hold.ensures.ok (λ ok tables h. rw c.in-Hold.is (ap (λ (a : Applied g.row.C.Denot). g.C.ReplicaStore.stages_missed a.store) c.self.view_is))
+
+pub returns-in-Cut-clause-counts : goal.returns-in-Cut-clause-counts
+returns-in-Cut-clause-counts g c serves tables h = rw c.in-Cut.is (ap (λ (a : Applied g.row.C.Denot). g.C.ReplicaStore.stages_missed a.store) c.self.view_is)
+
+pub returns-in-Drop-clause-counts : goal.returns-in-Drop-clause-counts
+returns-in-Drop-clause-counts g c serves tables h = rw c.in-Drop.is (ap (λ (a : Applied g.row.C.Denot). g.C.ReplicaStore.stages_missed a.store) c.self.view_is)
+
+pub returns-in-CommitPair-clause-counts : goal.returns-in-CommitPair-clause-counts
+returns-in-CommitPair-clause-counts g c serves = on_ok c.commit.result _ _ (c.commit.ensures.counts serves) (λ counts tables h. elim c.in-CommitPair.is [
+  | inl is ↦ rw is.1 (counts tables h)
+  | inr is ↦ rw is.1 (counts tables h)
+])
+
+pub returns-in-Begin-clause-counts : goal.returns-in-Begin-clause-counts
+returns-in-Begin-clause-counts g c serves = on_ok c.open.result _ _ c.open.ensures.ok (λ ok tables h. elim c.in-Begin.is [
+  | inl is ↦ rw is (ap (λ (a : Applied g.row.C.Denot). g.C.ReplicaStore.stages_missed a.store) c.self-in-Begin.view_is)
+  | inr is ↦ rw is (ap (λ (a : Applied g.row.C.Denot). g.C.ReplicaStore.stages_missed a.store) c.self-in-Begin.view_is)
+])

@@ -5,6 +5,7 @@ use Rattle.pgsub_core.specs.Applied.{Applied, Stops}
 use Rattle.pgsub_core.specs.Opened.{AreOpened}
 use Rattle.pgsub_core.proofs.Opening.{event_opens}
 use Rattle.pgsub_core.proofs.DescribedChanges.{on_residual}
+use Rattle.pgsub_core.proofs.Counts.{counts_message}
 use Rattle.pgsub_core.proofs.MessageSteps.{order_refuses, event_takes, message_stops}
 use Rattle.pgsub_core.proofs.PayloadStops.{unchanged, stops_here}
 use Rattle.pgsub_core.proofs.applier.Applier.take_message.Goals as goal
@@ -63,3 +64,10 @@ returns-clause-opened g c =
     let was : AreOpened c.self.inside.order.state (g.P.Spools.held c.self.inside.spools) = subst (λ (a : Applied g.row.C.Denot). AreOpened a.order a.held) (sym c.self.view_is) c.requires.opened in
     let opened = event_opens c.self.inside.order.version c.self.inside.order.state c.step.new.self.state (message_value c.args.message.now) c.in-Ok.event (g.P.Spools.held c.self.inside.spools) was taken c.take_event.new.self.held c.in_ok-take_event.ensures.opened in
     rw (order_now, held_now) opened
+
+pub returns-clause-counts : goal.returns-clause-counts
+returns-clause-counts g c serves =
+    let own = c.self-2.view_is in
+    let it = g.C.ReplicaStore in
+    counts_message it.stages it.reach it.stages_missed (message_value c.args.message.now) _ c.args.self.now c.self.view_is c.step.new.self.state c.step.new.self.version c.in-Ok.event c.in-Ok.ensures.taken _ c.take_event.new.self own
+    (c.in_ok-take_event.ensures.counts (subst (λ (a : Applied g.row.C.Denot). it.serves a.store) own serves)) c.later-self-inside.result

@@ -7,6 +7,7 @@ use Rattle.pgsub_core.specs.Stream.{Keepalive}
 use Rattle.pgsub_core.specs.Taking.{take}
 use Rattle.pgsub_core.specs.Applied.{Goes}
 use Rattle.pgsub_core.proofs.DescribedChanges.{on_ok, if_err, if_err_kept}
+use Rattle.pgsub_core.proofs.Counts.{counts_data, counts_keepalive}
 use Rattle.pgsub_core.proofs.PayloadSteps.{data_goes, keepalive_goes}
 use Rattle.pgsub_core.proofs.PayloadStops.{unchanged, data_stops, keepalive_stops, payload_stops}
 use Rattle.pgsub_core.proofs.applier.Applier.take_payload.Goals as goal
@@ -48,3 +49,13 @@ returns-in-Keepalive-clause-why g c honest serves = if_err_kept c.take_keepalive
 pub returns-in-Err-clause-why : goal.returns-in-Err-clause-why
 returns-in-Err-clause-why g c honest serves =
     payload_stops g.C.ReplicaStore.stages g.C.ReplicaStore.reach c.args.now c.args.payload.now c.args.self.now c.args.self.now c.in-Err.fault c.in-Err.ensures.first c.in-Err.ensures.gives
+
+pub returns-in-Data-clause-counts : goal.returns-in-Data-clause-counts
+returns-in-Data-clause-counts g c serves = on_ok c.take_body.result _ _ (c.take_body.ensures.counts serves)
+    (counts_data g.C.ReplicaStore.stages g.C.ReplicaStore.reach g.C.ReplicaStore.stages_missed c.args.payload.now c.in-Data.start c.in-Data.end c.in-Data.clock c.in-Data.body.now c.args.self.now c.take_body.new.self
+    (c.in-Ok.ensures.gives ∙ ap (λ (m : ServerMsg). Ok (message_value m)) c.in-Data.is))
+
+pub returns-in-Keepalive-clause-counts : goal.returns-in-Keepalive-clause-counts
+returns-in-Keepalive-clause-counts g c serves = on_ok c.take_keepalive.result _ _ c.take_keepalive.ensures.takes (λ takes.
+    counts_keepalive g.C.ReplicaStore.stages g.C.ReplicaStore.reach g.C.ReplicaStore.stages_missed c.args.payload.now c.in-Keepalive.end c.in-Keepalive.clock c.in-Keepalive.reply c.args.self.now c.take_keepalive.new.self
+    (c.in-Ok.ensures.gives ∙ ap (λ (m : ServerMsg). Ok (message_value m)) c.in-Keepalive.is) c.take_keepalive.ensures.store)
