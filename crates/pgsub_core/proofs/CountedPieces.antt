@@ -1,5 +1,5 @@
 -- How many changes that find no row are counted of a piece, frame by frame.
-use Rattle.std.proofs.Common.{◌≡◌, ◌≤◌, ◌<◌, ◌+◌, inl, inr, ℕ, ℤ, List, [], ◌∷◌, ◌++◌, Bool, None, Ok, length, take, drop, refl, sym, ap, subst, ◌∙◌, arith, append_assoc, append-nil}
+use Rattle.std.proofs.Common.{◌≡◌, ◌≤◌, ◌+◌, inl, inr, ℕ, ℤ, List, [], ◌∷◌, ◌++◌, Bool, None, Ok, length, take, drop, refl, sym, ap, subst, ◌∙◌, append_assoc, append-nil}
 use Rattle.std.proofs.Math.Seq.{take-add}
 use Rattle.std.proofs.lemmas.List.{length-take-le, take-append-drop}
 use Rattle.pgwire.specs.Frames.{Frame, frames, IsDeframedAs}
@@ -16,7 +16,7 @@ use Rattle.pgsub_core.specs.Subscribed.{Subscribed}
 use Rattle.pgsub_core.specs.Taking.{take_frame, take_frames}
 use Rattle.pgsub_core.specs.Feeding.{done_frames}
 use Rattle.pgsub_core.specs.Applied.{Applied, subscribed}
-use Rattle.pgsub_core.specs.Framing.{framing_behind, framing_of, done_of, Releases, FramesGo, IsTakenTo}
+use Rattle.pgsub_core.specs.Framing.{framing_behind, framing_of, done_of, Releases, FramesGo}
 use Rattle.pgsub_core.specs.SubscriberValue.{SubscriberValue}
 use Rattle.pgsub_core.specs.Counted.{frame_counted, counted_behind, frames_counted, CountsBy, IsCountedWhole, IsCountedFront, IsCountedTo, FeedCounts, FeedCountsFront, FeedsCounted, FeedsCountedFront}
 use Rattle.pgsub_core.proofs.FeedSteps.{take_whole, one_done, goes_then, waiting_leads, deframed, stands_or_waits, released_waits}

@@ -1,5 +1,5 @@
 -- How many changes that find no row are counted, from the commit to the frame.
-use Rattle.std.proofs.Common.{◌≡◌, ℕ, ℤ, List, Ok, refl, sym, ap, subst, ◌∙◌}
+use Rattle.std.proofs.Common.{◌≡◌, ℕ, ℤ, List, Ok, ap, subst, ◌∙◌}
 use Rattle.pglogical.specs.Reading.{message_at}
 use Rattle.pglogical.specs.declared.message.Message.{Message}
 use Rattle.pgorder.specs.States.{is_in_block}

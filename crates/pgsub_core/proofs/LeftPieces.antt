@@ -1,16 +1,14 @@
 -- What a crash may leave of a piece of a session, frame by frame, and of pieces and sessions.
-use Rattle.std.proofs.Common.{◌≡◌, ◌≤◌, ◌<◌, inl, inr, ◌∷◌, ◌++◌, [], ℕ, ℤ, List, Bool, true, false, Option, Some, None, Result, Ok, Err, OnErr, length, take, get_or, refl, sym, ap, subst, ◌∙◌, arith, append-nil, append_assoc}
+use Rattle.std.proofs.Common.{◌≡◌, ◌≤◌, ◌<◌, inl, inr, ◌∷◌, ◌++◌, [], ℕ, ℤ, List, Bool, true, false, Option, Some, None, Result, Ok, Err, OnErr, length, take, get_or, refl, sym, ap, subst, ◌∙◌, arith, append-nil}
 use Rattle.std.specs.List.{flat_map}
-use Rattle.pgwire.specs.Frames.{Frame}
-use Rattle.pgwire.specs.Deframed.{Deframed, Stands, after_release}
-use Rattle.pgwire.specs.Calls.{Release}
+use Rattle.pgwire.specs.Deframed.{Deframed}
 use Rattle.pgapply.specs.Value.{Tables}
 use Rattle.pgapply.specs.Taken as held
 use Rattle.pgsub_core.specs.declared.fault.Fault.{Fault}
 use Rattle.pgsub_core.specs.declared.fault.Fault.TheVariants as fault
 use Rattle.pgsub_core.specs.declared.session.Session.{Session}
 use Rattle.pgsub_core.specs.Applied.{Applied}
-use Rattle.pgsub_core.specs.Framing.{framing_of, done_of, FramesGo, IsFedTo, IsTakenTo, FeedStops}
+use Rattle.pgsub_core.specs.Framing.{framing_of, IsTakenTo, FeedStops}
 use Rattle.pgsub_core.specs.Subscribed.{session_bytes, bytes_of}
 use Rattle.pgsub_core.specs.History.{Transaction, tables_as_of}
 use Rattle.pgsub_core.specs.Stream.{Sent}
@@ -23,7 +21,6 @@ use Rattle.pgsub_core.specs.Pumping.{bytes_in, Pumps, PumpsUntil}
 use Rattle.pgsub_core.specs.Following.{FeedsSession, FeedsSessionUntil, FeedsSessions, FollowsSessions}
 use Rattle.pgsub_core.specs.Crashing.{LeavesOldOr, Over, FedOver, StandsAs, StandsAsFed, LeavesHistory}
 use Rattle.pgsub_core.proofs.PayloadStops.{unchanged}
-use Rattle.pgsub_core.proofs.FeedSteps.{goes_then}
 use Rattle.pgsub_core.proofs.FeedStops.{for_memory, stopped_at}
 use Rattle.pgsub_core.proofs.Starting.{feeds_until}
 use Rattle.pgsub_core.proofs.FollowSteps.{session_stops, follows_stops, follows}
@@ -44,38 +41,6 @@ module _ {C : Type 0} (serves : C → Type 0) (holds : C → Tables → Type 0) 
   -- want of memory may stop it here
   pub piece_stands : (d : Deframed) (a : Applied C) (taken : ℕ) → IsTakenTo holds place now serves d₀ a₀ piece d a taken → serves a.store → FeedStops holds place now d₀ a₀ piece a fault.Memory
   piece_stands d a taken to own = stopped_at serves holds place now d₀ a₀ piece d a a taken to own (unchanged place a) (λ tables h. h) fault.Memory (λ framing tables h. tt)
-
-  abbrev any : C → Type 0
-  any s = Unit {0}
-
-  -- or behind the frame that stands, over a store that has it
-  piece_over : (d : Deframed) (a : Applied C) (taken : ℕ) → IsFedTo holds place now serves d₀ a₀ piece d a taken → serves a.store → (f : Frame) → Stands d f → (other : C) → Over (FramesGo holds place now (f ∷ []) a) other
-      → Over (λ b. FeedStops holds place now d₀ a₀ piece b fault.Memory) other
-  piece_over d a taken to own f stands other over =
-      let b = over.0 in
-      let behind = after_release d f in
-      let to' : IsTakenTo holds place now any d₀ a₀ piece behind b taken = record {
-        calls = Release ∷ to.calls;
-        fs = to.fs ++ f ∷ [];
-        leads = (done_of d₀ ++ to.fs, d, to.leads, inl (f, stands, refl, sym (append_assoc (done_of d₀) to.fs (f ∷ []))));
-        max = to.max;
-        goes = λ all. goes_then serves holds place now to.fs f a₀ a b (to.goes own) over.2;
-      } in
-      (b, over.1, stopped_at any holds place now d₀ a₀ piece behind b b taken to' tt (unchanged place b) (λ tables h. h) fault.Memory (λ framing tables h. tt))
-
-  pub leaves_piece : (reopens : C → C → Type 0) (d : Deframed) (a a' : Applied C) (taken : ℕ) → IsFedTo holds place now serves d₀ a₀ piece d a taken → (serves a.store → serves a₀.store)
-      → LeavesOldOr place reopens serves (Over (λ b. FeedStops holds place now d₀ a₀ piece b fault.Memory)) a₀.store a.store
-      → LeavesOldOr place reopens serves (λ other. (stood : Frame) × Stands d stood × Over (FramesGo holds place now (stood ∷ []) a) other) a.store a'.store
-      → LeavesOldOr place reopens serves (Over (λ b. FeedStops holds place now d₀ a₀ piece b fault.Memory)) a₀.store a'.store
-  leaves_piece reopens d a a' taken to served before one =
-      leaves_then place reopens serves _ _ a₀.store a.store a'.store before one served (λ other own has. piece_over d a taken to own has.0 has.1 other has.2)
-
-  -- what comes behind a piece changes nothing of it
-  pub leaves_more : (reopens : C → C → Type 0) (more : List ℕ) (store : C) → LeavesOldOr place reopens serves (Over (λ b. FeedStops holds place now d₀ a₀ piece b fault.Memory)) a₀.store store
-      → LeavesOldOr place reopens serves (Over (λ b. FeedStops holds place now d₀ a₀ (piece ++ more) b fault.Memory)) a₀.store store
-  leaves_more reopens more store before =
-      leaves_as place reopens serves _ _ a₀.store store before
-      (λ other has. (has.0, has.1, λ closed tables is max h. let one = has.2 closed tables is max h in (one.0, one.1, stop_stands now _ _ piece more fault.Memory one.2)))
 
 more_stored : (history : List Transaction) (p q c : ℕ) → p ≤ q → NothingBetween history p c → NothingBetween history q c
 more_stored [] p q c le nothing = tt
