@@ -7,9 +7,9 @@ use Rattle.pgtuple.specs.declared.cell.Cell.TheVariants.{Null, Unchanged}
 use Rattle.pglogical.specs.declared.item.OldKind.TheVariants.{Key, Full}
 use Rattle.pgapply.specs.declared.op.Op.TheVariants as op
 use Rattle.pgapply.specs.declared.rows.StoreFault.TheVariants as fault
-use Rattle.pgapply.specs.Apply.{Change, apply, rows_after}
+use Rattle.pgapply.specs.Apply.{Change, apply, rows_after, carry_rows}
 use Rattle.pgapply.specs.Missing.{finds_none, missing_in, all_missing, nothing_missed, with_misses}
-use Rattle.pgapply.proofs.Relations.{text, t, f, x, y, rows_1, rows_x, tables_1, lookups}
+use Rattle.pgapply.proofs.Relations.{text, t, f, x, y, rows_1, rows_x, tables_1, lookups, tv, place, row_of}
 
 -- ---- one change
 
@@ -58,6 +58,15 @@ refused_finds_none = refl
 -- so does a change whose rows can't be carried over
 not_carried : missing_in (Err fault.Clash) t (op.Delete Key (text 50 ∷ Null ∷ [])) ≡ None
 not_carried = refl
+
+-- rows of another shape are searched as they are carried over: (1, a) of t is (a) of tv
+carried_is_found : missing_in (carry_rows t tv ((place 49, row_of 49 97) ∷ []) map.empty) tv (op.Delete Full (text 97 ∷ [])) ≡ None
+unfolding carry_rows tuple_spelling
+carried_is_found = simp lookups
+
+carried_is_missed : missing_in (carry_rows t tv ((place 49, row_of 49 97) ∷ []) map.empty) tv (op.Delete Full (text 49 ∷ [])) ≡ Some 16384
+unfolding carry_rows tuple_spelling
+carried_is_missed = simp lookups
 
 -- ---- changes in order
 
