@@ -26,7 +26,7 @@ use Rattle.pgsub_core.specs.Subscribed.{Subscribed, replica_of}
 use Rattle.pgsub_core.specs.Taking.{take_frame, take_frames}
 use Rattle.pgsub_core.specs.Committing.{replica_with}
 use Rattle.pgsub_core.specs.Applied.{Applied, Framing, subscribed}
-use Rattle.pgsub_core.specs.Feeding.{waiting, done_frames}
+use Rattle.pgsub_core.specs.Feeding.{waiting, done_frames, IsFedWhole}
 use Rattle.pgsub_core.specs.Framing.{framing_of, IsTakenTo}
 use Rattle.pgsub_core.specs.SubscriberValue.{SubscriberValue, seen}
 use Rattle.pgwire.specs.Deframed.{Deframed}
@@ -94,6 +94,17 @@ pub record IsCountedFront (now : ℤ) (old : Subscribed) (piece : List ℕ) (pos
   pub takes : take_frames now old fs ≡ Running state
   pub stands : position ≡ state.position
   pub counts : behind ≡ frames_counted now old fs before
+
+-- What is counted of a piece is determined by its bytes.
+abbrev pub PieceHasOneCount : Type 0
+PieceHasOneCount =
+    (now : ℤ) (old : Subscribed) (piece : List ℕ) (p q : ℕ) (before a b : Misses) → IsCountedWhole now old piece p before a → IsCountedWhole now old piece q before b → (a ≡ b) × (p ≡ q)
+
+-- Counting a piece and then another is counting both as one.
+abbrev pub CountedPiecesAreOne : Type 0
+CountedPiecesAreOne =
+    (now : ℤ) (old mid : Subscribed) (piece next : List ℕ) (p q : ℕ) (before between behind : Misses) → IsFedWhole now old piece mid → IsCountedWhole now old piece p before between → IsCountedWhole now mid next q between behind
+    → IsCountedWhole now old (piece ++ next) q before behind
 
 module _ {C : Type 0} (holds : C → Tables → Type 0) (place : C → ℕ) (count : C → Misses) where
   -- whatever tables the store held, the commit is counted over them,
