@@ -22,7 +22,7 @@ use Rattle.pgapply.specs.Missing.{all_missing, with_misses}
 use Rattle.pgsub_core.specs.declared.fault.Fault.{Fault}
 use Rattle.pgsub_core.specs.Described.{described_from}
 use Rattle.pgsub_core.specs.Replica.{Replica, RelationCache, Outcome, Running, Stopped}
-use Rattle.pgsub_core.specs.Subscribed.{Subscribed, replica_of}
+use Rattle.pgsub_core.specs.Subscribed.{Subscribed, replica_of, disconnect}
 use Rattle.pgsub_core.specs.Taking.{take_frame, take_frames}
 use Rattle.pgsub_core.specs.Committing.{replica_with}
 use Rattle.pgsub_core.specs.Applied.{Applied, Framing, subscribed}
@@ -95,6 +95,12 @@ pub record IsCountedFront (now : ℤ) (old : Subscribed) (piece : List ℕ) (pos
   pub stands : position ≡ state.position
   pub counts : behind ≡ frames_counted now old fs before
 
+-- Sessions are fed whole, each from a disconnection on, and what they count adds up.
+abbrev pub AreCountedWhole : ℤ → Subscribed → List (List ℕ) → Subscribed → Misses → Misses → Type 0
+AreCountedWhole now old [] new before behind = (new ≡ old) × (behind ≡ before)
+AreCountedWhole now old (bytes ∷ sessions) new before behind =
+    (mid : Subscribed) × (between : Misses) × IsFedWhole now (disconnect old) bytes mid × IsCountedWhole now (disconnect old) bytes mid.position before between × AreCountedWhole now mid sessions new between behind
+
 -- What is counted of a piece is determined by its bytes.
 abbrev pub PieceHasOneCount : Type 0
 PieceHasOneCount =
@@ -140,3 +146,14 @@ module _ {C : Type 0} (holds : C → Tables → Type 0) (place : C → ℕ) (cou
     abbrev pub FeedsCountedFront : SubscriberValue C → List ℕ → SubscriberValue C → Type 0
     FeedsCountedFront old piece new =
         (tables : Tables) → holds old.applied.store tables → IsCountedFront now (seen place old tables) piece (place new.applied.store) (count old.applied.store) (count new.applied.store)
+
+    -- one session's bytes were fed, from a disconnection on
+    abbrev pub CountsSession : SubscriberValue C → List ℕ → SubscriberValue C → Type 0
+    CountsSession old bytes new =
+        (tables : Tables) → holds old.applied.store tables → IsCountedWhole now (disconnect (seen place old tables)) bytes (place new.applied.store) (count old.applied.store) (count new.applied.store)
+
+    -- sessions' bytes were fed
+    abbrev pub CountsSessions : SubscriberValue C → List (List ℕ) → SubscriberValue C → Type 0
+    CountsSessions old sessions new =
+        (tables : Tables) → holds old.applied.store tables
+        → (tables' : Tables) × holds new.applied.store tables' × AreCountedWhole now (seen place old tables) sessions (seen place new tables') (count old.applied.store) (count new.applied.store)

@@ -1,4 +1,6 @@
 use Rattle.std.proofs.Common.{ℤ, None, Some, refl, subst, take_all}
+use Rattle.pgsub_core.proofs.CountedSessions.{no_session, counts_one_more, counts_each}
+use Rattle.pgsub_core.specs.Counted.{CountsSessions}
 use Rattle.pgsub_core.specs.declared.fault.Fault.TheVariants as fault
 use Rattle.pgsub_core.specs.Crashing.{LeavesOldOr, FedOver, StandsAsFed}
 use Rattle.pgsub_core.proofs.Crashes.{leaves_same}
@@ -19,6 +21,7 @@ loop-session-init g c = (
   λ honest. honest,
   λ honest serves. serves,
   λ honest. leaves_same g.C.ReplicaStore.place g.C.ReplicaStore.reopens g.C.ReplicaStore.serves _ c.args.subscriber.now.applied.store c.args.subscriber.now.applied.store refl,
+  λ serves. no_session g.C.ReplicaStore.holds g.C.ReplicaStore.place g.C.ReplicaStore.missed c.args.now c.args.subscriber.now,
 )
 
 pub loop-session-preserved : goal.loop-session-preserved
@@ -30,6 +33,8 @@ loop-session-preserved g c = (
   λ honest serves. c.in_ok-follow_session.ensures.still_serves honest (c.loop-session.invariant.3 (c.follow_session.ensures.honest honest) serves),
   λ honest. leaves_sessions g.C.ReplicaStore.serves g.C.ReplicaStore.holds g.C.ReplicaStore.place g.C.ReplicaStore.reopens _ c.args.subscriber.now c.loop-session.subscriber c.follow_session.new.subscriber c.loop-session.invariant.1 c.args.sessions.now
       c.loop-session.session-index c.session-item.result c.loop-session-test.true c.session-item.is c.loop-session.invariant.0 (c.loop-session.invariant.4 (c.follow_session.ensures.honest honest)) (c.follow_session.ensures.left honest),
+  λ serves. counts_one_more g.C.ReplicaStore.holds g.C.ReplicaStore.place g.C.ReplicaStore.missed _ c.args.subscriber.now c.loop-session.subscriber c.follow_session.new.subscriber c.args.sessions.now c.loop-session.session-index c.session-item.result c.loop-session-test.true c.session-item.is
+      (c.loop-session.invariant.5 (c.follow_session.ensures.served serves)) (c.in_ok-follow_session.ensures.fed serves) (c.in_ok-follow_session.ensures.counts serves),
 )
 
 pub returns-clause-fed : goal.returns-clause-fed
@@ -111,3 +116,10 @@ returns-in_err-follow_session-clause-crash g c honest serves =
     c.loop-session.session-index c.session-item.result c.loop-session-test.true c.session-item.is c.loop-session.invariant.0 own fault.Memory (c.in_err-follow_session.ensures.stands honest own)) in
     leaves_history it.serves it.holds it.place it.reopens c.args.now c.args.subscriber.now c.follow_session.new.subscriber (bytes_of c.args.sessions.now) (returns-in_err-follow_session-clause-left g c honest) (c.position-start.ensures.contains serves)
     (confirms_standing it.serves it.holds it.place it.reopens c.args.now c.args.subscriber.now c.follow_session.new.subscriber (bytes_of c.args.sessions.now) stands)
+
+pub returns-clause-counts : goal.returns-clause-counts
+returns-clause-counts g c serves =
+    let it = g.C.ReplicaStore in
+    subst (λ (z : ℤ). CountsSessions it.holds it.place it.missed z c.args.subscriber.now (bytes_of c.args.sessions.now) c.loop-session.subscriber) (to_z-of_z w64 c.args.now c.ranges.now)
+    (counts_each it.holds it.place it.missed _ c.args.subscriber.now c.loop-session.subscriber c.args.sessions.now c.loop-session.session-index
+    (take_all c.loop-session.session-index c.args.sessions.now c.loop-session-test.false) (c.loop-session.invariant.5 serves))
