@@ -135,8 +135,10 @@ impl<C: ReplicaStore + Drop> ReplicaStore for Watched<C> {
         ensures unchanged { C.serves self.new.store → Stays C.holds self.old.store self.new.store }
         ensures position { C.place self.new.store ≡ C.place self.old.store }
         ensures counts { C.serves self.new.store → OnOk result (Counts C.stages self.old.store
-            commit.now.work.now.changes commit.now.end (C.stages_missed self.old.store) (C.stages_missed self.new.store)) }
-        ensures uncounted { OnErr result (C.stages_missed self.new.store ≡ C.stages_missed self.old.store) }
+            commit.now.work.now.changes commit.now.end (C.stages_missed self.old.store)
+            (C.stages_missed self.new.store)) }
+        ensures uncounted { OnErr result
+            (C.stages_missed self.new.store ≡ C.stages_missed self.old.store) }
         ensures missed { C.missed self.new.store ≡ C.missed self.old.store }
         ensures served { C.serves self.new.store → C.serves self.old.store }
         ensures open { C.is_honest self.new.store → OnOk result (C.serves self.new.store) }
