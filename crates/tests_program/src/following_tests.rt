@@ -3,7 +3,7 @@
 ghost use Rattle.pgapply.specs.Missing.{nothing_missed};
 
 use crate::runs::File;
-use pgapply::{Commit, DumpRow, DumpSink, Misses, ReplicaStore, StoreFault, Work};
+use pgapply::{Commit, DumpRow, DumpSink, Misses, ReplicaStore, StoreFault};
 use pgcommand::Limits;
 use pgfollow::{Clock, Link};
 use pglsn::Lsn;
@@ -363,10 +363,6 @@ impl ReplicaStore for Failing {
 
     fn settle(&mut self) -> Result<(), StoreFault> {
         Ok(())
-    }
-
-    fn take(&mut self, _end: Lsn, _work: &Work<'_>) -> Result<(), StoreFault> {
-        Err(self.fault)
     }
 
     fn rows(&mut self) -> Result<Vec<DumpRow>, StoreFault> {
