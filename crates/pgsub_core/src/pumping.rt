@@ -113,6 +113,11 @@ pub fn pump<R: Read + Drop, P: Spools + Drop, C: ReplicaStore + Drop>(
         IfErr result (λ fault. fault ≢ Fault.Read →
         StandsAsFed C.place (λ s. PumpsUntil C.holds C.place now (R.remaining source.old.reader)
         (R.remaining source.new.reader) subscriber.old s Fault.Memory) subscriber.new) }
+    ensures why { C.is_honest subscriber.new.applied.store →
+        C.serves subscriber.old.applied.store → subscriber.old.framing.closed ≡ false →
+        IfErr result (λ fault. fault ≢ Fault.Read →
+        StandsAsFed C.place (λ s. PumpsUntil C.holds C.place now (R.remaining source.old.reader)
+        (R.remaining source.new.reader) subscriber.old s fault) subscriber.new) }
     ensures crash { C.is_honest subscriber.new.applied.store →
         LeavesOldOr C.place C.reopens C.serves
         (FedOver (λ s. PumpsUntil C.holds C.place now (R.remaining source.old.reader)

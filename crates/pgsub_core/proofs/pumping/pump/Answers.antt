@@ -92,4 +92,18 @@ returns-in_err-feed-clause-stands g c honest serves unclosed =
     on_residual c.from_residual.result c.in_err-feed.field-0.0 _ c.from_residual.ensures.1 (λ other.
     subst (λ (z : ℤ). StandsAsFed it.place (λ s. PumpsUntil it.holds it.place z unread rest c.args.subscriber.now s fault.Memory) c.feed.new.self) (to_z-of_z w64 c.args.now c.ranges.now)
     (read_stands it.holds it.place _ unread (g.R.Read.remaining c.loop-source.source.reader) rest c.args.subscriber.now it.reopens it.serves c.feed.new.self c.args.source.now.reads c.loop-source.source.reads c.loop-source.subscriber
-    (take c.in-Some.count room) (c.loop-source.invariant.2 own) read.1 is (c.in_err-feed.ensures.stands honest own (c.loop-source.invariant.3 ∙ unclosed))))
+    (take c.in-Some.count room) (c.loop-source.invariant.2 own) read.1 is fault.Memory (c.in_err-feed.ensures.stands honest own (c.loop-source.invariant.3 ∙ unclosed))))
+
+pub returns-in_err-feed-clause-why : goal.returns-in_err-feed-clause-why
+returns-in_err-feed-clause-why g c honest serves unclosed =
+    let it = g.C.ReplicaStore in
+    let read = c.in-Some.ensures.some in
+    let room = c.read_piece.new.room in
+    let is = taken_piece room c.in-Some.count read.0 (c.read_piece.ensures.length ∙ c.loop-source.invariant.1) c.if-count-eq0.false in
+    let unread = g.R.Read.remaining c.args.source.now.reader in
+    let rest = g.R.Read.remaining c.read_piece.new.self.reader in
+    let own = c.loop-source.invariant.6 (c.feed.ensures.honest honest) serves in
+    on_residual c.from_residual.result c.in_err-feed.field-0.0 _ c.from_residual.ensures.1 (λ other.
+    subst (λ (z : ℤ). StandsAsFed it.place (λ s. PumpsUntil it.holds it.place z unread rest c.args.subscriber.now s c.in_err-feed.field-0.0) c.feed.new.self) (to_z-of_z w64 c.args.now c.ranges.now)
+    (read_stands it.holds it.place _ unread (g.R.Read.remaining c.loop-source.source.reader) rest c.args.subscriber.now it.reopens it.serves c.feed.new.self c.args.source.now.reads c.loop-source.source.reads c.loop-source.subscriber
+    (take c.in-Some.count room) (c.loop-source.invariant.2 own) read.1 is c.in_err-feed.field-0.0 (c.in_err-feed.ensures.why honest own (c.loop-source.invariant.3 ∙ unclosed))))

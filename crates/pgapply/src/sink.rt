@@ -2,7 +2,7 @@
 
 ghost use Rattle.std.specs.Prelude.{◌≡◌, ◌++◌, ◌∷◌, List, [], true, false};
 
-use pgapply::DumpRow;
+use crate::rows::DumpRow;
 
 /// What takes the rows of a store as they are read.
 pub trait DumpSink {
