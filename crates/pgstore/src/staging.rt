@@ -9,11 +9,13 @@ ghost use Rattle.pgapply.specs.Works.{IsNumbered};
 ghost use Rattle.pgapply.specs.Stored.{IsOwnFault};
 ghost use Rattle.pgrows.specs.Rows.{IfServing, IsNumbered as HasNumbers, state, tables_of};
 ghost use Rattle.pgstore.specs.Acts.{CountsFrom, IfOpened, RefusesToFold};
-ghost use Rattle.pgstore.specs.Staged.{LeavesSettled, Returns, Settles, Stages, Unstages};
+ghost use Rattle.pgstore.specs.Sources.{IsSource, rows_in};
+ghost use Rattle.pgstore.specs.Staged.{before_of, HasStaged, KeepsStaged, LeavesSettled, Prepares, Returns, Settles, Stages, Unstages};
 
 use crate::fault::Refusal;
+use crate::source::Source;
 use crate::taking::take_changes;
-use pgapply::{Misses, Op};
+use pgapply::{Misses, Op, StoreFault};
 use pglogical::RelationDef;
 use pglsn::Lsn;
 use pgrows::rows::Rows;
@@ -138,4 +140,80 @@ pub(crate) fn settle_rows<S: Alter>(rows: &mut Rows<S>, end: Lsn) -> Result<(), 
     rows.commit()?;
     rows.see_kept();
     Ok(())
+}
+
+/// Goes back to what is committed before the first commit of a group.
+fn prepare<S: Alter + Drop>(source: &mut Source<S>, alloc: Global, is_first: bool)
+    requires { IsSource S.Store source.old }
+    ensures source { IsSource S.Store source.new }
+    ensures prepares { Prepares S.Store (rows_in source.old) (rows_in source.new) is_first }
+    ensures survives { Survives (state S.Store (rows_in source.old))
+        (state S.Store (rows_in source.new)) (λ _. ⊥) }
+{
+    if is_first {
+        source.begin(alloc);
+    }
+}
+
+/// Stages a commit behind those that are staged, or as the first, behind what is committed.
+pub(crate) fn stage_all<S: Alter + Drop>(
+    source: &mut Source<S>,
+    alloc: Global,
+    is_first: bool,
+    definitions: &[RelationDef],
+    changes: &[(usize, Op<'_>)],
+    end: Lsn,
+    misses: &mut Misses,
+) -> Result<(), Unstaged>
+    requires source { IsSource S.Store source.old }
+    requires definitions { AllByRecursion IsDefinition definitions.now }
+    requires numbered { AllByRecursion (IsNumbered definitions.now) changes.now }
+    ensures source { IsSource S.Store source.new }
+    ensures staged { HasCleanDisk (state S.Store (rows_in source.new)) → OnOk result
+        (HasStaged S.Store is_first (rows_in source.old) (rows_in source.new) definitions.now
+        changes.now) }
+    ensures counts { HasCleanDisk (state S.Store (rows_in source.new)) → OnOk result
+        (CountsFrom (before_of S.Store is_first (rows_in source.old)) definitions.now changes.now
+        end misses.old misses.new) }
+    ensures unstaged { HasCleanDisk (state S.Store (rows_in source.new)) → IfErr result (λ u.
+        u.is_lost ≡ false → KeepsStaged S.Store is_first (rows_in source.old)
+        (rows_in source.new)) }
+    ensures lost { IfErr result (λ u. u.is_lost ≡ true → IsOwnFault u.refusal) }
+    ensures fault { IfOpened S.Store (rows_in source.old) (rows_in source.new) (IfErr result (λ u.
+        RefusesToFold (before_of S.Store is_first (rows_in source.old)) definitions.now changes.now
+        u.refusal)) }
+    ensures commit { HasCleanDisk (state S.Store (rows_in source.new)) →
+        KeepsCommit (state S.Store (rows_in source.old)) (state S.Store (rows_in source.new)) }
+    ensures survives { Survives (state S.Store (rows_in source.old))
+        (state S.Store (rows_in source.new)) (λ _. ⊥) }
+{
+    prepare(source, alloc, is_first);
+    match source {
+        Source::Trees(rows) if rows.is_sound() => {
+            stage_changes(rows, alloc, definitions, changes, end, misses)
+        }
+        _ => Err(Unstaged {
+            refusal: Refusal::new(StoreFault::Refused),
+            is_lost: true,
+        }),
+    }
+}
+
+/// Commits what is staged, up to the end of its last commit, or nothing of it.
+pub(crate) fn settle_all<S: Alter + Drop>(source: &mut Source<S>, end: Lsn) -> Result<(), Refusal>
+    requires { IsSource S.Store source.old }
+    ensures source { IsSource S.Store source.new }
+    ensures settled { HasCleanDisk (state S.Store (rows_in source.new)) → OnOk result
+        (Settles S.Store (rows_in source.old) (rows_in source.new) (to_be_bytes w64 end)) }
+    ensures commit { HasCleanDisk (state S.Store (rows_in source.new)) → OnErr result
+        (KeepsCommit (state S.Store (rows_in source.old)) (state S.Store (rows_in source.new))) }
+    ensures fault { IfErr result IsOwnFault }
+    ensures crash { Survives (state S.Store (rows_in source.old))
+        (state S.Store (rows_in source.new))
+        (LeavesSettled S.Store (rows_in source.old) (to_be_bytes w64 end)) }
+{
+    match source {
+        Source::Trees(rows) => settle_rows(rows, end),
+        Source::Adopted(_) => Err(Refusal::new(StoreFault::Refused)),
+    }
 }
