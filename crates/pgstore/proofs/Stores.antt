@@ -32,7 +32,7 @@ use Rattle.pgstore.specs.StoreValue.{AreOf, Group, IsAtLeast, Keeps, IsStore, Ha
 use Rattle.pgapply.proofs.KeepsForm.{none_keeps}
 
 -- nothing is staged, and nothing was missed
-abbrev at_rest : Group
+abbrev pub at_rest : Group
 at_rest = record { reach = 0; is_lost = false; missed = nothing_missed; stages_missed = nothing_missed }
 
 -- ---- a crash between calls

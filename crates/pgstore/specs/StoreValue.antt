@@ -1,5 +1,5 @@
 -- What a caller sees of a store, and what holds of each.
-use Rattle.std.specs.Prelude.{◌≡◌, ◌<◌, ◌≤◌, ◌^◌, ◌⊎◌, ℕ, Bool, true, false, ◌==◌, List, [], ◌∷◌, Option, Some, None, IsTrue, MatchBool, ⊤, Ok, refl}
+use Rattle.std.specs.Prelude.{◌≡◌, ◌<◌, ◌≤◌, ◌^◌, ◌⊎◌, ℕ, Bool, true, false, not, ◌&&◌, if◌then◌else◌, ◌==◌, List, [], ◌∷◌, Option, Some, None, IsTrue, Ok, refl}
 use Rattle.std.specs.Coded.{Coded, code_by, coded×, coded_bool, coded_option, coded_ℕ}
 use Rattle.std.specs.Int.{w64, to_be_bytes}
 use Rattle.std.specs.FinMap as map
@@ -48,6 +48,10 @@ staged_of end misses a = record a { reach = end; stages_missed = misses }
 
 abbrev pub lost_of : Group → Group
 lost_of a = record a { is_lost = true }
+
+-- a commit was refused: where that lost what was staged before it, the group is lost
+abbrev pub refused_of : Bool → Bool → Group → Group
+refused_of is_lost is_first a = if is_lost && not is_first then lost_of a else a
 
 abbrev pub settled_of : Group → Group
 settled_of a = record a { is_lost = false; missed = a.stages_missed }
@@ -172,7 +176,7 @@ module _ {S : Type 0} (g : Ghosts S) where
 
   -- with what is staged it holds these tables; a group that is lost says nothing of them
   abbrev pub Plans : StoreValue S → Tables → Type 0
-  Plans s tables = MatchBool s.group.is_lost ⊤ (IsStored tables (before_of g (s.group.reach == s.position) s.rows))
+  Plans s tables = s.group.is_lost ≡ false → IsStored tables (before_of g (s.group.reach == s.position) s.rows)
 
   -- the tables were made, empty, with position 0/0
   pub record HasMade (conn : Held S) : Type 0 where

@@ -1,9 +1,10 @@
 //! What a store knows of the commits that are staged.
 
-ghost use Rattle.std.specs.Prelude.{◌≡◌, ◌==◌, is_some, IfSome};
+ghost use Rattle.std.specs.Prelude.{◌≡◌, ◌==◌, true, is_some, IfSome};
 ghost use Rattle.pgapply.specs.Stored.{IsOwnFault};
-ghost use Rattle.pgstore.specs.StoreValue.{begun_at, lost_of, settled_of, staged_of, taken_of, unstaged_of};
+ghost use Rattle.pgstore.specs.StoreValue.{begun_at, refused_of, settled_of, staged_of, taken_of, unstaged_of};
 
+use crate::staging::Unstaged;
 use pgapply::{Misses, StoreFault};
 use pglsn::Lsn;
 use std::marker::Model;
@@ -106,12 +107,17 @@ impl Group {
         self.stages_missed = misses;
     }
 
-    /// All that is staged is lost.
-    pub(crate) fn lose(&mut self, fault: StoreFault)
-        requires { IsOwnFault fault }
-        ensures { self.new ≡ lost_of self.old }
+    /// A commit is refused, with this fault. Where that lost what was staged before it, all of it is lost.
+    pub(crate) fn refuse(&mut self, is_first: bool, unstaged: Unstaged) -> StoreFault
+        requires { unstaged.is_lost ≡ true → IsOwnFault unstaged.refusal }
+        ensures fault { result ≡ unstaged.refusal }
+        ensures group { self.new ≡ refused_of unstaged.is_lost is_first self.old }
     {
-        self.lost = Some(fault);
+        let fault = StoreFault::from(unstaged.refusal);
+        if unstaged.is_lost && !is_first {
+            self.lost = Some(fault);
+        }
+        fault
     }
 
     /// What was staged is taken.
