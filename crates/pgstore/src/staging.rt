@@ -1,6 +1,6 @@
 //! Commits that share a transaction: each goes in behind those before it, wholly or not at all, and one commit stores them all.
 
-ghost use Rattle.std.specs.Prelude.{◌≡◌, ◌≢◌, [], true, false, OnOk, OnErr, IfErr};
+ghost use Rattle.std.specs.Prelude.{◌≡◌, ◌≢◌, ◌<◌, ◌^◌, [], true, false, OnOk, OnErr, IfErr};
 ghost use Rattle.std.specs.Int.{w64, to_be_bytes};
 ghost use Rattle.std.specs.List.{AllByRecursion};
 ghost use Rattle.sqlite.specs.State.{HasCleanDisk, KeepsCommit, Survives};
@@ -169,6 +169,7 @@ pub(crate) fn stage_all<S: Alter + Drop>(
     requires definitions { AllByRecursion IsDefinition definitions.now }
     requires numbered { AllByRecursion (IsNumbered definitions.now) changes.now }
     ensures source { IsSource S.Store source.new }
+    ensures range { end < 2 ^ 64 }
     ensures staged { HasCleanDisk (state S.Store (rows_in source.new)) → OnOk result
         (HasStaged S.Store is_first (rows_in source.old) (rows_in source.new) definitions.now
         changes.now) }

@@ -5,4 +5,4 @@ pub returns-clause-unchanged : goal.returns-clause-unchanged
 returns-clause-unchanged g c serves = on_err c.settle.result _ _ (c.settle.ensures.unchanged serves) (stays_tables g.S.Store c.args.self.now c.settle.new.self)
 
 pub returns-clause-crash : goal.returns-clause-crash
-returns-clause-crash g c honest = leaves_staged g.S.Store c.args.self.now c.settle.new.self c.settle.ensures.crash c.reached-_staged.ensures.plans honest
+returns-clause-crash g c honest = leaves_staged g.S.Store c.args.self.now c.settle.new.self c.settle.ensures.crash c.reached-staged.ensures.plans honest

@@ -19,7 +19,7 @@ invariant_of-self g c =
     let later : group.reach < end = subst (λ (s : StoreValue g.row.S.Denot). s.group.reach < end) (sym c.self.view_is) c.requires in
     let are : change_values c.definitions.result.now c.entries.result.now ≡ c.args.commit.now.work.now.changes = ap (λ ds. change_values ds c.entries.result.now) c.definitions.ensures.definitions ∙ c.entries.ensures.changes in
     let stands = sym c.in_default.ensures.lost in
-    let range : end < 2 ^ 64 = omega arith in (
+    let range : end < 2 ^ 64 = c.stage_all-staged.ensures.range in (
       c.stage_all-staged.ensures.source,
       stays_store g.S.Store old new position survives.clean c.stage_all-staged.ensures.commit c.self.invariant.1 (read_left g.S.Store old new position survives) g.met.S.Store.settled,
       subst (IsGroup g.S.Store new position) (sym c.stage.ensures)
