@@ -1,6 +1,7 @@
 use Rattle.std.proofs.Common.{◌<◌, ◌^◌, sym, subst, arith}
 use Rattle.pgstore.specs.Spelled.{IsStored}
 use Rattle.pgstore.proofs.Founding.{founded_as, founded_store}
+use Rattle.pgstore.proofs.Groups.{begun_empty}
 use Rattle.pgstore.proofs.Stores.{adopted_survives}
 use Rattle.pgstore.proofs.store.Store.adopt.Goals as goal
 
@@ -10,6 +11,7 @@ invariant_of-result g c =
     let range : c.in-Ok.position < 2 ^ 64 = omega arith in (
       (settled, λ clean still. (c.in-Ok.ensures.founds clean).stands.kept),
       founded_store g.S.Store c.args.conn c.adopt_tables.new.conn c.in-Ok.position range c.in-Ok.ensures.founds (c.see_committed.ensures) g.met.S.Store.settled,
+      begun_empty g.S.Store _ c.in-Ok.position range _ c.at.ensures,
     )
 
 pub returns-in-Ok-clause-adopted : goal.returns-in-Ok-clause-adopted
