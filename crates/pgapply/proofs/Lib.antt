@@ -2,6 +2,7 @@ pub mod KeepsForm
 pub mod Working
 mod Relations
 mod EffectRows
+mod MissingRows
 mod WorkRows
 mod DumpRows
 pub mod Causes

@@ -1,6 +1,8 @@
 pub mod Value
 pub mod Apply
 pub mod Dump
+pub mod Given
+pub mod Missing
 pub mod Stored
 pub mod Works
 pub mod Noted

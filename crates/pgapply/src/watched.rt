@@ -1,11 +1,19 @@
 //! A store that notes which relations its commits change, as a cache beside it needs.
 
-ghost use Rattle.std.specs.Prelude.{◌≡◌, ◌<◌, ◌⊎◌, [], OnOk, OnErr, IfErr};
-ghost use Rattle.pgapply.specs.Noted.{noted};
-ghost use Rattle.pgapply.specs.Taken.{Folds, LeavesFold, Stays, RefusesWork};
+ghost use Rattle.std.specs.Prelude.{◌≡◌, ◌<◌, ◌⊎◌, [], true, false, OnOk, OnErr, IfOk, IfErr};
+ghost use Rattle.pgapply.specs.Value.{Tables};
+ghost use Rattle.pgapply.specs.Dump.{dump};
+ghost use Rattle.pgapply.specs.Given.{GivesFront, GivesAll};
+ghost use Rattle.pgapply.specs.Missing.{Counts};
+ghost use Rattle.pgapply.specs.Noted.{noted, KeepsNotes};
+ghost use Rattle.pgapply.specs.Stored.{IsOwnFault};
+ghost use Rattle.pgapply.specs.Taken.{Folds, LeavesFold, LeavesStaged, Begins, Settles, Stays, RefusesWork, Shows};
 
+use crate::commit::Commit;
+use crate::misses::Misses;
 use crate::replica_store::ReplicaStore;
 use crate::rows::{DumpRow, StoreFault};
+use crate::sink::DumpSink;
 use crate::work::Work;
 use pglsn::Lsn;
 use std::alloc::{AllocError, Global};
@@ -53,6 +61,7 @@ impl<C: ReplicaStore + Drop> Watched<C> {
         ensures store { self.new.store ≡ self.old.store }
         ensures noted { OnOk result (self.new.changed.items
             ≡ noted self.old.changed.items work.now.definitions) }
+        ensures kept { KeepsNotes self.old.changed.items self.new.changed.items }
     {
         for def in work.definitions() {
             self.changed.push(def.oid)?;
@@ -70,10 +79,104 @@ impl<C: ReplicaStore + Drop> ReplicaStore for Watched<C> {
 
     ghost place = { λ s. C.place s.store };
 
+    ghost stages = { λ s tables. C.stages s.store tables };
+
+    ghost reach = { λ s. C.reach s.store };
+
+    ghost missed = { λ s. C.missed s.store };
+
+    ghost stages_missed = { λ s. C.stages_missed s.store };
+
     ghost reopens = { λ s other. C.reopens s.store other.store };
 
     fn position(&self) -> Lsn {
         self.store.position()
+    }
+
+    fn reached(&self) -> Lsn {
+        self.store.reached()
+    }
+
+    /// Drops what is staged in the store within. What is noted stays.
+    fn unstage(&mut self)
+        ensures noted { self.new.changed.items ≡ self.old.changed.items }
+        ensures reach { C.reach self.new.store ≡ C.place self.old.store }
+        ensures position { C.place self.new.store ≡ C.place self.old.store }
+        ensures unchanged { Stays C.holds self.old.store self.new.store }
+        ensures staged { Begins C.holds C.stages self.old.store self.new.store }
+        ensures missed { C.missed self.new.store ≡ C.missed self.old.store }
+        ensures unstaged { C.stages_missed self.new.store ≡ C.missed self.old.store }
+        ensures serves { C.serves self.old.store → C.serves self.new.store }
+        ensures served { C.serves self.new.store → C.serves self.old.store }
+        ensures stays_honest { C.is_honest self.old.store → C.is_honest self.new.store }
+        ensures honest { C.is_honest self.new.store → C.is_honest self.old.store }
+        ensures crash { (other : C) →
+            C.reopens self.new.store other → C.reopens self.old.store other }
+    {
+        self.store.unstage();
+    }
+
+    /// Stages the changes of a commit as the store within does, and notes their relations first.
+    fn stage(&mut self, commit: &Commit<'_, '_>) -> Result<(), StoreFault>
+        requires { C.reach self.old.store < commit.now.end }
+        ensures noted { OnOk result (self.new.changed.items
+            ≡ noted self.old.changed.items commit.now.work.now.definitions) }
+        ensures kept { KeepsNotes self.old.changed.items self.new.changed.items }
+        ensures staged { C.serves self.new.store → OnOk result
+            (Folds C.stages self.old.store self.new.store commit.now.work.now.changes) }
+        ensures end { OnOk result (C.reach self.new.store ≡ commit.now.end) }
+        ensures undone { C.serves self.new.store → OnErr result
+            (Stays C.stages self.old.store self.new.store) }
+        ensures reach { OnErr result (C.reach self.new.store ≡ C.reach self.old.store) }
+        ensures fault { C.serves self.new.store → IfErr result
+            (RefusesWork C.stages self.old.store commit.now.work.now.changes) }
+        ensures why { C.is_honest self.new.store → C.serves self.old.store → IfErr result
+            (RefusesWork C.stages self.old.store commit.now.work.now.changes) }
+        ensures unchanged { C.serves self.new.store → Stays C.holds self.old.store self.new.store }
+        ensures position { C.place self.new.store ≡ C.place self.old.store }
+        ensures counts { C.serves self.new.store → OnOk result (Counts C.stages self.old.store
+            commit.now.work.now.changes commit.now.end (C.stages_missed self.old.store)
+            (C.stages_missed self.new.store)) }
+        ensures uncounted { OnErr result
+            (C.stages_missed self.new.store ≡ C.stages_missed self.old.store) }
+        ensures missed { C.missed self.new.store ≡ C.missed self.old.store }
+        ensures served { C.serves self.new.store → C.serves self.old.store }
+        ensures open { C.is_honest self.new.store → OnOk result (C.serves self.new.store) }
+        ensures honest { C.is_honest self.new.store → C.is_honest self.old.store }
+        ensures crash { C.is_honest self.new.store → (other : C) →
+            C.reopens self.new.store other → C.reopens self.old.store other }
+    {
+        self.note(commit.work)?;
+        self.store.stage(commit)
+    }
+
+    /// Takes all that is staged in the store within. What is noted stays.
+    fn settle(&mut self) -> Result<(), StoreFault>
+        ensures noted { self.new.changed.items ≡ self.old.changed.items }
+        ensures settled { C.serves self.new.store → OnOk result
+            (Settles C.holds C.stages self.old.store self.new.store) }
+        ensures end { OnOk result (C.place self.new.store ≡ C.reach self.old.store) }
+        ensures unchanged { C.serves self.new.store → OnErr result
+            (Stays C.holds self.old.store self.new.store) }
+        ensures position { OnErr result (C.place self.new.store ≡ C.place self.old.store) }
+        ensures some { OnErr result (C.place self.old.store < C.reach self.old.store) }
+        ensures nothing { C.reach self.old.store ≡ C.place self.old.store →
+            self.new ≡ self.old }
+        ensures fault { IfErr result IsOwnFault }
+        ensures none { C.reach self.new.store ≡ C.place self.new.store }
+        ensures counts { OnOk result (C.missed self.new.store ≡ C.stages_missed self.old.store) }
+        ensures uncounted { OnErr result (C.missed self.new.store ≡ C.missed self.old.store) }
+        ensures served { C.serves self.new.store → C.serves self.old.store }
+        ensures open { C.is_honest self.new.store →
+            C.place self.old.store < C.reach self.old.store →
+            OnOk result (C.serves self.new.store) }
+        ensures honest { C.is_honest self.new.store → C.is_honest self.old.store }
+        ensures crash { C.is_honest self.new.store → (other : C) →
+            C.reopens self.new.store other → C.reopens self.old.store other
+            ⊎ (C.serves self.old.store
+            × LeavesStaged C.holds C.place C.stages C.reach self.old.store other) }
+    {
+        self.store.settle()
     }
 
     /// Takes the changes of a commit as the store within does, and notes their relations first.
@@ -81,6 +184,7 @@ impl<C: ReplicaStore + Drop> ReplicaStore for Watched<C> {
         requires { C.place self.old.store < end }
         ensures noted { OnOk result (self.new.changed.items
             ≡ noted self.old.changed.items work.now.definitions) }
+        ensures kept { KeepsNotes self.old.changed.items self.new.changed.items }
         ensures taken { C.serves self.new.store → OnOk result
             (Folds C.holds self.old.store self.new.store work.now.changes) }
         ensures end { OnOk result (C.place self.new.store ≡ end) }
@@ -89,6 +193,12 @@ impl<C: ReplicaStore + Drop> ReplicaStore for Watched<C> {
         ensures position { OnErr result (C.place self.new.store ≡ C.place self.old.store) }
         ensures fault { C.serves self.new.store → IfErr result
             (RefusesWork C.holds self.old.store work.now.changes) }
+        ensures why { C.is_honest self.new.store → C.serves self.old.store → IfErr result
+            (RefusesWork C.holds self.old.store work.now.changes) }
+        ensures none { OnOk result (C.reach self.new.store ≡ C.place self.new.store) }
+        ensures counts { C.serves self.new.store → OnOk result (Counts C.holds self.old.store
+            work.now.changes end (C.missed self.old.store) (C.missed self.new.store)) }
+        ensures uncounted { OnErr result (C.missed self.new.store ≡ C.missed self.old.store) }
         ensures served { C.serves self.new.store → C.serves self.old.store }
         ensures open { C.is_honest self.new.store → OnOk result (C.serves self.new.store) }
         ensures honest { C.is_honest self.new.store → C.is_honest self.old.store }
@@ -101,7 +211,57 @@ impl<C: ReplicaStore + Drop> ReplicaStore for Watched<C> {
         self.store.take(end, work)
     }
 
-    fn rows(&mut self) -> Result<Vec<DumpRow>, StoreFault> {
+    /// All rows of the store within. What is noted stays.
+    fn rows(&mut self) -> Result<Vec<DumpRow>, StoreFault>
+        ensures noted { self.new.changed.items ≡ self.old.changed.items }
+        ensures rows { C.serves self.new.store → IfOk result
+            (λ rows. Shows C.holds self.old.store rows.items) }
+        ensures unchanged { C.serves self.new.store → Stays C.holds self.old.store self.new.store }
+        ensures position { C.place self.new.store ≡ C.place self.old.store }
+        ensures fault { C.is_honest self.new.store → IfErr result IsOwnFault }
+        ensures serving_fault { C.serves self.new.store → IfErr result IsOwnFault }
+        ensures none { C.reach self.new.store ≡ C.place self.new.store }
+        ensures missed { C.missed self.new.store ≡ C.missed self.old.store }
+        ensures served { C.serves self.new.store → C.serves self.old.store }
+        ensures open { C.is_honest self.new.store → OnOk result (C.serves self.new.store) }
+        ensures honest { C.is_honest self.new.store → C.is_honest self.old.store }
+        ensures crash { C.is_honest self.new.store → (other : C) →
+            C.reopens self.new.store other → C.reopens self.old.store other }
+    {
         self.store.rows()
+    }
+
+    /// Gives a sink the rows of the store within. What is noted stays.
+    fn each_row<T: DumpSink + Drop>(&mut self, sink: T) -> (Result<bool, StoreFault>, T)
+        ensures noted { self.new.changed.items ≡ self.old.changed.items }
+        ensures front { C.is_honest self.new.store → (tables : Tables) →
+            C.holds self.old.store tables → (start : T) →
+            GivesFront (dump tables) (T.has_taken start sink) (T.has_taken start result.1) }
+        ensures all { C.is_honest self.new.store → IfOk result.0 (λ all. all ≡ true →
+            (tables : Tables) → C.holds self.old.store tables → (start : T) →
+            GivesAll (dump tables) (T.has_taken start sink) (T.has_taken start result.1)) }
+        ensures stopped { C.is_honest self.new.store → IfOk result.0 (λ all. all ≡ false →
+            T.has_stopped result.1) }
+        ensures unchanged { C.serves self.new.store → Stays C.holds self.old.store self.new.store }
+        ensures position { C.place self.new.store ≡ C.place self.old.store }
+        ensures fault { C.is_honest self.new.store → IfErr result.0 IsOwnFault }
+        ensures serving_fault { C.serves self.new.store → IfErr result.0 IsOwnFault }
+        ensures none { C.reach self.new.store ≡ C.place self.new.store }
+        ensures missed { C.missed self.new.store ≡ C.missed self.old.store }
+        ensures served { C.serves self.new.store → C.serves self.old.store }
+        ensures open { C.is_honest self.new.store → OnOk result.0 (C.serves self.new.store) }
+        ensures honest { C.is_honest self.new.store → C.is_honest self.old.store }
+        ensures crash { C.is_honest self.new.store → (other : C) →
+            C.reopens self.new.store other → C.reopens self.old.store other }
+    {
+        self.store.each_row(sink)
+    }
+
+    fn misses(&self) -> Misses {
+        self.store.misses()
+    }
+
+    fn cause(&self) -> Option<&str> {
+        self.store.cause()
     }
 }

@@ -18,7 +18,8 @@ const FOLLOW_STATUSES: &str = "Exit statuses:
   12  the store can't be opened, as while another process has it open
   13  the store failed to take a commit
   14  memory has run out
-  15  standard input or output failed";
+  15  standard input or output failed
+  16  the stream ended, and some of its changes found no row";
 
 /// What `--help` says of `--cache`.
 const CACHE: &str =

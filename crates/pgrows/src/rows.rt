@@ -596,9 +596,11 @@ impl<S: Alter> Rows<S> {
         self.store
     }
 
-    /// What is committed are tables of a store. The call does nothing: a store of rows shows this only to a caller that asks.
+    /// What is committed are tables of a store, and the trees are numbered as they are listed. The call does nothing: a store of
+    /// rows shows this only to a caller that asks.
     pub fn see_kept(&self)
-        ensures { IfServing S.Store self.now (IsKept (state S.Store self.now).committed) }
+        ensures kept { IfServing S.Store self.now (IsKept (state S.Store self.now).committed) }
+        ensures numbered { IfServing S.Store self.now (IsNumbered S.Store self.now) }
     {
         let _store = &self.store;
     }

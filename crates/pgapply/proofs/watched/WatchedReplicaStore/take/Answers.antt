@@ -1,6 +1,7 @@
 use Rattle.std.proofs.Common.{◌⊎◌, OnOk, OnErr, subst}
 use Rattle.std.specs.Prelude.{IfErr}
 use Rattle.pgapply.specs.Taken.{Folds, LeavesFold, RefusesWork, Stays}
+use Rattle.pgapply.specs.Missing.{Counts}
 use Rattle.pgapply.proofs.watched.WatchedReplicaStore.take.Goals as goal
 
 pub returns-clause-taken : goal.returns-clause-taken
@@ -23,3 +24,13 @@ returns-clause-crash g c honest other left =
     let it = g.C.ReplicaStore in
     subst (λ s. it.reopens s other ⊎ (it.serves s × LeavesFold it.holds it.place s c.args.work.now.changes c.args.end other)) c.in_ok-note.ensures.store
     (c.take.ensures.crash honest other left)
+
+pub returns-clause-why : goal.returns-clause-why
+returns-clause-why g c =
+    let it = g.C.ReplicaStore in
+    subst (λ s. it.is_honest c.take.new.self → it.serves s → IfErr c.take.result (RefusesWork it.holds s c.args.work.now.changes)) c.in_ok-note.ensures.store c.take.ensures.why
+
+pub returns-clause-counts : goal.returns-clause-counts
+returns-clause-counts g c =
+    let it = g.C.ReplicaStore in
+    subst (λ s. it.serves c.take.new.self → OnOk c.take.result (Counts it.holds s c.args.work.now.changes c.args.end (it.missed s) (it.missed c.take.new.self))) c.in_ok-note.ensures.store c.take.ensures.counts
