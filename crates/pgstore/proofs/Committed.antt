@@ -24,7 +24,7 @@ module _ {S : Type 0} (g : Ghosts S) (old mid last : S) (definitions : List Rela
   -- the changes, and then the position
   pub places : FoldsOn g old mid definitions changes none_given → HasCleanDisk (state g mid) → Makes g (with_place position) mid last → Places g old last definitions changes position
   places folds clean put =
-      let first = folds.made clean put.was_open in
+      let first = folds.made clean ((folds.goes.keeps clean).commit.was_open put.was_open) in
       record {
         was_open = first.0.was_open;
         is_open = put.is_open;

@@ -219,7 +219,7 @@ bare_value d schema =
     }
 
 -- trees of a store hold its value
-whole_value : (d : Database) (v : Stored) → d.schema ≡ store_schema → AreOf v d.trees → IsValueOf v d
+pub whole_value : (d : Database) (v : Stored) → d.schema ≡ store_schema → AreOf v d.trees → IsValueOf v d
 whole_value d v schema are = record {
   left = record { has_definitions = true; has_rows = true; has_position = true };
   schema = schema;

@@ -1,6 +1,8 @@
 -- The SQL store as what a subscriber keeps its tables in.
-use Rattle.std.proofs.Common.{◌≡◌, ◌⊎◌, inl, inr, ℕ, List, Result, Ok, Err, OnOk, OnErr, IfOk, IfErr, refl, sym, arith}
-use Rattle.sqlite.specs.State.{Survives}
+use Rattle.std.proofs.Common.{◌≡◌, ◌⊎◌, inl, inr, ℕ, List, Result, Ok, Err, OnOk, OnErr, IfOk, IfErr, true, IsTrue, refl, sym, ap, subst, ◌∙◌, arith}
+use Rattle.std.specs.Prelude.{◌==◌}
+use Rattle.std.specs.Cmp.{unsigned_Decides}
+use Rattle.sqlite.specs.State.{HasCleanDisk, Survives}
 use Rattle.sqlite.specs.Store.{Ghosts}
 use Rattle.pgrows.specs.Rows.{state}
 use Rattle.pgstore.specs.Acts.{committed_of}
@@ -13,7 +15,8 @@ use Rattle.pgapply.specs.Stored.{Stored}
 use Rattle.pgapply.specs.Taken as taken
 use Rattle.pgstore.specs.Spelled.{IsStored}
 use Rattle.pgstore.specs.Reopened.{Reopens}
-use Rattle.pgstore.specs.StoreValue.{StoreValue, IsHonest, Serves, Holds, Contains, Takes, Stays, RefusesWork, LeavesWork}
+use Rattle.pgstore.specs.StoreValue.{Group, StoreValue, IsHonest, Serves, Holds, Contains, Plans, Takes, Stays, RefusesWork, LeavesGroup, LeavesWork, unstaged_of}
+use Rattle.pgstore.specs.Staged.{before_of}
 
 module _ {S : Type 0} (g : Ghosts S) where
   abbrev pub holds_tables : StoreValue S → Tables → Type 0
@@ -57,6 +60,40 @@ module _ {S : Type 0} (g : Ghosts S) where
           ),
         )
   ]
+
+  -- ---- what is staged
+
+  -- what a crash may leave of a settling is what it could leave before, or all that was staged
+  pub leaves_staged : (old new : StoreValue S) → Survives (state g old.rows) (state g new.rows) (LeavesGroup g old) → (Serves g old → (t : Tables) × Plans g old t) → IsHonest g new
+      → (other : StoreValue S) → Reopens g g new other → Reopens g g old other ⊎ (Serves g old × taken.LeavesStaged holds_tables (λ s. s.position) (Plans g) (λ s. s.group.reach) old other)
+  leaves_staged old new survives plans honest other left = elim (survives.crash honest left.db left.left) [
+    | inl was ↦ inl (record { db = left.db; left = was; opened = left.opened })
+    | inr commits ↦
+        let before : IsHonest g old = omega (arith, honest, survives.clean) in
+        let serves : Serves g old = record { honest = before; is_open = commits.0 } in
+        let some = plans serves in
+        let at = (left.opened (record { tables = some.0; position = old.group.reach }) (commits.1 some.0 some.1)).position in
+        inr (serves, (λ t planned. (left.opened (record { tables = t; position = old.group.reach }) (commits.1 t planned)).stored, sym at))
+  ]
+
+  -- the store where nothing is staged any more
+  module _ (old new : StoreValue S) (rows_are : new.rows ≡ old.rows) where
+    pub forgets_serves : Serves g old → Serves g new
+    forgets_serves serves = record { honest = subst (λ r. HasCleanDisk (state g r)) (sym rows_are) serves.honest; is_open = subst (λ r. IsTrue (state g r).is_open) (sym rows_are) serves.is_open }
+
+    pub forgets_served : Serves g new → Serves g old
+    forgets_served serves = record { honest = subst (λ r. HasCleanDisk (state g r)) rows_are serves.honest; is_open = subst (λ r. IsTrue (state g r).is_open) rows_are serves.is_open }
+
+    pub forgets_reopens : (other : StoreValue S) → Reopens g g new other → Reopens g g old other
+    forgets_reopens other left = record { db = left.db; left = subst (λ r. (state g r).may_leave left.db) rows_are left.left; opened = left.opened }
+
+    pub forgets_held : taken.Stays holds_tables old new
+    forgets_held t h = subst (λ r. IsStored t (committed_of g r)) (sym rows_are) h
+
+    pub forgets_staged : new.position ≡ old.position → new.group ≡ unstaged_of old.position old.group → taken.Begins holds_tables (Plans g) old new
+    forgets_staged place group t h _ =
+        let here : (new.group.reach == new.position) ≡ true = (unsigned_Decides new.group.reach new.position).1 (ap (λ (a : Group). a.reach) group ∙ sym place) in
+        subst (λ b. IsStored t (before_of g b new.rows)) (sym here) (forgets_held t h)
 
 pub on_ok : {T E : Type 0} (r : Result T E) (A B : Type 0) → OnOk r A → (A → B) → OnOk r B
 on_ok (Ok t) A B h go = go h

@@ -1,24 +1,27 @@
 -- One change after the other.
-use Rattle.std.proofs.Common.{◌≡◌, ℕ, List, [], ◌∷◌, ◌++◌, append-nil, cond, Option, Some, Ok, IsTrue, refl, sym, ap, subst, ◌∙◌, arith}
-use Rattle.std.specs.Prelude.{slice_get}
+use Rattle.std.proofs.Common.{◌≡◌, ℕ, List, [], ◌∷◌, ◌++◌, append-nil, Bool, cond, Option, Some, Ok, IsTrue, refl, sym, ap, subst, ◌∙◌, arith}
+use Rattle.std.specs.Prelude.{slice_get, if◌then◌else◌}
 use Rattle.std.specs.FinMap as map
 use Rattle.std.specs.Cmp.{unsigned_Decides}
 use Rattle.sqlite.specs.Store.{Ghosts}
 use Rattle.sqlite.specs.State.{HasCleanDisk}
 use Rattle.pglogical.specs.declared.item.RelationDef.{RelationDef}
 use Rattle.pgtables.specs.Kept as stored
-use Rattle.pgrows.specs.Rows.{IfServing, state, tables_of}
+use Rattle.pgrows.specs.Rows.{state, tables_of}
 use Rattle.pgapply.specs.declared.op.Op.{Op}
 use Rattle.pgapply.specs.declared.rows.StoreFault.{StoreFault}
 use Rattle.pgapply.specs.Value.{Rows, Tables}
 use Rattle.pgapply.specs.Apply.{Change, ◌>>=◌, apply, fold_changes, found_rows, rows_after}
 use Rattle.pgapply.specs.Stored.{IsFault}
+use Rattle.pgapply.specs.declared.misses.Misses.{Misses}
+use Rattle.pgapply.specs.Missing.{all_missing, with_miss, with_misses}
 use Rattle.pgapply.specs.Works.{change_value, change_values, defined_by}
 use Rattle.pgapply.proofs.Working.{values_append}
 use Rattle.pglogical.specs.Spelling.{IsDefinition}
 use Rattle.pgstore.specs.Spelled.{IsReadable, IsChanging, IsStored}
-use Rattle.pgstore.specs.Acts.{AreGiven, Changes, Finds, FoldsOn, Goes, MakesOf, Notes, Refuses, RefusesToFold, RefusesToGive}
-use Rattle.pgstore.specs.Steps.{RefusesAll, StepsAll}
+use Rattle.pgstore.specs.Acts.{AreGiven, Changes, CountsFrom, Finds, FoldsOn, Goes, IfOpened, MakesOf, Notes, Refuses, RefusesToFold, RefusesToGive, TellsMissing}
+use Rattle.pgstore.specs.Steps.{CountsAll, RefusesAll, StepsAll}
+use Rattle.pgstore.proofs.Counting.{counted_more, counted_one}
 use Rattle.pgstore.proofs.Going.{goes_then}
 use Rattle.pgstore.proofs.Deciding.{fault_first}
 use Rattle.pgstore.proofs.Applying.{applied, refused_first, refused_then, was_given, given_then, fold_one, fold_append}
@@ -73,31 +76,45 @@ module _ (definitions : List RelationDef) (given after : ℕ → Option ℕ) (nu
         let found = rows_found v h are in
         first_refused definitions number def at e more under fault v (refused_then v def e.1 fault found.0 found.1 (refuses v found.0 found.2))
 
+    -- whether it finds no row is counted
+    pub one_counts : (end : ℕ) (before behind : Misses) (missed : Bool) → TellsMissing g mid def e.1 missed → behind ≡ (if missed then with_miss before end def.oid else before) → CountsAll g old definitions given (e ∷ []) end before behind
+    one_counts end before behind missed tells noted v h are =
+        let found = rows_found v h are in
+        counted_one v def e.1 found.0 found.1 end before behind missed (tells v found.0 found.2) noted ∙ ap (λ cs. with_misses before end (all_missing v cs)) (sym (append-nil (change_value definitions e) ∙ value_is definitions number def at e under))
+
 module _ {S : Type 0} (g : Ghosts S) (a b c : S) (definitions : List RelationDef) (entries more : List (ℕ × Op)) (given after : ℕ → Option ℕ) where
+  -- what is folded behind some changes
+  folds_then : (v : Tables) → fold_changes v (change_values definitions (entries ++ more)) ≡ (fold_changes v (change_values definitions entries) >>= λ next. fold_changes next (change_values definitions more))
+  folds_then v = ap (fold_changes v) (values_append definitions entries more) ∙ fold_append (change_values definitions entries) (change_values definitions more) v
+
   -- some changes more
-  pub folds_all : FoldsOn g a b definitions entries given → IfServing g c (StepsAll g b c definitions given more after) → Goes g b c → FoldsOn g a c definitions (entries ++ more) after
+  pub folds_all : FoldsOn g a b definitions entries given → IfOpened g b c (StepsAll g b c definitions given more after) → Goes g b c → FoldsOn g a c definitions (entries ++ more) after
   folds_all one step goes = record {
     goes = goes_then g a b c one.goes goes.keeps goes.survives;
     made = λ clean still.
-        let next = step clean still in
-        let first = one.made (omega (arith, goes.survives.clean)) next.0.was_open in (
-          record { was_open = first.0.was_open; is_open = next.0.is_open },
+        let first = one.made (omega (arith, goes.survives.clean)) still in
+        let next = step clean first.0.is_open in (
+          record { was_open = still; is_open = next.0.is_open },
           λ v h.
               let before = first.1 v h in
-              let after = next.1 before.0 before.2 before.3 in (
-                after.0,
-                ap (fold_changes v) (values_append definitions entries more) ∙ fold_append (change_values definitions entries) (change_values definitions more) v ∙ ap (λ r. r >>= λ next. fold_changes next (change_values definitions more)) before.1 ∙ after.1,
-                after.2,
-                after.3,
-              ),
+              let after = next.1 before.0 before.2 before.3 in
+              (after.0, folds_then v ∙ ap (λ r. r >>= λ next. fold_changes next (change_values definitions more)) before.1 ∙ after.1, after.2, after.3),
         );
   }
 
-  pub folds_refuse : (fault : StoreFault) → FoldsOn g a b definitions entries given → RefusesAll g b definitions given more fault → HasCleanDisk (state g b) → IsTrue (state g b).is_open → RefusesToFold (tables_of g a) definitions (entries ++ more) fault
+  pub folds_refuse : (fault : StoreFault) → FoldsOn g a b definitions entries given → RefusesAll g b definitions given more fault → HasCleanDisk (state g b) → IsTrue (state g a).is_open → RefusesToFold (tables_of g a) definitions (entries ++ more) fault
   folds_refuse fault one refuses clean still v h =
       let before = (one.made clean still).1 v h in
-      subst (IsFault fault) (sym (ap (fold_changes v) (values_append definitions entries more) ∙ fold_append (change_values definitions entries) (change_values definitions more) v ∙ ap (λ r. r >>= λ next. fold_changes next (change_values definitions more)) before.1))
+      subst (IsFault fault) (sym (folds_then v ∙ ap (λ r. r >>= λ next. fold_changes next (change_values definitions more)) before.1))
       (refuses before.0 before.2 before.3)
+
+  -- and those of all that found no row
+  pub folds_count : (end : ℕ) (before between behind : Misses) → FoldsOn g a b definitions entries given → CountsFrom (tables_of g a) definitions entries end before between → CountsAll g b definitions given more end between behind
+      → HasCleanDisk (state g b) → IsTrue (state g a).is_open → CountsFrom (tables_of g a) definitions (entries ++ more) end before behind
+  folds_count end before between behind one first next clean still v h =
+      let made = (one.made clean still).1 v h in
+      next made.0 made.2 made.3 ∙ ap (λ m. with_misses m end (all_missing made.0 (change_values definitions more))) (first v h)
+      ∙ sym (ap (λ cs. with_misses before end (all_missing v cs)) (values_append definitions entries more) ∙ counted_more v made.0 (change_values definitions entries) (change_values definitions more) end before made.1)
 
 -- a change that is refused is refused whatever follows it
 pub refuses_more : {S : Type 0} (g : Ghosts S) (a : S) (definitions : List RelationDef) (given : ℕ → Option ℕ) (e : ℕ × Op) (more : List (ℕ × Op)) (fault : StoreFault) → RefusesAll g a definitions given (e ∷ []) fault → RefusesAll g a definitions given (e ∷ more) fault

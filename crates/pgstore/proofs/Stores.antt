@@ -1,5 +1,5 @@
 -- What a store contains, when it is made and when a commit is taken.
-use Rattle.std.proofs.Common.{◌≡◌, ◌≤◌, ◌<◌, ◌^◌, inl, inr, ℕ, List, [], ◌∷◌, Ok, IsTrue, refl, sym, ap, subst, ◌∙◌, arith}
+use Rattle.std.proofs.Common.{◌≡◌, ◌≤◌, ◌<◌, ◌^◌, inl, inr, ℕ, false, List, [], ◌∷◌, Ok, IsTrue, refl, sym, ap, subst, ◌∙◌, arith}
 use Rattle.std.specs.Prelude.{option_map}
 use Rattle.std.specs.Int.{w64, to_be_bytes}
 use Rattle.std.specs.Ordering.{nat_cmp}
@@ -25,10 +25,15 @@ use Rattle.pgapply.specs.Value.{Table}
 use Rattle.pgapply.specs.Works.{change_values}
 use Rattle.pgapply.specs.Apply.{Change, fold_changes}
 use Rattle.pgapply.specs.Stored.{Stored, IsFault}
+use Rattle.pgapply.specs.Missing.{nothing_missed}
 use Rattle.pgstore.specs.Spelled.{IsStored, spelled_definition, spelled_row, row_in}
 use Rattle.pgstore.specs.Acts.{HasTaken, LeavesTaken, RefusesToFold, committed_of}
-use Rattle.pgstore.specs.StoreValue.{AreOf, IsAtLeast, Keeps, IsStore, HasMade, Serves, Holds, Contains, Takes, Stays, RefusesWork, LeavesWork, nothing_stored}
+use Rattle.pgstore.specs.StoreValue.{AreOf, Group, IsAtLeast, Keeps, IsStore, HasMade, Serves, Holds, Contains, Takes, Stays, RefusesWork, LeavesWork, nothing_stored}
 use Rattle.pgapply.proofs.KeepsForm.{none_keeps}
+
+-- nothing is staged, and nothing was missed
+abbrev pub at_rest : Group
+at_rest = record { reach = 0; is_lost = false; missed = nothing_missed; stages_missed = nothing_missed }
 
 -- ---- a crash between calls
 
@@ -41,8 +46,8 @@ module _ {S : Type 0} (g : Ghosts S) (law : IsSettled g) (rows : S) where
   crash_leaves clean still db may = law rows db still may
 
 -- what a store contains is left
-pub contains : {S : Type 0} (g : Ghosts S) (rows : S) (position : ℕ) → IsStore g rows position → Serves g (record { rows = rows; position = position }) → (v : Stored) × Contains g (record { rows = rows; position = position }) v
-contains g rows position is now =
+pub contains : {S : Type 0} (g : Ghosts S) (rows : S) (position : ℕ) (group : Group) → IsStore g rows position → Serves g (record { rows = rows; position = position; group = group }) → (v : Stored) × Contains g (record { rows = rows; position = position; group = group }) v
+contains g rows position group is now =
     let v = is.stored now.honest now.is_open in
     let kept = is.kept now.honest now.is_open in (
       record { tables = v.0; position = position },
@@ -77,8 +82,8 @@ very v db is = (v, is, omega arith, λ _. is)
 
 -- an open store keeps what it has
 pub open_keeps : {S : Type 0} (g : Ghosts S) (rows : S) (v : Stored) → IsSettled g → IsTrue (state g rows).is_open → stored.IsKept (state g rows).committed
-    → IsStored v.tables (committed_of g rows) → (committed_of g rows).place ≡ to_be_bytes w64 v.position → v.position < 2 ^ 64 → Keeps g (record { rows = rows; position = v.position }) v
-open_keeps g rows v law still kept is place range = record {
+    → IsStored v.tables (committed_of g rows) → (committed_of g rows).place ≡ to_be_bytes w64 v.position → v.position < 2 ^ 64 → (group : Group) → Keeps g (record { rows = rows; position = v.position; group = group }) v
+open_keeps g rows v law still kept is place range group = record {
   position = refl;
   holds = λ _. record { stored = is; position = refl };
   left = λ db may. very v db (trees_of g rows v db kept is place range (law rows db still may));
@@ -135,8 +140,8 @@ module _ {S : Type 0} (g : Ghosts S) (conn : Held S) (made : HasCleanDisk (conne
     keeps = λ clean. (nothing_stored, open_keeps g conn.store nothing_stored law (made clean).is_open (first_kept clean) (first_stored clean) (ap (λ (t : stored.Tables). t.place) (first_none clean)) (omega arith));
   }
 
-  pub first_holds : HasCleanDisk (connection.state g conn) → Serves g (record { rows = conn.store; position = 0 }) × Holds g (record { rows = conn.store; position = 0 }) nothing_stored
-  first_holds clean = (record { honest = clean; is_open = (made clean).is_open }, record { stored = first_stored clean; position = refl })
+  pub first_holds : (group : Group) → HasCleanDisk (connection.state g conn) → Serves g (record { rows = conn.store; position = 0; group = group }) × Holds g (record { rows = conn.store; position = 0; group = group }) nothing_stored
+  first_holds group clean = (record { honest = clean; is_open = (made clean).is_open }, record { stored = first_stored clean; position = refl })
 
 -- ---- a commit
 
@@ -146,22 +151,22 @@ module _ {S : Type 0} (g : Ghosts S) (old new : S) (position : ℕ) (doubts : do
     same : IfServing g new (IsTrue (state g old).is_open × ((state g new).committed ≡ (state g old).committed))
     same clean still = ((commit clean).was_open still, (commit clean).committed still)
 
-    pub stays_keeps : IsStore g old position → ((v : Stored) → v.position ≡ position → Keeps g (record { rows = old; position = position }) v → HasCleanDisk (state g new) → (db : Trees) → (state g new).may_leave db → IsAtLeast v db)
-        → HasCleanDisk (state g new) → (v : Stored) × Keeps g (record { rows = new; position = position }) v
+    pub stays_keeps : IsStore g old position → ((v : Stored) → v.position ≡ position → ((group : Group) → Keeps g (record { rows = old; position = position; group = group }) v) → HasCleanDisk (state g new) → (db : Trees) → (state g new).may_leave db → IsAtLeast v db)
+        → HasCleanDisk (state g new) → (v : Stored) × ((group : Group) → Keeps g (record { rows = new; position = position; group = group }) v)
     stays_keeps was left clean =
         let k = was.keeps (omega arith) in (
           k.0,
-          record {
-            position = k.1.position;
+          λ group. record {
+            position = (k.1 group).position;
             holds = λ still.
                 let it = same clean still in
-                let h = k.1.holds it.0 in
+                let h = (k.1 group).holds it.0 in
                 record { stored = subst (λ (d : Database). IsStored k.0.tables (tables_in d.trees)) (sym it.1) h.stored; position = h.position };
-            left = left k.0 k.1.position k.1 clean;
+            left = left k.0 (k.1 group).position k.1 clean;
           },
         )
 
-    pub stays_store : IsStore g old position → ((v : Stored) → v.position ≡ position → Keeps g (record { rows = old; position = position }) v → HasCleanDisk (state g new) → (db : Trees) → (state g new).may_leave db → IsAtLeast v db) → IsSettled g → IsStore g new position
+    pub stays_store : IsStore g old position → ((v : Stored) → v.position ≡ position → ((group : Group) → Keeps g (record { rows = old; position = position; group = group }) v) → HasCleanDisk (state g new) → (db : Trees) → (state g new).may_leave db → IsAtLeast v db) → IsSettled g → IsStore g new position
     stays_store was left law = record {
       kept = λ clean still. let it = same clean still in subst stored.IsKept (sym it.1) (was.kept (omega arith) it.0);
       range = was.range;
@@ -174,8 +179,8 @@ module _ {S : Type 0} (g : Ghosts S) (old new : S) (position : ℕ) (doubts : do
       keeps = stays_keeps was left;
     }
 
-    pub stays : Serves g (record { rows = new; position = position }) → Stays g (record { rows = old; position = position }) (record { rows = new; position = position })
-    stays now =
+    pub stays : (before behind : Group) → Serves g (record { rows = new; position = position; group = behind }) → Stays g (record { rows = old; position = position; group = before }) (record { rows = new; position = position; group = behind })
+    stays before behind now =
         let it = same now.honest now.is_open in
         record {
           served = record { honest = (let clean = now.honest in omega arith); is_open = it.0 };
@@ -202,8 +207,8 @@ module _ {S : Type 0} (g : Ghosts S) (old new : S) (position : ℕ) (doubts : do
           (record { tables = f.0; position = end }, open_keeps g new (record { tables = f.0; position = end }) law it.is_open it.kept f.2 (it.position_is ∙ spells) range);
     }
 
-    pub takes : (changes : List Change) → change_values definitions entries ≡ changes → HasCleanDisk (state g new) → Takes g (record { rows = old; position = position }) (record { rows = new; position = end }) changes end
-    takes changes is clean =
+    pub takes : (before behind : Group) (changes : List Change) → change_values definitions entries ≡ changes → HasCleanDisk (state g new) → Takes g (record { rows = old; position = position; group = before }) (record { rows = new; position = end; group = behind }) changes end
+    takes before behind changes is clean =
         let it = taken clean in
         record {
           served = record { honest = omega arith; is_open = it.was_open };
@@ -214,15 +219,15 @@ module _ {S : Type 0} (g : Ghosts S) (old new : S) (position : ℕ) (doubts : do
         }
 
 -- the fault of a work
-pub refuses_work : {S : Type 0} (g : Ghosts S) (old : S) (position : ℕ) (definitions : List RelationDef) (entries : List (ℕ × Op)) (changes : List Change) (e : StoreFault) → change_values definitions entries ≡ changes
-    → RefusesToFold (committed_of g old) definitions entries e → RefusesWork g (record { rows = old; position = position }) changes e
-refuses_work g old position definitions entries changes e is h v s = subst (λ cs. IsFault e (fold_changes v.tables cs)) is (h v.tables s.stored)
+pub refuses_work : {S : Type 0} (g : Ghosts S) (old : S) (position : ℕ) (group : Group) (definitions : List RelationDef) (entries : List (ℕ × Op)) (changes : List Change) (e : StoreFault) → change_values definitions entries ≡ changes
+    → RefusesToFold (committed_of g old) definitions entries e → RefusesWork g (record { rows = old; position = position; group = group }) changes e
+refuses_work g old position group definitions entries changes e is h v s = subst (λ cs. IsFault e (fold_changes v.tables cs)) is (h v.tables s.stored)
 
 -- what a crash inside a commit may leave
 module _ {S : Type 0} (g : Ghosts S) (old new : S) (position : ℕ) (definitions : List RelationDef) (entries : List (ℕ × Op)) (end : ℕ) (bytes : List ℕ) (spells : bytes ≡ to_be_bytes w64 end) (range : end < 2 ^ 64)
     (changes : List Change) (is : change_values definitions entries ≡ changes) where
-  leaves_work : (db : Trees) → LeavesTaken g old definitions entries bytes db → LeavesWork g (record { rows = old; position = position }) changes end db
-  leaves_work db h = (
+  leaves_work : (group : Group) (db : Trees) → LeavesTaken g old definitions entries bytes db → LeavesWork g (record { rows = old; position = position; group = group }) changes end db
+  leaves_work group db h = (
     h.was_open,
     λ v s.
         let f = h.folds v.tables s.stored in
@@ -230,30 +235,30 @@ module _ {S : Type 0} (g : Ghosts S) (old new : S) (position : ℕ) (definitions
   )
 
   -- what a commit leaves that wasn't answered Ok is at least as far
-  pub refused_left : position < end → Survives (state g old) (state g new) (LeavesTaken g old definitions entries bytes) → (v : Stored) → v.position ≡ position → Keeps g (record { rows = old; position = position }) v
+  pub refused_left : position < end → Survives (state g old) (state g new) (LeavesTaken g old definitions entries bytes) → (v : Stored) → v.position ≡ position → ((group : Group) → Keeps g (record { rows = old; position = position; group = group }) v)
       → HasCleanDisk (state g new) → (db : Trees) → (state g new).may_leave db → IsAtLeast v db
   refused_left later s v at keeps clean db may = elim (s.crash clean db may) [
-    | inl before ↦ keeps.left db before
+    | inl before ↦ (keeps at_rest).left db before
     | inr taken ↦
-        let f = taken.folds v.tables (keeps.holds taken.was_open).stored in
+        let f = taken.folds v.tables ((keeps at_rest).holds taken.was_open).stored in
         (record { tables = f.0; position = end }, record { kept = taken.kept; stored = f.2; position = taken.position_is ∙ spells; range = range }, omega (arith, later, at), λ e. absurd (let no : ⊥ = omega (arith, later, at, e) in no))
   ]
 
-  pub survives_work : Survives (state g old) (state g new) (LeavesTaken g old definitions entries bytes) → Survives (state g old) (state g new) (LeavesWork g (record { rows = old; position = position }) changes end)
-  survives_work s = survives_weaker (state g old) (state g new) _ _ (λ _ db h. leaves_work db h) s
+  pub survives_work : (group : Group) → Survives (state g old) (state g new) (LeavesTaken g old definitions entries bytes) → Survives (state g old) (state g new) (LeavesWork g (record { rows = old; position = position; group = group }) changes end)
+  survives_work group s = survives_weaker (state g old) (state g new) _ _ (λ _ db h. leaves_work group db h) s
 
 -- a call that commits nothing leaves what could be left before
-pub read_left : {S : Type 0} (g : Ghosts S) (old new : S) (position : ℕ) → Survives (state g old) (state g new) (λ _. ⊥) → (v : Stored) → v.position ≡ position → Keeps g (record { rows = old; position = position }) v
+pub read_left : {S : Type 0} (g : Ghosts S) (old new : S) (position : ℕ) → Survives (state g old) (state g new) (λ _. ⊥) → (v : Stored) → v.position ≡ position → ((group : Group) → Keeps g (record { rows = old; position = position; group = group }) v)
     → HasCleanDisk (state g new) → (db : Trees) → (state g new).may_leave db → IsAtLeast v db
-read_left g old new position s v at keeps clean db may = elim (s.crash clean db may) [ inl before ↦ keeps.left db before | inr none ↦ absurd none ]
+read_left g old new position s v at keeps clean db may = elim (s.crash clean db may) [ inl before ↦ (keeps at_rest).left db before | inr none ↦ absurd none ]
 
 -- whatever a store may leave is a database
-pub left_databases : {S : Type 0} (g : Ghosts S) (old new : S) (position : ℕ) → (HasCleanDisk (state g old) → (v : Stored) × Keeps g (record { rows = old; position = position }) v) → Survives (state g old) (state g new) (λ _. ⊥)
+pub left_databases : {S : Type 0} (g : Ghosts S) (old new : S) (position : ℕ) → (HasCleanDisk (state g old) → (v : Stored) × ((group : Group) → Keeps g (record { rows = old; position = position; group = group }) v)) → Survives (state g old) (state g new) (λ _. ⊥)
     → HasCleanDisk (state g new) → AreDatabases (state g new).may_leave
 left_databases g old new position keeps survives clean db may = elim (survives.crash clean db may) [
   | inl before ↦
       let k = keeps (omega (arith, survives.clean)) in
-      let it = k.1.left db before in
+      let it = (k.1 at_rest).left db before in
       (store_schema, it.1.kept.sound)
   | inr none ↦ absurd none
 ]

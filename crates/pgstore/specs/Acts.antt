@@ -1,5 +1,5 @@
 -- What is done to the rows of one relation inside a transaction, in terms of the store's value.
-use Rattle.std.specs.Prelude.{◌≡◌, ◌⊎◌, ◌<◌, ◌≤◌, ◌+◌, ◌-◌, nat_lt, if◌then◌else◌, cond, ◌==◌, List, ℕ, length, true, false, IsTrue, slice_get, Option, Some, None, Result, Ok}
+use Rattle.std.specs.Prelude.{◌≡◌, ◌⊎◌, ◌<◌, ◌≤◌, ◌+◌, ◌-◌, nat_lt, if◌then◌else◌, cond, ◌==◌, Bool, List, ℕ, length, true, false, IsTrue, slice_get, Option, Some, None, Result, Ok}
 use Rattle.std.specs.FinMap as map
 use Rattle.sqlite.specs.Tree.{Trees}
 use Rattle.sqlite.specs.Store.{Ghosts}
@@ -16,8 +16,10 @@ use Rattle.pgapply.specs.declared.rows.StoreFault.{StoreFault}
 use Rattle.pgapply.specs.declared.rows.StoreFault.TheVariants.{Clash, TooManyCopies}
 use Rattle.pgapply.specs.Value.{Row, Rows, Tables, identity_key, most_copies}
 use Rattle.pgapply.specs.declared.op.Op.{Op}
+use Rattle.pgapply.specs.declared.misses.Misses.{Misses}
 use Rattle.pgapply.specs.Works.{change_values}
 use Rattle.pgapply.specs.Apply.{with_row, without_row, found_rows, fold_changes}
+use Rattle.pgapply.specs.Missing.{all_missing, finds_none, with_misses}
 use Rattle.pgapply.specs.Stored.{IsFault, IsOwnFault}
 use Rattle.pgstore.specs.Spelled.{IsChanging, IsReadable, IsStored, spelled_row}
 
@@ -54,6 +56,10 @@ module _ {S : Type 0} (g : Ghosts S) where
   abbrev pub IsBegun : S → Type 0
   IsBegun s = (state g s).now ≡ (state g s).committed
 
+  -- the disk has been honest so far, and before the calls no failure of it had shut the store
+  abbrev pub IfOpened : S → S → Type 0 → Type 0
+  IfOpened old new P = HasCleanDisk (state g new) → IsTrue (state g old).is_open → P
+
   -- several calls, whatever the last of them answered: nothing was committed
   pub record Goes (old new : S) : Type 0 where
     pub keeps : HasCleanDisk (state g new) → Keeps g old new
@@ -68,6 +74,10 @@ module _ {S : Type 0} (g : Ghosts S) (old new : S) where
   -- the rows of a relation are changed
   abbrev pub Changes : RelationDef → (Rows → Result Rows StoreFault) → Type 0
   Changes def change = GoesOpen × ((v : Tables) (rows : Rows) → IsChanging v def rows (tables_of g old) → MakesOf v def (change rows) (tables_of g new))
+
+-- whether a change of the relation searches a row and finds none
+abbrev pub TellsMissing : {S : Type 0} → Ghosts S → S → RelationDef → Op → Bool → Type 0
+TellsMissing g old def op missed = (v : Tables) (rows : Rows) → IsChanging v def rows (tables_of g old) → missed ≡ finds_none def op rows
 
 -- the change is refused
 abbrev pub Refuses : {S : Type 0} → Ghosts S → S → RelationDef → (Rows → Result Rows StoreFault) → StoreFault → Type 0
@@ -157,10 +167,14 @@ Finds g old new given def entry =
 -- what a loop over the changes keeps
 pub record FoldsOn {S : Type 0} (g : Ghosts S) (old new : S) (definitions : List RelationDef) (changes : List (ℕ × Op)) (given : ℕ → Option ℕ) : Type 0 where
   pub goes : Goes g old new
-  pub made : IfServing g new (Folds g old new definitions changes given)
+  pub made : IfOpened g old new (Folds g old new definitions changes given)
 
 abbrev pub RefusesToFold : stored.Tables → List RelationDef → List (ℕ × Op) → StoreFault → Type 0
 RefusesToFold t definitions changes e = (v : Tables) → IsStored v t → IsFault e (fold_changes v (change_values definitions changes))
+
+-- behind the changes of a commit that ends here, those that found no row are counted
+abbrev pub CountsFrom : stored.Tables → List RelationDef → List (ℕ × Op) → ℕ → Misses → Misses → Type 0
+CountsFrom t definitions changes end before behind = (v : Tables) → IsStored v t → behind ≡ with_misses before end (all_missing v (change_values definitions changes))
 
 -- ---- a commit
 

@@ -1,7 +1,7 @@
 -- What a crash leaves of a store in two files, and what the store holds that is opened on them next.
 -- SQLite documentation, Write-Ahead Logging, and WAL-mode File Format, Recovery: after a crash the next open finds the last transaction
 -- whose commit is whole in the log, and nothing of a later one.
-use Rattle.std.specs.Prelude.{◌≡◌, ◌≤◌}
+use Rattle.std.specs.Prelude.{◌≡◌, ◌≤◌, ◌⊎◌}
 use Rattle.sqlite_disk.specs.declared.Disk as disk
 use Rattle.sqlite_disk.specs.declared.Files.{Files}
 use Rattle.sqlite_store.specs.declared.store.FileStore.{FileStore}
@@ -12,23 +12,44 @@ use Rattle.sqlite.specs.Tree.{Trees}
 use Rattle.sqlite.specs.Store.{Ghosts}
 use Rattle.sqlite.specs.Held as connection
 use Rattle.sqlite.specs.Held.{Held}
-use Rattle.sqlite.specs.State.{Opens}
-use Rattle.sqlite.specs.Files.{over_files, HoldsDatabase}
+use Rattle.sqlite.specs.Effect.{Database, IsDatabase}
+use Rattle.sqlite.specs.Start.{FindsIn}
+use Rattle.sqlite.specs.State.{HasCleanDisk, IsLive, Opens}
+use Rattle.sqlite.specs.Files.{over_files, HoldsDatabase, IsEmpty, IsNothing}
 use Rattle.pgmemory.specs.Stopped.{Leaves}
+use Rattle.pgtables.specs.Kept as connected
 use Rattle.pgrows.specs.Rows.{state}
 use Rattle.pgapply.specs.Stored.{Stored}
-use Rattle.pgstore.specs.StoreValue.{StoreValue, Adopts, AreOf, Contains, Holds, Keeps}
+use Rattle.pgstore.specs.StoreValue.{StoreValue, Adopts, AreOf, Contains, Holds, IsValueOf, Keeps, nothing_stored}
+
+-- There is no database in files with this content, or one without any table: none was made yet, or an empty one.
+abbrev pub IsEmptyContent : Image → Type 0
+IsEmptyContent content = IsNothing content ⊎ ((db : Trees) × HoldsDatabase content db × IsEmpty db)
 
 module _ {S : Type 0} (g : Ghosts S) where
-  -- The store holds what is stored in files with this content: whatever value a database in them has.
-  abbrev pub HoldsContent : Image → StoreValue S → Type 0
-  HoldsContent content s = (db : Trees) → HoldsDatabase content db → (v : Stored) → AreOf v db → Holds g s v
+  -- The store holds what is stored in files with this content.
+  pub record HoldsContent (content : Image) (s : StoreValue S) : Type 0 where
+    -- whatever value a database in them has, where a table that was dropped counts as empty
+    pub stood : (db : Database) → HoldsDatabase content db.trees → IsDatabase db → (v : Stored) → IsValueOf v db → Holds g s v
+    -- nothing at 0/0, where nothing is stored in them
+    pub empty : IsEmptyContent content → Holds g s nothing_stored
 
   -- So does one that adopted a connection which an open of such files gave.
   abbrev pub AdoptedHoldsContent : Type 0
   AdoptedHoldsContent =
-      (content : Image) (conn : Held S) (s : StoreValue S) → ((db : Trees) → HoldsDatabase content db → (connection.state g conn).committed.trees ≡ db) → Opens (connection.state g conn) → Adopts g conn s
+      (content : Image) (conn : Held S) (s : StoreValue S) → FindsIn content (connection.state g conn) → Opens (connection.state g conn) → IsLive (connection.state g conn) → Adopts g conn s
       → HoldsContent content s
+
+  -- A connection to files with this content, of which no store was made: it sees the database that was found in them, and whatever a
+  -- crash leaves of it is that one, or has the tables of a store with the same value.
+  pub record StaysAsFound (content : Image) (conn : Held S) : Type 0 where
+    pub seen : connected.IfServing g conn ((db : Trees) → HoldsDatabase content db → (connection.state g conn).now.trees ≡ db)
+    pub left : HasCleanDisk (connection.state g conn) → (db : Trees) → HoldsDatabase content db → (other : Trees) → (connection.state g conn).may_leave other
+        → (other ≡ db) ⊎ ((found : Database) × (found.trees ≡ db) × (v : Stored) × IsValueOf v found × AreOf v other)
+
+  -- So it is where a connection isn't adopted that an open of such files gave.
+  abbrev pub RefusedStaysAsFound : Held S → Held S → Type 0
+  RefusedStaysAsFound opened conn = (content : Image) → FindsIn content (connection.state g opened) → Opens (connection.state g opened) → StaysAsFound content conn
 
 module _ {S T : Type 0} (g : Ghosts S) (h : Ghosts T) where
   -- The new one was opened on what a crash at this moment may leave of the old one. It may be in files of another kind.
@@ -48,9 +69,9 @@ module _ {S T : Type 0} (g : Ghosts S) (h : Ghosts T) where
       (old : StoreValue S) (new : StoreValue T) (v : Stored) → Keeps g old v → Reopens old new
       → (w : Stored) × Holds h new w × (v.position ≤ w.position) × (w.position ≡ v.position → Holds h new v)
 
--- A crash of the store at this moment may leave this content of its two files.
+-- A crash of the store at this moment may leave this content of its two files, or they have it once it is closed.
 pub record CrashLeaves {D : Type 0} {g : disk.Ghosts D} (old : StoreValue (FileStore D g)) (content : Image) : Type 0 where
-  -- the files as the crash finds them, of which `Store::stop` says this
+  -- the files as the crash finds them, of which `Store::stop` says this, or as they are closed: so says `Store::close_files`
   pub files : Files D
   pub stopped : Leaves g (state over_files old.rows).may_leave files
   -- their disks have given back what was written

@@ -4,11 +4,13 @@ use Rattle.sqlite.specs.Store.{Ghosts}
 use Rattle.pglogical.specs.declared.item.RelationDef.{RelationDef}
 use Rattle.pgrows.specs.Rows.{tables_of}
 use Rattle.pgapply.specs.declared.op.Op.{Op}
+use Rattle.pgapply.specs.declared.misses.Misses.{Misses}
 use Rattle.pgapply.specs.declared.rows.StoreFault.{StoreFault}
 use Rattle.pgapply.specs.Value.{Tables}
 use Rattle.pgapply.specs.Stored.{IsFault}
 use Rattle.pgapply.specs.Works.{change_values}
 use Rattle.pgapply.specs.Apply.{fold_changes}
+use Rattle.pgapply.specs.Missing.{all_missing, with_misses}
 use Rattle.pgstore.specs.Spelled.{IsStored}
 use Rattle.pgstore.specs.Acts.{GoesOpen, AreGiven}
 
@@ -20,3 +22,7 @@ StepsAll g old new definitions given entries next_given =
 
 abbrev pub RefusesAll : {S : Type 0} → Ghosts S → S → List RelationDef → (ℕ → Option ℕ) → List (ℕ × Op) → StoreFault → Type 0
 RefusesAll g old definitions given entries e = (v : Tables) → IsStored v (tables_of g old) → AreGiven definitions given v → IsFault e (fold_changes v (change_values definitions entries))
+
+-- those of them that find no row are counted
+abbrev pub CountsAll : {S : Type 0} → Ghosts S → S → List RelationDef → (ℕ → Option ℕ) → List (ℕ × Op) → ℕ → Misses → Misses → Type 0
+CountsAll g old definitions given entries end before behind = (v : Tables) → IsStored v (tables_of g old) → AreGiven definitions given v → behind ≡ with_misses before end (all_missing v (change_values definitions entries))

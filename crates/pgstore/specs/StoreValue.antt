@@ -1,6 +1,6 @@
 -- What a caller sees of a store, and what holds of each.
-use Rattle.std.specs.Prelude.{◌≡◌, ◌<◌, ◌≤◌, ◌^◌, ◌⊎◌, ℕ, List, [], ◌∷◌, IsTrue, Ok, refl}
-use Rattle.std.specs.Coded.{Coded, code_by, coded×, coded_ℕ}
+use Rattle.std.specs.Prelude.{◌≡◌, ◌<◌, ◌≤◌, ◌^◌, ◌⊎◌, ℕ, Bool, true, false, not, ◌&&◌, if◌then◌else◌, ◌==◌, List, [], ◌∷◌, Option, Some, None, IsTrue, Ok, refl}
+use Rattle.std.specs.Coded.{Coded, code_by, coded×, coded_bool, coded_option, coded_ℕ}
 use Rattle.std.specs.Int.{w64, to_be_bytes}
 use Rattle.std.specs.FinMap as map
 use Rattle.sqlite.specs.Tree.{Trees}
@@ -12,23 +12,85 @@ use Rattle.sqlite.specs.State.{HasCleanDisk, State}
 use Rattle.pgtables.specs.Schema.{no_schema}
 use Rattle.pgtables.specs.Kept as stored
 use Rattle.pgtables.specs.Kept.{AreDefined, AreHeld, IsKept, pos_row, tables_in}
-use Rattle.pgrows.specs.Rows.{IfServing, database, state}
+use Rattle.pgrows.specs.Rows.{IfServing, database, state, tables_of}
 use Rattle.pgtables.specs.declared.remains.Remains.{Remains}
 use Rattle.pgtables.specs.Remains.{remaining, schema_of}
+use Rattle.pgapply.specs.declared.misses.Miss.{Miss}
+use Rattle.pgapply.specs.declared.misses.Misses.{Misses}
 use Rattle.pgapply.specs.declared.rows.StoreFault.{StoreFault}
 use Rattle.pgapply.specs.Value.{Tables}
 use Rattle.pgapply.specs.Apply.{Change, fold_changes}
 use Rattle.pgapply.specs.Stored.{Stored, IsFault}
+use Rattle.pgapply.specs.Missing.{nothing_missed}
 use Rattle.pgstore.specs.Acts.{committed_of}
+use Rattle.pgstore.specs.Staged.{before_of}
 use Rattle.pgstore.specs.Spelled.{IsStored}
 
--- the store of its rows, and its position
+-- the commits that are staged behind the last one that was taken
+pub record Group : Type 0 where
+  -- the end LSN of the last of them, else the position
+  pub reach : ℕ
+  -- they are lost, and what the transaction shows says nothing
+  pub is_lost : Bool
+  -- how many changes found no row, of the commits that were taken, and with those that are staged
+  pub missed : Misses
+  pub stages_missed : Misses
+
+-- what becomes of a group: nothing was staged or missed yet, it is forgotten, has one commit more, is lost, is taken, or a commit by itself was
+abbrev pub begun_at : ℕ → Group
+begun_at position = record { reach = position; is_lost = false; missed = nothing_missed; stages_missed = nothing_missed }
+
+abbrev pub unstaged_of : ℕ → Group → Group
+unstaged_of position a = record { reach = position; is_lost = false; missed = a.missed; stages_missed = a.missed }
+
+abbrev pub staged_of : ℕ → Misses → Group → Group
+staged_of end misses a = record a { reach = end; stages_missed = misses }
+
+abbrev pub lost_of : Group → Group
+lost_of a = record a { is_lost = true }
+
+-- a commit was refused: where that lost what was staged before it, the group is lost
+abbrev pub refused_of : Bool → Bool → Group → Group
+refused_of is_lost is_first a = if is_lost && not is_first then lost_of a else a
+
+abbrev pub settled_of : Group → Group
+settled_of a = record a { is_lost = false; missed = a.stages_missed }
+
+abbrev pub taken_of : ℕ → Misses → Group
+taken_of end misses = record { reach = end; is_lost = false; missed = misses; stages_missed = misses }
+
+-- the store of its rows, its position, and what is staged
 pub record StoreValue (S : Type 0) : Type 0 where
   pub rows : S
   pub position : ℕ
+  pub group : Group
+
+-- a store is stored as the tuple of its parts
+abbrev pub first_pair : Option Miss → Option (ℕ × ℕ)
+first_pair None = None
+first_pair (Some m) = Some (m.end, m.oid)
+
+abbrev pub pair_first : Option (ℕ × ℕ) → Option Miss
+pair_first None = None
+pair_first (Some p) = Some (record { end = p.0; oid = p.1 })
+
+pub pair_back : (o : Option Miss) → pair_first (first_pair o) ≡ o
+pair_back None = refl
+pair_back (Some m) = refl
+
+abbrev pub misses_code : Coded Misses
+misses_code =
+    code_by (ℕ × Option (ℕ × ℕ)) (coded× coded_ℕ (coded_option (coded× coded_ℕ coded_ℕ))) (λ m. (m.count, first_pair m.first)) (λ p. record { count = p.0; first = pair_first p.1 })
+    (λ m i. record { count = m.count; first = pair_back m.first i })
+
+abbrev pub group_code : Coded Group
+group_code =
+    code_by (ℕ × (Bool × (Misses × Misses))) (coded× coded_ℕ (coded× coded_bool (coded× misses_code misses_code))) (λ a. (a.reach, (a.is_lost, (a.missed, a.stages_missed))))
+    (λ p. record { reach = p.0; is_lost = p.1.0; missed = p.1.1.0; stages_missed = p.1.1.1 }) (λ _. refl)
 
 abbrev pub store_code : {S : Type 0} → Coded S → Coded (StoreValue S)
-store_code {S} store = code_by (S × ℕ) (coded× store coded_ℕ) (λ s. (s.rows, s.position)) (λ p. record { rows = p.0; position = p.1 }) (λ _. refl)
+store_code {S} store =
+    code_by (S × (ℕ × Group)) (coded× store (coded× coded_ℕ group_code)) (λ s. (s.rows, (s.position, s.group))) (λ p. record { rows = p.0; position = p.1.0; group = p.1.1 }) (λ _. refl)
 
 -- trees that have these tables and this position
 pub record AreOf (v : Stored) (db : Trees) : Type 0 where
@@ -96,7 +158,25 @@ module _ {S : Type 0} (g : Ghosts S) where
     -- between calls a crash leaves what is stored
     pub crash : IfServing g rows ((db : Trees) → (state g rows).may_leave db → db ≡ (state g rows).committed.trees)
     -- and of a store that has shut nothing older
-    pub keeps : HasCleanDisk (state g rows) → (v : Stored) × Keeps (record { rows = rows; position = position }) v
+    pub keeps : HasCleanDisk (state g rows) → (v : Stored) × ((group : Group) → Keeps (record { rows = rows; position = position; group = group }) v)
+
+  -- what holds of the commits that are staged, whether the calls that staged them stand or not
+  pub record IsGroup (rows : S) (position : ℕ) (group : Group) : Type 0 where
+    pub order : position ≤ group.reach
+    pub range : group.reach < 2 ^ 64
+    -- where nothing is staged, nothing is counted beside, and nothing can be lost
+    pub counted : group.reach ≡ position → group.stages_missed ≡ group.missed
+    pub some : group.is_lost ≡ true → position < group.reach
+    -- what the transaction shows are tables of a store
+    pub stored : position < group.reach → group.is_lost ≡ false → IfServing g rows ((v : Tables) × IsStored v (tables_of g rows))
+
+  -- it holds these tables
+  abbrev pub HasTables : StoreValue S → Tables → Type 0
+  HasTables s tables = IsStored tables (committed_of g s.rows)
+
+  -- with what is staged it holds these tables; a group that is lost says nothing of them
+  abbrev pub Plans : StoreValue S → Tables → Type 0
+  Plans s tables = s.group.is_lost ≡ false → IsStored tables (before_of g (s.group.reach == s.position) s.rows)
 
   -- the tables were made, empty, with position 0/0
   pub record HasMade (conn : Held S) : Type 0 where
@@ -122,6 +202,10 @@ module _ {S : Type 0} (g : Ghosts S) where
   -- what a crash may leave of a commit: the changes folded, with this position
   abbrev pub LeavesWork : StoreValue S → List Change → ℕ → Trees → Type 0
   LeavesWork old changes end db = IsTrue (state g old.rows).is_open × ((v : Stored) → Holds old v → (next : Tables) × (fold_changes v.tables changes ≡ Ok next) × AreOf (record { tables = next; position = end }) db)
+
+  -- what a crash may leave of settling: all that was staged, with its end as the position
+  abbrev pub LeavesGroup : StoreValue S → Trees → Type 0
+  LeavesGroup old db = IsTrue (state g old.rows).is_open × ((v : Tables) → Plans old v → AreOf (record { tables = v; position = old.group.reach }) db)
 
   -- the store holds what is stored in the tables of a connection, also where some of them are missing, and nothing at 0/0 where it has no tables
   pub record Adopts (conn : Held S) (store : StoreValue S) : Type 0 where

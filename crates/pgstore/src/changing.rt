@@ -2,16 +2,17 @@
 //!
 //! PostgreSQL documentation, Logical Replication; ALTER TABLE, REPLICA IDENTITY.
 
-ghost use Rattle.std.specs.Prelude.{◌≡◌, false, true, List, length, OnOk, IfOk, IfErr, Ok};
+ghost use Rattle.std.specs.Prelude.{◌≡◌, false, true, not, List, length, OnOk, IfOk, IfErr, Ok};
 ghost use Rattle.sqlite.specs.State.{HasCleanDisk};
 ghost use Rattle.pgtuple.specs.declared.cell.Cell.{Cell};
 ghost use Rattle.pgtuple.specs.Cells.{tuple_spelling};
 ghost use Rattle.pgtuple.specs.Limits.{IsWireTuple};
-ghost use Rattle.pgrows.specs.Rows.{Makes, state, with_row_if_there};
+ghost use Rattle.pgtables.specs.Kept.{is_there};
+ghost use Rattle.pgrows.specs.Rows.{Makes, state, tables_of, with_row_if_there};
 ghost use Rattle.pgapply.specs.declared.op.Op.TheVariants as op;
 ghost use Rattle.pgapply.specs.Apply.{with_row, rows_after};
 ghost use Rattle.pgapply.specs.Stored.{IsOwnFault};
-ghost use Rattle.pgstore.specs.Acts.{IsNewRow, Adds, Changes, Goes, Refuses, Moves, RefusesToMove, Replaces, RefusesToReplace, AddsCopy, RefusesCopy, StaysWhole, taken_row};
+ghost use Rattle.pgstore.specs.Acts.{IsNewRow, Adds, Changes, Goes, Refuses, Moves, RefusesToMove, Replaces, RefusesToReplace, AddsCopy, RefusesCopy, StaysWhole, TellsMissing, taken_row};
 
 use crate::encoded::{encode, encode_identity, encode_searched, lend_prior, read_tuple};
 use crate::fault::Refusal;
@@ -185,25 +186,27 @@ fn stays_whole(
     Ok(own.as_slice() == place)
 }
 
-/// A row that was sent whole is the row at its place from now on, if one stands there.
+/// A row that was sent whole is the row at its place from now on, if one stands there. It answers whether none does.
 fn set_row<S: Alter>(
     rows: &mut Rows<S>,
     alloc: Global,
     oid: u32,
     place: &[u8],
     row: &TupleRef<'_>,
-) -> Result<(), Refusal>
+) -> Result<bool, Refusal>
     ensures made { HasCleanDisk (state S.Store rows.new) →
         OnOk result (Makes S.Store (with_row_if_there oid place.now
         (record { body = tuple_spelling row.now; copies = 1 })) rows.old rows.new) }
+    ensures missed { HasCleanDisk (state S.Store rows.new) → IfOk result (λ missed.
+        missed ≡ not (is_there oid place.now (tables_of S.Store rows.old))) }
     ensures tuple { IsWireTuple row.now }
     ensures fault { IfErr result IsOwnFault }
     ensures goes { Goes S.Store rows.old rows.new }
 {
     let body = encode(alloc, row)?;
     // A keyed row stands once. Where none has the identity, an update does nothing.
-    let _was_there = rows.set_row(oid, place, body.as_slice(), 1)?;
-    Ok(())
+    let was_there = rows.set_row(oid, place, body.as_slice(), 1)?;
+    Ok(!was_there)
 }
 
 /// An inserted row.
@@ -227,17 +230,20 @@ fn insert<S: Alter>(
     add_row(rows, def, place.as_slice(), body.as_slice())
 }
 
-/// An updated row, which was sent with its old key or its whole old row where that is needed.
+/// An updated row, which was sent with its old key or its whole old row where that is needed. It answers whether no row
+/// has the identity.
 fn update<S: Alter>(
     rows: &mut Rows<S>,
     alloc: Global,
     def: &RelationDef,
     prior: &Option<(OldKind, TupleRef<'_>)>,
     row: &TupleRef<'_>,
-) -> Result<(), Refusal>
+) -> Result<bool, Refusal>
     ensures made { HasCleanDisk (state S.Store rows.new) →
         OnOk result (Changes S.Store rows.old rows.new def.now
         (rows_after def.now (op.Update prior.now row.now))) }
+    ensures missed { HasCleanDisk (state S.Store rows.new) →
+        IfOk result (TellsMissing S.Store rows.old def.now (op.Update prior.now row.now)) }
     ensures fault { HasCleanDisk (state S.Store rows.new) →
         IfErr result (Refuses S.Store rows.old def.now
         (rows_after def.now (op.Update prior.now row.now))) }
@@ -249,22 +255,27 @@ fn update<S: Alter>(
         return set_row(rows, alloc, def.oid, place, row);
     }
     match rows.find_row(def.oid, place)? {
-        None => Ok(()),
-        Some(there) => replace_row(rows, alloc, def, place, &there, row),
+        None => Ok(true),
+        Some(there) => {
+            replace_row(rows, alloc, def, place, &there, row)?;
+            Ok(false)
+        }
     }
 }
 
-/// A deleted row, of which the key or the whole row was sent.
+/// A deleted row, of which the key or the whole row was sent. It answers whether no row has the identity.
 fn delete<S: Alter>(
     rows: &mut Rows<S>,
     alloc: Global,
     def: &RelationDef,
     kind: OldKind,
     row: &TupleRef<'_>,
-) -> Result<(), Refusal>
+) -> Result<bool, Refusal>
     ensures made { HasCleanDisk (state S.Store rows.new) →
         OnOk result (Changes S.Store rows.old rows.new def.now
         (rows_after def.now (op.Delete kind row.now))) }
+    ensures missed { HasCleanDisk (state S.Store rows.new) →
+        IfOk result (TellsMissing S.Store rows.old def.now (op.Delete kind row.now)) }
     ensures fault { HasCleanDisk (state S.Store rows.new) →
         IfErr result (Refuses S.Store rows.old def.now
         (rows_after def.now (op.Delete kind row.now))) }
@@ -274,12 +285,15 @@ fn delete<S: Alter>(
     let place = identity.as_slice();
     if keyed(def) {
         // One copy stands there at most.
-        let _was_there = rows.delete_row(def.oid, place)?;
-        return Ok(());
+        let was_there = rows.delete_row(def.oid, place)?;
+        return Ok(!was_there);
     }
     match rows.find_row(def.oid, place)? {
-        None => Ok(()),
-        Some(there) => take_row(rows, def.oid, place, &there),
+        None => Ok(true),
+        Some(there) => {
+            take_row(rows, def.oid, place, &there)?;
+            Ok(false)
+        }
     }
 }
 
@@ -296,24 +310,33 @@ fn truncate<S: Alter>(rows: &mut Rows<S>, def: &RelationDef) -> Result<(), Refus
     Ok(())
 }
 
-/// What a change does to the rows of its relation, which has its definition already.
+/// What a change does to the rows of its relation, which has its definition already. It answers whether it searches a row
+/// and finds none.
 pub(crate) fn change_rows<S: Alter>(
     rows: &mut Rows<S>,
     alloc: Global,
     def: &RelationDef,
     op: &Op<'_>,
-) -> Result<(), Refusal>
+) -> Result<bool, Refusal>
     ensures made { HasCleanDisk (state S.Store rows.new) →
         OnOk result (Changes S.Store rows.old rows.new def.now
         (rows_after def.now op.now)) }
+    ensures missed { HasCleanDisk (state S.Store rows.new) →
+        IfOk result (TellsMissing S.Store rows.old def.now op.now) }
     ensures fault { HasCleanDisk (state S.Store rows.new) →
         IfErr result (Refuses S.Store rows.old def.now (rows_after def.now op.now)) }
     ensures goes { Goes S.Store rows.old rows.new }
 {
     match op {
-        Op::Insert { row } => insert(rows, alloc, def, row),
+        Op::Insert { row } => {
+            insert(rows, alloc, def, row)?;
+            Ok(false)
+        }
         Op::Update { prior, row } => update(rows, alloc, def, prior, row),
         Op::Delete { kind, row } => delete(rows, alloc, def, *kind, row),
-        Op::Truncate => truncate(rows, def),
+        Op::Truncate => {
+            truncate(rows, def)?;
+            Ok(false)
+        }
     }
 }

@@ -1,0 +1,33 @@
+use Rattle.std.proofs.Common.{sym, subst, ◌∙◌, arith}
+use Rattle.sqlite.specs.State.{HasCleanDisk}
+use Rattle.pgtables.specs.Kept as stored
+use Rattle.pgrows.specs.Rows.{state}
+use Rattle.pgstore.specs.Spelled.{IsStored}
+use Rattle.pgstore.specs.Acts.{CountsFrom, RefusesToFold}
+use Rattle.pgstore.proofs.Acting.{if_err, on_ok}
+use Rattle.pgstore.proofs.staging.stage_all.Goals as goal
+
+pub returns-in-Trees-clause-staged : goal.returns-in-Trees-clause-staged
+returns-in-Trees-clause-staged g c clean =
+    let was : HasCleanDisk (state g.S.Store c.in-Trees.rows) = omega (arith, c.stage_changes.ensures.survives.clean, clean) in
+    let prepared = (rw c.in-Trees.is at c.prepare.ensures.prepares) was (c.is_sound.ensures.sound c.if-is_sound.true was).0 in
+    on_ok c.stage_changes.result (c.stage_changes.ensures.staged clean) (λ stages. record {
+      was_open = prepared.0;
+      is_open = stages.over.is_open;
+      folds = λ v h. stages.folds v (subst (IsStored v) (sym prepared.1) h);
+    })
+
+pub returns-in-Trees-clause-counts : goal.returns-in-Trees-clause-counts
+returns-in-Trees-clause-counts g c clean =
+    let was : HasCleanDisk (state g.S.Store c.in-Trees.rows) = omega (arith, c.stage_changes.ensures.survives.clean, clean) in
+    let prepared = (rw c.in-Trees.is at c.prepare.ensures.prepares) was (c.is_sound.ensures.sound c.if-is_sound.true was).0 in
+    on_ok c.stage_changes.result (c.stage_changes.ensures.counts clean) (λ counts.
+    subst (λ (t : stored.Tables). CountsFrom t c.args.definitions.now c.args.changes.now c.args.end c.args.misses.now c.stage_changes.new.misses) prepared.1 counts)
+
+pub returns-in-Trees-clause-fault : goal.returns-in-Trees-clause-fault
+returns-in-Trees-clause-fault g c clean still =
+    let was : HasCleanDisk (state g.S.Store c.in-Trees.rows) = omega (arith, c.stage_changes.ensures.survives.clean, clean) in
+    let sound = (c.is_sound.ensures.sound c.if-is_sound.true was).0 in
+    let prepared = (rw c.in-Trees.is at c.prepare.ensures.prepares) was sound in
+    if_err c.stage_changes.result (c.stage_changes.ensures.fault clean sound) (λ u refuses.
+    subst (λ (t : stored.Tables). RefusesToFold t c.args.definitions.now c.args.changes.now u.refusal) prepared.1 refuses)

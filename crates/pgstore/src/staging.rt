@@ -1,0 +1,220 @@
+//! Commits that share a transaction: each goes in behind those before it, wholly or not at all, and one commit stores them all.
+
+ghost use Rattle.std.specs.Prelude.{◌≡◌, ◌≢◌, ◌<◌, ◌^◌, [], true, false, OnOk, OnErr, IfErr};
+ghost use Rattle.std.specs.Int.{w64, to_be_bytes};
+ghost use Rattle.std.specs.List.{AllByRecursion};
+ghost use Rattle.sqlite.specs.State.{HasCleanDisk, KeepsCommit, Survives};
+ghost use Rattle.pglogical.specs.Spelling.{IsDefinition};
+ghost use Rattle.pgapply.specs.Works.{IsNumbered};
+ghost use Rattle.pgapply.specs.Stored.{IsOwnFault};
+ghost use Rattle.pgrows.specs.Rows.{IfServing, IsNumbered as HasNumbers, state, tables_of};
+ghost use Rattle.pgstore.specs.Acts.{CountsFrom, IfOpened, RefusesToFold};
+ghost use Rattle.pgstore.specs.Sources.{IsSource, rows_in};
+ghost use Rattle.pgstore.specs.Staged.{before_of, HasStaged, KeepsStaged, LeavesSettled, Prepares, Returns, Settles, Stages, Unstages};
+
+use crate::fault::Refusal;
+use crate::source::Source;
+use crate::taking::take_changes;
+use pgapply::{Misses, Op, StoreFault};
+use pglogical::RelationDef;
+use pglsn::Lsn;
+use pgrows::rows::Rows;
+use sqlite::Alter;
+use sqlite_trees::error::StoreError;
+use std::alloc::Global;
+
+/// Why a commit isn't staged.
+#[derive(Drop)]
+pub(crate) struct Unstaged {
+    /// The fault of the commit, or of what lost the group.
+    pub(crate) refusal: Refusal,
+    /// Whether the commits that were staged before it are lost with it.
+    pub(crate) is_lost: bool,
+}
+
+impl Unstaged {
+    /// All that was staged is lost, since the store can't go back to it.
+    fn lost(error: StoreError) -> Unstaged
+        ensures own { IsOwnFault result.refusal }
+        ensures lost { result.is_lost ≡ true }
+    {
+        Unstaged {
+            refusal: Refusal::from(error),
+            is_lost: true,
+        }
+    }
+}
+
+/// Goes back to the newest mark and drops it.
+fn go_back<S: Alter>(rows: &mut Rows<S>) -> Result<(), StoreError>
+    requires { IfServing S.Store rows.old ((state S.Store rows.old).marks ≢ []) }
+    ensures back { HasCleanDisk (state S.Store rows.new) → OnOk result
+        (Returns (state S.Store rows.old) (state S.Store rows.new)) }
+    ensures commit { HasCleanDisk (state S.Store rows.new) →
+        KeepsCommit (state S.Store rows.old) (state S.Store rows.new) }
+    ensures numbered { HasNumbers S.Store rows.old → HasNumbers S.Store rows.new }
+    ensures survives { Survives (state S.Store rows.old) (state S.Store rows.new) (λ _. ⊥) }
+{
+    rows.back()?;
+    rows.keep()?;
+    rows.see_kept();
+    Ok(())
+}
+
+/// Drops what came since the newest mark, and the mark. Where that fails, all that was staged is lost.
+fn undo_one<S: Alter>(rows: &mut Rows<S>, refusal: Refusal) -> Unstaged
+    requires { IfServing S.Store rows.old ((state S.Store rows.old).marks ≢ []) }
+    ensures back { HasCleanDisk (state S.Store rows.new) → result.is_lost ≡ false →
+        Returns (state S.Store rows.old) (state S.Store rows.new) }
+    ensures refusal { result.is_lost ≡ false → result.refusal ≡ refusal }
+    ensures lost { result.is_lost ≡ true → IsOwnFault result.refusal }
+    ensures commit { HasCleanDisk (state S.Store rows.new) →
+        KeepsCommit (state S.Store rows.old) (state S.Store rows.new) }
+    ensures numbered { HasNumbers S.Store rows.old → HasNumbers S.Store rows.new }
+    ensures survives { Survives (state S.Store rows.old) (state S.Store rows.new) (λ _. ⊥) }
+{
+    match go_back(rows) {
+        Ok(()) => Unstaged {
+            refusal,
+            is_lost: false,
+        },
+        Err(error) => Unstaged::lost(error),
+    }
+}
+
+/// Puts the changes of a commit behind those that the transaction has, or nothing of it, and counts those that find no row.
+pub(crate) fn stage_changes<S: Alter>(
+    rows: &mut Rows<S>,
+    alloc: Global,
+    definitions: &[RelationDef],
+    changes: &[(usize, Op<'_>)],
+    end: Lsn,
+    misses: &mut Misses,
+) -> Result<(), Unstaged>
+    requires definitions { AllByRecursion IsDefinition definitions.now }
+    requires numbered { AllByRecursion (IsNumbered definitions.now) changes.now }
+    ensures staged { HasCleanDisk (state S.Store rows.new) → OnOk result
+        (Stages S.Store rows.old rows.new definitions.now changes.now) }
+    ensures counts { HasCleanDisk (state S.Store rows.new) → OnOk result
+        (CountsFrom (tables_of S.Store rows.old) definitions.now changes.now end misses.old
+        misses.new) }
+    ensures unstaged { HasCleanDisk (state S.Store rows.new) → IfErr result (λ u.
+        u.is_lost ≡ false → Unstages S.Store rows.old rows.new) }
+    ensures lost { IfErr result (λ u. u.is_lost ≡ true → IsOwnFault u.refusal) }
+    ensures fault { IfOpened S.Store rows.old rows.new (IfErr result (λ u.
+        RefusesToFold (tables_of S.Store rows.old) definitions.now changes.now u.refusal)) }
+    ensures commit { HasCleanDisk (state S.Store rows.new) →
+        KeepsCommit (state S.Store rows.old) (state S.Store rows.new) }
+    ensures numbered { HasNumbers S.Store rows.old → HasNumbers S.Store rows.new }
+    ensures survives { Survives (state S.Store rows.old) (state S.Store rows.new) (λ _. ⊥) }
+{
+    if let Err(error) = rows.mark() {
+        return Err(Unstaged::lost(error));
+    }
+    rows.see_kept();
+    if let Err(refusal) = take_changes(rows, alloc, definitions, changes, end, misses) {
+        return Err(undo_one(rows, refusal));
+    }
+    if let Err(error) = rows.keep() {
+        return Err(Unstaged::lost(error));
+    }
+    rows.see_kept();
+    Ok(())
+}
+
+/// Commits what the transaction has, with the position behind its last commit. Where that fails, nothing of it is kept.
+pub(crate) fn settle_rows<S: Alter>(rows: &mut Rows<S>, end: Lsn) -> Result<(), Refusal>
+    ensures settled { HasCleanDisk (state S.Store rows.new) → OnOk result
+        (Settles S.Store rows.old rows.new (to_be_bytes w64 end)) }
+    ensures commit { HasCleanDisk (state S.Store rows.new) → OnErr result
+        (KeepsCommit (state S.Store rows.old) (state S.Store rows.new)) }
+    ensures numbered { HasNumbers S.Store rows.old → HasNumbers S.Store rows.new }
+    ensures fault { IfErr result IsOwnFault }
+    ensures crash { Survives (state S.Store rows.old) (state S.Store rows.new)
+        (LeavesSettled S.Store rows.old (to_be_bytes w64 end)) }
+{
+    if let Err(error) = rows.put_position(&end.0.to_be_bytes()) {
+        rows.undo();
+        return Err(Refusal::from(error));
+    }
+    rows.commit()?;
+    rows.see_kept();
+    Ok(())
+}
+
+/// Goes back to what is committed before the first commit of a group.
+fn prepare<S: Alter + Drop>(source: &mut Source<S>, alloc: Global, is_first: bool)
+    requires { IsSource S.Store source.old }
+    ensures source { IsSource S.Store source.new }
+    ensures prepares { Prepares S.Store (rows_in source.old) (rows_in source.new) is_first }
+    ensures survives { Survives (state S.Store (rows_in source.old))
+        (state S.Store (rows_in source.new)) (λ _. ⊥) }
+{
+    if is_first {
+        source.begin(alloc);
+    }
+}
+
+/// Stages a commit behind those that are staged, or as the first, behind what is committed.
+pub(crate) fn stage_all<S: Alter + Drop>(
+    source: &mut Source<S>,
+    alloc: Global,
+    is_first: bool,
+    definitions: &[RelationDef],
+    changes: &[(usize, Op<'_>)],
+    end: Lsn,
+    misses: &mut Misses,
+) -> Result<(), Unstaged>
+    requires source { IsSource S.Store source.old }
+    requires definitions { AllByRecursion IsDefinition definitions.now }
+    requires numbered { AllByRecursion (IsNumbered definitions.now) changes.now }
+    ensures source { IsSource S.Store source.new }
+    ensures range { end < 2 ^ 64 }
+    ensures staged { HasCleanDisk (state S.Store (rows_in source.new)) → OnOk result
+        (HasStaged S.Store is_first (rows_in source.old) (rows_in source.new) definitions.now
+        changes.now) }
+    ensures counts { HasCleanDisk (state S.Store (rows_in source.new)) → OnOk result
+        (CountsFrom (before_of S.Store is_first (rows_in source.old)) definitions.now changes.now
+        end misses.old misses.new) }
+    ensures unstaged { HasCleanDisk (state S.Store (rows_in source.new)) → IfErr result (λ u.
+        u.is_lost ≡ false → KeepsStaged S.Store is_first (rows_in source.old)
+        (rows_in source.new)) }
+    ensures lost { IfErr result (λ u. u.is_lost ≡ true → IsOwnFault u.refusal) }
+    ensures fault { IfOpened S.Store (rows_in source.old) (rows_in source.new) (IfErr result (λ u.
+        RefusesToFold (before_of S.Store is_first (rows_in source.old)) definitions.now changes.now
+        u.refusal)) }
+    ensures commit { HasCleanDisk (state S.Store (rows_in source.new)) →
+        KeepsCommit (state S.Store (rows_in source.old)) (state S.Store (rows_in source.new)) }
+    ensures survives { Survives (state S.Store (rows_in source.old))
+        (state S.Store (rows_in source.new)) (λ _. ⊥) }
+{
+    prepare(source, alloc, is_first);
+    match source {
+        Source::Trees(rows) if rows.is_sound() => {
+            stage_changes(rows, alloc, definitions, changes, end, misses)
+        }
+        _ => Err(Unstaged {
+            refusal: Refusal::new(StoreFault::Refused),
+            is_lost: true,
+        }),
+    }
+}
+
+/// Commits what is staged, up to the end of its last commit, or nothing of it.
+pub(crate) fn settle_all<S: Alter + Drop>(source: &mut Source<S>, end: Lsn) -> Result<(), Refusal>
+    requires { IsSource S.Store source.old }
+    ensures source { IsSource S.Store source.new }
+    ensures settled { HasCleanDisk (state S.Store (rows_in source.new)) → OnOk result
+        (Settles S.Store (rows_in source.old) (rows_in source.new) (to_be_bytes w64 end)) }
+    ensures commit { HasCleanDisk (state S.Store (rows_in source.new)) → OnErr result
+        (KeepsCommit (state S.Store (rows_in source.old)) (state S.Store (rows_in source.new))) }
+    ensures fault { IfErr result IsOwnFault }
+    ensures crash { Survives (state S.Store (rows_in source.old))
+        (state S.Store (rows_in source.new))
+        (LeavesSettled S.Store (rows_in source.old) (to_be_bytes w64 end)) }
+{
+    match source {
+        Source::Trees(rows) => settle_rows(rows, end),
+        Source::Adopted(_) => Err(Refusal::new(StoreFault::Refused)),
+    }
+}
