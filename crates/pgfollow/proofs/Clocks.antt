@@ -1,5 +1,5 @@
 -- What a subscriber does is the same at any clock and with any bytes waiting to be sent, but for these bytes.
-use Rattle.std.proofs.Common.{◌≡◌, ℕ, ℤ, List, [], ◌∷◌, Bool, true, false, cond, Result, Ok, Err, refl, sym, ap, subst}
+use Rattle.std.proofs.Common.{◌≡◌, ℕ, ℤ, List, [], ◌∷◌, Bool, true, false, cond, Result, Ok, Err, refl, sym, ap, subst, ◌∙◌}
 use Rattle.pglogical.specs.Reading.{message_at}
 use Rattle.pglogical.specs.declared.message.Message.{Message}
 use Rattle.pglogical.specs.declared.fault.DecodeFault.{DecodeFault}
@@ -17,6 +17,9 @@ use Rattle.pgsub_core.specs.ApplyState.{ApplyState, ApplyResult, step}
 use Rattle.pgsub_core.specs.Subscribed.{Subscribed, apply_state_of}
 use Rattle.pgsub_core.specs.Taking.{take, taken_with, take_message, take_payload, take_frame, take_frames, handled, passes_limit, message_passes_limit}
 use Rattle.pgsub_core.specs.Feeding.{IsFedWhole, IsFedUntil}
+use Rattle.pgapply.specs.declared.misses.Misses.{Misses}
+use Rattle.pgsub_core.specs.Counted.{decoded_counted, payload_counted, frame_counted, counted_behind, frames_counted, IsCountedWhole, IsCountedFront}
+use Rattle.pgsub_core.proofs.Steps.{goes_through}
 
 -- the same with these bytes waiting to be sent
 abbrev pub quiet : List ℕ → Subscribed → Subscribed
@@ -95,7 +98,7 @@ whole_quiet now now' r old new piece fed =
       },
     )
 
--- Where memory stopped it: what outlives the next disconnection is the same.
+-- Whatever stopped it: one that memory stops there is the same in what outlives the next disconnection.
 pub record StopsAlike (now' : ℤ) (old : Subscribed) (piece : List ℕ) (new : Subscribed) : Type 0 where
   pub other : Subscribed
   pub until : IsFedUntil now' old piece other fault.Memory
@@ -103,8 +106,8 @@ pub record StopsAlike (now' : ℤ) (old : Subscribed) (piece : List ℕ) (new : 
   pub position : other.position ≡ new.position
   pub confirmed : other.confirmed ≡ new.confirmed
 
-pub until_quiet : (now now' : ℤ) (r : List ℕ) (old new : Subscribed) (piece : List ℕ) → IsFedUntil now old piece new fault.Memory → StopsAlike now' (quiet r old) piece new
-until_quiet now now' r old new piece fed =
+pub until_quiet : (now now' : ℤ) (r : List ℕ) (old new : Subscribed) (piece : List ℕ) (f : Fault) → IsFedUntil now old piece new f → StopsAlike now' (quiet r old) piece new
+until_quiet now now' r old new piece f fed =
     let alike : TakesAlike (Running fed.state) (take_frames now' (quiet r old) fed.fs) = subst (λ (o : Outcome Subscribed Fault). TakesAlike o (take_frames now' (quiet r old) fed.fs)) fed.takes (frames_quiet now now' fed.fs r old) in
     record {
       other = record (quiet alike.0 fed.state) { closed = true };
@@ -122,4 +125,57 @@ until_quiet now now' r old new piece fed =
       tables = sym fed.left.tables;
       position = sym (ap (λ p. p.position) fed.left.progress);
       confirmed = sym (ap (λ p. p.confirmed) fed.left.progress);
+    }
+
+-- ---- what is counted
+
+payload_count_quiet : (r : List ℕ) (s : Subscribed) (res : Result ServerMessage WireFault) (m : Misses) → payload_counted (quiet r s) res m ≡ payload_counted s res m
+payload_count_quiet r s (Ok (XLogData start end clock body)) m = by (message_at (is_in_block s.order.context) body)
+  where
+    by : (read : Result Message DecodeFault) → decoded_counted (quiet r s) read m ≡ decoded_counted s read m
+    by (Ok message) = refl
+    by (Err k) = refl
+payload_count_quiet r s (Ok (Keepalive end clock asks)) m = refl
+payload_count_quiet r s (Err k) m = refl
+
+frame_count_quiet : (r : List ℕ) (s : Subscribed) (f : Frame) (m : Misses) → frame_counted (quiet r s) f m ≡ frame_counted s f m
+frame_count_quiet r s (CopyData bytes) m = payload_count_quiet r s (payload_at bytes) m
+frame_count_quiet r s CopyDone m = refl
+
+count_quiet : (now now' : ℤ) (fs : List Frame) (r : List ℕ) (s last : Subscribed) (m : Misses) → take_frames now s fs ≡ Running last → frames_counted now' (quiet r s) fs m ≡ frames_counted now s fs m
+count_quiet now now' [] r s last m h = refl
+count_quiet now now' (f ∷ fs) r s last m h =
+    let through = goes_through (take_frame now s f) (λ next. take_frames now next fs) last h in
+    let alike : TakesAlike (Running through.0) (take_frame now' (quiet r s) f) = subst (λ (o : Outcome Subscribed Fault). TakesAlike o (take_frame now' (quiet r s) f)) through.1 (frame_quiet now now' r s f) in
+    let k = frame_counted s f m in
+    ap (λ (x : Misses). counted_behind (take_frame now' (quiet r s) f) (λ next. frames_counted now' next fs x) x) (frame_count_quiet r s f m)
+    ∙ ap (λ (o : Outcome Subscribed Fault). counted_behind o (λ next. frames_counted now' next fs k) k) alike.1
+    ∙ count_quiet now now' fs alike.0 through.0 last k through.2
+    ∙ sym (ap (λ (o : Outcome Subscribed Fault). counted_behind o (λ next. frames_counted now next fs k) k) through.1)
+
+pub counted_quiet : (now now' : ℤ) (r : List ℕ) (old : Subscribed) (piece : List ℕ) (position : ℕ) (before behind : Misses) → IsCountedWhole now old piece position before behind → IsCountedWhole now' (quiet r old) piece position before behind
+counted_quiet now now' r old piece position before behind c =
+    let alike : TakesAlike (Running c.state) (take_frames now' (quiet r old) c.fs) = subst (λ (o : Outcome Subscribed Fault). TakesAlike o (take_frames now' (quiet r old) c.fs)) c.takes (frames_quiet now now' c.fs r old) in
+    record {
+      fs = c.fs;
+      rest = c.rest;
+      state = quiet alike.0 c.state;
+      deframed = c.deframed;
+      takes = alike.1;
+      stands = c.stands;
+      counts = c.counts ∙ sym (count_quiet now now' c.fs r old c.state before c.takes);
+    }
+
+pub front_quiet : (now now' : ℤ) (r : List ℕ) (old : Subscribed) (piece : List ℕ) (position : ℕ) (before behind : Misses) → IsCountedFront now old piece position before behind → IsCountedFront now' (quiet r old) piece position before behind
+front_quiet now now' r old piece position before behind c =
+    let alike : TakesAlike (Running c.state) (take_frames now' (quiet r old) c.fs) = subst (λ (o : Outcome Subscribed Fault). TakesAlike o (take_frames now' (quiet r old) c.fs)) c.takes (frames_quiet now now' c.fs r old) in
+    record {
+      fs = c.fs;
+      rest = c.rest;
+      state = quiet alike.0 c.state;
+      whole = c.whole;
+      each = c.each;
+      takes = alike.1;
+      stands = c.stands;
+      counts = c.counts ∙ sym (count_quiet now now' c.fs r old c.state before c.takes);
     }

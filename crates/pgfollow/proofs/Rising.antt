@@ -40,7 +40,7 @@ rises_join low mid high (status ∷ a) b h k = (h.0, h.1, rises_join status.flus
 pub none_rise : (low high : ℕ) → low ≤ high → AreRising low [] high
 none_rise low high le = record { statuses = []; are = refl; rise = le }
 
-one_rises : (low high : ℕ) (status : Status) → status.applied ≡ status.flushed → low ≤ status.flushed → status.flushed ≤ high → AreRising low (status_frame status) high
+pub one_rises : (low high : ℕ) (status : Status) → status.applied ≡ status.flushed → low ≤ status.flushed → status.flushed ≤ high → AreRising low (status_frame status) high
 one_rises low high status same le by = record { statuses = status ∷ []; are = sym (append-nil (status_frame status)); rise = (same, le, by) }
 
 pub rising_join : (low mid high : ℕ) (a b : List ℕ) → AreRising low a mid → AreRising mid b high → AreRising low (a ++ b) high

@@ -1,16 +1,19 @@
 -- Part of the statement.
 -- PostgreSQL documentation, Streaming Replication Protocol, Standby status update: what following a server does, one part of its bytes
 -- after the other, and what is written after each.
-use Rattle.std.specs.Prelude.{◌≡◌, ◌≤◌, ◌⊎◌, ◌++◌, ◌-◌, ◌^◌, ℕ, ℤ, List, [], ◌∷◌, Bool, true, false, Option, Some, None, Result, Ok, Err, nat_eq, if◌then◌else◌}
+use Rattle.std.specs.Prelude.{◌≡◌, ◌≤◌, ◌⊎◌, ◌++◌, ◌-◌, ◌^◌, ℕ, ℤ, List, [], ◌∷◌, Bool, true, false, Option, Some, None, Result, Ok, Err, length, nat_eq, if◌then◌else◌}
+use Rattle.std.specs.List.{AllByRecursion}
 use Rattle.std.specs.Io.KnownBytes.{Appends, Consumes, IsAtEnd}
 use Rattle.pgwire.specs.Statuses.{status_frame}
 use Rattle.pgwire.specs.declared.status.Status.{Status}
+use Rattle.pgapply.specs.declared.misses.Misses.{Misses}
 use Rattle.pgapply.specs.Value.{Tables}
 use Rattle.pgsub_core.specs.declared.fault.Fault.{Fault}
 use Rattle.pgsub_core.specs.declared.fault.Fault.TheVariants as fault
 use Rattle.pgsub_core.specs.Faults.{IsOfFeeding}
 use Rattle.pgsub_core.specs.Subscribed.{Subscribed, disconnect}
 use Rattle.pgsub_core.specs.SubscriberValue.{SubscriberValue, seen, Feeds, FeedsUntil}
+use Rattle.pgsub_core.specs.Counted.{FeedsCounted, FeedsCountedFront}
 use Rattle.pgsub_core.specs.Crashing.{LeavesOldOr, FedOver, StandsAsFed}
 use Rattle.pgfollow.specs.declared.fault.FollowFault.{FollowFault}
 use Rattle.pgfollow.specs.declared.fault.FollowFault.TheVariants as follow
@@ -54,6 +57,10 @@ pub record Step (C : Type 0) : Type 0 where
   pub fed : SubscriberValue C
   pub after : SubscriberValue C
 
+-- no more bytes than one read gives
+abbrev pub IsShort : {C : Type 0} → Step C → Type 0
+IsShort step = length step.part ≤ piece_len
+
 -- the bytes that are written after a part: the replies that wait, and the status where confirmed has moved
 abbrev pub told_of : {C : Type 0} → SubscriberValue C → Step C → List ℕ
 told_of old step = step.fed.applied.replies ++ news step.now old.applied.confirmed step.fed
@@ -88,10 +95,11 @@ abbrev pub told_in : {C : Type 0} → SubscriberValue C → List (Step C) → Li
 told_in old [] = []
 told_in old (step ∷ steps) = told_of old step ++ told_in step.after steps
 
-module _ {C : Type 0} (holds : C → Tables → Type 0) (place : C → ℕ) (reopens : C → C → Type 0) (serves : C → Type 0) where
-  -- the part was fed, and this is what a crash may leave then
+module _ {C : Type 0} (holds : C → Tables → Type 0) (place : C → ℕ) (reopens : C → C → Type 0) (serves : C → Type 0) (count : C → Misses) where
+  -- the part was fed and its changes that find no row counted, and this is what a crash may leave then
   pub record IsFedPart (now : ℤ) (old : SubscriberValue C) (part : List ℕ) (fed : SubscriberValue C) : Type 0 where
     pub feeds : Feeds holds place now old part fed
+    pub counts : FeedsCounted holds place count now old part fed
     pub crash : LeavesOldOr place reopens serves (FedOver (λ s. FeedsUntil holds place now old part s fault.Memory)) old.applied.store fed.applied.store
 
   -- a session ends with the part that its CopyDone completes
@@ -105,9 +113,12 @@ module _ {C : Type 0} (holds : C → Tables → Type 0) (place : C → ℕ) (reo
   AreSteps old [] new = new ≡ old
   AreSteps old (step ∷ steps) new = IsStep old step × AreSteps step.after steps new
 
-  -- Parts were read and fed, one after the other, and what was to be told of each was written. These bytes more were read.
+  -- Parts were read and fed, one after the other, and what was to be told of each was written. These bytes more were read. No more bytes
+  -- are fed at once, and no more are read ahead, than one read gives.
   pub record LiveSteps (unread rest : Option (List ℕ)) (pending : List ℕ) (wrote wrote' : Option (List ℕ)) (old new : SubscriberValue C) : Type 0 where
     pub steps : List (Step C)
+    pub each : AllByRecursion IsShort steps
+    pub ahead : length pending ≤ piece_len
     pub are : AreSteps old steps new
     pub read : Consumes unread rest (parts_of steps ++ pending)
     pub written : Appends wrote wrote' (told_in old steps)
@@ -128,6 +139,7 @@ module _ {C : Type 0} (holds : C → Tables → Type 0) (place : C → ℕ) (reo
   pub record IsUnfed (now : ℤ) (old : SubscriberValue C) (part : List ℕ) (new : SubscriberValue C) (f : Fault) : Type 0 where
     pub unclosed : old.framing.closed ≡ false
     pub until : serves new.applied.store → FeedsUntil holds place now old part new f
+    pub counts : serves new.applied.store → FeedsCountedFront holds place count now old part new
     pub stands : StandsAsFed place (λ s. FeedsUntil holds place now old part s fault.Memory) new
     pub crash : LeavesOldOr place reopens serves (FedOver (λ s. FeedsUntil holds place now old part s fault.Memory)) old.applied.store new.applied.store
 

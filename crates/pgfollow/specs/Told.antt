@@ -1,19 +1,22 @@
 -- Part of the statement.
 -- PostgreSQL documentation, Streaming Replication Protocol, Standby status update: that what is told of a history is stored.
-use Rattle.std.specs.Prelude.{◌≡◌, ◌≤◌, ◌⊎◌, ◌++◌, ℕ, List, [], ◌∷◌, Option, Some, None, if◌then◌else◌}
+use Rattle.std.specs.Prelude.{◌≡◌, ◌≤◌, ◌⊎◌, ◌++◌, ℕ, ℤ, List, [], ◌∷◌, Option, Some, None, if◌then◌else◌}
 use Rattle.std.specs.List.{flat_map}
 use Rattle.pgwire.specs.Statuses.{status_frame}
 use Rattle.pgwire.specs.declared.status.Status.{Status}
+use Rattle.pgapply.specs.declared.misses.Misses.{Misses}
 use Rattle.pgapply.specs.Value.{Tables}
 use Rattle.pgsub_core.specs.History.{Transaction}
 use Rattle.pgsub_core.specs.Stream.{Sent}
 use Rattle.pgsub_core.specs.Handled.{IsSent}
 use Rattle.pgsub_core.specs.Confirming.{AreSafeReplies}
+use Rattle.pgsub_core.specs.Subscribed.{IsSafeFor}
 use Rattle.pgsub_core.specs.Crashing.{IsLeftSafely}
+use Rattle.pgsub_core.specs.Missed.{CountsHistory}
 use Rattle.pgsub_core.specs.SubscriberValue.{SubscriberValue, seen}
 use Rattle.pgfollow.specs.declared.fault.FollowFault.{FollowFault}
 use Rattle.pgfollow.specs.declared.fault.FollowFault.TheVariants as follow
-use Rattle.pgfollow.specs.Live.{IsGreeted, LiveEnds, Step, StopsGreeting, told_of, told_in}
+use Rattle.pgfollow.specs.Live.{IsGreeted, LiveEnds, Step, StopsGreeting, news, status_at, told_of, told_in}
 
 -- ---- the statuses, of any bytes
 
@@ -37,6 +40,11 @@ sessions_from begun (step ∷ steps) pending =
     if step.ends then (begun ++ step.part) ∷ sessions_from [] steps pending else sessions_from (begun ++ step.part) steps pending
 
 module _ {C : Type 0} (holds : C → Tables → Type 0) (place : C → ℕ) (reopens : C → C → Type 0) where
+  -- The store holds exactly the history's rows up to its position, and every transaction that changes rows and ends by what is confirmed
+  -- is among them.
+  abbrev pub HoldsSafely : List Transaction → SubscriberValue C → Type 0
+  HoldsSafely history s = (tables : Tables) × holds s.applied.store tables × IsSafeFor history (seen place s tables)
+
   -- whatever a crash leaves of it now holds the history's rows up to a position, with all that is confirmed
   abbrev pub LeavesSafely : List Transaction → SubscriberValue C → Type 0
   LeavesSafely history s = (other : C) → reopens s.applied.store other → IsLeftSafely holds place history s other
@@ -44,6 +52,7 @@ module _ {C : Type 0} (holds : C → Tables → Type 0) (place : C → ℕ) (reo
   -- These bytes are statuses. Every transaction that changes rows and ends by what one confirms is stored when it is written, and in
   -- whatever a crash leaves then.
   pub record IsToldSafely (history : List Transaction) (s : SubscriberValue C) (told : List ℕ) : Type 0 where
+    pub rows : HoldsSafely history s
     pub statuses : (tables : Tables) → AreSafeReplies history (record (seen place s tables) { replies = told })
     pub left : LeavesSafely history s
 
@@ -52,12 +61,15 @@ module _ {C : Type 0} (holds : C → Tables → Type 0) (place : C → ℕ) (reo
   AreToldSafely history old [] = Unit {0}
   AreToldSafely history old (step ∷ steps) = IsToldSafely history step.fed (told_of old step) × AreToldSafely history step.after steps
 
-  -- Of whatever history these sessions are: what is told after each part is stored then, and what a crash leaves at the end has it too.
-  abbrev pub TellsSafely : SubscriberValue C → SubscriberValue C → List (Step C) → List ℕ → SubscriberValue C → Type 0
-  TellsSafely old start steps pending new =
-      (history : List Transaction) (all_complete : List (List Sent)) (tables : Tables) → holds old.applied.store tables
-      → IsSent history (seen place old tables) (sessions_from [] steps pending) all_complete
-      → AreToldSafely history start steps × LeavesSafely history new
+  -- Of whatever history the sessions are, and whatever tables the store held before:
+  pub record TellsSafely (serves : C → Type 0) (old start : SubscriberValue C) (first : List ℕ) (steps : List (Step C)) (pending : List ℕ) (new : SubscriberValue C) : Type 0 where
+    -- as long as they are, whatever comes later: the store holds the history's rows at the start and after each part, and what is told
+    -- then is stored
+    pub told : (history : List Transaction) (all_complete : List (List Sent)) (tables : Tables) (front later : List (Step C)) → steps ≡ front ++ later → holds old.applied.store tables
+        → IsSent history (seen place old tables) (sessions_from [] front []) all_complete → IsToldSafely history start first × AreToldSafely history start front
+    -- with all that was read: so it does at the end, and what a crash leaves then has all that is confirmed
+    pub at_end : (history : List Transaction) (all_complete : List (List Sent)) (tables : Tables) → holds old.applied.store tables
+        → IsSent history (seen place old tables) (sessions_from [] steps pending) all_complete → (serves new.applied.store → HoldsSafely history new) × LeavesSafely history new
 
   -- Of any bytes: all that is told after the first status, after these parts, is statuses that rise.
   abbrev pub TellsRising : SubscriberValue C → List (Step C) → SubscriberValue C → Type 0
@@ -65,39 +77,56 @@ module _ {C : Type 0} (holds : C → Tables → Type 0) (place : C → ℕ) (reo
 
 -- ---- how following ends
 
-module _ {C : Type 0} (holds : C → Tables → Type 0) (place : C → ℕ) (reopens : C → C → Type 0) (serves : C → Type 0) (unread rest : Option (List ℕ)) (reads : ℕ) (wrote wrote' : Option (List ℕ)) (old new : SubscriberValue C) where
+abbrev pub first_status : {C : Type 0} → SubscriberValue C → ℤ → List ℕ
+first_status start now = status_frame (status_at now start)
+
+module _ {C : Type 0} (holds : C → Tables → Type 0) (place : C → ℕ) (reopens : C → C → Type 0) (serves : C → Type 0) (count : C → Misses) (unread rest : Option (List ℕ)) (reads : ℕ) (wrote wrote' : Option (List ℕ)) (old new : SubscriberValue C) where
   -- the parts that were followed
-  abbrev pub steps_in : (ended : Option FollowFault) → LiveEnds holds place reopens serves unread rest reads wrote wrote' old new ended → List (Step C)
+  abbrev pub steps_in : (ended : Option FollowFault) → LiveEnds holds place reopens serves count unread rest reads wrote wrote' old new ended → List (Step C)
   steps_in None e = e.0.steps
   steps_in (Some follow.Read) e = e.steps
   steps_in (Some follow.Write) e = e.4.steps
   steps_in (Some (follow.Stream f)) e = e.4.steps
 
   -- what was read behind them
-  abbrev pub pending_in : (ended : Option FollowFault) → LiveEnds holds place reopens serves unread rest reads wrote wrote' old new ended → List ℕ
+  abbrev pub pending_in : (ended : Option FollowFault) → LiveEnds holds place reopens serves count unread rest reads wrote wrote' old new ended → List ℕ
   pending_in None e = []
   pending_in (Some follow.Read) e = []
   pending_in (Some follow.Write) e = e.2 ++ e.3
   pending_in (Some (follow.Stream f)) e = e.2 ++ e.3
 
   -- the subscriber behind them
-  abbrev pub mid_in : (ended : Option FollowFault) → LiveEnds holds place reopens serves unread rest reads wrote wrote' old new ended → SubscriberValue C
+  abbrev pub mid_in : (ended : Option FollowFault) → LiveEnds holds place reopens serves count unread rest reads wrote wrote' old new ended → SubscriberValue C
   mid_in None e = new
   mid_in (Some follow.Read) e = new
   mid_in (Some follow.Write) e = e.0
   mid_in (Some (follow.Stream f)) e = e.0
 
-module _ {C : Type 0} (holds : C → Tables → Type 0) (place : C → ℕ) (reopens : C → C → Type 0) (serves : C → Type 0) (unread rest : Option (List ℕ)) (reads : ℕ) (wrote wrote' : Option (List ℕ)) (old new : SubscriberValue C) where
+  -- Where writing what is told of the last part failed: all of that was stored, of which a front is written.
+  abbrev pub LastIsSafe : SubscriberValue C → (ended : Option FollowFault) → LiveEnds holds place reopens serves count unread rest reads wrote wrote' old new ended → Type 0
+  LastIsSafe before (Some follow.Write) e =
+      (history : List Transaction) (all_complete : List (List Sent)) (tables : Tables) → holds before.applied.store tables
+      → IsSent history (seen place before tables) (sessions_from [] e.4.steps (e.2 ++ e.3)) all_complete
+      → IsToldSafely holds place reopens history e.5.2.fed (e.5.2.fed.applied.replies ++ news e.5.0 e.0.applied.confirmed e.5.2.fed)
+  LastIsSafe before None e = Unit {0}
+  LastIsSafe before (Some follow.Read) e = Unit {0}
+  LastIsSafe before (Some (follow.Stream f)) e = Unit {0}
+
+module _ {C : Type 0} (holds : C → Tables → Type 0) (place : C → ℕ) (reopens : C → C → Type 0) (serves : C → Type 0) (count : C → Misses) (unread rest : Option (List ℕ)) (reads : ℕ) (wrote wrote' : Option (List ℕ)) (old new : SubscriberValue C) where
   -- The first status isn't told: nothing is read, and the store is as it was.
   abbrev pub NotGreeted : Option FollowFault → Type 0
   NotGreeted ended = (f : FollowFault) × (ended ≡ Some f) × StopsGreeting place wrote wrote' old f × (new.applied.store ≡ old.applied.store) × (rest ≡ unread)
 
   -- The first status is told, that of the opened store. Then parts are fed as they come, and told. All statuses rise, and what they confirm
-  -- of a history is stored when they are written, and stays so whatever a crash leaves.
+  -- of a history is stored when they are written, and stays so whatever a crash leaves; the store holds the history's rows then. While it
+  -- serves, it has counted at the end what the history misses up to its position.
   abbrev pub FollowsLive : Option FollowFault → Type 0
   FollowsLive ended =
       NotGreeted ended
-      ⊎ ((start : SubscriberValue C) × (w : Option (List ℕ)) × IsGreeted place wrote w old start
-      × (e : LiveEnds holds place reopens serves unread rest reads w wrote' start new ended)
-      × TellsRising holds place reopens start (steps_in holds place reopens serves unread rest reads w wrote' start new ended e) (mid_in holds place reopens serves unread rest reads w wrote' start new ended e)
-      × TellsSafely holds place reopens old start (steps_in holds place reopens serves unread rest reads w wrote' start new ended e) (pending_in holds place reopens serves unread rest reads w wrote' start new ended e) new)
+      ⊎ ((start : SubscriberValue C) × (w : Option (List ℕ)) × (greeted : IsGreeted place wrote w old start)
+      × (e : LiveEnds holds place reopens serves count unread rest reads w wrote' start new ended)
+      × TellsRising holds place reopens start (steps_in holds place reopens serves count unread rest reads w wrote' start new ended e) (mid_in holds place reopens serves count unread rest reads w wrote' start new ended e)
+      × LastIsSafe holds place reopens serves count unread rest reads w wrote' start new old ended e
+      × TellsSafely holds place reopens serves old start (first_status start greeted.1.0) (steps_in holds place reopens serves count unread rest reads w wrote' start new ended e) (pending_in holds place reopens serves count unread rest reads w wrote' start new ended e) new
+      × (serves new.applied.store
+      → CountsHistory holds place count old (sessions_from [] (steps_in holds place reopens serves count unread rest reads w wrote' start new ended e) (pending_in holds place reopens serves count unread rest reads w wrote' start new ended e)) new))

@@ -126,13 +126,14 @@ fn follow_part<R: Read + Drop, W: Write + Drop, P: Spools + Drop, C: ReplicaStor
     ensures some { IfOk result (λ n. (n ≤ length piece.now) × (0 < length piece.now → 0 < n)) }
     ensures followed { C.is_honest subscriber.new.applied.store →
         C.serves subscriber.old.applied.store →
-        IfOk result (λ n. IsFollowedPart C.holds C.place C.reopens C.serves
+        IfOk result (λ n. IsFollowedPart C.holds C.place C.reopens C.serves C.missed
         (W.contents link.old.writer) (W.contents link.new.writer)
         (take n piece.now) subscriber.old subscriber.new) }
     ensures stopped { C.is_honest subscriber.new.applied.store →
         C.serves subscriber.old.applied.store →
-        IfErr result (StopsFront C.holds C.place C.reopens C.serves (W.contents link.old.writer)
-        (W.contents link.new.writer) piece.now subscriber.old subscriber.new) }
+        IfErr result (StopsFront C.holds C.place C.reopens C.serves C.missed
+        (W.contents link.old.writer) (W.contents link.new.writer) piece.now subscriber.old
+        subscriber.new) }
     ensures sound { OnOk result (link.new.write_failed ≡ false) }
     ensures unclosed { OnOk result (subscriber.new.framing.closed ≡ false) }
     ensures still_serves { C.is_honest subscriber.new.applied.store →
@@ -178,12 +179,14 @@ fn follow_piece<
         × (link.new.read_failed ≡ link.old.read_failed) × (link.new.reads ≡ link.old.reads) }
     ensures followed { C.is_honest subscriber.new.applied.store →
         C.serves subscriber.old.applied.store →
-        OnOk result (FollowsPiece C.holds C.place C.reopens C.serves (W.contents link.old.writer)
-        (W.contents link.new.writer) piece.now subscriber.old subscriber.new) }
+        OnOk result (FollowsPiece C.holds C.place C.reopens C.serves C.missed
+        (W.contents link.old.writer) (W.contents link.new.writer) piece.now subscriber.old
+        subscriber.new) }
     ensures stopped { C.is_honest subscriber.new.applied.store →
         C.serves subscriber.old.applied.store →
-        IfErr result (StopsPiece C.holds C.place C.reopens C.serves (W.contents link.old.writer)
-        (W.contents link.new.writer) piece.now subscriber.old subscriber.new) }
+        IfErr result (StopsPiece C.holds C.place C.reopens C.serves C.missed
+        (W.contents link.old.writer) (W.contents link.new.writer) piece.now subscriber.old
+        subscriber.new) }
     ensures sound { OnOk result (link.new.write_failed ≡ false) }
     ensures unclosed { OnOk result (subscriber.new.framing.closed ≡ false) }
     ensures still_serves { C.is_honest subscriber.new.applied.store →
@@ -224,9 +227,11 @@ fn follow_reads<
     ensures own { IfErr result IsOfFollowing }
     ensures followed { C.is_honest subscriber.new.applied.store →
         C.serves subscriber.old.applied.store →
-        LiveEnds C.holds C.place C.reopens C.serves (R.remaining link.old.reader)
+        LiveEnds C.holds C.place C.reopens C.serves C.missed (R.remaining link.old.reader)
         (R.remaining link.new.reader) link.new.reads (W.contents link.old.writer)
         (W.contents link.new.writer) subscriber.old subscriber.new (ended_by result) }
+    ensures honest { C.is_honest subscriber.new.applied.store →
+        C.is_honest subscriber.old.applied.store }
 {
     while link.reads < u64::MAX {
         let Some(count) = link.read_piece(room) else {
@@ -253,8 +258,11 @@ fn follow_reads<
 ///
 /// Let the sessions be some that a server sends of a history, and let the rows be the history's before. Then every transaction that changes
 /// rows and ends by what a status confirms is in the store when that status is written, and in whatever a crash leaves then or later:
-/// that holds exactly the rows of all transactions of the history up to a position of its own. Its premises are those of `follow`:
-/// nobody else writes the store's files, and the disk gives back what was written.
+/// that holds exactly the rows of all transactions of the history up to a position of its own. The store itself holds exactly the
+/// history's rows up to its position, after each part and, while it serves, at the end. So it is of each front of the parts that is of a
+/// history, whatever comes after it. Its premises are those of `follow`: nobody else writes the store's files, and the disk gives back
+/// what was written. To what the store had counted come exactly the changes that find no row of the transactions between its position
+/// before and behind, while it serves.
 ///
 /// # Errors
 ///
@@ -281,9 +289,11 @@ pub fn follow_live<
     ensures own { IfErr result IsOfFollowing }
     ensures followed { C.is_honest subscriber.new.applied.store →
         C.serves subscriber.old.applied.store →
-        FollowsLive C.holds C.place C.reopens C.serves (R.remaining link.old.reader)
+        FollowsLive C.holds C.place C.reopens C.serves C.missed (R.remaining link.old.reader)
         (R.remaining link.new.reader) link.new.reads (W.contents link.old.writer)
         (W.contents link.new.writer) subscriber.old subscriber.new (ended_by result) }
+    ensures honest { C.is_honest subscriber.new.applied.store →
+        C.is_honest subscriber.old.applied.store }
 {
     let mut room = match room_for(alloc, PIECE_LEN) {
         Ok(room) => room,

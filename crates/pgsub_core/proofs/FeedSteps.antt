@@ -73,7 +73,7 @@ done_more d₀ d d' fs takes so =
 
 -- ---- from where a deframer waits
 
-abbrev deframed : ℕ → List ℕ → Bool → ℕ → Deframed
+abbrev pub deframed : ℕ → List ℕ → Bool → ℕ → Deframed
 deframed max held done room = record { max = max; held = held; done = done; fault = None; room = room }
 
 abbrev if_done : Bool → List Frame

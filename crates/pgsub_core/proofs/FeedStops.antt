@@ -139,3 +139,11 @@ module _ {C : Type 0} (serves : C → Type 0) (holds : C → Tables → Type 0) 
         max = ap (λ (x : Deframed). x.max) takes.released ∙ to.max;
         goes = λ own. goes_then serves holds place now to.fs f a₀ a a' (to.goes (served own)) (next own f takes.stood);
       }
+
+module _ {C : Type 0} (holds : C → Tables → Type 0) (place : C → ℕ) (now : ℤ) (d₀ : Deframed) (a₀ : Applied C) where
+  -- want of memory can stop it where a fault does
+  pub for_memory : (piece : List ℕ) (a : Applied C) (f : Fault) → FeedStops holds place now d₀ a₀ piece a f → FeedStops holds place now d₀ a₀ piece a fault.Memory
+  for_memory piece a f stops closed tables is max h =
+      let one = stops closed tables is max h in
+      let u = one.2 in
+      (one.0, one.1, record { fs = u.fs; rest = u.rest; state = u.state; whole = u.whole; each = u.each; takes = u.takes; left = u.left; closed = u.closed; why = tt })

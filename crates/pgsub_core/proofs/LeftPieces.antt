@@ -1,16 +1,14 @@
 -- What a crash may leave of a piece of a session, frame by frame, and of pieces and sessions.
-use Rattle.std.proofs.Common.{◌≡◌, ◌≤◌, ◌<◌, inl, inr, ◌∷◌, ◌++◌, [], ℕ, ℤ, List, Bool, true, false, Option, Some, None, Result, Ok, Err, OnErr, length, take, get_or, refl, sym, ap, subst, ◌∙◌, arith, append-nil, append_assoc}
+use Rattle.std.proofs.Common.{◌≡◌, ◌≤◌, ◌<◌, inl, inr, ◌∷◌, ◌++◌, [], ℕ, ℤ, List, Bool, true, false, Option, Some, None, Result, Ok, Err, OnErr, length, take, get_or, refl, sym, ap, subst, ◌∙◌, arith, append-nil}
 use Rattle.std.specs.List.{flat_map}
-use Rattle.pgwire.specs.Frames.{Frame}
-use Rattle.pgwire.specs.Deframed.{Deframed, Stands, after_release}
-use Rattle.pgwire.specs.Calls.{Release}
+use Rattle.pgwire.specs.Deframed.{Deframed}
 use Rattle.pgapply.specs.Value.{Tables}
 use Rattle.pgapply.specs.Taken as held
 use Rattle.pgsub_core.specs.declared.fault.Fault.{Fault}
 use Rattle.pgsub_core.specs.declared.fault.Fault.TheVariants as fault
 use Rattle.pgsub_core.specs.declared.session.Session.{Session}
 use Rattle.pgsub_core.specs.Applied.{Applied}
-use Rattle.pgsub_core.specs.Framing.{framing_of, done_of, FramesGo, IsFedTo, IsTakenTo, FeedStops}
+use Rattle.pgsub_core.specs.Framing.{framing_of, IsTakenTo, FeedStops}
 use Rattle.pgsub_core.specs.Subscribed.{session_bytes, bytes_of}
 use Rattle.pgsub_core.specs.History.{Transaction, tables_as_of}
 use Rattle.pgsub_core.specs.Stream.{Sent}
@@ -23,8 +21,7 @@ use Rattle.pgsub_core.specs.Pumping.{bytes_in, Pumps, PumpsUntil}
 use Rattle.pgsub_core.specs.Following.{FeedsSession, FeedsSessionUntil, FeedsSessions, FollowsSessions}
 use Rattle.pgsub_core.specs.Crashing.{LeavesOldOr, Over, FedOver, StandsAs, StandsAsFed, LeavesHistory}
 use Rattle.pgsub_core.proofs.PayloadStops.{unchanged}
-use Rattle.pgsub_core.proofs.FeedSteps.{goes_then}
-use Rattle.pgsub_core.proofs.FeedStops.{stopped_at}
+use Rattle.pgsub_core.proofs.FeedStops.{for_memory, stopped_at}
 use Rattle.pgsub_core.proofs.Starting.{feeds_until}
 use Rattle.pgsub_core.proofs.FollowSteps.{session_stops, follows_stops, follows}
 use Rattle.pgsub_core.proofs.Crashes.{leaves_then, leaves_as}
@@ -45,38 +42,6 @@ module _ {C : Type 0} (serves : C → Type 0) (holds : C → Tables → Type 0) 
   pub piece_stands : (d : Deframed) (a : Applied C) (taken : ℕ) → IsTakenTo holds place now serves d₀ a₀ piece d a taken → serves a.store → FeedStops holds place now d₀ a₀ piece a fault.Memory
   piece_stands d a taken to own = stopped_at serves holds place now d₀ a₀ piece d a a taken to own (unchanged place a) (λ tables h. h) fault.Memory (λ framing tables h. tt)
 
-  abbrev any : C → Type 0
-  any s = Unit {0}
-
-  -- or behind the frame that stands, over a store that has it
-  piece_over : (d : Deframed) (a : Applied C) (taken : ℕ) → IsFedTo holds place now serves d₀ a₀ piece d a taken → serves a.store → (f : Frame) → Stands d f → (other : C) → Over (FramesGo holds place now (f ∷ []) a) other
-      → Over (λ b. FeedStops holds place now d₀ a₀ piece b fault.Memory) other
-  piece_over d a taken to own f stands other over =
-      let b = over.0 in
-      let behind = after_release d f in
-      let to' : IsTakenTo holds place now any d₀ a₀ piece behind b taken = record {
-        calls = Release ∷ to.calls;
-        fs = to.fs ++ f ∷ [];
-        leads = (done_of d₀ ++ to.fs, d, to.leads, inl (f, stands, refl, sym (append_assoc (done_of d₀) to.fs (f ∷ []))));
-        max = to.max;
-        goes = λ all. goes_then serves holds place now to.fs f a₀ a b (to.goes own) over.2;
-      } in
-      (b, over.1, stopped_at any holds place now d₀ a₀ piece behind b b taken to' tt (unchanged place b) (λ tables h. h) fault.Memory (λ framing tables h. tt))
-
-  pub leaves_piece : (reopens : C → C → Type 0) (d : Deframed) (a a' : Applied C) (taken : ℕ) → IsFedTo holds place now serves d₀ a₀ piece d a taken → (serves a.store → serves a₀.store)
-      → LeavesOldOr place reopens serves (Over (λ b. FeedStops holds place now d₀ a₀ piece b fault.Memory)) a₀.store a.store
-      → LeavesOldOr place reopens serves (λ other. (stood : Frame) × Stands d stood × Over (FramesGo holds place now (stood ∷ []) a) other) a.store a'.store
-      → LeavesOldOr place reopens serves (Over (λ b. FeedStops holds place now d₀ a₀ piece b fault.Memory)) a₀.store a'.store
-  leaves_piece reopens d a a' taken to served before one =
-      leaves_then place reopens serves _ _ a₀.store a.store a'.store before one served (λ other own has. piece_over d a taken to own has.0 has.1 other has.2)
-
-  -- what comes behind a piece changes nothing of it
-  pub leaves_more : (reopens : C → C → Type 0) (more : List ℕ) (store : C) → LeavesOldOr place reopens serves (Over (λ b. FeedStops holds place now d₀ a₀ piece b fault.Memory)) a₀.store store
-      → LeavesOldOr place reopens serves (Over (λ b. FeedStops holds place now d₀ a₀ (piece ++ more) b fault.Memory)) a₀.store store
-  leaves_more reopens more store before =
-      leaves_as place reopens serves _ _ a₀.store store before
-      (λ other has. (has.0, has.1, λ closed tables is max h. let one = has.2 closed tables is max h in (one.0, one.1, stop_stands now _ _ piece more fault.Memory one.2)))
-
 more_stored : (history : List Transaction) (p q c : ℕ) → p ≤ q → NothingBetween history p c → NothingBetween history q c
 more_stored [] p q c le nothing = tt
 more_stored (t ∷ history) p q c le nothing = ((λ changes by. let ends : t.end ≤ p = nothing.0 changes by in omega (arith, le, ends)), more_stored history p q c le nothing.1)
@@ -87,9 +52,12 @@ module _ {C : Type 0} (holds : C → Tables → Type 0) (place : C → ℕ) (now
   pub feed_over : (other : C) → Over (λ a. FeedStops holds place now d₀ a₀ piece a fault.Memory) other → FedOver (λ s. FeedsUntil holds place now old piece s fault.Memory) other
   feed_over other over = (record { applied = over.0; framing = framing_of d₀ true }, over.1, feeds_until holds place now piece d₀ d₀ a₀ over.0 closed old fault.Memory is refl same over.2)
 
-  pub feed_stands : (d : Deframed) (new : Applied C) → StandsAs place (λ a. FeedStops holds place now d₀ a₀ piece a fault.Memory) new
-      → StandsAsFed place (λ s. FeedsUntil holds place now old piece s fault.Memory) (record { applied = new; framing = framing_of d true })
-  feed_stands d new stands = (record { applied = stands.0; framing = framing_of d₀ true }, stands.1, feeds_until holds place now piece d₀ d₀ a₀ stands.0 closed old fault.Memory is refl same stands.2)
+  pub feed_stands : (d : Deframed) (new : Applied C) (f : Fault) → StandsAs place (λ a. FeedStops holds place now d₀ a₀ piece a f) new → StandsAsFed place (λ s. FeedsUntil holds place now old piece s f) (record { applied = new; framing = framing_of d true })
+  feed_stands d new f stands = (record { applied = stands.0; framing = framing_of d₀ true }, stands.1, feeds_until holds place now piece d₀ d₀ a₀ stands.0 closed old f is refl same stands.2)
+
+  -- want of memory might have stopped it there
+  pub feed_stands_memory : (d : Deframed) (new : Applied C) (f : Fault) → StandsAs place (λ a. FeedStops holds place now d₀ a₀ piece a f) new → StandsAsFed place (λ s. FeedsUntil holds place now old piece s fault.Memory) (record { applied = new; framing = framing_of d true })
+  feed_stands_memory d new f stands = feed_stands d new fault.Memory (stands.0, stands.1, for_memory holds place now d₀ a₀ piece stands.0 f stands.2)
 
 -- ---- pieces and sessions
 
@@ -106,8 +74,8 @@ module _ {C : Type 0} (serves : C → Type 0) (holds : C → Tables → Type 0) 
         leaves_then place reopens serves _ _ old.applied.store mid.applied.store new.applied.store before one served
         (λ other own has. (has.0, has.1, session_stops holds place now old mid has.0 pieces items same i piece fault.Memory lt is (so own) fed that has.2))
 
-    pub session_stands : serves mid.applied.store → StandsAsFed place (λ s. FeedsUntil holds place now mid fed s fault.Memory) new → StandsAsFed place (λ s. FeedsSessionUntil holds place now old all s fault.Memory) new
-    session_stands own stands = (stands.0, stands.1, session_stops holds place now old mid stands.0 pieces items same i piece fault.Memory lt is (so own) fed that stands.2)
+    pub session_stands : serves mid.applied.store → (f : Fault) → StandsAsFed place (λ s. FeedsUntil holds place now mid fed s f) new → StandsAsFed place (λ s. FeedsSessionUntil holds place now old all s f) new
+    session_stands own f stands = (stands.0, stands.1, session_stops holds place now old mid stands.0 pieces items same i piece f lt is (so own) fed that stands.2)
 
   module _ (sessions : List Session) (i : ℕ) (session : Session) (lt : i < length sessions) (is : session ≡ get_or sessions i session) (so : serves mid.applied.store → FeedsSessions holds place now old (bytes_of (take i sessions)) mid None) where
     pub leaves_sessions : LeavesOldOr place reopens serves (FedOver (λ s. FeedsSessions holds place now old (bytes_of sessions) s (Some fault.Memory))) old.applied.store mid.applied.store
@@ -117,9 +85,8 @@ module _ {C : Type 0} (serves : C → Type 0) (holds : C → Tables → Type 0) 
         leaves_then place reopens serves _ _ old.applied.store mid.applied.store new.applied.store before one served
         (λ other own has. (has.0, has.1, follows_stops holds place now old mid has.0 sessions i session fault.Memory lt is (so own) has.2))
 
-    pub sessions_stand : serves mid.applied.store → StandsAsFed place (λ s. FeedsSessionUntil holds place now mid (session_bytes session) s fault.Memory) new
-        → StandsAsFed place (λ s. FeedsSessions holds place now old (bytes_of sessions) s (Some fault.Memory)) new
-    sessions_stand own stands = (stands.0, stands.1, follows_stops holds place now old mid stands.0 sessions i session fault.Memory lt is (so own) stands.2)
+    pub sessions_stand : serves mid.applied.store → (f : Fault) → StandsAsFed place (λ s. FeedsSessionUntil holds place now mid (session_bytes session) s f) new → StandsAsFed place (λ s. FeedsSessions holds place now old (bytes_of sessions) s (Some f)) new
+    sessions_stand own f stands = (stands.0, stands.1, follows_stops holds place now old mid stands.0 sessions i session f lt is (so own) stands.2)
 
 -- ---- of a history
 
@@ -209,5 +176,5 @@ module _ {C : Type 0} (holds : C → Tables → Type 0) (place : C → ℕ) (now
         (λ other has. let so = has.2 in (has.0, has.1, record { pieces = so.pieces; are_read = record { each = so.are_read.each; read = kept_on a b c (bytes_in so.pieces) so.are_read.read next }; stops = so.stops }))
 
     pub read_stands : (reads reads' : ℕ) (mid : SubscriberValue C) (piece : List ℕ) → Pumps holds place now a b reads reads' old mid → Consumes b c piece → IsPiece piece
-        → StandsAsFed place (λ s. FeedsUntil holds place now mid piece s fault.Memory) new → StandsAsFed place (λ s. PumpsUntil holds place now a c old s fault.Memory) new
-    read_stands reads reads' mid piece so next is stands = (stands.0, stands.1, pumps_until holds place now a b c reads reads' old mid stands.0 piece fault.Memory so next is stands.2)
+        → (f : Fault) → StandsAsFed place (λ s. FeedsUntil holds place now mid piece s f) new → StandsAsFed place (λ s. PumpsUntil holds place now a c old s f) new
+    read_stands reads reads' mid piece so next is f stands = (stands.0, stands.1, pumps_until holds place now a b c reads reads' old mid stands.0 piece f so next is stands.2)

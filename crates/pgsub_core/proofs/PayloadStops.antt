@@ -15,7 +15,7 @@ use Rattle.pgwire.specs.declared.fault.WireFault.TheVariants as wire_fault
 use Rattle.pgapply.specs.Value.{Tables}
 use Rattle.pgsub_core.specs.declared.fault.Fault.{Fault}
 use Rattle.pgsub_core.specs.declared.fault.Fault.TheVariants as fault
-use Rattle.pgsub_core.specs.Stream.{Data}
+use Rattle.pgsub_core.specs.Stream.{Sent, Data}
 use Rattle.pgsub_core.specs.Subscribed.{Subscribed}
 use Rattle.pgsub_core.specs.Causes.{Cause, OutOfMemory, StatementRefused, HeaderTooLarge, ForeignBytes, NextMessage, NeverAnswered, cause}
 use Rattle.pgsub_core.specs.Applied.{Applied, subscribed, StopsAtMessage, IsKept, Stops}
@@ -89,3 +89,7 @@ module _ {C : Type 0} (holds : C → Tables → Type 0) (place : C → ℕ) (now
 
   pub payload_stops : (k : WireFault) → HasPayloadFault payload k → payload_at payload ≡ Err k → IsStopped holds place (StopsAt (CopyData payload) now) a a (fault.Wire k)
   payload_stops k has is = record { kept = unchanged place a; stays = λ tables h. h; why = λ framing tables h. at_payload (subscribed place framing a tables) k has is }
+
+-- where the store has shut, it is stopped as one over what was there before
+pub stops_here : {C : Type 0} (holds : C → Tables → Type 0) (place : C → ℕ) (now : ℤ) (m : Sent) (a b : Applied C) (f : Fault) → Stops holds place now m a b f → Stops holds place now m a a f
+stops_here holds place now m a b f stops = record { kept = unchanged place a; stays = λ tables h. h; why = stops.why }

@@ -24,6 +24,9 @@ use Rattle.pgwire.specs.declared.fault.WireFault.TheVariants as wire_fault
 use Rattle.pgwire.specs.Frames.{IsFramingFault}
 use Rattle.pgwire.proofs.Holding.{fault-append}
 use Rattle.pgsub_core.specs.Subscribed.{disconnect}
+use Rattle.pgapply.specs.declared.misses.Misses.{Misses}
+use Rattle.pgwire.proofs.Readings.{one_deframing}
+use Rattle.pgsub_core.specs.Counted.{decoded_counted, payload_counted, frame_counted, counted_behind, frames_counted, IsCountedWhole, IsCountedFront}
 use Rattle.pgsub_core.specs.Feeding.{IsFedWhole, IsFedUntil, IsCommitFrame, BeginsWith, StopsIn, done_frames}
 
 -- the same with these bytes waiting
@@ -325,3 +328,133 @@ nothing_fed now s = record {
   takes = refl;
   left = refl;
 }
+
+-- ---- what is counted of both
+
+payload_counted_over : (r : List ℕ) (s : Subscribed) (res : Result ServerMessage WireFault) (m : Misses) → payload_counted (wait r s) res m ≡ payload_counted s res m
+payload_counted_over r s (Ok (XLogData start end clock body)) m = by (message_at (is_in_block s.order.context) body)
+  where
+    by : (read : Result Message DecodeFault) → decoded_counted (wait r s) read m ≡ decoded_counted s read m
+    by (Ok message) = refl
+    by (Err k) = refl
+payload_counted_over r s (Ok (Keepalive end clock asks)) m = refl
+payload_counted_over r s (Err k) m = refl
+
+frame_counted_over : (r : List ℕ) (s : Subscribed) (f : Frame) (m : Misses) → frame_counted (wait r s) f m ≡ frame_counted s f m
+frame_counted_over r s (CopyData bytes) m = payload_counted_over r s (payload_at bytes) m
+frame_counted_over r s CopyDone m = refl
+
+behind_over : (r : List ℕ) (k : Subscribed → Misses) (m : Misses) → ((next : Subscribed) → k (wait r next) ≡ k next) → (o : Outcome Subscribed Fault) → counted_behind (over r o) k m ≡ counted_behind o k m
+behind_over r k m each (Running next) = each next
+behind_over r k m each (Stopped s why) = refl
+
+-- the bytes that wait have no say in it
+frames_counted_over : (now : ℤ) (r : List ℕ) (fs : List Frame) (s : Subscribed) (m : Misses) → frames_counted now (wait r s) fs m ≡ frames_counted now s fs m
+frames_counted_over now r [] s m = refl
+frames_counted_over now r (f ∷ fs) s m =
+    ap (λ (k : Misses). counted_behind (take_frame now (wait r s) f) (λ next. frames_counted now next fs k) k) (frame_counted_over r s f m)
+    ∙ ap (λ o. counted_behind o (λ next. frames_counted now next fs (frame_counted s f m)) (frame_counted s f m)) (frame_over now r s f)
+    ∙ behind_over r (λ next. frames_counted now next fs (frame_counted s f m)) (frame_counted s f m) (λ next. frames_counted_over now r fs next (frame_counted s f m)) (take_frame now s f)
+
+behind_both : (now : ℤ) (a b : List Frame) (mid : Subscribed) (m : Misses) (o : Outcome Subscribed Fault) → ((next : Subscribed) → take_frames now next a ≡ Running mid → frames_counted now next (a ++ b) m ≡ frames_counted now mid b (frames_counted now next a m))
+    → then_run o (λ next. take_frames now next a) ≡ Running mid → counted_behind o (λ next. frames_counted now next (a ++ b) m) m ≡ frames_counted now mid b (counted_behind o (λ next. frames_counted now next a m) m)
+behind_both now a b mid m (Running next) each e = each next e
+behind_both now a b mid m (Stopped s why) each e = absurd (cc)
+
+pub frames_counted-append : (now : ℤ) (a b : List Frame) (s mid : Subscribed) (m : Misses) → take_frames now s a ≡ Running mid → frames_counted now s (a ++ b) m ≡ frames_counted now mid b (frames_counted now s a m)
+frames_counted-append now [] b s mid m e = ap (λ (x : Subscribed). frames_counted now x b m) (let same : s ≡ mid = cc in same)
+frames_counted-append now (f ∷ a) b s mid m e = behind_both now a b mid (frame_counted s f m) (take_frame now s f) (λ next k. frames_counted-append now a b next mid (frame_counted s f m) k) e
+
+counted_two : (now : ℤ) (old : Subscribed) (p q : List ℕ) (x y : ℕ) (before between behind : Misses) (a : IsCountedWhole now old p x before between) → IsCountedWhole now (wait a.rest a.state) q y between behind
+    → IsCountedWhole now old (p ++ q) y before behind
+counted_two now old p q x y before between behind a b =
+    let through = running_of a.rest (take_frames now a.state b.fs) b.state (sym (frames_over now a.rest b.fs a.state) ∙ b.takes) in
+    let kept : Keeps (done_after old.copy_done a.fs) old (Running a.state) = subst (Keeps (done_after old.copy_done a.fs) old) a.takes (frames_keep now a.fs old) in
+    let D = done_frames old in
+    let next : a.rest ++ q ≡ frames b.fs ++ b.rest = without_done a.state.copy_done (a.rest ++ q) b.rest b.fs b.deframed.whole in
+    record {
+      fs = a.fs ++ b.fs;
+      rest = b.rest;
+      state = through.0;
+      deframed = record {
+        whole = ap (λ bs. frames D ++ bs) (sym (append_assoc old.partial p q)) ∙ sym (append_assoc (frames D) (old.partial ++ p) q) ∙ ap (λ bs. bs ++ q) a.deframed.whole
+            ∙ append_assoc (frames (D ++ a.fs)) a.rest q ∙ ap (λ bs. frames (D ++ a.fs) ++ bs) next ∙ sym (append_assoc (frames (D ++ a.fs)) (frames b.fs) b.rest)
+            ∙ ap (λ bs. bs ++ b.rest) (sym (frames_of_both (D ++ a.fs) b.fs) ∙ ap frames (append_assoc D a.fs b.fs));
+        each = frames_join old.max_frame old.copy_done a.fs b.fs a.deframed.each
+            (subst (λ d. AreFrames old.max_frame (front_of d ++ b.fs)) kept.1 (subst (λ n. AreFrames n (front_of a.state.copy_done ++ b.fs)) kept.0 b.deframed.each));
+        partial = subst (λ n. IsPartial n b.rest) kept.0 b.deframed.partial;
+        last = λ e. b.deframed.last (ap (λ d. has_copy_done (front_of d ++ b.fs)) kept.1 ∙ sym (done_join old.copy_done a.fs b.fs) ∙ e);
+      };
+      takes = take_frames-append now a.fs b.fs old ∙ ap (λ o. then_run o (λ s. take_frames now s b.fs)) a.takes ∙ through.1;
+      stands = b.stands ∙ ap (λ (s : Subscribed). s.position) (sym through.2);
+      counts = b.counts ∙ frames_counted_over now a.rest b.fs a.state between ∙ ap (frames_counted now a.state b.fs) a.counts ∙ sym (frames_counted-append now a.fs b.fs old a.state before a.takes);
+    }
+
+-- and where but a front of the second is counted
+front_two : (now : ℤ) (old : Subscribed) (p q : List ℕ) (x y : ℕ) (before between behind : Misses) (a : IsCountedWhole now old p x before between) → IsCountedFront now (wait a.rest a.state) q y between behind
+    → IsCountedFront now old (p ++ q) y before behind
+front_two now old p q x y before between behind a b =
+    let through = running_of a.rest (take_frames now a.state b.fs) b.state (sym (frames_over now a.rest b.fs a.state) ∙ b.takes) in
+    let kept : Keeps (done_after old.copy_done a.fs) old (Running a.state) = subst (Keeps (done_after old.copy_done a.fs) old) a.takes (frames_keep now a.fs old) in
+    let D = done_frames old in
+    let next : a.rest ++ q ≡ frames b.fs ++ b.rest = without_done a.state.copy_done (a.rest ++ q) b.rest b.fs b.whole in
+    record {
+      fs = a.fs ++ b.fs;
+      rest = b.rest;
+      state = through.0;
+      whole = ap (λ bs. frames D ++ bs) (sym (append_assoc old.partial p q)) ∙ sym (append_assoc (frames D) (old.partial ++ p) q) ∙ ap (λ bs. bs ++ q) a.deframed.whole
+          ∙ append_assoc (frames (D ++ a.fs)) a.rest q ∙ ap (λ bs. frames (D ++ a.fs) ++ bs) next ∙ sym (append_assoc (frames (D ++ a.fs)) (frames b.fs) b.rest)
+          ∙ ap (λ bs. bs ++ b.rest) (sym (frames_of_both (D ++ a.fs) b.fs) ∙ ap frames (append_assoc D a.fs b.fs));
+      each = frames_join old.max_frame old.copy_done a.fs b.fs a.deframed.each
+          (subst (λ d. AreFrames old.max_frame (front_of d ++ b.fs)) kept.1 (subst (λ n. AreFrames n (front_of a.state.copy_done ++ b.fs)) kept.0 b.each));
+      takes = take_frames-append now a.fs b.fs old ∙ ap (λ o. then_run o (λ s. take_frames now s b.fs)) a.takes ∙ through.1;
+      stands = b.stands ∙ ap (λ (s : Subscribed). s.position) (sym through.2);
+      counts = b.counts ∙ frames_counted_over now a.rest b.fs a.state between ∙ ap (frames_counted now a.state b.fs) a.counts ∙ sym (frames_counted-append now a.fs b.fs old a.state before a.takes);
+    }
+
+-- a front is one of longer bytes
+pub front_stands : (now : ℤ) (old : Subscribed) (p q : List ℕ) (position : ℕ) (before behind : Misses) → IsCountedFront now old p position before behind → IsCountedFront now old (p ++ q) position before behind
+front_stands now old p q position before behind c =
+    let D = done_frames old in
+    record {
+      fs = c.fs;
+      rest = c.rest ++ q;
+      state = c.state;
+      whole = ap (λ bs. frames D ++ bs) (sym (append_assoc old.partial p q)) ∙ sym (append_assoc (frames D) (old.partial ++ p) q) ∙ ap (λ bs. bs ++ q) c.whole ∙ append_assoc (frames (D ++ c.fs)) c.rest q;
+      each = c.each;
+      takes = c.takes;
+      stands = c.stands;
+      counts = c.counts;
+    }
+
+same_frames : (d : List Frame) (a b : List Frame) → d ++ a ≡ d ++ b → a ≡ b
+same_frames [] a b e = e
+same_frames (f ∷ d) a b e = same_frames d a b (cc)
+
+same_state : (o : Outcome Subscribed Fault) (a b : Subscribed) → o ≡ Running a → o ≡ Running b → a ≡ b
+same_state o a b x y = let same : ◌≡◌ {A = Outcome Subscribed Fault} (Running a) (Running b) = sym x ∙ y in cc
+
+pub one_count : (now : ℤ) (old : Subscribed) (piece : List ℕ) (p q : ℕ) (before a b : Misses) → IsCountedWhole now old piece p before a → IsCountedWhole now old piece q before b → (a ≡ b) × (p ≡ q)
+one_count now old piece p q before a b x y =
+    let one = one_deframing old.max_frame old.max_frame _ _ _ _ _ x.deframed y.deframed in
+    let fs = same_frames (done_frames old) x.fs y.fs one.0 in
+    let state = same_state (take_frames now old x.fs) x.state y.state x.takes (ap (take_frames now old) fs ∙ y.takes) in
+    (x.counts ∙ ap (λ (l : List Frame). frames_counted now old l before) fs ∙ sym y.counts, x.stands ∙ ap (λ (s : Subscribed). s.position) state ∙ sym y.stands)
+
+-- what is fed of a piece and what is counted of it end in one state
+fed_and_counted : (now : ℤ) (old mid : Subscribed) (piece : List ℕ) (p : ℕ) (before between : Misses) → IsFedWhole now old piece mid → (a : IsCountedWhole now old piece p before between) → mid ≡ wait a.rest a.state
+fed_and_counted now old mid piece p before between fed a =
+    let one = one_deframing old.max_frame old.max_frame _ _ _ _ _ fed.deframed a.deframed in
+    let fs = same_frames (done_frames old) fed.fs a.fs one.0 in
+    let state = same_state (take_frames now old fed.fs) fed.state a.state fed.takes (ap (take_frames now old) fs ∙ a.takes) in
+    fed.left ∙ ap (λ (s : Subscribed). wait fed.rest s) state ∙ ap (λ (r : List ℕ). wait r a.state) one.1
+
+pub counted_pieces : (now : ℤ) (old mid : Subscribed) (piece next : List ℕ) (p q : ℕ) (before between behind : Misses) → IsFedWhole now old piece mid → IsCountedWhole now old piece p before between → IsCountedWhole now mid next q between behind
+    → IsCountedWhole now old (piece ++ next) q before behind
+counted_pieces now old mid piece next p q before between behind fed a b =
+    counted_two now old piece next p q before between behind a (subst (λ (s : Subscribed). IsCountedWhole now s next q between behind) (fed_and_counted now old mid piece p before between fed a) b)
+
+pub front_pieces : (now : ℤ) (old mid : Subscribed) (piece next : List ℕ) (p q : ℕ) (before between behind : Misses) → IsFedWhole now old piece mid → IsCountedWhole now old piece p before between → IsCountedFront now mid next q between behind
+    → IsCountedFront now old (piece ++ next) q before behind
+front_pieces now old mid piece next p q before between behind fed a b =
+    front_two now old piece next p q before between behind a (subst (λ (s : Subscribed). IsCountedFront now s next q between behind) (fed_and_counted now old mid piece p before between fed a) b)

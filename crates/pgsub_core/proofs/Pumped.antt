@@ -19,7 +19,7 @@ use Rattle.pgsub_core.proofs.Pieces.{two_pieces, piece_then_stop, stays_open, no
 abbrev pub IsPiece : List ℕ → Type 0
 IsPiece piece = (0 < length piece) × (length piece ≤ 4096)
 
-nothing_read : (unread : Option (List ℕ)) → Consumes unread unread []
+pub nothing_read : (unread : Option (List ℕ)) → Consumes unread unread []
 nothing_read None = tt
 nothing_read (Some xs) = refl
 
@@ -72,13 +72,13 @@ module _ {C : Type 0} (holds : C → Tables → Type 0) (place : C → ℕ) (now
             (piece_then_stop now (seen place old tables) (seen place mid a.0) (seen place new b.0) bytes piece f a.2.1 (until_of now (seen place mid a.0) (seen place new b.0) piece f unclosed b.2)),
       )
 
-  pieces_and : (old mid new : SubscriberValue C) (pieces : List (List ℕ)) (piece : List ℕ) → FeedsPieces holds place now old pieces mid → Feeds holds place now mid piece new → FeedsPieces holds place now old (pieces ++ piece ∷ []) new
+  pub pieces_and : (old mid new : SubscriberValue C) (pieces : List (List ℕ)) (piece : List ℕ) → FeedsPieces holds place now old pieces mid → Feeds holds place now mid piece new → FeedsPieces holds place now old (pieces ++ piece ∷ []) new
   pieces_and old mid new [] piece same one =
       subst (λ (bytes : List ℕ). Feeds holds place now old bytes new) (sym (append-nil piece)) (subst (λ (s : SubscriberValue C). Feeds holds place now s piece new) same one)
   pieces_and old mid new (first ∷ pieces) piece so one =
       subst (λ (bytes : List ℕ). Feeds holds place now old bytes new) (sym (bytes_more (first ∷ pieces) piece)) (fed_and old mid new (bytes_in (first ∷ pieces)) piece so one)
 
-  pieces_stop : (old mid new : SubscriberValue C) (pieces : List (List ℕ)) (piece : List ℕ) (f : Fault) → FeedsPieces holds place now old pieces mid → FeedsUntil holds place now mid piece new f
+  pub pieces_stop : (old mid new : SubscriberValue C) (pieces : List (List ℕ)) (piece : List ℕ) (f : Fault) → FeedsPieces holds place now old pieces mid → FeedsUntil holds place now mid piece new f
       → FeedsUntil holds place now old (bytes_in (pieces ++ piece ∷ [])) new f
   pieces_stop old mid new [] piece f same one =
       subst (λ (bytes : List ℕ). FeedsUntil holds place now old bytes new f) (sym (append-nil piece)) (subst (λ (s : SubscriberValue C). FeedsUntil holds place now s piece new f) same one)

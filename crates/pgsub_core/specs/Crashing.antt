@@ -2,21 +2,15 @@
 -- PostgreSQL documentation, Logical Replication, Subscription: what a crash behind a call may leave of the store of a subscriber. A
 -- store that has shut counts too. What is left is told by what another subscriber is fed, one over the store that is left.
 use Rattle.std.specs.Prelude.{◌≡◌, ◌≤◌, ◌⊎◌, ℕ, List, Ok, max}
-use Rattle.pglogical.specs.declared.item.Item.{Item}
-use Rattle.pglogical.specs.declared.message.Message.{Message}
 use Rattle.pgorder.specs.declared.Version.{Version}
-use Rattle.pgorder.specs.declared.Event.{Event}
 use Rattle.pgapply.specs.Value.{Tables}
 use Rattle.pgsub_core.specs.History.{Transaction, IsHistory, tables_as_of}
-use Rattle.pgsub_core.specs.Stream.{Sent, kind}
-use Rattle.pgsub_core.specs.Replica.{RelationCache}
+use Rattle.pgsub_core.specs.Stream.{Sent}
 use Rattle.pgsub_core.specs.Safe.{NothingBetween}
 use Rattle.pgsub_core.specs.Sessions.{AreIncoming, starting_by}
 use Rattle.pgsub_core.specs.Subscribed.{progress_of, newly}
 use Rattle.pgsub_core.specs.Confirming.{AreSafeReplies}
-use Rattle.pgsub_core.specs.Committing.{Commits}
 use Rattle.pgsub_core.specs.Applied.{Applied, IsKept}
-use Rattle.pgsub_core.specs.Events.{EventGoes, StaysBeside, FindsRoom}
 use Rattle.pgsub_core.specs.Handled.{IsSent}
 use Rattle.pgsub_core.specs.SubscriberValue.{SubscriberValue, seen}
 
@@ -43,14 +37,6 @@ abbrev pub StandsAsFed : {C : Type 0} → (C → ℕ) → (SubscriberValue C →
 StandsAsFed {C} place fed new = (s : SubscriberValue C) × IsKept place s.applied new.applied × fed s
 
 module _ {C : Type 0} (holds : C → Tables → Type 0) (place : C → ℕ) where
-  -- a store that has taken the commit, or of which it is a repeat
-  abbrev pub HasCommit : ℕ → List Item → C → ℕ → RelationCache → C → Type 0
-  HasCommit end items old confirmed relations other = (confirmed' : ℕ) × (relations' : RelationCache) × Commits holds place end items old confirmed relations other confirmed' relations'
-
-  -- what has gone through with the event
-  abbrev pub HasEvent : Message → Event → Applied C → Applied C → Type 0
-  HasEvent m e old a = EventGoes holds place m e old a × StaysBeside old a × FindsRoom e old.limit old.held (kind m)
-
   -- What is left of a subscriber that followed sessions of a history: the history's rows up to where it stands. That is at least the
   -- subscriber's position, and every transaction that changes rows and ends by what is confirmed is among them.
   pub record IsLeftSafely (history : List Transaction) (new : SubscriberValue C) (other : C) : Type 0 where

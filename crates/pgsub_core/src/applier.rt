@@ -3,7 +3,7 @@
 //!
 //! PostgreSQL documentation, Streaming Replication Protocol; Logical Streaming Replication Protocol.
 
-ghost use Rattle.std.specs.Prelude.{◌≡◌, ◌≤◌, ◌⊎◌, ◌∷◌, ◌++◌, [], ℕ, ℤ, max, if◌then◌else◌, false, true, Ok, Err, OnOk, OnErr, IfOk, IfErr};
+ghost use Rattle.std.specs.Prelude.{◌≡◌, ◌<◌, ◌≤◌, ◌⊎◌, ◌∷◌, ◌++◌, [], ℕ, ℤ, max, if◌then◌else◌, false, true, Ok, Err, OnOk, OnErr, IfOk, IfErr};
 ghost use Rattle.std.specs.FinMap as map;
 ghost use Rattle.pglogical.specs.Lent.{message_value};
 ghost use Rattle.pglogical.specs.Reading.{message_at};
@@ -19,17 +19,18 @@ ghost use Rattle.pgsub_core.specs.Stream.{Data, Keepalive, kind};
 ghost use Rattle.pgsub_core.specs.ApplyState.{pushed};
 ghost use Rattle.pgsub_core.specs.Taking.{take};
 ghost use Rattle.pgsub_core.specs.Opened.{AreOpened, Fits, under_way_behind};
-ghost use Rattle.pgapply.specs.Taken.{Leaves, Stays, Shows};
+ghost use Rattle.pgapply.specs.Taken.{Begins, Leaves, LeavesStaged, Settles, Stays, Shows};
 ghost use Rattle.pgsub_core.specs.Applied.{Goes, Stops, IsKept, StaysBesideStore};
 ghost use Rattle.pgsub_core.specs.Committing.{Commits, RefusesCommit};
-ghost use Rattle.pgsub_core.specs.Crashing.{LeavesOldOr, HasCommit, HasEvent, Over};
+ghost use Rattle.pgsub_core.specs.Counted.{message_counted, decoded_counted, frame_counted, CountsCommit, CountsEvent, CountsBy};
+ghost use Rattle.pgsub_core.specs.Staging.{Rests, Grows, KeepsItsSettings, IsMark, GoesBack};
 ghost use Rattle.pgsub_core.specs.Events.{HasRoom, IsFull, FindsRoom, EventGoes, EventStops, StaysBeside};
 ghost use Rattle.pgsub_core.specs.Faults.{fault_of_decode, fault_of_order, fault_of_spool, IsOfFeeding, IsReadFault};
 
-use crate::committing::{commit, later, store_fault};
+use crate::committing::{Ending, about_of, commit, later, store_fault};
 use crate::fault::Fault;
 use bytes::BytesMut;
-use pgapply::{DumpRow, ReplicaStore};
+use pgapply::{DumpRow, Misses, ReplicaStore};
 use pglogical::{DecodeFault, MessageRef, Reason, decode_ref};
 use pglsn::Lsn;
 use pgorder::{Event, Order, OrderFault, Version};
@@ -38,6 +39,14 @@ use pgspool::{SpoolFault, Spools};
 use pgwire::{ServerMsg, Status, decode_server, encode_status};
 use std::alloc::Global;
 use std::marker::Model;
+
+/// What goes back where staged commits can't be settled: what was confirmed, received and replied before the first of them.
+#[derive(Clone, Copy)]
+pub(crate) struct Mark {
+    confirmed: Lsn,
+    received: Lsn,
+    replies: usize,
+}
 
 /// Applies the messages of a session to a store.
 #[derive(Drop)]
@@ -231,38 +240,135 @@ impl<P: Spools + Drop, C: ReplicaStore + Drop> Applier<P, C> {
         self.store.position()
     }
 
+    /// Drops what is staged in the store.
+    pub fn unstage(&mut self)
+        ensures beside { StaysBesideStore self.old self.new }
+        ensures reach { C.reach self.new.store ≡ C.place self.old.store }
+        ensures position { C.place self.new.store ≡ C.place self.old.store }
+        ensures unchanged { Stays C.holds self.old.store self.new.store }
+        ensures staged { Begins C.holds C.stages self.old.store self.new.store }
+        ensures settled { Settles C.holds C.stages self.new.store self.new.store }
+        ensures missed { C.missed self.new.store ≡ C.missed self.old.store }
+        ensures unstaged { C.stages_missed self.new.store ≡ C.missed self.old.store }
+        ensures serves { C.serves self.old.store → C.serves self.new.store }
+        ensures served { C.serves self.new.store → C.serves self.old.store }
+        ensures stays_honest { C.is_honest self.old.store → C.is_honest self.new.store }
+        ensures honest { C.is_honest self.new.store → C.is_honest self.old.store }
+        ensures crash { (other : C) → C.reopens self.new.store other →
+            C.reopens self.old.store other }
+    {
+        self.store.unstage();
+        // asking for it tells that nothing is staged beside what is held
+        let _reached = self.store.reached();
+    }
+
+    /// What goes back where the commits that are staged from now on can't be settled.
+    pub fn mark(&self) -> Mark
+        ensures { IsMark self.now result.confirmed result.received result.replies }
+    {
+        Mark {
+            confirmed: self.confirmed,
+            received: self.received,
+            replies: self.replies.as_slice().len(),
+        }
+    }
+
+    /// Whether nothing is staged.
+    pub fn is_settled(&self) -> bool
+        ensures settled { result ≡ true → C.reach self.now.store ≡ C.place self.now.store }
+        ensures held { result ≡ true → Settles C.holds C.stages self.now.store self.now.store }
+        ensures staged { result ≡ false → C.place self.now.store < C.reach self.now.store }
+    {
+        self.store.reached() <= self.store.position()
+    }
+
+    /// Settles what is staged. Where that fails, what was confirmed, received and replied is as at the mark.
+    pub fn settle(&mut self, mark: &Mark) -> Result<(), Fault>
+        ensures beside { OnOk result (StaysBesideStore self.old self.new) }
+        ensures back { OnErr result (GoesBack mark.now.confirmed mark.now.received
+            mark.now.replies self.old self.new) }
+        ensures settled { C.serves self.new.store → OnOk result
+            (Settles C.holds C.stages self.old.store self.new.store) }
+        ensures end { OnOk result (C.place self.new.store ≡ C.reach self.old.store) }
+        ensures leaves { C.serves self.new.store → OnOk result
+            (Leaves C.holds C.place C.reopens self.new.store) }
+        ensures unchanged { C.serves self.new.store → OnErr result
+            (Stays C.holds self.old.store self.new.store) }
+        ensures position { OnErr result (C.place self.new.store ≡ C.place self.old.store) }
+        ensures some { OnErr result (C.place self.old.store < C.reach self.old.store) }
+        ensures order { C.place self.old.store ≤ C.reach self.old.store }
+        ensures nothing { C.reach self.old.store ≡ C.place self.old.store →
+            self.new.store ≡ self.old.store }
+        ensures fault { IfErr result IsReadFault }
+        ensures counts { OnOk result (C.missed self.new.store ≡ C.stages_missed self.old.store) }
+        ensures uncounted { OnErr result (C.missed self.new.store ≡ C.missed self.old.store) }
+        ensures served { C.serves self.new.store → C.serves self.old.store }
+        ensures open { C.is_honest self.new.store →
+            C.place self.old.store < C.reach self.old.store →
+            OnOk result (C.serves self.new.store) }
+        ensures honest { C.is_honest self.new.store → C.is_honest self.old.store }
+        ensures crash { C.is_honest self.new.store → (other : C) →
+            C.reopens self.new.store other → C.reopens self.old.store other
+            ⊎ (C.serves self.old.store
+            × LeavesStaged C.holds C.place C.stages C.reach self.old.store other) }
+    {
+        // asking for it tells that it is no lower than the position
+        let _reached = self.store.reached();
+        match self.store.settle() {
+            Ok(()) => {
+                // asking for it tells what a crash leaves from now on
+                let _position = self.store.position();
+                Ok(())
+            }
+            Err(fault) => {
+                self.confirmed = mark.confirmed;
+                self.received = mark.received;
+                self.replies.truncate(mark.replies);
+                Err(store_fault(fault))
+            }
+        }
+    }
+
     // Commits a transaction, whose items are buffered no longer.
-    fn commit(&mut self, xid: u32, end: Lsn) -> Result<(), Fault>
+    fn commit(&mut self, ending: Ending) -> Result<(), Fault>
         ensures taken { C.serves self.new.store →
-            OnOk result (Commits C.holds C.place end
-            (items_of (held_of self.old.held xid)) self.old.store self.old.confirmed
+            OnOk result (Commits C.stages C.reach ending.end
+            (items_of (held_of self.old.held ending.xid)) self.old.store self.old.confirmed
             self.old.relations self.new.store self.new.confirmed self.new.relations) }
         ensures refused { C.serves self.new.store →
-            IfErr result (RefusesCommit C.holds C.place end
-            (items_of (held_of self.old.held xid)) self.old.store self.old.confirmed
+            IfErr result (RefusesCommit C.stages C.reach ending.end
+            (items_of (held_of self.old.held ending.xid)) self.old.store self.old.confirmed
             self.old.relations self.new.store) }
+        ensures why { C.is_honest self.new.store → C.serves self.old.store →
+            IfErr result (RefusesCommit C.stages C.reach ending.end
+            (items_of (held_of self.old.held ending.xid)) self.old.store self.old.confirmed
+            self.old.relations self.old.store) }
+        ensures counts { C.serves self.new.store →
+            OnOk result (CountsCommit C.stages C.reach C.stages_missed ending.end
+            (items_of (held_of self.old.held ending.xid)) self.old.store self.old.confirmed
+            self.old.relations self.new.store) }
+        ensures uncounted { OnErr result (C.stages_missed self.new.store
+            ≡ C.stages_missed self.old.store) }
+        ensures missed { C.missed self.new.store ≡ C.missed self.old.store }
         ensures own { IfErr result IsOfFeeding }
-        ensures held { OnOk result (self.new.held ≡ map.remove self.old.held xid) }
+        ensures held { OnOk result (self.new.held ≡ map.remove self.old.held ending.xid) }
         ensures beside { StaysBeside self.old self.new }
-        ensures kept { OnErr result (IsKept C.place self.old self.new) }
+        ensures kept { OnErr result (IsKept C.reach self.old self.new) }
         ensures served { C.serves self.new.store → C.serves self.old.store }
         ensures open { C.is_honest self.new.store → C.serves self.old.store →
             OnOk result (C.serves self.new.store) }
         ensures honest { C.is_honest self.new.store → C.is_honest self.old.store }
-        ensures crash { C.is_honest self.new.store →
-            LeavesOldOr C.place C.reopens C.serves
-            (HasCommit C.holds C.place end
-            (items_of (held_of self.old.held xid)) self.old.store self.old.confirmed
-            self.old.relations) self.old.store self.new.store }
+        ensures rests { Rests C.holds C.place C.reopens C.serves C.is_honest self.old.store
+            self.new.store }
     {
+        let xid = ending.xid;
         let confirmed = commit(
             self.alloc,
             &mut self.book,
             &self.spools,
             &mut self.store,
             self.confirmed,
-            xid,
-            end,
+            ending,
         )?;
         self.confirmed = confirmed;
         self.spools.drop_xid(xid);
@@ -274,26 +380,32 @@ impl<P: Spools + Drop, C: ReplicaStore + Drop> Applier<P, C> {
         requires fits { Fits self.old.held event }
         requires spellable { IsSpellableMessage (message_value message.now) }
         ensures goes { C.serves self.new.store →
-            OnOk result (EventGoes C.holds C.place
+            OnOk result (EventGoes C.stages C.reach
             (message_value message.now) event self.old self.new) }
         ensures room { OnOk result (FindsRoom event self.old.limit self.old.held
             (kind (message_value message.now))) }
         ensures opened { OnOk result ((x : ℕ) → map.contains_key self.new.held x
             ≡ under_way_behind event (map.contains_key self.old.held) x) }
         ensures refused { C.serves self.new.store →
-            IfErr result (EventStops C.holds C.place
+            IfErr result (EventStops C.stages C.reach
             (message_value message.now) event self.old self.new) }
+        ensures why { C.is_honest self.new.store → C.serves self.old.store →
+            IfErr result (EventStops C.stages C.reach
+            (message_value message.now) event self.old self.old) }
+        ensures counts { C.serves self.new.store →
+            OnOk result (CountsEvent C.stages C.reach C.stages_missed event self.old self.new) }
+        ensures uncounted { OnErr result (C.stages_missed self.new.store
+            ≡ C.stages_missed self.old.store) }
+        ensures missed { C.missed self.new.store ≡ C.missed self.old.store }
         ensures own { IfErr result IsOfFeeding }
         ensures beside { StaysBeside self.old self.new }
-        ensures kept { OnErr result (IsKept C.place self.old self.new) }
+        ensures kept { OnErr result (IsKept C.reach self.old self.new) }
         ensures served { C.serves self.new.store → C.serves self.old.store }
         ensures open { C.is_honest self.new.store → C.serves self.old.store →
             OnOk result (C.serves self.new.store) }
         ensures honest { C.is_honest self.new.store → C.is_honest self.old.store }
-        ensures crash { C.is_honest self.new.store →
-            LeavesOldOr C.place C.reopens C.serves
-            (Over (HasEvent C.holds C.place (message_value message.now) event self.old))
-            self.old.store self.new.store }
+        ensures rests { Rests C.holds C.place C.reopens C.serves C.is_honest self.old.store
+            self.new.store }
     {
         match event {
             Event::Ignore | Event::Reopen { .. } | Event::Close => Ok(()),
@@ -308,7 +420,8 @@ impl<P: Spools + Drop, C: ReplicaStore + Drop> Applier<P, C> {
                 Ok(())
             }
             Event::CommitPair { xid, end, .. } | Event::CommitStream { xid, end, .. } => {
-                self.commit(xid, end)
+                let about = about_of(message, xid);
+                self.commit(Ending { xid, end, about })
             }
         }
     }
@@ -326,24 +439,32 @@ impl<P: Spools + Drop, C: ReplicaStore + Drop> Applier<P, C> {
         requires opened { AreOpened self.old.order self.old.held }
         ensures takes { C.serves self.new.store →
             OnOk result ((now clock : ℤ) →
-            Goes C.holds C.place (λ s. take now s
+            Goes C.stages C.reach (λ s. take now s
             (Data start end clock (message_value message.now))) self.old self.new) }
         ensures opened { OnOk result (AreOpened self.new.order self.new.held) }
+        ensures silent { self.new.replies ≡ self.old.replies }
+        ensures settings { KeepsItsSettings self.old self.new }
         ensures refused { C.serves self.new.store →
             IfErr result (λ fault. (now clock : ℤ) →
-            Stops C.holds C.place now (Data start end clock (message_value message.now)) self.old
+            Stops C.stages C.reach now (Data start end clock (message_value message.now)) self.old
             self.new fault) }
+        ensures why { C.is_honest self.new.store → C.serves self.old.store →
+            IfErr result (λ fault. (now clock : ℤ) →
+            Stops C.stages C.reach now (Data start end clock (message_value message.now)) self.old
+            self.old fault) }
+        ensures counts { C.serves self.new.store →
+            OnOk result (CountsBy C.stages C.reach C.stages_missed
+            (λ s. message_counted s (message_value message.now)) self.old self.new) }
+        ensures uncounted { OnErr result (C.stages_missed self.new.store
+            ≡ C.stages_missed self.old.store) }
+        ensures missed { C.missed self.new.store ≡ C.missed self.old.store }
         ensures own { IfErr result IsOfFeeding }
-        ensures kept { OnErr result (IsKept C.place self.old self.new) }
+        ensures kept { OnErr result (IsKept C.reach self.old self.new) }
         ensures served { C.serves self.new.store → C.serves self.old.store }
         ensures open { C.is_honest self.new.store → C.serves self.old.store →
             OnOk result (C.serves self.new.store) }
         ensures honest { C.is_honest self.new.store → C.is_honest self.old.store }
-        ensures crash { C.is_honest self.new.store →
-            LeavesOldOr C.place C.reopens C.serves
-            (λ other. (now clock : ℤ) → Over
-            (Goes C.holds C.place (λ s. take now s
-            (Data start end clock (message_value message.now))) self.old) other) self.old.store
+        ensures rests { Rests C.holds C.place C.reopens C.serves C.is_honest self.old.store
             self.new.store }
     {
         let event = match self.order.step(message) {
@@ -359,22 +480,31 @@ impl<P: Spools + Drop, C: ReplicaStore + Drop> Applier<P, C> {
     pub fn take_payload(&mut self, payload: &[u8], now: i64) -> Result<(), Fault>
         requires opened { AreOpened self.old.order self.old.held }
         ensures takes { C.serves self.new.store →
-            OnOk result (FramesGo C.holds C.place now
+            OnOk result (FramesGo C.stages C.reach now
             (CopyData payload.now ∷ []) self.old self.new) }
         ensures refused { C.serves self.new.store →
-            IfErr result (IsStopped C.holds C.place
+            IfErr result (IsStopped C.stages C.reach
             (StopsAt (CopyData payload.now) now) self.old self.new) }
+        ensures why { C.is_honest self.new.store → C.serves self.old.store →
+            IfErr result (IsStopped C.stages C.reach
+            (StopsAt (CopyData payload.now) now) self.old self.old) }
+        ensures counts { C.serves self.new.store →
+            OnOk result (CountsBy C.stages C.reach C.stages_missed
+            (λ s. frame_counted s (CopyData payload.now)) self.old self.new) }
+        ensures uncounted { OnErr result (C.stages_missed self.new.store
+            ≡ C.stages_missed self.old.store) }
+        ensures missed { C.missed self.new.store ≡ C.missed self.old.store }
         ensures own { IfErr result IsOfFeeding }
+        ensures grows { Grows self.old.replies self.new.replies }
+        ensures settings { KeepsItsSettings self.old self.new }
         ensures opened { OnOk result (AreOpened self.new.order self.new.held) }
-        ensures kept { OnErr result (IsKept C.place self.old self.new) }
+        ensures kept { OnErr result (IsKept C.reach self.old self.new) }
         ensures served { C.serves self.new.store → C.serves self.old.store }
         ensures open { C.is_honest self.new.store → C.serves self.old.store →
             OnOk result (C.serves self.new.store) }
         ensures honest { C.is_honest self.new.store → C.is_honest self.old.store }
-        ensures crash { C.is_honest self.new.store →
-            LeavesOldOr C.place C.reopens C.serves
-            (Over (FramesGo C.holds C.place now (CopyData payload.now ∷ []) self.old))
-            self.old.store self.new.store }
+        ensures rests { Rests C.holds C.place C.reopens C.serves C.is_honest self.old.store
+            self.new.store }
     {
         let message = match decode_server(payload) {
             Ok(message) => message,
@@ -396,25 +526,34 @@ impl<P: Spools + Drop, C: ReplicaStore + Drop> Applier<P, C> {
         requires opened { AreOpened self.old.order self.old.held }
         ensures takes { C.serves self.new.store →
             OnOk result ((m : Message) × (message_at (is_in_block self.old.order.context) body.now
-            ≡ Ok m) × ((now clock : ℤ) → Goes C.holds C.place
+            ≡ Ok m) × ((now clock : ℤ) → Goes C.stages C.reach
             (λ s. take now s (Data start end clock m)) self.old self.new)) }
         ensures refused { C.serves self.new.store →
             IfErr result (λ f. (now clock : ℤ) →
-            IsStopped C.holds C.place (StopsAtBody now start end clock body.now) self.old self.new
+            IsStopped C.stages C.reach (StopsAtBody now start end clock body.now) self.old self.new
             f) }
+        ensures why { C.is_honest self.new.store → C.serves self.old.store →
+            IfErr result (λ f. (now clock : ℤ) →
+            IsStopped C.stages C.reach (StopsAtBody now start end clock body.now) self.old self.old
+            f) }
+        ensures counts { C.serves self.new.store →
+            OnOk result (CountsBy C.stages C.reach C.stages_missed
+            (λ s. decoded_counted s (message_at (is_in_block s.order.context) body.now)) self.old
+            self.new) }
+        ensures uncounted { OnErr result (C.stages_missed self.new.store
+            ≡ C.stages_missed self.old.store) }
+        ensures missed { C.missed self.new.store ≡ C.missed self.old.store }
         ensures own { IfErr result IsOfFeeding }
+        ensures silent { self.new.replies ≡ self.old.replies }
+        ensures settings { KeepsItsSettings self.old self.new }
         ensures opened { OnOk result (AreOpened self.new.order self.new.held) }
-        ensures kept { OnErr result (IsKept C.place self.old self.new) }
+        ensures kept { OnErr result (IsKept C.reach self.old self.new) }
         ensures served { C.serves self.new.store → C.serves self.old.store }
         ensures open { C.is_honest self.new.store → C.serves self.old.store →
             OnOk result (C.serves self.new.store) }
         ensures honest { C.is_honest self.new.store → C.is_honest self.old.store }
-        ensures crash { C.is_honest self.new.store →
-            LeavesOldOr C.place C.reopens C.serves
-            (λ other. (m : Message) × (message_at (is_in_block self.old.order.context) body.now
-            ≡ Ok m) × ((now clock : ℤ) → Over
-            (Goes C.holds C.place (λ s. take now s (Data start end clock m)) self.old) other))
-            self.old.store self.new.store }
+        ensures rests { Rests C.holds C.place C.reopens C.serves C.is_honest self.old.store
+            self.new.store }
     {
         match decode_ref(body, self.order.in_block()) {
             Ok(message) => self.take_message(&message, start, end),
@@ -426,10 +565,12 @@ impl<P: Spools + Drop, C: ReplicaStore + Drop> Applier<P, C> {
     fn take_keepalive(&mut self, end: Lsn, reply: bool, now: i64) -> Result<(), Fault>
         requires opened { AreOpened self.old.order self.old.held }
         ensures takes { OnOk result ((clock : ℤ) →
-            Goes C.holds C.place (λ s. take now s (Keepalive end clock reply)) self.old self.new) }
+            Goes C.stages C.reach (λ s. take now s (Keepalive end clock reply)) self.old self.new) }
+        ensures grows { Grows self.old.replies self.new.replies }
+        ensures settings { KeepsItsSettings self.old self.new }
         ensures memory { IfErr result (λ f. f ≡ Fault.Memory) }
         ensures opened { OnOk result (AreOpened self.new.order self.new.held) }
-        ensures kept { OnErr result (IsKept C.place self.old self.new) }
+        ensures kept { OnErr result (IsKept C.reach self.old self.new) }
         ensures store { self.new.store ≡ self.old.store }
     {
         let confirmed = confirmed_by(self.order.is_outside(), self.confirmed, end);
@@ -501,11 +642,19 @@ impl<P: Spools + Drop, C: ReplicaStore + Drop> Applier<P, C> {
         append_reply(true, &status, &mut self.replies)
     }
 
+    /// How many changes of taken commits found no row.
+    pub fn misses(&self) -> Misses
+        ensures { result ≡ C.missed self.now.store }
+    {
+        self.store.misses()
+    }
+
     /// All rows of the store. Nothing changes.
     pub fn rows(&mut self) -> Result<Vec<DumpRow>, Fault>
         ensures rows { C.serves self.new.store →
             IfOk result (λ rows. Shows C.holds self.old.store rows.items) }
         ensures unchanged { C.serves self.new.store → Stays C.holds self.old.store self.new.store }
+        ensures missed { C.missed self.new.store ≡ C.missed self.old.store }
         ensures kept { IsKept C.place self.old self.new }
         ensures beside { StaysBesideStore self.old self.new }
         ensures fault { C.is_honest self.new.store → IfErr result IsReadFault }

@@ -5,7 +5,7 @@
 ghost use Rattle.std.specs.Prelude.{◌≡◌, ◌≢◌, ◌↔◌, ◌<◌, ◌≤◌, None, Err, false, true, length, take, OnOk, IfErr, IfSome};
 ghost use Rattle.std.specs.Io.KnownBytes.{Consumes, IsAtEnd, Keeps};
 ghost use Rattle.pgsub_core.specs.Crashing.{LeavesOldOr, FedOver, StandsAsFed};
-ghost use Rattle.pgsub_core.specs.Pumping.{IsReadOut, Pumps, PumpsUntil};
+ghost use Rattle.pgsub_core.specs.Pumping.{IsReadOut, Pumps, PumpsUntil, PumpsCounted, PumpsCountedUntil};
 
 use crate::fault::Fault;
 use crate::subscriber::Subscriber;
@@ -71,6 +71,9 @@ impl<R: Read + Drop> Source<R> {
 /// Whatever a crash behind the call may leave of the store could be left before it, and the position is as it was; or it is as after some
 /// front of the frames that were read, and stands no lower than the position (`crash`). That holds where the store has shut, too.
 ///
+/// Of the frames that were read, each change that finds no row is counted, once its commit is stored (`counts`, `failed_counts`); behind a
+/// fault of feeding them, of those with which the position is reached (`counts_refused`).
+///
 /// # Errors
 ///
 /// `Fault::Read` exactly if a read failed: the subscriber is then as after the pieces before, and goes on with the bytes that come
@@ -99,6 +102,18 @@ pub fn pump<R: Read + Drop, P: Spools + Drop, C: ReplicaStore + Drop>(
         IfErr result (λ fault. fault ≢ Fault.Read →
         PumpsUntil C.holds C.place now (R.remaining source.old.reader)
         (R.remaining source.new.reader) subscriber.old subscriber.new fault) }
+    ensures counts { C.serves subscriber.new.applied.store →
+        OnOk result (PumpsCounted C.holds C.place C.missed now (R.remaining source.old.reader)
+        (R.remaining source.new.reader) source.old.reads source.new.reads subscriber.old
+        subscriber.new) }
+    ensures failed_counts { C.serves subscriber.new.applied.store → result ≡ Err Fault.Read →
+        PumpsCounted C.holds C.place C.missed now (R.remaining source.old.reader)
+        (R.remaining source.new.reader) source.old.reads source.new.reads subscriber.old
+        subscriber.new }
+    ensures counts_refused { C.serves subscriber.new.applied.store →
+        subscriber.old.framing.closed ≡ false → IfErr result (λ fault. fault ≢ Fault.Read →
+        PumpsCountedUntil C.holds C.place C.missed now (R.remaining source.old.reader)
+        (R.remaining source.new.reader) subscriber.old subscriber.new fault) }
     ensures served { C.serves subscriber.new.applied.store → C.serves subscriber.old.applied.store }
     ensures still_serves { C.is_honest subscriber.new.applied.store →
         C.serves subscriber.old.applied.store →
@@ -113,6 +128,11 @@ pub fn pump<R: Read + Drop, P: Spools + Drop, C: ReplicaStore + Drop>(
         IfErr result (λ fault. fault ≢ Fault.Read →
         StandsAsFed C.place (λ s. PumpsUntil C.holds C.place now (R.remaining source.old.reader)
         (R.remaining source.new.reader) subscriber.old s Fault.Memory) subscriber.new) }
+    ensures why { C.is_honest subscriber.new.applied.store →
+        C.serves subscriber.old.applied.store → subscriber.old.framing.closed ≡ false →
+        IfErr result (λ fault. fault ≢ Fault.Read →
+        StandsAsFed C.place (λ s. PumpsUntil C.holds C.place now (R.remaining source.old.reader)
+        (R.remaining source.new.reader) subscriber.old s fault) subscriber.new) }
     ensures crash { C.is_honest subscriber.new.applied.store →
         LeavesOldOr C.place C.reopens C.serves
         (FedOver (λ s. PumpsUntil C.holds C.place now (R.remaining source.old.reader)

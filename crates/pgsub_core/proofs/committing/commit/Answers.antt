@@ -1,88 +1,92 @@
-use Rattle.std.proofs.Common.{◌≡◌, ◌<◌, inl, inr, true, false, max, refl, ap, ◌∙◌, arith}
+use Rattle.std.proofs.Common.{◌≡◌, ◌<◌, true, false, refl, arith}
 use Rattle.std.specs.Prelude.{nat_lt}
 use Rattle.std.proofs.lemmas.Bool.Decides.{nat_tests}
 use Rattle.pgspool.specs.Labels.{items_of, held_of}
 use Rattle.pgsub_core.proofs.DescribedChanges.{on_residual}
-use Rattle.pgsub_core.proofs.Crashes.{has_commit}
+use Rattle.pgsub_core.proofs.Marks.{rests_same}
 use Rattle.pgsub_core.proofs.Commits.{commits_again, commits_changes, refuses_work, refuses_undescribed}
 use Rattle.pgsub_core.proofs.committing.commit.Goals as goal
 
 pub returns-then-le-clause-taken : goal.returns-then-le-clause-taken
 returns-then-le-clause-taken g c serves =
-    let items = items_of (held_of (g.P.Spools.held c.args.spools.now) c.args.xid) in
+    let items = items_of (held_of (g.P.Spools.held c.args.spools.now) c.args.ending.xid) in
     let test = c.if-le.true in
     let below = c.le.ensures in
-    let standing = c.position.ensures.position in
-    let not_below : nat_lt (g.C.ReplicaStore.place c.args.store.now) c.args.end ≡ false = grind (arith, nat_tests) in
-    commits_again g.C.ReplicaStore.holds g.C.ReplicaStore.place c.args.end items c.args.store.now c.args.store.now c.args.confirmed c.args.book.now c.cache_relations.new.book not_below c.in_ok-cache_relations.ensures.cached
+    let standing = c.reached.ensures.reach in
+    let not_below : nat_lt (g.C.ReplicaStore.reach c.args.store.now) c.args.ending.end ≡ false = grind (arith, nat_tests) in
+    commits_again g.C.ReplicaStore.stages g.C.ReplicaStore.reach c.args.ending.end items c.args.store.now c.args.store.now c.args.confirmed c.args.book.now c.cache_relations.new.book not_below c.in_ok-cache_relations.ensures.cached
 
 pub returns-in_err-work-clause-refused : goal.returns-in_err-work-clause-refused
 returns-in_err-work-clause-refused g c serves =
-    let items = items_of (held_of (g.P.Spools.held c.args.spools.now) c.args.xid) in
+    let items = items_of (held_of (g.P.Spools.held c.args.spools.now) c.args.ending.xid) in
     let test = c.if-le.false in
     let below = c.le.ensures in
-    let standing = c.position.ensures.position in
-    let lt : nat_lt (g.C.ReplicaStore.place c.args.store.now) c.args.end ≡ true = grind (arith, nat_tests) in
+    let standing = c.reached.ensures.reach in
+    let lt : nat_lt (g.C.ReplicaStore.reach c.args.store.now) c.args.ending.end ≡ true = grind (arith, nat_tests) in
     on_residual c.from_residual-in_err-work.result c.in_err-work.field-0.0 _ c.from_residual-in_err-work.ensures.1
-    (refuses_undescribed g.C.ReplicaStore.holds g.C.ReplicaStore.place c.args.end items c.args.store.now c.args.store.now c.args.confirmed c.args.book.now c.args.book.now lt c.in_err-work.field-0.0 c.in_err-work.ensures.refused)
+    (refuses_undescribed g.C.ReplicaStore.stages g.C.ReplicaStore.reach c.args.ending.end items c.args.store.now c.args.store.now c.args.confirmed c.args.book.now c.args.book.now lt c.in_err-work.field-0.0 c.in_err-work.ensures.refused)
 
 pub returns-in-Ok-clause-taken : goal.returns-in-Ok-clause-taken
 returns-in-Ok-clause-taken g c serves =
-    let items = items_of (held_of (g.P.Spools.held c.args.spools.now) c.args.xid) in
+    let items = items_of (held_of (g.P.Spools.held c.args.spools.now) c.args.ending.xid) in
     let test = c.if-le.false in
     let below = c.le.ensures in
-    let standing = c.position.ensures.position in
-    let lt : nat_lt (g.C.ReplicaStore.place c.args.store.now) c.args.end ≡ true = grind (arith, nat_tests) in
-    commits_changes g.C.ReplicaStore.holds g.C.ReplicaStore.place c.args.end items c.args.store.now c.take.new.self c.args.confirmed c.args.book.now c.describe.new.book lt c.later.result c.in_ok-work.work.changes
-    c.in_ok-work.ensures.changes c.in_ok-work.ensures.cached (c.in-Ok.ensures.taken serves) c.in-Ok.ensures.end (c.later.ensures ∙ ap (max c.args.confirmed) (c.position-in-Ok.ensures.position ∙ c.in-Ok.ensures.end))
+    let standing = c.reached.ensures.reach in
+    let lt : nat_lt (g.C.ReplicaStore.reach c.args.store.now) c.args.ending.end ≡ true = grind (arith, nat_tests) in
+    commits_changes g.C.ReplicaStore.stages g.C.ReplicaStore.reach c.args.ending.end items c.args.store.now c.stage.new.self c.args.confirmed c.args.book.now c.describe.new.book lt c.later.result c.in_ok-work.work.changes
+    c.in_ok-work.ensures.changes c.in_ok-work.ensures.cached (c.in-Ok.ensures.staged serves) c.in-Ok.ensures.end c.later.ensures
 
 pub returns-clause-refused : goal.returns-clause-refused
 returns-clause-refused g c serves =
-    let items = items_of (held_of (g.P.Spools.held c.args.spools.now) c.args.xid) in
+    let items = items_of (held_of (g.P.Spools.held c.args.spools.now) c.args.ending.xid) in
     let test = c.if-le.false in
     let below = c.le.ensures in
-    let standing = c.position.ensures.position in
-    let lt : nat_lt (g.C.ReplicaStore.place c.args.store.now) c.args.end ≡ true = grind (arith, nat_tests) in
-    let less : g.C.ReplicaStore.place c.args.store.now < c.args.end = grind (arith, nat_tests) in
+    let standing = c.reached.ensures.reach in
+    let lt : nat_lt (g.C.ReplicaStore.reach c.args.store.now) c.args.ending.end ≡ true = grind (arith, nat_tests) in
+    let less : g.C.ReplicaStore.reach c.args.store.now < c.args.ending.end = grind (arith, nat_tests) in
     rw c.store_fault.ensures.fault
-    (refuses_work g.C.ReplicaStore.holds g.C.ReplicaStore.place c.args.end items c.args.store.now c.take.new.self c.args.confirmed c.args.book.now c.describe.new.book lt less c.in_ok-work.work.changes c.in-Err.fault
-    c.in_ok-work.ensures.changes (c.in-Err.ensures.unchanged serves) (c.in-Err.ensures.fault serves))
+    (refuses_work g.C.ReplicaStore.stages g.C.ReplicaStore.reach c.args.ending.end items c.args.store.now c.stage.new.self c.args.confirmed c.args.book.now c.describe.new.book lt less c.in_ok-work.work.changes c.in-Err.fault
+    c.in_ok-work.ensures.changes (c.in-Err.ensures.undone serves) (c.in-Err.ensures.fault serves))
 
-pub returns-in-Ok-clause-crash : goal.returns-in-Ok-clause-crash
-returns-in-Ok-clause-crash g c honest other left =
-    let it = g.C.ReplicaStore in
-    let items = items_of (held_of (g.P.Spools.held c.args.spools.now) c.args.xid) in
-    let serves = c.in-Ok.ensures.open honest in
-    let leaves = c.position-in-Ok.ensures.contains serves other left in
-    let same = leaves.1 in
-    inr (
-      c.take.ensures.served serves,
-      omega (arith, same),
-      has_commit it.holds it.place c.args.end items c.args.store.now c.args.confirmed c.args.book.now c.take.new.self other c.later.result c.describe.new.book (returns-in-Ok-clause-taken g c serves) leaves.0 same,
-    )
-
-pub returns-clause-crash : goal.returns-clause-crash
-returns-clause-crash g c honest other left =
-    let it = g.C.ReplicaStore in
-    let items = items_of (held_of (g.P.Spools.held c.args.spools.now) c.args.xid) in
+pub returns-in_err-work-clause-why : goal.returns-in_err-work-clause-why
+returns-in_err-work-clause-why g c honest serves =
+    let items = items_of (held_of (g.P.Spools.held c.args.spools.now) c.args.ending.xid) in
     let test = c.if-le.false in
     let below = c.le.ensures in
-    let standing = c.position.ensures.position in
-    let lt : nat_lt (it.place c.args.store.now) c.args.end ≡ true = grind (arith, nat_tests) in
-    let less : it.place c.args.store.now < c.args.end = grind (arith, nat_tests) in
-    let stays = c.in-Err.ensures.position in
-    elim (c.take.ensures.crash honest other left) [
-      | inl was ↦ inl (was, stays)
-      | inr fold ↦
-          let at = fold.1.1 in
-          inr (
-            fold.0,
-            omega (arith, less, stays, at),
-            (
-              max c.args.confirmed c.args.end,
-              c.describe.new.book,
-              commits_changes it.holds it.place c.args.end items c.args.store.now other c.args.confirmed c.args.book.now c.describe.new.book lt (max c.args.confirmed c.args.end) c.in_ok-work.work.changes
-                  c.in_ok-work.ensures.changes c.in_ok-work.ensures.cached fold.1.0 at refl,
-            ),
-          )
-    ]
+    let standing = c.reached.ensures.reach in
+    let lt : nat_lt (g.C.ReplicaStore.reach c.args.store.now) c.args.ending.end ≡ true = grind (arith, nat_tests) in
+    on_residual c.from_residual-in_err-work.result c.in_err-work.field-0.0 _ c.from_residual-in_err-work.ensures.1
+    (refuses_undescribed g.C.ReplicaStore.stages g.C.ReplicaStore.reach c.args.ending.end items c.args.store.now c.args.store.now c.args.confirmed c.args.book.now c.args.book.now lt c.in_err-work.field-0.0 c.in_err-work.ensures.refused)
+
+pub returns-clause-why : goal.returns-clause-why
+returns-clause-why g c honest serves =
+    let items = items_of (held_of (g.P.Spools.held c.args.spools.now) c.args.ending.xid) in
+    let test = c.if-le.false in
+    let below = c.le.ensures in
+    let standing = c.reached.ensures.reach in
+    let lt : nat_lt (g.C.ReplicaStore.reach c.args.store.now) c.args.ending.end ≡ true = grind (arith, nat_tests) in
+    let less : g.C.ReplicaStore.reach c.args.store.now < c.args.ending.end = grind (arith, nat_tests) in
+    rw c.store_fault.ensures.fault
+    (refuses_work g.C.ReplicaStore.stages g.C.ReplicaStore.reach c.args.ending.end items c.args.store.now c.args.store.now c.args.confirmed c.args.book.now c.describe.new.book lt less c.in_ok-work.work.changes c.in-Err.fault
+    c.in_ok-work.ensures.changes (λ tables h. h) (c.in-Err.ensures.why honest serves))
+
+pub returns-then-le-clause-rests : goal.returns-then-le-clause-rests
+returns-then-le-clause-rests g c =
+    let it = g.C.ReplicaStore in
+    rests_same it.holds it.place it.reopens it.serves it.is_honest c.args.store.now c.args.store.now refl
+
+pub returns-then-le-clause-counts : goal.returns-then-le-clause-counts
+returns-then-le-clause-counts g c serves tables h =
+    let test = c.if-le.true in
+    let below = c.le.ensures in
+    let standing = c.reached.ensures.reach in
+    let not_below : nat_lt (g.C.ReplicaStore.reach c.args.store.now) c.args.ending.end ≡ false = grind (arith, nat_tests) in
+    rw not_below refl
+
+pub returns-in-Ok-clause-counts : goal.returns-in-Ok-clause-counts
+returns-in-Ok-clause-counts g c serves tables h =
+    let test = c.if-le.false in
+    let below = c.le.ensures in
+    let standing = c.reached.ensures.reach in
+    let lt : nat_lt (g.C.ReplicaStore.reach c.args.store.now) c.args.ending.end ≡ true = grind (arith, nat_tests) in
+    rw (lt, c.in_ok-work.ensures.changes) (c.in-Ok.ensures.counts serves tables h)

@@ -1,4 +1,7 @@
 use Rattle.std.proofs.Common.{ℤ, None, Some, refl, subst, take_all}
+use Rattle.pgsub_core.proofs.CountedSessions.{no_session, counts_one_more, counts_each, counts_stop_in}
+use Rattle.pgsub_core.proofs.MissedSessions.{front_history, whole_history}
+use Rattle.pgsub_core.specs.Counted.{CountsSessions, CountsSessionsFront}
 use Rattle.pgsub_core.specs.declared.fault.Fault.TheVariants as fault
 use Rattle.pgsub_core.specs.Crashing.{LeavesOldOr, FedOver, StandsAsFed}
 use Rattle.pgsub_core.proofs.Crashes.{leaves_same}
@@ -8,6 +11,7 @@ use Rattle.std.proofs.lemmas.Int.{to_z-of_z}
 use Rattle.pgsub_core.specs.Handled.{fault_in}
 use Rattle.pgsub_core.specs.Subscribed.{bytes_of}
 use Rattle.pgsub_core.specs.Following.{FeedsSessions}
+use Rattle.pgsub_core.proofs.DescribedChanges.{if_err, on_residual}
 use Rattle.pgsub_core.proofs.FollowSteps.{none_followed, follows_more, follows_stops, follows_whole, follows, answers_fault}
 use Rattle.pgsub_core.proofs.following.follow.Goals as goal
 
@@ -18,6 +22,7 @@ loop-session-init g c = (
   λ honest. honest,
   λ honest serves. serves,
   λ honest. leaves_same g.C.ReplicaStore.place g.C.ReplicaStore.reopens g.C.ReplicaStore.serves _ c.args.subscriber.now.applied.store c.args.subscriber.now.applied.store refl,
+  λ serves. no_session g.C.ReplicaStore.holds g.C.ReplicaStore.place g.C.ReplicaStore.missed c.args.now c.args.subscriber.now,
 )
 
 pub loop-session-preserved : goal.loop-session-preserved
@@ -29,6 +34,8 @@ loop-session-preserved g c = (
   λ honest serves. c.in_ok-follow_session.ensures.still_serves honest (c.loop-session.invariant.3 (c.follow_session.ensures.honest honest) serves),
   λ honest. leaves_sessions g.C.ReplicaStore.serves g.C.ReplicaStore.holds g.C.ReplicaStore.place g.C.ReplicaStore.reopens _ c.args.subscriber.now c.loop-session.subscriber c.follow_session.new.subscriber c.loop-session.invariant.1 c.args.sessions.now
       c.loop-session.session-index c.session-item.result c.loop-session-test.true c.session-item.is c.loop-session.invariant.0 (c.loop-session.invariant.4 (c.follow_session.ensures.honest honest)) (c.follow_session.ensures.left honest),
+  λ serves. counts_one_more g.C.ReplicaStore.holds g.C.ReplicaStore.place g.C.ReplicaStore.missed _ c.args.subscriber.now c.loop-session.subscriber c.follow_session.new.subscriber c.args.sessions.now c.loop-session.session-index c.session-item.result c.loop-session-test.true c.session-item.is
+      (c.loop-session.invariant.5 (c.follow_session.ensures.served serves)) (c.in_ok-follow_session.ensures.fed serves) (c.in_ok-follow_session.ensures.counts serves),
 )
 
 pub returns-clause-fed : goal.returns-clause-fed
@@ -74,7 +81,26 @@ returns-in_err-follow_session-clause-stands g c honest serves =
     on_err c.from_residual.result _
     (subst (λ (z : ℤ). StandsAsFed it.place (λ s. FeedsSessions it.holds it.place z c.args.subscriber.now (bytes_of c.args.sessions.now) s (Some fault.Memory)) c.follow_session.new.subscriber) (to_z-of_z w64 c.args.now c.ranges.now)
     (sessions_stand it.serves it.holds it.place it.reopens _ c.args.subscriber.now c.loop-session.subscriber c.follow_session.new.subscriber c.loop-session.invariant.1 c.args.sessions.now
-    c.loop-session.session-index c.session-item.result c.loop-session-test.true c.session-item.is c.loop-session.invariant.0 own (c.in_err-follow_session.ensures.stands honest own)))
+    c.loop-session.session-index c.session-item.result c.loop-session-test.true c.session-item.is c.loop-session.invariant.0 own fault.Memory (c.in_err-follow_session.ensures.stands honest own)))
+
+pub returns-in_err-follow_session-clause-stopped : goal.returns-in_err-follow_session-clause-stopped
+returns-in_err-follow_session-clause-stopped g c honest serves =
+    let it = g.C.ReplicaStore in
+    let own = c.loop-session.invariant.3 (c.follow_session.ensures.honest honest) serves in
+    let f = c.in_err-follow_session.field-0.0 in
+    on_residual c.from_residual.result f _ c.from_residual.ensures.1
+    (subst (λ (z : ℤ). StandsAsFed it.place (λ s. FeedsSessions it.holds it.place z c.args.subscriber.now (bytes_of c.args.sessions.now) s (Some f)) c.follow_session.new.subscriber) (to_z-of_z w64 c.args.now c.ranges.now)
+    (sessions_stand it.serves it.holds it.place it.reopens _ c.args.subscriber.now c.loop-session.subscriber c.follow_session.new.subscriber c.loop-session.invariant.1 c.args.sessions.now
+    c.loop-session.session-index c.session-item.result c.loop-session-test.true c.session-item.is c.loop-session.invariant.0 own f (c.in_err-follow_session.ensures.why honest own)))
+
+pub returns-in_err-follow_session-clause-why : goal.returns-in_err-follow_session-clause-why
+returns-in_err-follow_session-clause-why g c honest serves =
+    let it = g.C.ReplicaStore in
+    if_err c.from_residual.result _ _ (returns-in_err-follow_session-clause-stopped g c honest serves) (λ f stands. (
+      stands.0,
+      stands.1,
+      follows it.holds it.place c.args.now c.args.subscriber.now stands.0 (bytes_of c.args.sessions.now) (Some f) stands.2,
+    ))
 
 pub returns-clause-crash : goal.returns-clause-crash
 returns-clause-crash g c honest serves =
@@ -88,6 +114,33 @@ returns-in_err-follow_session-clause-crash g c honest serves =
     let own = c.loop-session.invariant.3 (c.follow_session.ensures.honest honest) serves in
     let stands = subst (λ (z : ℤ). StandsAsFed it.place (λ s. FeedsSessions it.holds it.place z c.args.subscriber.now (bytes_of c.args.sessions.now) s (Some fault.Memory)) c.follow_session.new.subscriber) (to_z-of_z w64 c.args.now c.ranges.now)
     (sessions_stand it.serves it.holds it.place it.reopens _ c.args.subscriber.now c.loop-session.subscriber c.follow_session.new.subscriber c.loop-session.invariant.1 c.args.sessions.now
-    c.loop-session.session-index c.session-item.result c.loop-session-test.true c.session-item.is c.loop-session.invariant.0 own (c.in_err-follow_session.ensures.stands honest own)) in
+    c.loop-session.session-index c.session-item.result c.loop-session-test.true c.session-item.is c.loop-session.invariant.0 own fault.Memory (c.in_err-follow_session.ensures.stands honest own)) in
     leaves_history it.serves it.holds it.place it.reopens c.args.now c.args.subscriber.now c.follow_session.new.subscriber (bytes_of c.args.sessions.now) (returns-in_err-follow_session-clause-left g c honest) (c.position-start.ensures.contains serves)
     (confirms_standing it.serves it.holds it.place it.reopens c.args.now c.args.subscriber.now c.follow_session.new.subscriber (bytes_of c.args.sessions.now) stands)
+
+pub returns-clause-counts : goal.returns-clause-counts
+returns-clause-counts g c serves =
+    let it = g.C.ReplicaStore in
+    subst (λ (z : ℤ). CountsSessions it.holds it.place it.missed z c.args.subscriber.now (bytes_of c.args.sessions.now) c.loop-session.subscriber) (to_z-of_z w64 c.args.now c.ranges.now)
+    (counts_each it.holds it.place it.missed _ c.args.subscriber.now c.loop-session.subscriber c.args.sessions.now c.loop-session.session-index
+    (take_all c.loop-session.session-index c.args.sessions.now c.loop-session-test.false) (c.loop-session.invariant.5 serves))
+
+pub returns-clause-missed : goal.returns-clause-missed
+returns-clause-missed g c serves =
+    let it = g.C.ReplicaStore in
+    whole_history it.holds it.place it.missed c.args.now c.args.subscriber.now c.loop-session.subscriber (bytes_of c.args.sessions.now) (returns-clause-counts g c serves)
+
+pub returns-in_err-follow_session-clause-counts_refused : goal.returns-in_err-follow_session-clause-counts_refused
+returns-in_err-follow_session-clause-counts_refused g c serves =
+    let it = g.C.ReplicaStore in
+    on_err c.from_residual.result _
+    (subst (λ (z : ℤ). CountsSessionsFront it.holds it.place it.missed z c.args.subscriber.now (bytes_of c.args.sessions.now) c.follow_session.new.subscriber) (to_z-of_z w64 c.args.now c.ranges.now)
+    (counts_stop_in it.holds it.place it.missed _ c.args.subscriber.now c.loop-session.subscriber c.follow_session.new.subscriber c.args.sessions.now c.loop-session.session-index c.session-item.result c.loop-session-test.true c.session-item.is
+    (c.loop-session.invariant.5 (c.follow_session.ensures.served serves)) (c.in_err-follow_session.ensures.counts_refused serves)))
+
+pub returns-in_err-follow_session-clause-missed : goal.returns-in_err-follow_session-clause-missed
+returns-in_err-follow_session-clause-missed g c serves =
+    let it = g.C.ReplicaStore in
+    front_history it.holds it.place it.missed _ c.args.subscriber.now c.follow_session.new.subscriber (bytes_of c.args.sessions.now)
+    (counts_stop_in it.holds it.place it.missed _ c.args.subscriber.now c.loop-session.subscriber c.follow_session.new.subscriber c.args.sessions.now c.loop-session.session-index c.session-item.result c.loop-session-test.true c.session-item.is
+    (c.loop-session.invariant.5 (c.follow_session.ensures.served serves)) (c.in_err-follow_session.ensures.counts_refused serves))

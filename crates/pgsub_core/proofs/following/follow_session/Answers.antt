@@ -2,6 +2,8 @@ use Rattle.std.proofs.Common.{◌≡◌, ℕ, ℤ, List, take, sym, ap, subst, t
 use Rattle.std.specs.FinMap as map
 use Rattle.std.specs.Int.{w64}
 use Rattle.std.proofs.lemmas.Int.{to_z-of_z}
+use Rattle.pgsub_core.proofs.CountedSessions.{counts_start, counts_more, counts_all, counts_stop}
+use Rattle.pgsub_core.specs.Counted.{CountsSession, CountsSessionFront}
 use Rattle.pgsub_core.specs.declared.fault.Fault.TheVariants as fault
 use Rattle.pgsub_core.specs.Subscribed.{Subscribed, session_bytes}
 use Rattle.pgsub_core.specs.Crashing.{LeavesOldOr, FedOver, StandsAsFed}
@@ -20,6 +22,7 @@ loop-piece-init g c = (
   λ honest. subst g.C.ReplicaStore.is_honest c.disconnect.ensures.store honest,
   λ honest serves. subst g.C.ReplicaStore.serves (sym c.disconnect.ensures.store) serves,
   λ honest. leaves_same g.C.ReplicaStore.place g.C.ReplicaStore.reopens g.C.ReplicaStore.serves _ c.args.subscriber.now.applied.store c.disconnect.new.self.applied.store c.disconnect.ensures.store,
+  λ serves. counts_start g.C.ReplicaStore.holds g.C.ReplicaStore.place g.C.ReplicaStore.missed _ c.args.subscriber.now c.disconnect.new.self c.disconnect.ensures.store,
 )
 
 pub loop-piece-preserved : goal.loop-piece-preserved
@@ -32,6 +35,8 @@ loop-piece-preserved g c = (
   λ honest serves. c.in_ok-feed.ensures.still_serves honest (c.loop-piece.invariant.4 (c.feed.ensures.honest honest) serves),
   λ honest. leaves_pieces g.C.ReplicaStore.serves g.C.ReplicaStore.holds g.C.ReplicaStore.place g.C.ReplicaStore.reopens _ c.args.subscriber.now c.loop-piece.subscriber c.feed.new.self c.loop-piece.invariant.1 c.args.session.now.pieces c.as_slice-piece-items.result.now c.as_slice-piece-items.ensures
       c.loop-piece.piece-index c.piece-item.result c.loop-piece-test.true c.piece-item.is c.loop-piece.invariant.0 c.as_slice.result.now c.as_slice.ensures (c.loop-piece.invariant.5 (c.feed.ensures.honest honest)) (c.feed.ensures.crash honest),
+  λ serves. counts_more g.C.ReplicaStore.holds g.C.ReplicaStore.place g.C.ReplicaStore.missed _ c.args.subscriber.now c.loop-piece.subscriber c.feed.new.self c.args.session.now.pieces c.as_slice-piece-items.result.now c.as_slice-piece-items.ensures c.loop-piece.piece-index c.piece-item.result c.loop-piece-test.true c.piece-item.is
+      (c.loop-piece.invariant.0 (c.feed.ensures.served serves)) (c.loop-piece.invariant.6 (c.feed.ensures.served serves)) c.as_slice.result.now c.as_slice.ensures (c.in_ok-feed.ensures.counts serves),
 )
 
 pub returns-clause-fed : goal.returns-clause-fed
@@ -69,4 +74,29 @@ returns-in_err-feed-clause-stands g c honest serves =
     on_err c.from_residual.result _
     (subst (λ (z : ℤ). StandsAsFed it.place (λ s. FeedsSessionUntil it.holds it.place z c.args.subscriber.now (session_bytes c.args.session.now) s fault.Memory) c.feed.new.self) (to_z-of_z w64 c.args.now c.ranges.now)
     (session_stands it.serves it.holds it.place it.reopens _ c.args.subscriber.now c.loop-piece.subscriber c.feed.new.self c.loop-piece.invariant.1 c.args.session.now.pieces c.as_slice-piece-items.result.now c.as_slice-piece-items.ensures
-    c.loop-piece.piece-index c.piece-item.result c.loop-piece-test.true c.piece-item.is c.loop-piece.invariant.0 c.as_slice.result.now c.as_slice.ensures own (c.in_err-feed.ensures.stands honest own c.loop-piece.invariant.2)))
+    c.loop-piece.piece-index c.piece-item.result c.loop-piece-test.true c.piece-item.is c.loop-piece.invariant.0 c.as_slice.result.now c.as_slice.ensures own fault.Memory (c.in_err-feed.ensures.stands honest own c.loop-piece.invariant.2)))
+
+pub returns-in_err-feed-clause-why : goal.returns-in_err-feed-clause-why
+returns-in_err-feed-clause-why g c honest serves =
+    let it = g.C.ReplicaStore in
+    let own = c.loop-piece.invariant.4 (c.feed.ensures.honest honest) serves in
+    let f = c.in_err-feed.field-0.0 in
+    on_residual c.from_residual.result f _ c.from_residual.ensures.1
+    (subst (λ (z : ℤ). StandsAsFed it.place (λ s. FeedsSessionUntil it.holds it.place z c.args.subscriber.now (session_bytes c.args.session.now) s f) c.feed.new.self) (to_z-of_z w64 c.args.now c.ranges.now)
+    (session_stands it.serves it.holds it.place it.reopens _ c.args.subscriber.now c.loop-piece.subscriber c.feed.new.self c.loop-piece.invariant.1 c.args.session.now.pieces c.as_slice-piece-items.result.now c.as_slice-piece-items.ensures
+    c.loop-piece.piece-index c.piece-item.result c.loop-piece-test.true c.piece-item.is c.loop-piece.invariant.0 c.as_slice.result.now c.as_slice.ensures own f (c.in_err-feed.ensures.why honest own c.loop-piece.invariant.2)))
+
+pub returns-clause-counts : goal.returns-clause-counts
+returns-clause-counts g c serves =
+    let it = g.C.ReplicaStore in
+    subst (λ (z : ℤ). CountsSession it.holds it.place it.missed z c.args.subscriber.now (session_bytes c.args.session.now) c.loop-piece.subscriber) (to_z-of_z w64 c.args.now c.ranges.now)
+    (counts_all it.holds it.place it.missed _ c.args.subscriber.now c.loop-piece.subscriber c.args.session.now.pieces c.loop-piece.piece-index
+    (subst (λ (xs : List (List ℕ)). take c.loop-piece.piece-index xs ≡ xs) c.as_slice-piece-items.ensures (take_all c.loop-piece.piece-index c.as_slice-piece-items.result.now c.loop-piece-test.false)) (c.loop-piece.invariant.6 serves))
+
+pub returns-in_err-feed-clause-counts_refused : goal.returns-in_err-feed-clause-counts_refused
+returns-in_err-feed-clause-counts_refused g c serves =
+    let it = g.C.ReplicaStore in
+    on_err c.from_residual.result _
+    (subst (λ (z : ℤ). CountsSessionFront it.holds it.place it.missed z c.args.subscriber.now (session_bytes c.args.session.now) c.feed.new.self) (to_z-of_z w64 c.args.now c.ranges.now)
+    (counts_stop it.holds it.place it.missed _ c.args.subscriber.now c.loop-piece.subscriber c.feed.new.self c.args.session.now.pieces c.as_slice-piece-items.result.now c.as_slice-piece-items.ensures c.loop-piece.piece-index c.piece-item.result c.loop-piece-test.true c.piece-item.is
+    (c.loop-piece.invariant.0 (c.feed.ensures.served serves)) (c.loop-piece.invariant.6 (c.feed.ensures.served serves)) c.as_slice.result.now c.as_slice.ensures (c.in_err-feed.ensures.counts_refused serves c.loop-piece.invariant.2)))

@@ -1,5 +1,6 @@
 use Rattle.std.proofs.Common.{◌≡◌, ℕ, List, false, take}
 use Rattle.std.specs.List.{flat_map}
+use Rattle.pgsub_core.specs.Counted.{CountsSession}
 use Rattle.pgsub_core.specs.declared.fault.Fault.TheVariants as fault
 use Rattle.pgsub_core.specs.Subscribed.{session_bytes}
 use Rattle.pgsub_core.specs.Following.{FeedsSession, FeedsSessionUntil}
@@ -17,3 +18,5 @@ invariant-loop-piece g l =
     × (g.C.ReplicaStore.is_honest l.subscriber.applied.store
     → LeavesOldOr g.C.ReplicaStore.place g.C.ReplicaStore.reopens g.C.ReplicaStore.serves (FedOver (λ s. FeedsSessionUntil g.C.ReplicaStore.holds g.C.ReplicaStore.place l.fn.now l.fn.subscriber (session_bytes l.session) s fault.Memory))
     l.fn.subscriber.applied.store l.subscriber.applied.store)
+    × (g.C.ReplicaStore.serves l.subscriber.applied.store
+    → CountsSession g.C.ReplicaStore.holds g.C.ReplicaStore.place g.C.ReplicaStore.missed l.fn.now l.fn.subscriber (flat_map (λ (piece : List ℕ). piece) (take l.piece-index l.session.pieces)) l.subscriber)

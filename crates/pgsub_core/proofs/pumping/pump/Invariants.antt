@@ -1,7 +1,7 @@
 use Rattle.std.proofs.Common.{◌-◌, ◌≡◌, false, length}
 use Rattle.pgsub_core.specs.declared.fault.Fault.TheVariants as fault
 use Rattle.pgsub_core.specs.Crashing.{LeavesOldOr, FedOver}
-use Rattle.pgsub_core.specs.Pumping.{Pumps, PumpsUntil}
+use Rattle.pgsub_core.specs.Pumping.{Pumps, PumpsUntil, PumpsCounted}
 use Rattle.pgsub_core.proofs.pumping.pump.Given as goal
 
 abbrev pub invariant-loop-source : goal.invariant-loop-source
@@ -17,6 +17,8 @@ invariant-loop-source g l =
     × (g.C.ReplicaStore.is_honest l.subscriber.applied.store
     → LeavesOldOr g.C.ReplicaStore.place g.C.ReplicaStore.reopens g.C.ReplicaStore.serves
     (FedOver (λ s. PumpsUntil g.C.ReplicaStore.holds g.C.ReplicaStore.place l.fn.now (g.R.Read.remaining l.fn.source.reader) (g.R.Read.remaining l.source.reader) l.fn.subscriber s fault.Memory)) l.fn.subscriber.applied.store l.subscriber.applied.store)
+    × (g.C.ReplicaStore.serves l.subscriber.applied.store
+    → PumpsCounted g.C.ReplicaStore.holds g.C.ReplicaStore.place g.C.ReplicaStore.missed l.fn.now (g.R.Read.remaining l.fn.source.reader) (g.R.Read.remaining l.source.reader) l.fn.source.reads l.source.reads l.fn.subscriber l.subscriber)
 
 abbrev pub decreases-loop-source : goal.decreases-loop-source
 decreases-loop-source g l = 18446744073709551615 - l.source.reads

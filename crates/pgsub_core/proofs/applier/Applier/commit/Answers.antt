@@ -2,22 +2,16 @@ use Rattle.std.proofs.Common.{subst}
 use Rattle.pgspool.specs.Labels.{items_of, held_of}
 use Rattle.pgsub_core.specs.Applied.{Applied}
 use Rattle.pgsub_core.specs.Committing.{Commits}
-use Rattle.pgsub_core.specs.Crashing.{LeavesOldOr, HasCommit}
+use Rattle.pgsub_core.specs.Counted.{CountsCommit}
 use Rattle.pgsub_core.proofs.applier.Applier.commit.Goals as goal
 
 pub returns-clause-taken : goal.returns-clause-taken
 returns-clause-taken g c serves =
-    subst (λ (a : Applied g.row.C.Denot). Commits g.C.ReplicaStore.holds g.C.ReplicaStore.place c.args.end (items_of (held_of a.held c.args.xid)) a.store a.confirmed a.relations c.commit.new.store c.in_ok-confirmed.confirmed c.commit.new.book) c.self.view_is
+    subst (λ (a : Applied g.row.C.Denot). Commits g.C.ReplicaStore.stages g.C.ReplicaStore.reach c.args.ending.end (items_of (held_of a.held c.args.ending.xid)) a.store a.confirmed a.relations c.commit.new.store c.in_ok-confirmed.confirmed c.commit.new.book) c.self.view_is
     (c.in_ok-confirmed.ensures.taken serves)
 
-pub returns-in_err-confirmed-clause-crash : goal.returns-in_err-confirmed-clause-crash
-returns-in_err-confirmed-clause-crash g c honest =
+pub returns-clause-counts : goal.returns-clause-counts
+returns-clause-counts g c serves =
     let it = g.C.ReplicaStore in
-    subst (λ (a : Applied g.row.C.Denot). LeavesOldOr it.place it.reopens it.serves (HasCommit it.holds it.place c.args.end (items_of (held_of a.held c.args.xid)) a.store a.confirmed a.relations) a.store c.commit.new.store) c.self.view_is
-    (c.commit.ensures.crash honest)
-
-pub returns-clause-crash : goal.returns-clause-crash
-returns-clause-crash g c honest =
-    let it = g.C.ReplicaStore in
-    subst (λ (a : Applied g.row.C.Denot). LeavesOldOr it.place it.reopens it.serves (HasCommit it.holds it.place c.args.end (items_of (held_of a.held c.args.xid)) a.store a.confirmed a.relations) a.store c.commit.new.store) c.self.view_is
-    (c.commit.ensures.crash honest)
+    subst (λ (a : Applied g.row.C.Denot). CountsCommit it.stages it.reach it.stages_missed c.args.ending.end (items_of (held_of a.held c.args.ending.xid)) a.store a.confirmed a.relations c.commit.new.store) c.self.view_is
+    (c.in_ok-confirmed.ensures.counts serves)

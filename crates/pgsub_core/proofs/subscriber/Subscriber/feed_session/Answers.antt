@@ -1,11 +1,13 @@
-use Rattle.std.proofs.Common.{ℤ, take, refl, sym, ap, subst, ◌∙◌}
+use Rattle.std.proofs.Common.{ℤ, take, refl, sym, ap, subst, ◌∙◌, true}
 use Rattle.pgsub_core.specs.SubscriberValue.{SubscriberValue}
 use Rattle.std.specs.Int.{w64}
 use Rattle.std.proofs.lemmas.Int.{to_z-of_z}
-use Rattle.pgsub_core.specs.Framing.{FeedGoes, FeedStops}
+use Rattle.pgsub_core.specs.Framing.{framing_of, FeedGoes, FeedStops}
 use Rattle.pgsub_core.specs.Crashing.{LeavesOldOr, FedOver, Over, StandsAs}
+use Rattle.pgsub_core.specs.Counted.{FeedCounts, FeedCountsFront}
+use Rattle.pgsub_core.proofs.CountedPieces.{feeds_counted, feeds_counted_front}
 use Rattle.pgsub_core.proofs.Crashes.{leaves_as}
-use Rattle.pgsub_core.proofs.LeftPieces.{feed_over, feed_stands}
+use Rattle.pgsub_core.proofs.LeftPieces.{feed_over, feed_stands, feed_stands_memory}
 use Rattle.pgsub_core.specs.declared.fault.Fault.TheVariants as fault
 use Rattle.pgsub_core.specs.SubscriberValue.{FeedsUntil}
 use Rattle.pgsub_core.proofs.Starting.{feeds, feeds_until}
@@ -50,6 +52,28 @@ returns-in-Err-clause-crash_refused g c honest =
 pub returns-in-Err-clause-stands : goal.returns-in-Err-clause-stands
 returns-in-Err-clause-stands g c honest serves unclosed =
     let it = g.C.ReplicaStore in
-    feed_stands it.holds it.place c.args.now c.args.piece.now c.self.inside.deframer c.self.inside.applier c.self.inside.closed c.args.self.now c.if-self.false c.self.view_is c.take_piece.new.deframer c.take_piece.new.applier
-    (subst (λ (z : ℤ). StandsAs it.place (λ a. FeedStops it.holds it.place z c.self.inside.deframer c.self.inside.applier c.args.piece.now a fault.Memory) c.take_piece.new.applier) (to_z-of_z w64 c.args.now c.ranges.now)
-    (c.in-Err.ensures.stands honest (subst (λ (x : SubscriberValue g.row.C.Denot). it.serves x.applied.store) (sym c.self.view_is) serves)))
+    feed_stands_memory it.holds it.place c.args.now c.args.piece.now c.self.inside.deframer c.self.inside.applier c.self.inside.closed c.args.self.now c.if-self.false c.self.view_is c.take_piece.new.deframer c.take_piece.new.applier c.in-Err.fault
+    (subst (λ (z : ℤ). StandsAs it.place (λ a. FeedStops it.holds it.place z c.self.inside.deframer c.self.inside.applier c.args.piece.now a c.in-Err.fault) c.take_piece.new.applier) (to_z-of_z w64 c.args.now c.ranges.now)
+    (c.in-Err.ensures.why honest (subst (λ (x : SubscriberValue g.row.C.Denot). it.serves x.applied.store) (sym c.self.view_is) serves)))
+
+pub returns-in-Err-clause-why : goal.returns-in-Err-clause-why
+returns-in-Err-clause-why g c honest serves unclosed =
+    let it = g.C.ReplicaStore in
+    feed_stands it.holds it.place c.args.now c.args.piece.now c.self.inside.deframer c.self.inside.applier c.self.inside.closed c.args.self.now c.if-self.false c.self.view_is c.take_piece.new.deframer c.take_piece.new.applier c.in-Err.fault
+    (subst (λ (z : ℤ). StandsAs it.place (λ a. FeedStops it.holds it.place z c.self.inside.deframer c.self.inside.applier c.args.piece.now a c.in-Err.fault) c.take_piece.new.applier) (to_z-of_z w64 c.args.now c.ranges.now)
+    (c.in-Err.ensures.why honest (subst (λ (x : SubscriberValue g.row.C.Denot). it.serves x.applied.store) (sym c.self.view_is) serves)))
+
+pub returns-in-Ok-clause-counts : goal.returns-in-Ok-clause-counts
+returns-in-Ok-clause-counts g c serves =
+    let it = g.C.ReplicaStore in
+    let part = take c.in-Ok.taken c.args.piece.now in
+    feeds_counted it.holds it.place it.missed c.args.now part c.self.inside.deframer c.self.inside.applier c.self.inside.closed c.args.self.now (record { applied = c.take_piece.new.applier; framing = framing_of c.take_piece.new.deframer true }) c.self.view_is
+    (subst (λ (z : ℤ). FeedCounts it.holds it.place it.missed z c.self.inside.deframer c.self.inside.applier part c.take_piece.new.applier.store) (to_z-of_z w64 c.args.now c.ranges.now)
+    (c.in-Ok.ensures.counts serves))
+
+pub returns-in-Err-clause-counts_refused : goal.returns-in-Err-clause-counts_refused
+returns-in-Err-clause-counts_refused g c serves unclosed =
+    let it = g.C.ReplicaStore in
+    feeds_counted_front it.holds it.place it.missed c.args.now c.args.piece.now c.self.inside.deframer c.self.inside.applier c.self.inside.closed c.args.self.now (record { applied = c.take_piece.new.applier; framing = framing_of c.take_piece.new.deframer true }) c.self.view_is
+    (subst (λ (z : ℤ). FeedCountsFront it.holds it.place it.missed z c.self.inside.deframer c.self.inside.applier c.args.piece.now c.take_piece.new.applier.store) (to_z-of_z w64 c.args.now c.ranges.now)
+    (c.in-Err.ensures.counts_refused serves))
