@@ -16,9 +16,10 @@ use pgsub_cli::fault::RunFault;
 use pgsub_cli::following::tell_unfollowed;
 use pgsub_cli::reporting::Reporter;
 use pgsub_cli::storing::{Incoming, read_input, store_fault, tell_stopped, tell_unopened};
-use pgsub_cli::{RowSource, run, run_dump, run_follow, run_opened, store_path};
+use pgsub_cli::{MissedLines, Reported, run, run_dump, run_follow, run_opened, store_path};
 use pgsub_core::Side;
-use sqlite::Unknown;
+use sqlite::{Alter, FileStore, Unknown};
+use sqlite_disk::Disk;
 use std::alloc::AllocError;
 use std::cell::RefCell;
 use std::fs::File;
@@ -152,11 +153,34 @@ fn reporter_of<'r>(
     Some(RefCell::new(reporter))
 }
 
+/// Closes a store, whose log goes into its own file. Where that fails nothing is lost: the next run reads the log.
+fn close<D: Disk + Drop>(store: Store<FileStore<D>>) {
+    let _ = store.close_files();
+}
+
+/// Runs a task over a store, and tells meanwhile how far it is.
+fn run_told<S: Alter + Drop>(
+    rt: &HostRuntime,
+    task: &Task,
+    input: Option<(Version, Incoming<File>)>,
+    store: Store<S>,
+) -> (u8, Store<S>) {
+    let (mut out, mut err) = (rt.stdout(), rt.stderr());
+    let reporter = reporter_of(rt, task, &input);
+    run_opened(
+        rt.alloc(),
+        store,
+        limits_of(task),
+        input,
+        reporter.as_ref(),
+        &mut out,
+        &mut err,
+    )
+}
+
 /// Runs a task over the store in the file at a path. What it applies is read before the store is opened.
 ///
 /// The store's files never stand for a standard stream that was closed at the start: the SQL library opens them behind those.
-/// At the end the log goes into the store's own file, which holds everything then. Where that fails nothing is lost: the next run reads
-/// the log.
 fn run_over(rt: &HostRuntime, task: &Task, path: &str) -> u8 {
     let mut err = rt.stderr();
     let input = match input_of(rt, task) {
@@ -168,20 +192,8 @@ fn run_over(rt: &HostRuntime, task: &Task, path: &str) -> u8 {
     }
     match Store::open_with(rt.alloc(), rt, path, cache_of(task), Unknown) {
         Ok(store) => {
-            let mut out = rt.stdout();
-            let reporter = reporter_of(rt, task, &input);
-            let told = reporter.as_ref();
-            let limits = limits_of(task);
-            let (status, store) = run_opened(
-                rt.alloc(),
-                store,
-                limits,
-                input,
-                told,
-                &mut out,
-                &mut err,
-            );
-            let _ = store.close_files();
+            let (status, store) = run_told(rt, task, input, store);
+            close(store);
             status
         }
         Err(fault) => tell_unopened(rt.alloc(), fault, &mut err),
@@ -189,7 +201,7 @@ fn run_over(rt: &HostRuntime, task: &Task, path: &str) -> u8 {
 }
 
 /// Prints what a store holds.
-fn print_rows<C: RowSource + Drop>(rt: &HostRuntime, store: C) -> (u8, C) {
+fn print_rows<S: Alter + Drop>(rt: &HostRuntime, store: Store<S>) -> (u8, Store<S>) {
     let mut err = rt.stderr();
     let (status, store, _out) = run_dump(rt.alloc(), store, rt.stdout(), &mut err);
     (status, store)
@@ -205,7 +217,7 @@ fn dump_over(rt: &HostRuntime, task: &Task, path: &str) -> u8 {
     match Store::open_with(rt.alloc(), rt, path, cache_of(task), Unknown) {
         Ok(store) => {
             let (status, store) = print_rows(rt, store);
-            let _ = store.close_files();
+            close(store);
             status
         }
         Err(fault) => tell_unopened(rt.alloc(), fault, &mut err),
@@ -235,8 +247,32 @@ impl Clock for SystemClock<'_> {
     }
 }
 
-/// Follows a server over the store in the file at a path, of which so many pages are kept in memory: its bytes come from standard input,
-/// and statuses go to standard output. At the end the log goes into the store's own file.
+/// Follows a server over a store: its bytes come from standard input, and statuses go to standard output. Standard error is told of
+/// changes that found no row as soon as their commits are stored.
+fn follow_over<S: Alter + Drop>(
+    rt: &HostRuntime,
+    limits: Limits,
+    version: Version,
+    store: Store<S>,
+) -> (u8, Store<S>) {
+    let mut err = rt.stderr();
+    let mut link = Link::new(rt.stdin(), rt.stdout());
+    let mut clock = SystemClock { rt };
+    let reported = Reported::new(store, MissedLines::new(rt.alloc(), rt.stderr()));
+    let (status, reported) = run_follow(
+        rt.alloc(),
+        reported,
+        limits,
+        version,
+        &mut link,
+        &mut clock,
+        &mut err,
+    );
+    (status, reported.into_store())
+}
+
+/// Follows a server over the store in the file at a path, of which so many pages are kept in memory. At the end the log goes into the
+/// store's own file.
 fn run_live(rt: &HostRuntime, limits: Limits, version: Version, path: &str, cache: usize) -> u8 {
     let mut err = rt.stderr();
     if let Err(fault) = make_file(rt, path) {
@@ -244,18 +280,8 @@ fn run_live(rt: &HostRuntime, limits: Limits, version: Version, path: &str, cach
     }
     match Store::open_with(rt.alloc(), rt, path, cache, Unknown) {
         Ok(store) => {
-            let mut link = Link::new(rt.stdin(), rt.stdout());
-            let mut clock = SystemClock { rt };
-            let (status, store) = run_follow(
-                rt.alloc(),
-                store,
-                limits,
-                version,
-                &mut link,
-                &mut clock,
-                &mut err,
-            );
-            let _ = store.close_files();
+            let (status, store) = follow_over(rt, limits, version, store);
+            close(store);
             status
         }
         Err(fault) => tell_unfollowed(rt.alloc(), fault, &mut err),
@@ -274,19 +300,7 @@ fn run_in_memory(rt: &HostRuntime, task: &Task) -> u8 {
     };
     match Store::on_memory_disks(rt.alloc()) {
         Ok(store) => {
-            let mut out = rt.stdout();
-            let reporter = reporter_of(rt, task, &input);
-            let told = reporter.as_ref();
-            let limits = limits_of(task);
-            let (status, store) = run_opened(
-                rt.alloc(),
-                store,
-                limits,
-                input,
-                told,
-                &mut out,
-                &mut err,
-            );
+            let (status, store) = run_told(rt, task, input, store);
             end(store);
             status
         }

@@ -1,6 +1,7 @@
 -- The exit status of following a server: 0 the stream ended, 1 it is rejected, 3 the file is no store, 10 the spools are full, 11 a frame
--- is too large, 12 the store can't be opened, 13 it failed, 14 memory ran out, 15 standard input or output failed.
-use Rattle.std.specs.Prelude.{ℕ, Option, None, Some}
+-- is too large, 12 the store can't be opened, 13 it failed, 14 memory ran out, 15 standard input or output failed, 16 the stream ended and
+-- changes found no row.
+use Rattle.std.specs.Prelude.{ℕ, Option, None, Some, nat_lt, if◌then◌else◌}
 use Rattle.pgwire.specs.declared.fault.WireFault.TheVariants as wire
 use Rattle.pgspool.specs.declared.spools.SpoolFault.TheVariants as spool
 use Rattle.pgapply.specs.declared.rows.StoreFault.{StoreFault}
@@ -36,12 +37,12 @@ status_of_fault fault.Read = 15
 status_of_fault fault.Closed = 1
 status_of_fault fault.Memory = 14
 
--- by what ended the following
-abbrev pub status_of_follow : Option FollowFault → ℕ
-status_of_follow None = 0
-status_of_follow (Some follow.Read) = 15
-status_of_follow (Some follow.Write) = 15
-status_of_follow (Some (follow.Stream f)) = status_of_fault f
+-- by how many changes found no row, and what ended the following
+abbrev pub status_of_follow : ℕ → Option FollowFault → ℕ
+status_of_follow missed None = if nat_lt 0 missed then 16 else 0
+status_of_follow missed (Some follow.Read) = 15
+status_of_follow missed (Some follow.Write) = 15
+status_of_follow missed (Some (follow.Stream f)) = status_of_fault f
 
 -- where the store couldn't be opened
 abbrev pub status_of_unfollowed : StoreFault → ℕ

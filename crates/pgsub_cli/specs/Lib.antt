@@ -15,3 +15,4 @@ pub mod Dumped
 pub mod Lines
 pub mod FollowedLive
 pub mod FollowStatus
+pub mod MissedLines

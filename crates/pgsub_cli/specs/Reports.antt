@@ -3,6 +3,7 @@ use Rattle.std.specs.Prelude.{◌≡◌, ◌≤◌, ◌+◌, ◌-◌, ◌^◌, �
 use Rattle.std.specs.Time.{instant_nanos}
 use Rattle.std.specs.declared.time.Instant.{Instant}
 use Rattle.pglsn.specs.Texts.{lsn_text}
+use Rattle.pgsub_cli.specs.declared.reported.Settling.{Settling}
 use Rattle.pgsub_cli.specs.declared.reporting.Progress.{Progress}
 use Rattle.pgsub_cli.specs.declared.storing.Incoming.{Incoming}
 use Rattle.pgsub_cli.specs.declared.storing.Incoming.TheVariants.{Sessions, Raw}
@@ -27,9 +28,9 @@ counted old more = min (old + more) (2 ^ 64 - 1)
 abbrev pub with_bytes : ℕ → Progress → Progress
 with_bytes count p = record p { read = counted p.read count }
 
--- a commit that ends here, with so many changes
-abbrev pub with_commit : ℕ → ℕ → Progress → Progress
-with_commit end changes p = record p { commits = counted p.commits 1; changes = counted p.changes changes; position = end }
+-- commits that were stored together
+abbrev pub with_commits : Settling → Progress → Progress
+with_commits s p = record p { commits = counted p.commits s.commits; changes = counted p.changes s.changes; position = s.position }
 
 -- the same but for the rate
 abbrev pub IsCounted : Progress → Progress → Type 0

@@ -20,7 +20,7 @@ InMemory = StoreValue (FileStore MemoryDisk memory_disk.ghosts)
 abbrev pub holds_tables : InMemory → Tables → Type 0
 holds_tables store tables = IsStored tables (committed_of over_files store.rows)
 
-abbrev pub position_of : InMemory → ℕ
+abbrev pub position_of : {S : Type 0} → StoreValue S → ℕ
 position_of store = store.position
 
 -- a new subscriber over an empty store

@@ -3,6 +3,7 @@
 ghost use Rattle.std.specs.Prelude.{◌≡◌, Option, Some, OnOk, IfOk, IfErr, string_bytes};
 ghost use Rattle.pgapply.specs.Taken.{Stays};
 ghost use Rattle.pgapply.specs.Value.{Tables};
+ghost use Rattle.pgstore.specs.StoreValue.{HasTables, IsHonest, StoreValue};
 ghost use Rattle.pgsub_core.specs.Crashing.{LeavesOldOr, FedOver, LeavesHistory};
 ghost use Rattle.pgsub_core.specs.Faults.{IsReadFault};
 ghost use Rattle.pgsub_core.specs.Following.{FeedsSessions};
@@ -13,6 +14,7 @@ ghost use Rattle.pgsub_cli.specs.Followed.{Shows, ShowsFed};
 ghost use Rattle.pgsub_cli.specs.Limits.{clock};
 ghost use Rattle.pgsub_cli.specs.Runs.{PrintsApplied, PrintsBytes, PrintsResumed};
 ghost use Rattle.pgsub_cli.specs.StoreAfter.{StandsFed, LeavesFileHistory};
+ghost use Rattle.pgsub_cli.specs.Stores.{position_of};
 
 use crate::dump::{dump_text, resume_text};
 use crate::files::Input;
@@ -22,8 +24,10 @@ use crate::stores::new_subscriber;
 use pgapply::ReplicaStore;
 use pgorder::Version;
 use pgspool::Spools;
+use pgstore::Store;
 use pgstore::laws::stores_on_memory_disks_are_honest;
 use pgsub_core::{Fault, Session, Subscriber, fed_sessions_are_followed, follow};
+use sqlite::Alter;
 use std::alloc::{AllocError, Global};
 
 /// The lines of the stored rows and the position. Nothing changes.
@@ -81,6 +85,8 @@ pub(crate) fn apply_sessions<P: Spools + Drop, C: ReplicaStore + Drop>(
         C.serves subscriber.old.applied.store →
         LeavesHistory C.holds C.place C.reopens subscriber.old
         (bytes_of sessions.now) subscriber.new }
+    ensures honest { C.is_honest subscriber.new.applied.store →
+        C.is_honest subscriber.old.applied.store }
 {
     let stopped = follow(subscriber, sessions, CLOCK).err();
     let lines = stored_lines(alloc, subscriber)?;
@@ -112,6 +118,8 @@ pub(crate) fn apply_input<R: Input + Drop, P: Spools + Drop, C: ReplicaStore + D
         C.serves subscriber.old.applied.store →
         LeavesFileHistory R.gives R.begins R.failed C.holds C.place C.reopens file
         subscriber.old subscriber.new }
+    ensures honest { C.is_honest subscriber.new.applied.store →
+        C.is_honest subscriber.old.applied.store }
 {
     // where it stands tells what a crash leaves at the start
     let _start = subscriber.position();
@@ -147,16 +155,17 @@ fn progress_lines<P: Spools + Drop, C: ReplicaStore + Drop>(
     }
 }
 
-/// Follows sessions, and tells what is reached then, whatever stopped them. The subscriber ends with that.
-fn resume_sessions<P: Spools + Drop, C: ReplicaStore + Drop>(
+/// Follows sessions, and tells what is reached then, whatever stopped them. The subscriber ends with that. Its store is of any kind, since
+/// the proof that one over given disks is a store gets too large.
+fn resume_sessions<P: Spools + Drop, S: Alter + Drop>(
     alloc: Global,
-    mut subscriber: Subscriber<P, C>,
+    mut subscriber: Subscriber<P, Store<S>>,
     sessions: &[Session],
 ) -> Result<Printed, Fault>
-    ensures resumed { ((s : C) → C.is_honest s) → IfOk result (λ printed. (new : SubscriberValue C)
-        × ResumesFed C.holds C.place subscriber (bytes_of sessions.now) new printed.stopped
-        (string_bytes printed.lines)) }
-    ensures fault { ((s : C) → C.is_honest s) → IfErr result IsReadFault }
+    ensures resumed { ((s : StoreValue S) → IsHonest S.Store s) → IfOk result (λ printed.
+        (new : SubscriberValue (StoreValue S)) × ResumesFed (HasTables S.Store) position_of
+        subscriber (bytes_of sessions.now) new printed.stopped (string_bytes printed.lines)) }
+    ensures fault { ((s : StoreValue S) → IsHonest S.Store s) → IfErr result IsReadFault }
 {
     let followed = follow(&mut subscriber, sessions, CLOCK);
     Ok(Printed {
@@ -166,29 +175,30 @@ fn resume_sessions<P: Spools + Drop, C: ReplicaStore + Drop>(
 }
 
 /// As `apply_sessions`. The subscriber ends with that.
-fn apply_all<P: Spools + Drop, C: ReplicaStore + Drop>(
+fn apply_all<P: Spools + Drop, S: Alter + Drop>(
     alloc: Global,
-    mut subscriber: Subscriber<P, C>,
+    mut subscriber: Subscriber<P, Store<S>>,
     sessions: &[Session],
 ) -> Result<Printed, Fault>
-    ensures applied { ((s : C) → C.is_honest s) → IfOk result (λ printed. (new : SubscriberValue C)
-        × ShowsFed C.holds C.place subscriber (bytes_of sessions.now) new printed.stopped
-        (string_bytes printed.lines)) }
-    ensures fault { ((s : C) → C.is_honest s) → IfErr result IsReadFault }
+    ensures applied { ((s : StoreValue S) → IsHonest S.Store s) → IfOk result (λ printed.
+        (new : SubscriberValue (StoreValue S)) × ShowsFed (HasTables S.Store) position_of
+        subscriber (bytes_of sessions.now) new printed.stopped (string_bytes printed.lines)) }
+    ensures fault { ((s : StoreValue S) → IsHonest S.Store s) → IfErr result IsReadFault }
 {
     apply_sessions(alloc, &mut subscriber, sessions)
 }
 
 /// As `apply_input`. The subscriber ends with that.
-fn apply_read<R: Input + Drop, P: Spools + Drop, C: ReplicaStore + Drop>(
+fn apply_read<R: Input + Drop, P: Spools + Drop, S: Alter + Drop>(
     alloc: Global,
-    mut subscriber: Subscriber<P, C>,
+    mut subscriber: Subscriber<P, Store<S>>,
     file: R,
 ) -> Result<Printed, Fault>
-    ensures applied { ((s : C) → C.is_honest s) → IfOk result (λ printed. (new : SubscriberValue C)
-        × ShowsFile R.gives R.begins R.failed C.holds C.place file subscriber new printed.stopped
+    ensures applied { ((s : StoreValue S) → IsHonest S.Store s) → IfOk result (λ printed.
+        (new : SubscriberValue (StoreValue S)) × ShowsFile R.gives R.begins R.failed
+        (HasTables S.Store) position_of file subscriber new printed.stopped
         (string_bytes printed.lines)) }
-    ensures fault { ((s : C) → C.is_honest s) → IfErr result IsReadFault }
+    ensures fault { ((s : StoreValue S) → IsHonest S.Store s) → IfErr result IsReadFault }
 {
     apply_input(alloc, &mut subscriber, file)
 }

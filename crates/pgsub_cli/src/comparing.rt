@@ -1,12 +1,13 @@
 //! Comparing what two recordings leave.
 
 ghost use Rattle.std.specs.Prelude.{◌≡◌, ◌⊎◌, IfOk, IfErr, string_bytes};
+ghost use Rattle.pgstore.specs.StoreValue.{HasTables, IsHonest, StoreValue};
 ghost use Rattle.pgsub_core.specs.declared.converging.Side.TheVariants.{Left};
 ghost use Rattle.pgsub_core.specs.Faults.{IsReadFault};
 ghost use Rattle.pgsub_core.specs.Subscribed.{bytes_of};
 ghost use Rattle.pgsub_cli.specs.Compared.{EndsBesideNew, EndsOver};
 ghost use Rattle.pgsub_cli.specs.Runs.{AreComparedAs, IsUncompared, ending_of, verdict_line};
-ghost use Rattle.pgsub_cli.specs.Stores.{IsNew};
+ghost use Rattle.pgsub_cli.specs.Stores.{IsNew, position_of};
 
 use crate::fault::Ending;
 use crate::limits::{CLOCK, Limits};
@@ -14,8 +15,10 @@ use crate::stores::{MemoryStore, new_subscriber};
 use pgapply::ReplicaStore;
 use pgorder::Version;
 use pgspool::{ByteSpools, Spools};
+use pgstore::Store;
 use pgstore::laws::stores_on_memory_disks_are_honest;
 use pgsub_core::{ConvergeFault, Fault, Session, Side, Subscriber, Verdict, converge};
+use sqlite::Alter;
 use std::alloc::{AllocError, Global};
 
 /// The fault of a side, or, where its rows can't be read any more, the one of reading them. So what is told as the fault of a stream
@@ -61,6 +64,21 @@ fn compare_subscribers<
     Err(ConvergeFault { side, fault })
 }
 
+/// The same, over stores of any kind, since the proof that one over given disks is a store gets too large.
+fn compare_stores<P: Spools + Drop, S: Alter + Drop, Q: Spools + Drop, T: Alter + Drop>(
+    left: Subscriber<P, Store<S>>,
+    left_sessions: &[Session],
+    right: Subscriber<Q, Store<T>>,
+    right_sessions: &[Session],
+) -> Result<Verdict, ConvergeFault>
+    ensures ends { ((s : StoreValue S) → IsHonest S.Store s) →
+        ((s : StoreValue T) → IsHonest T.Store s) →
+        EndsOver (HasTables S.Store) position_of (HasTables T.Store) position_of left
+        (bytes_of left_sessions.now) right (bytes_of right_sessions.now) result }
+{
+    compare_subscribers(left, left_sessions, right, right_sessions)
+}
+
 /// The subscriber of a side. Where there is no memory for it, nothing was followed yet, so the fault is the left one's.
 fn new_side(
     alloc: Global,
@@ -78,21 +96,21 @@ fn new_side(
     }
 }
 
-/// Compares a subscriber with a new one. The left one's store is of any type, since the proof of a function that holds two stores of the
-/// program's type gets too large.
-fn compare_with_new<P: Spools + Drop, C: ReplicaStore + Drop>(
+/// Compares a subscriber with a new one.
+fn compare_with_new<P: Spools + Drop, S: Alter + Drop>(
     alloc: Global,
     version: Version,
-    left: Subscriber<P, C>,
+    left: Subscriber<P, Store<S>>,
     left_sessions: &[Session],
     right_sessions: &[Session],
 ) -> Result<Verdict, ConvergeFault>
-    ensures { ((s : C) → C.is_honest s) → EndsBesideNew C.holds C.place version left
-        (bytes_of left_sessions.now) (bytes_of right_sessions.now) result }
+    ensures { ((s : StoreValue S) → IsHonest S.Store s) → EndsBesideNew (HasTables S.Store)
+        position_of version left (bytes_of left_sessions.now) (bytes_of right_sessions.now)
+        result }
 {
     stores_on_memory_disks_are_honest();
     let right = new_side(alloc, version)?;
-    compare_subscribers(left, left_sessions, right, right_sessions)
+    compare_stores(left, left_sessions, right, right_sessions)
 }
 
 /// How the rows and positions compare that the sessions of two recordings leave of empty stores.

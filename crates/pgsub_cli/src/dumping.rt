@@ -1,12 +1,10 @@
 //! Prints what a store holds, row by row as it is read.
 
 ghost use Rattle.std.specs.Prelude.{◌≡◌, ◌≤◌, ◌++◌, [], ℕ, List, Result, Ok, Some, None, true, OnOk, IfOk, IfErr, string_bytes};
-ghost use Rattle.sqlite.specs.State.{Survives};
 ghost use Rattle.pgapply.specs.Dump.{dump};
-ghost use Rattle.pgapply.specs.Stored.{IsOwnFault, Stored};
-ghost use Rattle.pgrows.specs.Rows.{state};
-ghost use Rattle.pgstore.specs.Given.{GivesFront, GivesAll};
-ghost use Rattle.pgstore.specs.StoreValue.{Holds, IsHonest, Serves, Stays};
+ghost use Rattle.pgapply.specs.Stored.{IsOwnFault};
+ghost use Rattle.pgapply.specs.Taken.{Stays};
+ghost use Rattle.pgapply.specs.Value.{Tables};
 ghost use Rattle.pgsub_cli.specs.declared.fault.Ending.{Ending};
 ghost use Rattle.pgsub_cli.specs.declared.fault.RunFault.{RunFault};
 ghost use Rattle.pgsub_cli.specs.declared.fault.RunFault.TheVariants.{CannotWrite};
@@ -20,11 +18,9 @@ use crate::fault::{Ending, RunFault};
 use crate::files::Output;
 use crate::running::{status, tell};
 use crate::storing::store_fault;
-use pgapply::{DumpRow, StoreFault};
+use pgapply::{DumpRow, DumpSink, ReplicaStore, StoreFault};
 use pglsn::Lsn;
-use pgstore::{DumpSink, Store};
 use pgsub_core::Fault;
-use sqlite::Alter;
 use std::alloc::{AllocError, Global};
 
 /// Lines are written once they have so many bytes.
@@ -173,93 +169,25 @@ impl<W: Output + Drop> DumpSink for LineSink<W> {
     }
 }
 
-/// A store that gives its rows one by one as they are read.
-pub trait RowSource {
-    ghost use Rattle.pgapply.specs.Stored.{Stored};
-
-    /// What lies below it has given back what was stored.
-    ghost is_honest: { Self → Type 0 };
-
-    /// It has, and has not shut.
-    ghost serves: { Self → Type 0 };
-
-    /// It holds these tables and this position.
-    ghost holds: { Self → Stored → Type 0 };
-
-    /// The position up to which they stand.
-    ghost place: { Self → ℕ };
-
-    /// The second holds what the first held.
-    ghost stays: { Self → Self → Type 0 };
-
-    /// What a crash may leave of the second could be left of the first.
-    ghost survives: { Self → Self → Type 0 };
-
-    /// The position up to which the rows stand.
-    fn stands_at(&self) -> Lsn
-        ensures { (v : Stored) → holds self.now v → result ≡ v.position };
-
-    /// Gives a sink all rows, as `pgstore::Store::each_row` does.
-    ///
-    /// # Errors
-    ///
-    /// Those of `Store::rows`.
-    fn give_rows<T: DumpSink + Drop>(&mut self, sink: T) -> (Result<bool, StoreFault>, T)
-        ensures front { is_honest self.new → (v : Stored) → holds self.old v →
-            (start : T) → GivesFront (dump v.tables) (T.has_taken start sink)
-            (T.has_taken start result.1) }
-        ensures all { is_honest self.new → IfOk result.0 (λ all. all ≡ true →
-            (v : Stored) → holds self.old v → (start : T) → GivesAll (dump v.tables)
-            (T.has_taken start sink) (T.has_taken start result.1)) }
-        ensures unchanged { serves self.new → stays self.old self.new }
-        ensures place { place self.new ≡ place self.old }
-        ensures formed { is_honest self.new → IfErr result.0 IsOwnFault }
-        ensures crash { survives self.old self.new };
-}
-
-impl<S: Alter + Drop> RowSource for Store<S> {
-    ghost use Rattle.pgrows.specs.Rows.{state};
-    ghost use Rattle.pgstore.specs.StoreValue.{Holds, IsHonest, Serves, Stays};
-
-    ghost is_honest = { λ s. IsHonest S.Store s };
-
-    ghost serves = { λ s. Serves S.Store s };
-
-    ghost holds = { λ s v. Holds S.Store s v };
-
-    ghost place = { λ s. s.position };
-
-    ghost stays = { λ s other. Stays S.Store s other };
-
-    ghost survives = { λ s other. Survives (state S.Store s.rows) (state S.Store other.rows)
-        (λ _. ⊥) };
-
-    fn stands_at(&self) -> Lsn {
-        self.position()
-    }
-
-    fn give_rows<T: DumpSink + Drop>(&mut self, sink: T) -> (Result<bool, StoreFault>, T) {
-        self.each_row(sink)
-    }
-}
-
 /// Prints the rows of a store, as they are read, and its position. Where that stops, some front of the lines is printed.
-fn write_rows<C: RowSource + Drop, W: Output + Drop>(
+fn write_rows<C: ReplicaStore + Drop, W: Output + Drop>(
     alloc: Global,
     store: &mut C,
     out: W,
 ) -> (Result<Ending, RunFault>, W)
-    ensures dumps { C.is_honest store.new → (v : Stored) → C.holds store.old v →
-        Dumps W.takes W.failed (dump v.tables) v.position out result.1 result.0 }
-    ensures unchanged { C.serves store.new → C.stays store.old store.new }
+    ensures dumps { C.is_honest store.new → (tables : Tables) → C.holds store.old tables →
+        Dumps W.takes W.failed (dump tables) (C.place store.old) out result.1 result.0 }
+    ensures unchanged { C.serves store.new → Stays C.holds store.old store.new }
     ensures place { C.place store.new ≡ C.place store.old }
-    ensures crash { C.survives store.old store.new }
+    ensures crash { C.is_honest store.new → (other : C) → C.reopens store.new other →
+        C.reopens store.old other }
+    ensures honest { C.is_honest store.new → C.is_honest store.old }
 {
-    let position = store.stands_at();
+    let position = store.position();
     let text = String::new(alloc);
     let lines = Lines { alloc, out, text };
     let sink = LineSink { lines, fault: None };
-    let (read, mut sink) = store.give_rows(sink);
+    let (read, mut sink) = store.each_row(sink);
     let ended = sink.end(read, position);
     (ended, sink.lines.out)
 }
@@ -268,7 +196,7 @@ fn write_rows<C: RowSource + Drop, W: Output + Drop>(
 /// store and the output.
 ///
 /// Nothing changes. Where reading or writing stops, some front of the lines is printed, and standard error gets the line of the fault.
-pub fn run_dump<C: RowSource + Drop, W: Output + Drop, E: Output>(
+pub fn run_dump<C: ReplicaStore + Drop, W: Output + Drop, E: Output>(
     alloc: Global,
     mut store: C,
     out: W,
@@ -276,12 +204,14 @@ pub fn run_dump<C: RowSource + Drop, W: Output + Drop, E: Output>(
 ) -> (u8, C, W)
     ensures status { result.0 ≤ 4 }
     ensures ends { (ended : Result Ending RunFault) × (result.0 ≡ status_of ended)
-        × (C.is_honest result.1 → (v : Stored) → C.holds store v →
-        Dumps W.takes W.failed (dump v.tables) v.position out result.2 ended)
+        × (C.is_honest result.1 → (tables : Tables) → C.holds store tables →
+        Dumps W.takes W.failed (dump tables) (C.place store) out result.2 ended)
         × Tells E.takes E.failed [] [] ended err.old err.new }
-    ensures unchanged { C.serves result.1 → C.stays store result.1 }
+    ensures unchanged { C.serves result.1 → Stays C.holds store result.1 }
     ensures place { C.place result.1 ≡ C.place store }
-    ensures crash { C.survives store result.1 }
+    ensures crash { C.is_honest result.1 → (other : C) → C.reopens result.1 other →
+        C.reopens store other }
+    ensures honest { C.is_honest result.1 → C.is_honest store }
 {
     let (ended, out) = write_rows(alloc, &mut store, out);
     tell(alloc, ended, "", "", err);

@@ -48,6 +48,8 @@ pub trait Input {
             (fault_in result) }
         ensures served { C.serves subscriber.new.applied.store →
             C.serves subscriber.old.applied.store }
+        ensures honest { C.is_honest subscriber.new.applied.store →
+            C.is_honest subscriber.old.applied.store }
         ensures stands { C.is_honest subscriber.new.applied.store →
             C.serves subscriber.old.applied.store → StandsFed C.place
             (FeedsFile gives begins failed C.holds C.place self subscriber.old) subscriber.new }

@@ -61,11 +61,12 @@ fn fault_status(fault: Fault) -> u8
     }
 }
 
-/// The exit status of following that ends so.
-fn follow_status(followed: Result<(), FollowFault>) -> u8
-    ensures { result ≡ status_of_follow (ended_by followed) }
+/// The exit status of following that ends so, where so many changes found no row.
+fn follow_status(followed: Result<(), FollowFault>, missed: u64) -> u8
+    ensures { result ≡ status_of_follow missed (ended_by followed) }
 {
     match followed {
+        Ok(()) if missed > 0 => 16,
         Ok(()) => 0,
         Err(FollowFault::Read | FollowFault::Write) => 15,
         Err(FollowFault::Stream(fault)) => fault_status(fault),
@@ -88,10 +89,11 @@ pub fn tell_unfollowed<E: Output>(alloc: Global, fault: StoreFault, err: &mut E)
 }
 
 /// Follows a server over an opened store, to the end of its bytes, within these limits. Returns the exit status, and the store. The
-/// status is 0 where the bytes ended, 1 where the stream is rejected, 10 where `max_buffered` is too low and 11 where `max_frame` is, 13
-/// where the store failed, 14 where memory ran out and 15 where a read or a write failed. Standard error gets the line of the fault.
+/// status is 0 where the bytes ended, and 16 where changes found no row then; 1 where the stream is rejected, 10 where `max_buffered` is
+/// too low and 11 where `max_frame` is, 13 where the store failed, 14 where memory ran out and 15 where a read or a write failed.
+/// Standard error gets the line of the fault.
 ///
-/// What was read, fed and written, and that all that is confirmed is stored, is as `follow_live` says.
+/// What was read, fed and written, that all that is confirmed is stored, and which changes find no row, is as `follow_live` says.
 pub fn run_follow<R: Read + Drop, W: Write + Drop, K: Clock, C: ReplicaStore + Drop, E: Output>(
     alloc: Global,
     store: C,
@@ -103,19 +105,23 @@ pub fn run_follow<R: Read + Drop, W: Write + Drop, K: Clock, C: ReplicaStore + D
 ) -> (u8, C)
     requires readable { link.old.read_failed ≡ false }
     requires writable { link.old.write_failed ≡ false }
-    ensures status { result.0 ≤ 15 }
-    ensures ends { (ended : Option FollowFault) × (result.0 ≡ status_of_follow ended)
+    ensures status { result.0 ≤ 16 }
+    ensures ends { (ended : Option FollowFault)
+        × (result.0 ≡ status_of_follow (C.missed result.1).count ended)
         × Tells E.takes E.failed [] [] (ending_of ended) err.old err.new
         × ((ended ≡ Some follow.Read) ↔ (link.new.read_failed ≡ true))
         × ((ended ≡ Some follow.Write) ↔ (link.new.write_failed ≡ true))
         × IfSome ended IsOfFollowing
-        × (C.is_honest result.1 → C.serves store → FollowsOver C.holds C.place C.reopens C.serves
+        × (C.is_honest result.1 → C.serves store →
+        FollowsOver C.holds C.place C.reopens C.serves C.missed
         (R.remaining link.old.reader) (R.remaining link.new.reader) link.new.reads
         (W.contents link.old.writer) (W.contents link.new.writer) limits version store result.1
         ended) }
+    ensures honest { C.is_honest result.1 → C.is_honest store }
 {
     let mut subscriber = subscriber_over(alloc, store, limits, version);
     let followed = follow_live(alloc, link, clock, &mut subscriber);
     tell(alloc, ending(followed), "", "", err);
-    (follow_status(followed), subscriber.into_store())
+    let store = subscriber.into_store();
+    (follow_status(followed, store.misses().count), store)
 }

@@ -4,15 +4,16 @@ ghost use Rattle.std.specs.Prelude.{◌≡◌, ◌≤◌, ◌+◌, ◌⊎◌, []
 ghost use Rattle.pgsub_core.specs.Faults.{IsReadFault};
 ghost use Rattle.pgsub_cli.specs.declared.fault.Ending.{Ending};
 ghost use Rattle.pgsub_cli.specs.declared.fault.RunFault.{RunFault};
-ghost use Rattle.pgsub_cli.specs.Reports.{CountsIncoming, IsCounted, ReaderBegins, ReaderGives, TellsProgress, bytes_text, nothing_of, progress_line, with_bytes, with_commit};
+ghost use Rattle.pgsub_cli.specs.Reports.{CountsIncoming, IsCounted, ReaderBegins, ReaderGives, TellsProgress, bytes_text, nothing_of, progress_line, with_bytes, with_commits};
 ghost use Rattle.pgsub_cli.specs.Runs.{Tells, Writes, status_of};
 ghost use Rattle.pgsub_cli.specs.StoreAfter.{HoldsAfter, MayBeLeft, LosesNothing};
 ghost use Rattle.pgsub_cli.specs.Storing.{PrintsOver};
 
 use crate::files::Output;
 use crate::limits::Limits;
+use crate::reported::{Listener, Reported, Settling};
 use crate::storing::{Incoming, run_within};
-use pgapply::{DumpRow, ReplicaStore, StoreFault, Work};
+use pgapply::ReplicaStore;
 use pglsn::Lsn;
 use pgorder::Version;
 use std::alloc::Global;
@@ -153,70 +154,31 @@ impl<K: Clock + Drop, E: Output + Drop> Reporter<K, E> {
         self.tell();
     }
 
-    /// Notes a commit with so many changes, which was stored and ends at `end`.
-    pub fn note_commit(&mut self, end: Lsn, changes: usize)
+    /// Notes commits that were stored.
+    pub fn note_commits(&mut self, settling: &Settling)
         ensures told { TellsProgress E.takes E.failed self.old.last self.new.last self.new.progress
             self.old.err self.new.err }
-        ensures counts { IsCounted self.new.progress (with_commit end changes self.old.progress) }
+        ensures counts { IsCounted self.new.progress
+            (with_commits settling.now self.old.progress) }
     {
-        self.progress.commits = self.progress.commits.saturating_add(1);
-        self.progress.changes = self.progress.changes.saturating_add(changes as u64);
-        self.progress.position = end;
+        self.progress.commits = self.progress.commits.saturating_add(settling.commits);
+        self.progress.changes = self.progress.changes.saturating_add(settling.changes);
+        self.progress.position = settling.position;
         self.tell();
     }
 }
 
-/// A store whose commits are told.
+/// Tells a reporter of each settling.
 #[derive(Drop)]
-pub struct Reported<'a, C: ReplicaStore + Drop, K: Clock + Drop, E: Output + Drop> {
-    store: C,
+struct Commits<'a, K: Clock + Drop, E: Output + Drop> {
     reporter: &'a RefCell<Reporter<K, E>>,
 }
 
-impl<'a, C: ReplicaStore + Drop, K: Clock + Drop, E: Output + Drop> Reported<'a, C, K, E> {
-    /// The store, whose commits are told to the reporter from now on.
-    pub fn new(store: C, reporter: &'a RefCell<Reporter<K, E>>) -> Reported<'a, C, K, E>
-        ensures { result.store ≡ store }
-    {
-        Reported { store, reporter }
-    }
-
-    /// The store.
-    pub fn into_store(self) -> C
-        ensures { result ≡ self.entry.store }
-    {
-        self.store
-    }
-}
-
-impl<C: ReplicaStore + Drop, K: Clock + Drop, E: Output + Drop> ReplicaStore
-    for Reported<'_, C, K, E> {
-    ghost serves = { λ s. C.serves s.store };
-
-    ghost is_honest = { λ s. C.is_honest s.store };
-
-    ghost holds = { λ s tables. C.holds s.store tables };
-
-    ghost place = { λ s. C.place s.store };
-
-    ghost reopens = { λ s other. C.reopens s.store other.store };
-
-    fn position(&self) -> Lsn {
-        self.store.position()
-    }
-
-    fn take(&mut self, end: Lsn, work: &Work<'_>) -> Result<(), StoreFault> {
-        let taken = self.store.take(end, work);
-        if taken.is_ok() {
-            if let Ok(mut reporter) = self.reporter.try_borrow_mut() {
-                reporter.note_commit(end, work.entries().len());
-            }
+impl<K: Clock + Drop, E: Output + Drop> Listener for Commits<'_, K, E> {
+    fn hear(&mut self, settling: &Settling) {
+        if let Ok(mut reporter) = self.reporter.try_borrow_mut() {
+            reporter.note_commits(settling);
         }
-        taken
-    }
-
-    fn rows(&mut self) -> Result<Vec<DumpRow>, StoreFault> {
-        self.store.rows()
     }
 }
 
@@ -295,11 +257,12 @@ fn run_reported<
     ensures crash { C.is_honest result.1 → C.serves store →
         LosesNothing (ReaderGives R.remaining) (ReaderBegins R.remaining) (λ _. ⊤) C.holds C.place
         C.reopens limits (Some (version, incoming)) store result.1 }
+    ensures honest { C.is_honest result.1 → C.is_honest store }
 {
     let input = Some((version, count_bytes(incoming, reporter)));
     let (status, told) = run_within(
         alloc,
-        Reported::new(store, reporter),
+        Reported::new(store, Commits { reporter }),
         limits,
         input,
         out,
@@ -342,6 +305,7 @@ pub fn run_opened<
     ensures crash { C.is_honest result.1 → C.serves store →
         LosesNothing (ReaderGives R.remaining) (ReaderBegins R.remaining) (λ _. ⊤) C.holds C.place
         C.reopens limits input store result.1 }
+    ensures honest { C.is_honest result.1 → C.is_honest store }
 {
     match (input, reporter) {
         (Some((version, incoming)), Some(reporter)) => {

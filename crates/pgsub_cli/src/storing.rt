@@ -81,6 +81,8 @@ fn feed_incoming<R: Input + Drop, P: Spools + Drop, C: ReplicaStore + Drop>(
         C.serves subscriber.old.applied.store →
         LeavesIncomingHistory R.gives R.begins R.failed C.holds C.place C.reopens incoming
         subscriber.old subscriber.new }
+    ensures honest { C.is_honest subscriber.new.applied.store →
+        C.is_honest subscriber.old.applied.store }
 {
     match incoming {
         Incoming::Sessions(sessions) => apply_sessions(alloc, subscriber, sessions.as_slice()),
@@ -123,6 +125,7 @@ fn held_lines<C: ReplicaStore>(alloc: Global, store: &mut C) -> Result<Printed, 
     ensures position { C.place store.new ≡ C.place store.old }
     ensures crash { C.is_honest store.new → (other : C) → C.reopens store.new other →
         C.reopens store.old other }
+    ensures honest { C.is_honest store.new → C.is_honest store.old }
 {
     let position = store.position();
     let rows = match store.rows() {
@@ -157,6 +160,7 @@ fn apply_over<R: Input + Drop, C: ReplicaStore + Drop>(
     ensures crash { C.is_honest result.1 → C.serves store →
         LosesNothing R.gives R.begins R.failed C.holds C.place C.reopens limits input store
         result.1 }
+    ensures honest { C.is_honest result.1 → C.is_honest store }
 {
     fed_sessions_are_followed();
     let Some((version, incoming)) = input else {
@@ -226,6 +230,7 @@ pub fn run_within<R: Input + Drop, C: ReplicaStore + Drop, W: Output, E: Output>
     ensures crash { C.is_honest result.1 → C.serves store →
         LosesNothing R.gives R.begins R.failed C.holds C.place C.reopens limits input store
         result.1 }
+    ensures honest { C.is_honest result.1 → C.is_honest store }
 {
     let (printed, store) = apply_over(alloc, store, limits, input);
     let ended = write_printed(printed, out);
@@ -255,6 +260,7 @@ pub fn run_store<R: Input + Drop, C: ReplicaStore + Drop, W: Output, E: Output>(
     ensures crash { C.is_honest result.1 → C.serves store →
         LosesNothing R.gives R.begins R.failed C.holds C.place C.reopens Limits.DEFAULT input
         store result.1 }
+    ensures honest { C.is_honest result.1 → C.is_honest store }
 {
     run_within(alloc, store, Limits::DEFAULT, input, out, err)
 }

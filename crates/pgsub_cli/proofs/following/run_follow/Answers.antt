@@ -1,8 +1,10 @@
-use Rattle.std.proofs.Common.{[], sym, subst, Result}
+use Rattle.std.proofs.Common.{◌≡◌, [], sym, subst, Result}
+use Rattle.pgapply.specs.declared.misses.Misses.{Misses}
 use Rattle.pgfollow.specs.declared.fault.FollowFault.TheVariants as follow
 use Rattle.pgfollow.specs.Live.{IsOfFollowing, ended_by}
 use Rattle.pgsub_cli.specs.declared.fault.Ending.{Ending}
 use Rattle.pgsub_cli.specs.declared.fault.RunFault.{RunFault}
+use Rattle.pgsub_cli.specs.FollowStatus.{status_of_follow}
 use Rattle.pgsub_cli.specs.Runs.{Tells}
 use Rattle.pgsub_cli.proofs.Ended.{ended_as, ended_is}
 use Rattle.pgsub_cli.proofs.following.run_follow.Goals as goal
@@ -10,7 +12,7 @@ use Rattle.pgsub_cli.proofs.following.run_follow.Goals as goal
 pub returns-clause-ends : goal.returns-clause-ends
 returns-clause-ends g c = (
   ended_by c.follow_live-followed.result,
-  c.follow_status.ensures,
+  subst (λ (m : Misses). c.follow_status.result ≡ status_of_follow m.count (ended_by c.follow_live-followed.result)) c.misses.ensures c.follow_status.ensures,
   subst (λ (x : Result Ending RunFault). Tells g.E.Output.takes g.E.Output.failed [] [] x c.args.err.now c.tell.new.err) c.ending.ensures c.tell.ensures,
   (
     λ is. c.follow_live-followed.ensures.read.0 ((ended_is c.follow_live-followed.result follow.Read).0 is),
@@ -25,8 +27,8 @@ returns-clause-ends g c = (
     c.subscriber_over-subscriber.result,
     c.follow_live-followed.new.subscriber,
     c.subscriber_over-subscriber.ensures.store,
-    sym c.into_store.ensures,
+    sym c.into_store-store.ensures,
     c.subscriber_over-subscriber.ensures.state,
-    c.follow_live-followed.ensures.followed (subst g.C.ReplicaStore.is_honest c.into_store.ensures honest) (subst g.C.ReplicaStore.serves (sym c.subscriber_over-subscriber.ensures.store) serves),
+    c.follow_live-followed.ensures.followed (subst g.C.ReplicaStore.is_honest c.into_store-store.ensures honest) (subst g.C.ReplicaStore.serves (sym c.subscriber_over-subscriber.ensures.store) serves),
   ),
 )

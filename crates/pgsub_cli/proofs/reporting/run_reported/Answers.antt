@@ -5,7 +5,8 @@ use Rattle.pgsub_core.specs.declared.fault.Fault.{Fault}
 use Rattle.pgsub_core.specs.Faults.{IsReadFault}
 use Rattle.pgsub_cli.specs.declared.storing.Incoming.{Incoming}
 use Rattle.pgsub_cli.specs.declared.reporting.Counted.{Counted}
-use Rattle.pgsub_cli.specs.declared.reporting.Reported.{Reported}
+use Rattle.pgsub_cli.specs.declared.reported.Reported.{Reported}
+use Rattle.pgsub_cli.specs.declared.reporting.Commits.{Commits}
 use Rattle.pgsub_cli.specs.Reports.{ReaderBegins, ReaderGives}
 use Rattle.pgsub_cli.specs.StoreAfter.{HoldsAfter, MayBeLeft, LosesNothing}
 use Rattle.pgsub_cli.specs.Storing.{PrintsOver}
@@ -20,7 +21,7 @@ returns-clause-ends g c =
     let begins : g.row.R.Denot → List ℕ → Type 0 = ReaderBegins g.R.Read.remaining in
     let failed : g.row.R.Denot → Type 0 = λ _. ⊤ in
     let reader : Counted g.row.R.Denot g.row.K.Denot g.row.P.Denot → g.row.R.Denot = λ q. q.reader in
-    let within : Reported g.row.C.Denot g.row.K.Denot g.row.P.Denot → g.row.C.Denot = λ s. s.store in
+    let within : Reported g.row.C.Denot (Commits g.row.K.Denot g.row.P.Denot) → g.row.C.Denot = λ s. s.store in
     let input : Option (Version × Incoming g.row.R.Denot) = Some (c.args.version, c.args.incoming) in
     let counted : Option (Version × Incoming (Counted g.row.R.Denot g.row.K.Denot g.row.P.Denot)) = Some (c.args.version, c.count_bytes.result) in
     let there = c.run_within-status.result.1 in
@@ -42,7 +43,7 @@ returns-clause-kept g c serves =
     let begins : g.row.R.Denot → List ℕ → Type 0 = ReaderBegins g.R.Read.remaining in
     let failed : g.row.R.Denot → Type 0 = λ _. ⊤ in
     let reader : Counted g.row.R.Denot g.row.K.Denot g.row.P.Denot → g.row.R.Denot = λ q. q.reader in
-    let inner : Reported g.row.C.Denot g.row.K.Denot g.row.P.Denot → g.row.C.Denot = λ s. s.store in
+    let inner : Reported g.row.C.Denot (Commits g.row.K.Denot g.row.P.Denot) → g.row.C.Denot = λ s. s.store in
     let input : Option (Version × Incoming g.row.R.Denot) = Some (c.args.version, c.args.incoming) in
     let there = c.run_within-status.result.1 in
     subst (λ s. HoldsAfter gives begins failed it.holds it.place c.args.limits input s c.into_store.result) c.new.ensures
@@ -57,10 +58,10 @@ returns-clause-left g c honest =
     let begins : g.row.R.Denot → List ℕ → Type 0 = ReaderBegins g.R.Read.remaining in
     let failed : g.row.R.Denot → Type 0 = λ _. ⊤ in
     let reader : Counted g.row.R.Denot g.row.K.Denot g.row.P.Denot → g.row.R.Denot = λ q. q.reader in
-    let inner : Reported g.row.C.Denot g.row.K.Denot g.row.P.Denot → g.row.C.Denot = λ s. s.store in
+    let inner : Reported g.row.C.Denot (Commits g.row.K.Denot g.row.P.Denot) → g.row.C.Denot = λ s. s.store in
     let input : Option (Version × Incoming g.row.R.Denot) = Some (c.args.version, c.args.incoming) in
     let there = c.run_within-status.result.1 in
-    let outer : g.row.C.Denot → Reported g.row.C.Denot g.row.K.Denot g.row.P.Denot = λ s. record { store = s; reporter = c.new.result.reporter } in
+    let outer : g.row.C.Denot → Reported g.row.C.Denot (Commits g.row.K.Denot g.row.P.Denot) = λ s. record { store = s; listener = c.new.result.listener; commits = c.new.result.commits; changes = c.new.result.changes } in
     let back : (s : g.row.C.Denot) → inner (outer s) ≡ s = λ _. refl in
     subst (λ s. MayBeLeft gives begins failed it.holds it.place it.reopens it.serves c.args.limits input s c.into_store.result) c.new.ensures
     (subst (λ s. MayBeLeft gives begins failed it.holds it.place it.reopens it.serves c.args.limits input (inner c.new.result) s) (sym c.into_store.ensures)
@@ -74,10 +75,10 @@ returns-clause-crash g c honest serves =
     let begins : g.row.R.Denot → List ℕ → Type 0 = ReaderBegins g.R.Read.remaining in
     let failed : g.row.R.Denot → Type 0 = λ _. ⊤ in
     let reader : Counted g.row.R.Denot g.row.K.Denot g.row.P.Denot → g.row.R.Denot = λ q. q.reader in
-    let inner : Reported g.row.C.Denot g.row.K.Denot g.row.P.Denot → g.row.C.Denot = λ s. s.store in
+    let inner : Reported g.row.C.Denot (Commits g.row.K.Denot g.row.P.Denot) → g.row.C.Denot = λ s. s.store in
     let input : Option (Version × Incoming g.row.R.Denot) = Some (c.args.version, c.args.incoming) in
     let there = c.run_within-status.result.1 in
-    let outer : g.row.C.Denot → Reported g.row.C.Denot g.row.K.Denot g.row.P.Denot = λ s. record { store = s; reporter = c.new.result.reporter } in
+    let outer : g.row.C.Denot → Reported g.row.C.Denot (Commits g.row.K.Denot g.row.P.Denot) = λ s. record { store = s; listener = c.new.result.listener; commits = c.new.result.commits; changes = c.new.result.changes } in
     let back : (s : g.row.C.Denot) → inner (outer s) ≡ s = λ _. refl in
     subst (λ s. LosesNothing gives begins failed it.holds it.place it.reopens c.args.limits input s c.into_store.result) c.new.ensures
     (subst (λ s. LosesNothing gives begins failed it.holds it.place it.reopens c.args.limits input (inner c.new.result) s) (sym c.into_store.ensures)
