@@ -333,9 +333,9 @@ fn rejects_the_rest(rt: HostRuntime) -> Result<(), Fail> {
 }
 
 /// The exit statuses of `follow`, as its help has them.
-const STATUSES: [&str; 10] = [
+const STATUSES: [&str; 11] = [
     "   0  ", "   1  ", "   2  ", "   3  ", "  10  ", "  11  ", "  12  ", "  13  ", "  14  ",
-    "  15  ",
+    "  15  ", "  16  ",
 ];
 
 #[test]

@@ -1,7 +1,9 @@
 //! A server is followed over a store: what is written, what is stored, and how it ends.
 
+ghost use Rattle.pgapply.specs.Missing.{nothing_missed};
+
 use crate::runs::File;
-use pgapply::{DumpRow, ReplicaStore, StoreFault, Work};
+use pgapply::{Commit, DumpRow, DumpSink, Misses, ReplicaStore, StoreFault};
 use pgcommand::Limits;
 use pgfollow::{Clock, Link};
 use pglsn::Lsn;
@@ -52,7 +54,7 @@ impl Write for Writer {
 
 /// A clock that stands still.
 #[derive(Drop)]
-struct Still;
+pub(crate) struct Still;
 
 impl Clock for Still {
     fn now(&mut self) -> i64 {
@@ -335,18 +337,44 @@ impl ReplicaStore for Failing {
 
     ghost place = { λ _. 0 };
 
+    ghost stages = { λ _ _. ⊥ };
+
+    ghost reach = { λ _. 0 };
+
+    ghost missed = { λ _. nothing_missed };
+
+    ghost stages_missed = { λ _. nothing_missed };
+
     ghost reopens = { λ _ _. ⊥ };
 
     fn position(&self) -> Lsn {
         Lsn(0)
     }
 
-    fn take(&mut self, _end: Lsn, _work: &Work<'_>) -> Result<(), StoreFault> {
+    fn reached(&self) -> Lsn {
+        Lsn(0)
+    }
+
+    fn unstage(&mut self) {}
+
+    fn stage(&mut self, _commit: &Commit<'_, '_>) -> Result<(), StoreFault> {
         Err(self.fault)
+    }
+
+    fn settle(&mut self) -> Result<(), StoreFault> {
+        Ok(())
     }
 
     fn rows(&mut self) -> Result<Vec<DumpRow>, StoreFault> {
         Ok(Vec::new(self.alloc))
+    }
+
+    fn each_row<T: DumpSink + Drop>(&mut self, sink: T) -> (Result<bool, StoreFault>, T) {
+        (Ok(true), sink)
+    }
+
+    fn misses(&self) -> Misses {
+        Misses::none()
     }
 }
 

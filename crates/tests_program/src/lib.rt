@@ -17,6 +17,8 @@ mod fault_tests;
 #[cfg(test)]
 mod following_tests;
 #[cfg(test)]
+mod missing_tests;
+#[cfg(test)]
 mod reporting_tests;
 #[cfg(test)]
 mod runs;

@@ -1,9 +1,10 @@
 //! What is told of a long run, and that nothing else is another one.
 
-use pgapply::ReplicaStore;
+use pgapply::{Misses, ReplicaStore};
 use pgcommand::Limits;
 use pglsn::Lsn;
 use pgorder::Version;
+use pgsub_cli::reported::Settling;
 use pgsub_cli::reporting::{Progress, Reporter, run_opened};
 use pgsub_cli::storing::Incoming;
 use std::cell::{Cell, RefCell};
@@ -58,14 +59,24 @@ fn a_line_says_how_far_it_is(rt: HostRuntime) -> Result<(), Fail> {
     Ok(())
 }
 
+/// A commit with so many changes.
+fn settling(position: Lsn, changes: u64) -> Settling {
+    Settling {
+        commits: 1,
+        changes,
+        position,
+        misses: Misses::none(),
+    }
+}
+
 #[test]
 fn a_line_comes_once_a_second_at_most(rt: HostRuntime) -> Result<(), Fail> {
     let mut lines = Vec::new(rt.alloc());
     let mut reporter = Reporter::new(rt.alloc(), new_clock(), &mut lines, Some(9))?;
-    reporter.note_commit(Lsn(0x130), 3);
+    reporter.note_commits(&settling(Lsn(0x130), 3));
     reporter.note_bytes(5);
     reporter.note_bytes(1);
-    reporter.note_commit(Lsn(0x230), 9);
+    reporter.note_commits(&settling(Lsn(0x230), 9));
     drop(reporter);
     let expected =
         b"pgsub: 5 of 9 bytes read, 1 commits, 3 changes, position 0/130, 2 changes/s\npgsub: 6 of 9 bytes read, 2 commits, 12 changes, position 0/230, 5 changes/s\n";

@@ -3,10 +3,8 @@
 use crate::fault::Wrong;
 use pgapply::ReplicaStore;
 use pgorder::Version;
-use pgstore::Store;
 use pgsub_cli::storing::{Incoming, read_input};
 use pgsub_cli::{run_dump, run_store};
-use sqlite::Alter;
 use std::alloc::{AllocError, Global};
 
 /// A run: `apply` of a recording, or `dump` where there is none, and what comes of it.
@@ -74,11 +72,11 @@ pub(crate) fn check_run<C: ReplicaStore + Drop>(
 }
 
 /// Prints what a store holds row by row, where the run is one that applies nothing, and compares it with what that prints.
-pub(crate) fn check_dump<S: Alter + Drop>(
+pub(crate) fn check_dump<C: ReplicaStore + Drop>(
     alloc: Global,
-    store: Store<S>,
+    store: C,
     run: &Run,
-) -> Result<Store<S>, Wrong> {
+) -> Result<C, Wrong> {
     if run.recording.is_some() {
         return Ok(store);
     }

@@ -1,65 +1,77 @@
 //! Stores over connections that others have filled, in memory and on disks in memory.
 
-use crate::cases::FILLED;
-use crate::stores::{ConnectionTrial, Trial, in_memory, on_connections, on_memory_disks};
-use crate::tests::{shown, take};
+use crate::cases::{Change, FILLED};
+use crate::lines::shown;
+use crate::stores::{
+    Kept, Tables, TablesTrial, Trial, adopt, in_memory, on_connections, on_memory_disks,
+};
+use crate::works::take;
 use pgapply::StoreFault;
 use pglsn::Lsn;
-use pgstore::Store;
-use sqlite::{Alter, Connection};
 use std::process::Abort;
 use std::test::Fail;
 
-/// Adopts the connection.
-fn adopt<S: Alter + Drop>(
-    rt: &(impl Abort + AllocGlobal),
-    conn: Connection<S>,
-) -> Result<Store<S>, StoreFault> {
-    match Store::adopt(rt.alloc(), conn) {
-        Ok(store) => Ok(store),
-        Err((fault, _)) => Err(fault),
+/// The fault with which the tables aren't adopted, and the tables.
+fn refusal_of<R: AllocGlobal, C: Kept>(
+    rt: &R,
+    tables: C::Tables,
+) -> Result<(StoreFault, C::Tables), Fail> {
+    match C::adopt(rt.alloc(), tables) {
+        Ok(_) => Err(Fail::from("it was adopted")),
+        Err(refusal) => Ok(refusal),
     }
 }
 
-/// A connection to the tables of a store.
-fn connection_of<S: Alter + Drop>(store: Store<S>) -> Result<Connection<S>, Fail> {
-    match store.into_connection() {
-        Ok(conn) => Ok(conn),
-        Err(_) => Err(Fail::from("the store gives no connection")),
-    }
+/// The tables serve.
+fn expect_serving(rt: &impl Abort, tables: &mut impl Tables) -> Result<(), Fail> {
+    assert_eq!(rt; tables.count("SELECT 1")?, 1);
+    Ok(())
 }
 
-/// The connection isn't adopted, and serves still.
-fn expect_refused<S: Alter + Drop>(
-    rt: &(impl Abort + AllocGlobal),
-    conn: Connection<S>,
+/// The tables aren't adopted, and serve still.
+fn expect_refused<R: Abort + AllocGlobal, C: Kept>(
+    rt: &R,
+    tables: C::Tables,
     fault: StoreFault,
 ) -> Result<(), Fail> {
-    let Err((found, mut conn)) = Store::adopt(rt.alloc(), conn) else {
-        return Err(Fail::from("it was adopted"));
-    };
+    let (found, mut tables) = refusal_of::<R, C>(rt, tables)?;
     assert_eq!(rt; found, fault);
-    assert_eq!(rt; conn.query_all("SELECT 1", &[])?.len(), 1);
+    expect_serving(rt, &mut tables)
+}
+
+/// The store is at this position with these rows.
+fn expect<R: Abort + AllocGlobal, C: Kept>(
+    rt: &R,
+    store: &mut C,
+    position: u64,
+    rows: &str,
+) -> Result<(), Fail> {
+    assert_eq!(rt; store.position(), Lsn(position));
+    assert_eq!(rt; shown(rt.alloc(), store)?.as_str(), rows);
     Ok(())
+}
+
+/// The store takes a commit that leads to these rows, is closed, and adopted.
+fn go_on<R: Abort + AllocGlobal, C: Kept>(
+    rt: &R,
+    mut store: C,
+    end: u64,
+    changes: &[(usize, Change)],
+    rows: &str,
+) -> Result<C, Fail> {
+    take(rt, &mut store, end, changes)?;
+    let mut again: C = adopt(rt, store.into_tables()?)?;
+    expect(rt, &mut again, end, rows)?;
+    Ok(again)
 }
 
 /// A store with rows in keyed tables and bags is closed, adopted, and goes on.
 struct GoesOn;
 
 impl Trial for GoesOn {
-    fn run<S: Alter + Drop>(
-        &self,
-        rt: &(impl Abort + AllocGlobal),
-        mut store: Store<S>,
-    ) -> Result<(), Fail> {
-        take(rt, &mut store, 0x0100_0000_0000_0130, FILLED.0)?;
-        let mut again = adopt(rt, connection_of(store)?)?;
-        assert_eq!(rt; again.position(), Lsn(0x0100_0000_0000_0130));
-        assert_eq!(rt; shown(rt.alloc(), &mut again)?.as_str(), FILLED.2);
-        take(rt, &mut again, 0x0100_0000_0000_0131, &[])?;
-        let mut last = adopt(rt, connection_of(again)?)?;
-        assert_eq!(rt; last.position(), Lsn(0x0100_0000_0000_0131));
-        assert_eq!(rt; shown(rt.alloc(), &mut last)?.as_str(), FILLED.2);
+    fn run<R: Abort + AllocGlobal, C: Kept>(&self, rt: &R, store: C) -> Result<(), Fail> {
+        let again = go_on(rt, store, 0x0100_0000_0000_0130, FILLED.0, FILLED.2)?;
+        let _last = go_on(rt, again, 0x0100_0000_0000_0131, &[], FILLED.2)?;
         Ok(())
     }
 }
@@ -73,28 +85,22 @@ fn filled_stores_are_adopted(rt: HostRuntime) -> Result<(), Fail> {
 /// A store without rows is adopted at 0/0.
 struct BeginsAnew;
 
-impl ConnectionTrial for BeginsAnew {
-    fn run<S: Alter + Drop>(
+impl TablesTrial for BeginsAnew {
+    fn run_on<R: Abort + AllocGlobal, C: Kept>(
         &self,
-        rt: &(impl Abort + AllocGlobal),
-        conn: Connection<S>,
+        rt: &R,
+        tables: C::Tables,
     ) -> Result<(), Fail> {
-        let mut store = adopt(rt, conn)?;
-        assert_eq!(rt; store.position(), Lsn(0));
-        assert_eq!(rt; shown(rt.alloc(), &mut store)?.as_str(), "");
+        let mut store: C = adopt(rt, tables)?;
+        expect(rt, &mut store, 0, "")?;
         take(rt, &mut store, 0x130, FILLED.0)?;
-        assert_eq!(rt; shown(rt.alloc(), &mut store)?.as_str(), FILLED.2);
-        Ok(())
+        expect(rt, &mut store, 0x130, FILLED.2)
     }
 }
 
 impl Trial for BeginsAnew {
-    fn run<S: Alter + Drop>(
-        &self,
-        rt: &(impl Abort + AllocGlobal),
-        store: Store<S>,
-    ) -> Result<(), Fail> {
-        ConnectionTrial::run(self, rt, connection_of(store)?)
+    fn run<R: Abort + AllocGlobal, C: Kept>(&self, rt: &R, store: C) -> Result<(), Fail> {
+        self.run_on::<R, C>(rt, store.into_tables()?)
     }
 }
 
@@ -108,14 +114,10 @@ fn empty_connections_are_adopted(rt: HostRuntime) -> Result<(), Fail> {
 struct LosesItsPosition;
 
 impl Trial for LosesItsPosition {
-    fn run<S: Alter + Drop>(
-        &self,
-        rt: &(impl Abort + AllocGlobal),
-        store: Store<S>,
-    ) -> Result<(), Fail> {
-        let mut conn = connection_of(store)?;
-        conn.execute_batch("DELETE FROM pos")?;
-        ConnectionTrial::run(&BeginsAnew, rt, conn)
+    fn run<R: Abort + AllocGlobal, C: Kept>(&self, rt: &R, store: C) -> Result<(), Fail> {
+        let mut tables = store.into_tables()?;
+        tables.execute("DELETE FROM pos")?;
+        BeginsAnew.run_on::<R, C>(rt, tables)
     }
 }
 
@@ -132,24 +134,20 @@ struct IsRefused {
     fault: StoreFault,
 }
 
-impl ConnectionTrial for IsRefused {
-    fn run<S: Alter + Drop>(
+impl TablesTrial for IsRefused {
+    fn run_on<R: Abort + AllocGlobal, C: Kept>(
         &self,
-        rt: &(impl Abort + AllocGlobal),
-        mut conn: Connection<S>,
+        rt: &R,
+        mut tables: C::Tables,
     ) -> Result<(), Fail> {
-        conn.execute_batch(self.statements)?;
-        expect_refused(rt, conn, self.fault)
+        tables.execute(self.statements)?;
+        expect_refused::<R, C>(rt, tables, self.fault)
     }
 }
 
 impl Trial for IsRefused {
-    fn run<S: Alter + Drop>(
-        &self,
-        rt: &(impl Abort + AllocGlobal),
-        store: Store<S>,
-    ) -> Result<(), Fail> {
-        ConnectionTrial::run(self, rt, connection_of(store)?)
+    fn run<R: Abort + AllocGlobal, C: Kept>(&self, rt: &R, store: C) -> Result<(), Fail> {
+        self.run_on::<R, C>(rt, store.into_tables()?)
     }
 }
 
@@ -218,18 +216,14 @@ struct Changed {
 }
 
 impl Trial for Changed {
-    fn run<S: Alter + Drop>(
-        &self,
-        rt: &(impl Abort + AllocGlobal),
-        mut store: Store<S>,
-    ) -> Result<(), Fail> {
+    fn run<R: Abort + AllocGlobal, C: Kept>(&self, rt: &R, mut store: C) -> Result<(), Fail> {
         take(rt, &mut store, 0x130, FILLED.0)?;
-        let mut conn = connection_of(store)?;
-        conn.execute_batch(self.change)?;
+        let mut tables = store.into_tables()?;
+        tables.execute(self.change)?;
         if !self.is_right {
-            return expect_refused(rt, conn, StoreFault::NotAStore);
+            return expect_refused::<R, C>(rt, tables, StoreFault::NotAStore);
         }
-        let _store = adopt(rt, conn)?;
+        let _store: C = adopt(rt, tables)?;
         Ok(())
     }
 }
@@ -267,18 +261,14 @@ const DROPPED: &[(&str, Option<u64>)] = &[
 ];
 
 /// A store of which tables were dropped is adopted without rows at the position, takes rows, and is adopted again.
-fn check_remade<S: Alter + Drop>(
-    rt: &(impl Abort + AllocGlobal),
-    conn: Connection<S>,
-    position: Lsn,
+fn check_remade<R: Abort + AllocGlobal, C: Kept>(
+    rt: &R,
+    tables: C::Tables,
+    position: u64,
 ) -> Result<(), Fail> {
-    let mut store = adopt(rt, conn)?;
-    assert_eq!(rt; store.position(), position);
-    assert_eq!(rt; shown(rt.alloc(), &mut store)?.as_str(), "");
-    take(rt, &mut store, 0x230, FILLED.0)?;
-    let mut again = adopt(rt, connection_of(store)?)?;
-    assert_eq!(rt; again.position(), Lsn(0x230));
-    assert_eq!(rt; shown(rt.alloc(), &mut again)?.as_str(), FILLED.2);
+    let mut store: C = adopt(rt, tables)?;
+    expect(rt, &mut store, position, "")?;
+    let _again = go_on(rt, store, 0x230, FILLED.0, FILLED.2)?;
     Ok(())
 }
 
@@ -290,17 +280,13 @@ struct Dropped {
 }
 
 impl Trial for Dropped {
-    fn run<S: Alter + Drop>(
-        &self,
-        rt: &(impl Abort + AllocGlobal),
-        mut store: Store<S>,
-    ) -> Result<(), Fail> {
+    fn run<R: Abort + AllocGlobal, C: Kept>(&self, rt: &R, mut store: C) -> Result<(), Fail> {
         take(rt, &mut store, 0x130, FILLED.0)?;
-        let mut conn = connection_of(store)?;
-        conn.execute_batch(self.drops)?;
+        let mut tables = store.into_tables()?;
+        tables.execute(self.drops)?;
         match self.position {
-            Some(position) => check_remade(rt, conn, Lsn(position)),
-            None => expect_refused(rt, conn, StoreFault::NotAStore),
+            Some(position) => check_remade::<R, C>(rt, tables, position),
+            None => expect_refused::<R, C>(rt, tables, StoreFault::NotAStore),
         }
     }
 }
@@ -319,17 +305,13 @@ fn dropped_tables_are_made(rt: HostRuntime) -> Result<(), Fail> {
 struct KeepsDefinitions;
 
 impl Trial for KeepsDefinitions {
-    fn run<S: Alter + Drop>(
-        &self,
-        rt: &(impl Abort + AllocGlobal),
-        mut store: Store<S>,
-    ) -> Result<(), Fail> {
+    fn run<R: Abort + AllocGlobal, C: Kept>(&self, rt: &R, mut store: C) -> Result<(), Fail> {
         take(rt, &mut store, 0x130, FILLED.0)?;
-        let mut conn = connection_of(store)?;
-        conn.execute_batch("DROP TABLE held")?;
-        let mut conn = connection_of(adopt(rt, conn)?)?;
-        let definitions = conn.query_all("SELECT oid FROM rel", &[])?;
-        assert_eq!(rt; definitions.len(), 3);
+        let mut tables = store.into_tables()?;
+        tables.execute("DROP TABLE held")?;
+        let store: C = adopt(rt, tables)?;
+        let mut tables = store.into_tables()?;
+        assert_eq!(rt; tables.count("SELECT oid FROM rel")?, 3);
         Ok(())
     }
 }

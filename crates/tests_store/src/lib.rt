@@ -11,6 +11,12 @@ mod cases;
 #[cfg(test)]
 mod disks;
 #[cfg(test)]
+mod lines;
+#[cfg(test)]
+mod staging;
+#[cfg(test)]
 mod stores;
 #[cfg(test)]
 mod tests;
+#[cfg(test)]
+mod works;

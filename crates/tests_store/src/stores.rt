@@ -1,48 +1,186 @@
 //! New stores and connections, over which a trial is run.
 //!
-//! Only these functions name the stores' types: a trial is proved once, over any of them.
+//! Only this file names their types. A trial knows them by traits without clauses, so what it owes where it owns a store or lets one
+//! go is proved here once, and not in each trial.
 
+use crate::lines::FirstLines;
+use pgapply::{Commit, DumpRow, Misses, StoreFault, Work};
+use pglsn::Lsn;
 use pgstore::Store;
 use sqlite::{Alter, Connection};
+use std::alloc::Global;
 use std::process::Abort;
 use std::test::Fail;
 
+/// A connection to SQL tables, as a trial sees it.
+pub(crate) trait Tables: Drop {
+    /// Runs statements.
+    fn execute(&mut self, statements: &str) -> Result<(), Fail>;
+
+    /// How many rows a query has.
+    fn count(&mut self, query: &str) -> Result<usize, Fail>;
+}
+
+/// A store, as a trial sees it.
+pub(crate) trait Kept: Drop {
+    /// Connections to the tables of such stores.
+    type Tables: Tables;
+
+    fn adopt(alloc: Global, tables: Self::Tables) -> Result<Self, (StoreFault, Self::Tables)>;
+
+    fn into_tables(self) -> Result<Self::Tables, Fail>;
+
+    fn position(&self) -> Lsn;
+
+    fn reached(&self) -> Lsn;
+
+    fn misses(&self) -> Misses;
+
+    /// Ends the process where the position isn't before the end.
+    fn take(&mut self, rt: &impl Abort, end: Lsn, work: &Work<'_>) -> Result<(), StoreFault>;
+
+    /// Ends the process where what is staged doesn't end before the commit.
+    fn stage(&mut self, rt: &impl Abort, commit: &Commit<'_, '_>) -> Result<(), StoreFault>;
+
+    fn settle(&mut self) -> Result<(), StoreFault>;
+
+    fn unstage(&mut self);
+
+    fn rows(&mut self) -> Result<Vec<DumpRow>, StoreFault>;
+
+    fn each_row(&mut self, sink: FirstLines) -> (Result<bool, StoreFault>, FirstLines);
+}
+
+/// The value, or a failure for this reason.
+fn value_of<T, E: Drop>(outcome: Result<T, E>, why: &'static str) -> Result<T, Fail> {
+    match outcome {
+        Ok(value) => Ok(value),
+        Err(_) => Err(Fail::from(why)),
+    }
+}
+
+impl<S: Alter + Drop> Tables for Connection<S> {
+    fn execute(&mut self, statements: &str) -> Result<(), Fail> {
+        self.execute_batch(statements)?;
+        Ok(())
+    }
+
+    fn count(&mut self, query: &str) -> Result<usize, Fail> {
+        Ok(self.query_all(query, &[])?.len())
+    }
+}
+
+impl<S: Alter + Drop> Kept for Store<S> {
+    type Tables = Connection<S>;
+
+    fn adopt(
+        alloc: Global,
+        tables: Connection<S>,
+    ) -> Result<Store<S>, (StoreFault, Connection<S>)> {
+        Store::adopt(alloc, tables)
+    }
+
+    fn into_tables(self) -> Result<Connection<S>, Fail> {
+        value_of(self.into_connection(), "the store gives no connection")
+    }
+
+    fn position(&self) -> Lsn {
+        Store::position(self)
+    }
+
+    fn reached(&self) -> Lsn {
+        Store::reached(self)
+    }
+
+    fn misses(&self) -> Misses {
+        Store::misses(self)
+    }
+
+    fn take(&mut self, rt: &impl Abort, end: Lsn, work: &Work<'_>) -> Result<(), StoreFault> {
+        assert!(rt; Store::position(self).0 < end.0);
+        Store::take(self, end, work)
+    }
+
+    fn stage(&mut self, rt: &impl Abort, commit: &Commit<'_, '_>) -> Result<(), StoreFault> {
+        assert!(rt; Store::reached(self).0 < commit.end.0);
+        Store::stage(self, commit)
+    }
+
+    fn settle(&mut self) -> Result<(), StoreFault> {
+        Store::settle(self)
+    }
+
+    fn unstage(&mut self) {
+        Store::unstage(self);
+    }
+
+    fn rows(&mut self) -> Result<Vec<DumpRow>, StoreFault> {
+        Store::rows(self)
+    }
+
+    fn each_row(&mut self, sink: FirstLines) -> (Result<bool, StoreFault>, FirstLines) {
+        Store::each_row(self, sink)
+    }
+}
+
+/// The store of these tables.
+pub(crate) fn adopt<R: AllocGlobal, C: Kept>(rt: &R, tables: C::Tables) -> Result<C, StoreFault> {
+    match C::adopt(rt.alloc(), tables) {
+        Ok(store) => Ok(store),
+        Err((fault, _)) => Err(fault),
+    }
+}
+
 /// What is done with a new store.
 pub(crate) trait Trial {
-    fn run<S: Alter + Drop>(
+    fn run<R: Abort + AllocGlobal, C: Kept>(&self, rt: &R, store: C) -> Result<(), Fail>;
+}
+
+/// What is done with a new connection, on which there is no table, to the tables of a store.
+pub(crate) trait TablesTrial {
+    fn run_on<R: Abort + AllocGlobal, C: Kept>(
         &self,
-        rt: &(impl Abort + AllocGlobal),
-        store: Store<S>,
+        rt: &R,
+        tables: C::Tables,
     ) -> Result<(), Fail>;
 }
 
-/// What is done with a new connection, on which there is no table.
-pub(crate) trait ConnectionTrial {
-    fn run<S: Alter + Drop>(
-        &self,
-        rt: &(impl Abort + AllocGlobal),
-        conn: Connection<S>,
-    ) -> Result<(), Fail>;
+/// Over a store of any kind: the proof that one over given disks is a store gets too large.
+fn over<R: Abort + AllocGlobal, S: Alter + Drop>(
+    rt: &R,
+    trial: &impl Trial,
+    store: Result<Store<S>, StoreFault>,
+) -> Result<(), Fail> {
+    trial.run(rt, store?)
+}
+
+/// Over a connection of any kind.
+fn over_tables<R: Abort + AllocGlobal, S: Alter + Drop, E: Drop>(
+    rt: &R,
+    trial: &impl TablesTrial,
+    conn: Result<Connection<S>, E>,
+) -> Result<(), Fail> {
+    trial.run_on::<R, Store<S>>(rt, value_of(conn, "there is no connection")?)
 }
 
 /// Over a store in memory.
-pub(crate) fn in_memory(rt: &(impl Abort + AllocGlobal), trial: &impl Trial) -> Result<(), Fail> {
-    trial.run(rt, Store::in_memory(rt.alloc())?)
+pub(crate) fn in_memory<R: Abort + AllocGlobal>(rt: &R, trial: &impl Trial) -> Result<(), Fail> {
+    over(rt, trial, Store::in_memory(rt.alloc()))
 }
 
 /// Over a store on disks in memory.
-pub(crate) fn on_memory_disks(
-    rt: &(impl Abort + AllocGlobal),
+pub(crate) fn on_memory_disks<R: Abort + AllocGlobal>(
+    rt: &R,
     trial: &impl Trial,
 ) -> Result<(), Fail> {
-    trial.run(rt, Store::on_memory_disks(rt.alloc())?)
+    over(rt, trial, Store::on_memory_disks(rt.alloc()))
 }
 
 /// Over a connection in memory, and over one on disks in memory.
-pub(crate) fn on_connections(
-    rt: &(impl Abort + AllocGlobal),
-    trial: &impl ConnectionTrial,
+pub(crate) fn on_connections<R: Abort + AllocGlobal>(
+    rt: &R,
+    trial: &impl TablesTrial,
 ) -> Result<(), Fail> {
-    trial.run(rt, Connection::open_in_memory(rt.alloc())?)?;
-    trial.run(rt, pgmemory::open(rt.alloc())?)
+    over_tables(rt, trial, Connection::open_in_memory(rt.alloc()))?;
+    over_tables(rt, trial, pgmemory::open(rt.alloc()))
 }

@@ -3,7 +3,7 @@
 use crate::runs::Trial;
 use pgmemory::stop;
 use pgstore::{Store, StoreFault};
-use sqlite::{Alter, Connection, FileStore, Files, Options};
+use sqlite::{Alter, Connection, Files, Options};
 use sqlite_disk::{Disk, Fuse, Memory};
 use std::alloc::Global;
 use std::test::Fail;
@@ -80,29 +80,44 @@ fn options() -> Options {
     }
 }
 
-/// A connection, or what is left where its opening met the stop.
-fn connect(
+/// Runs a trial over a store of any kind: the proof that one over given disks is a store gets too large.
+fn run_over<S: Alter + Drop>(
     alloc: Global,
-    files: Files<Stopping>,
-) -> Result<Result<Connection<FileStore<Stopping>>, Left>, Fail> {
+    store: Store<S>,
+    trial: &mut impl Trial,
+) -> Result<Store<S>, Fail> {
+    trial.run(alloc, store)
+}
+
+/// Adopts a connection and runs a trial over the store. Gives the store back, or the connection where its adoption met the stop.
+fn run_adopted<S: Alter + Drop>(
+    alloc: Global,
+    conn: Connection<S>,
+    trial: &mut impl Trial,
+) -> Result<Result<Store<S>, Connection<S>>, Fail> {
+    match Store::adopt(alloc, conn) {
+        Ok(store) => Ok(Ok(run_over(alloc, store, trial)?)),
+        Err((StoreFault::Refused | StoreFault::Memory, conn)) => Ok(Err(conn)),
+        Err(_) => Err(Fail::from("another fault of adoption")),
+    }
+}
+
+/// Opens a connection on two disks, where that meets no stop, and runs a trial over its store. Gives the disks back as a crash finds
+/// them.
+fn run_on<D: Disk + Drop>(
+    alloc: Global,
+    files: Files<D>,
+    trial: &mut impl Trial,
+) -> Result<Files<D>, Fail> {
     if !files.log.may_be_used() || !files.db.may_be_used() {
         return Err(Fail::from("a disk can't be used"));
     }
     match Connection::open_files(alloc, files, options()) {
-        Ok(conn) => Ok(Ok(conn)),
-        Err((_, left)) => Ok(Err(left_on(alloc, left.into_files())?)),
-    }
-}
-
-/// The store of a connection, or the connection where its adoption met the stop.
-fn adopt<S: Alter + Drop>(
-    alloc: Global,
-    conn: Connection<S>,
-) -> Result<Result<Store<S>, Connection<S>>, Fail> {
-    match Store::adopt(alloc, conn) {
-        Ok(store) => Ok(Ok(store)),
-        Err((StoreFault::Refused | StoreFault::Memory, conn)) => Ok(Err(conn)),
-        Err(_) => Err(Fail::from("another fault of adoption")),
+        Ok(conn) => match run_adopted(alloc, conn, trial)? {
+            Ok(store) => Ok(store.stop()),
+            Err(conn) => Ok(stop(conn.into_store())),
+        },
+        Err((_, left)) => Ok(left.into_files()),
     }
 }
 
@@ -113,28 +128,18 @@ pub(crate) fn try_over(
     calls: Calls,
     trial: &mut impl Trial,
 ) -> Result<Left, Fail> {
-    let conn = match connect(alloc, files_of(alloc, left, calls)?)? {
-        Ok(conn) => conn,
-        Err(left) => return Ok(left),
-    };
-    let files = match adopt(alloc, conn)? {
-        Ok(store) => trial.run(alloc, store)?.stop(),
-        Err(conn) => stop(conn.into_store()),
-    };
-    left_on(alloc, files)
+    left_on(alloc, run_on(alloc, files_of(alloc, left, calls)?, trial)?)
 }
 
 /// Opens a store on two disks, tries this over it, and gives the disks back as a crash finds them.
-pub(crate) fn try_in_files(
+pub(crate) fn try_in_files<D: Disk + Drop>(
     alloc: Global,
-    files: Files<Memory>,
+    files: Files<D>,
     trial: &mut impl Trial,
-) -> Result<Files<Memory>, Fail> {
+) -> Result<Files<D>, Fail> {
     if !files.log.may_be_used() || !files.db.may_be_used() {
         return Err(Fail::from("a disk can't be used"));
     }
-    match Store::open_files(alloc, files, options()) {
-        Ok(store) => Ok(trial.run(alloc, store)?.stop()),
-        Err(_) => Err(Fail::from("the files can't be opened")),
-    }
+    let store = Store::open_files(alloc, files, options())?;
+    Ok(run_over(alloc, store, trial)?.stop())
 }

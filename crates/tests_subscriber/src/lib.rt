@@ -12,6 +12,8 @@ mod counting;
 #[cfg(test)]
 mod messages;
 #[cfg(test)]
+mod missing;
+#[cfg(test)]
 mod pairs;
 #[cfg(test)]
 mod places;

@@ -2,19 +2,19 @@
 
 use crate::blocks::{IN_BLOCKS, IN_PAIRS};
 use crate::row::AMPLE;
-use crate::steps::{MAX_FRAME, NOW, sessions_of};
+use crate::steps::{compare_all, over, position_of, sessions_of};
 use pgapply::ReplicaStore;
 use pglsn::Lsn;
 use pgorder::{OrderFault, Version};
 use pgspool::{ByteSpools, ListSpools, Spools};
-use pgsub_core::{ConvergeFault, Fault, Side, Subscriber, Verdict, converge};
-use std::process::Abort;
+use pgsub_core::{ConvergeFault, Fault, Side, Subscriber, Verdict};
+use std::alloc::Global;
 use std::test::Fail;
 use trial_stores::{PairTrial, two_in_memory};
 
 /// What comparing gives: how the sides compare, at which positions, or the fault of a side.
 #[derive(Clone, Copy)]
-enum Compared {
+pub(crate) enum Compared {
     Same(u64),
     Positions(u64, u64),
     Rows(u64),
@@ -113,57 +113,50 @@ fn fault_of(wanted: Compared) -> Option<(Side, Fault)> {
 }
 
 /// Whether comparing gave what is wanted.
-fn is_wanted(compared: Result<Verdict, ConvergeFault>, wanted: Compared) -> bool {
+pub(crate) fn is_wanted(compared: Result<Verdict, ConvergeFault>, wanted: Compared) -> bool {
     match compared {
         Ok(verdict) => verdict_of(wanted) == Some(verdict),
         Err(ConvergeFault { side, fault }) => fault_of(wanted) == Some((side, fault)),
     }
 }
 
-/// Compares two subscribers, to which the sessions come in chunks of several lengths.
+/// Whether two subscribers, to which the sessions come in chunks of several lengths, compare as is wanted.
 fn compare<P: Spools + Drop, C: ReplicaStore + Drop, Q: Spools + Drop, D: ReplicaStore + Drop>(
-    rt: &(impl Abort + AllocGlobal),
-    mut left: Subscriber<P, C>,
-    mut right: Subscriber<Q, D>,
-    pair: Pair,
-) -> Result<(), Fail> {
-    let (shows, left_sent, right_sent, wanted, right_position) = pair;
-    let left_sessions = sessions_of(rt.alloc(), left_sent, 1)?;
-    let right_sessions = sessions_of(rt.alloc(), right_sent, 64)?;
-    let compared = converge(
-        &mut left,
-        left_sessions.as_slice(),
-        &mut right,
-        right_sessions.as_slice(),
-        NOW,
-    );
-    assert!(rt; is_wanted(compared, wanted), "{shows}");
-    assert!(rt; right.position() == Lsn(right_position), "{shows}");
-    Ok(())
+    alloc: Global,
+    left: &mut Subscriber<P, C>,
+    right: &mut Subscriber<Q, D>,
+    pair: &Pair,
+) -> Result<bool, Fail> {
+    let (_, left_sent, right_sent, wanted, right_position) = *pair;
+    let left_sessions = sessions_of(alloc, left_sent, 1)?;
+    let right_sessions = sessions_of(alloc, right_sent, 64)?;
+    let left_sessions = left_sessions.as_slice();
+    let compared = compare_all(left, left_sessions, right, right_sessions.as_slice());
+    Ok(is_wanted(compared, wanted) && position_of(right) == right_position)
 }
 
 /// Compares subscribers over two stores.
-#[derive(Drop)]
+#[derive(Clone, Copy)]
 struct Compares {
     pair: Pair,
 }
 
-impl<R: Abort + AllocGlobal> PairTrial<R> for Compares {
-    type Outcome = Result<(), Fail>;
+impl<R: AllocGlobal> PairTrial<R> for Compares {
+    type Outcome = Result<bool, Fail>;
 
-    fn run<C: ReplicaStore + Drop>(&self, rt: &R, left: C, right: C) -> Result<(), Fail> {
+    fn run<C: ReplicaStore + Drop>(&self, rt: &R, left: C, right: C) -> Result<bool, Fail> {
         let alloc = rt.alloc();
-        let (version, max) = (Version::Two, MAX_FRAME);
-        let left = Subscriber::new(alloc, left, ByteSpools::new(alloc, AMPLE), version, max);
-        let right = Subscriber::new(alloc, right, ListSpools::new(alloc, AMPLE), version, max);
-        compare(rt, left, right, self.pair)
+        let mut left = over(alloc, left, ByteSpools::new(alloc, AMPLE), Version::Two);
+        let mut right = over(alloc, right, ListSpools::new(alloc, AMPLE), Version::Two);
+        compare(alloc, &mut left, &mut right, &self.pair)
     }
 }
 
 #[test]
 fn two_subscribers_are_compared(rt: HostRuntime) -> Result<(), Fail> {
     for pair in PAIRS {
-        two_in_memory(&rt, &Compares { pair: *pair })??;
+        let is_met = two_in_memory(&rt, &Compares { pair: *pair })??;
+        assert!(rt; is_met, "{}", pair.0);
     }
     Ok(())
 }

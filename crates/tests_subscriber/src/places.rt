@@ -1,8 +1,8 @@
 //! One bad change at each place of a transaction.
 
-use crate::row::Step::{At, Disconnect, Rows};
-use crate::row::{AMPLE, Row, T_1_A, T_2_G, T_3_G, T_4_G, T_5_G};
-use crate::steps::{BadSession, MAX_FRAME, NOW, bytes_of, take_steps};
+use crate::row::Step::{At, Disconnect, Feed, Rows};
+use crate::row::{AMPLE, AT_ONCE, Row, T_1_A, T_2_G, T_3_G, T_4_G, T_5_G};
+use crate::steps::{BadSession, bytes_of, feed, over, take_steps};
 use pgapply::StoreFault::{Clash, NoIdentity, UnchangedInInsert, UnknownIdentity, Width};
 use pgapply::{ReplicaStore, StoreFault};
 use pgorder::Version;
@@ -25,6 +25,12 @@ static BAD: &[(&str, StoreFault)] = &[
 /// The other changes of the transaction.
 static GOOD: &[&str] = &["ins:2g", "ins:3g", "ins:4g", "ins:5g"];
 
+static FIRST: Row = Row {
+    shows: "the transaction before a bad change",
+    limit: AMPLE,
+    steps: &[Feed("t1", Ok(()))],
+};
+
 /// What the transaction leaves that came before.
 static BEFORE: Row = Row {
     shows: "what was stored before a bad change",
@@ -45,7 +51,12 @@ static AFTER: Row = Row {
 static DISCONNECTED: Row = Row {
     shows: "a disconnection after a bad change",
     limit: AMPLE,
-    steps: &[Disconnect, At(0x130, 0x130, 0x130)],
+    steps: &[
+        At(0x130, 0x130, 0x130),
+        Rows(&[T_1_A]),
+        Disconnect,
+        At(0x130, 0x130, 0x130),
+    ],
 };
 
 /// Appends the messages of words.
@@ -67,6 +78,18 @@ fn transaction_with(alloc: Global, count: usize, more: &[&str]) -> Result<Vec<u8
     Ok(bytes)
 }
 
+/// Whether feeding the transaction with further changes after so many of its own gives this result.
+fn feeds<P: Spools + Drop, C: ReplicaStore + Drop>(
+    alloc: Global,
+    subscriber: &mut Subscriber<P, C>,
+    count: usize,
+    more: &[&str],
+    wanted: Result<(), Fault>,
+) -> Result<bool, Fail> {
+    let bytes = transaction_with(alloc, count, more)?;
+    Ok(feed(subscriber, bytes.as_slice()) == wanted)
+}
+
 /// Feeds the transaction with a bad change after so many of its own, and then without it.
 fn reject_and_take<P: Spools + Drop, C: ReplicaStore + Drop>(
     rt: &(impl Abort + AllocGlobal),
@@ -75,17 +98,17 @@ fn reject_and_take<P: Spools + Drop, C: ReplicaStore + Drop>(
     bad: (&str, StoreFault),
 ) -> Result<(), Fail> {
     let (word, fault) = bad;
-    let alloc = rt.alloc();
-    subscriber.feed(bytes_of(alloc, "t1")?.as_slice(), NOW)?;
-    let spoilt = transaction_with(alloc, count, &[word])?;
-    let rejected = subscriber.feed(spoilt.as_slice(), NOW);
-    assert!(rt; rejected == Err(Fault::Store(fault)), "{word} at {count}");
+    let (alloc, more) = (rt.alloc(), &[word]);
+    take_steps(rt, subscriber, &FIRST, AT_ONCE)?;
+    let rejected = Err(Fault::Store(fault));
+    assert!(rt;
+        feeds(alloc, subscriber, count, more, rejected)?,
+        "{word} at {count}"
+    );
     take_steps(rt, subscriber, &BEFORE, 1)?;
-    assert!(rt; subscriber.feed(spoilt.as_slice(), NOW) == Err(Fault::Closed));
-    take_steps(rt, subscriber, &BEFORE, 1)?;
+    assert!(rt; feeds(alloc, subscriber, count, more, Err(Fault::Closed))?);
     take_steps(rt, subscriber, &DISCONNECTED, 1)?;
-    let mended = transaction_with(alloc, count, &[])?;
-    assert!(rt; subscriber.feed(mended.as_slice(), NOW).is_ok());
+    assert!(rt; feeds(alloc, subscriber, count, &[], Ok(()))?);
     take_steps(rt, subscriber, &AFTER, 1)
 }
 
@@ -97,12 +120,12 @@ fn check_over<P: Spools + Drop, C: ReplicaStore + Drop>(
     count: usize,
     bad: (&str, StoreFault),
 ) -> Result<(), Fail> {
-    let mut subscriber = Subscriber::new(rt.alloc(), store, spools, Version::Two, MAX_FRAME);
+    let mut subscriber = over(rt.alloc(), store, spools, Version::Two);
     reject_and_take(rt, &mut subscriber, count, bad)
 }
 
 /// A bad change after so many others.
-#[derive(Drop)]
+#[derive(Clone, Copy)]
 struct RejectsAt {
     count: usize,
     bad: (&'static str, StoreFault),

@@ -2,9 +2,8 @@
 
 use crate::row::Step::{At, Rows};
 use crate::row::{AMPLE, Row, T_1_A};
-use crate::steps::{MAX_FRAME, NOW, bytes_of, take_steps};
+use crate::steps::{NOW, bytes_of, feed, over, position_of, take_steps};
 use pgapply::ReplicaStore;
-use pglsn::Lsn;
 use pgorder::{OrderFault, Version};
 use pgspool::{ByteSpools, ListSpools, Spools};
 use pgsub_core::{Fault, Source, Subscriber, pump};
@@ -39,6 +38,18 @@ static STORED: Row = Row {
     steps: &[At(0x130, 0x130, 0x130), Rows(&[T_1_A])],
 };
 
+/// Pumps what a reader gives. Returns the answer, and whether the source says then that a read failed.
+fn pump_from<P: Spools + Drop, C: ReplicaStore + Drop>(
+    rt: &impl Abort,
+    subscriber: &mut Subscriber<P, C>,
+    reader: Reader<'_>,
+) -> (Result<(), Fault>, bool) {
+    let mut source = Source::new(reader);
+    assert!(rt; !source.failed());
+    let pumped = pump(&mut source, subscriber, NOW);
+    (pumped, source.failed())
+}
+
 /// Pumps the first bytes from a reader that then fails, and feeds the others.
 fn pump_and_feed<P: Spools + Drop, C: ReplicaStore + Drop>(
     rt: &(impl Abort + AllocGlobal),
@@ -46,40 +57,35 @@ fn pump_and_feed<P: Spools + Drop, C: ReplicaStore + Drop>(
     front: &[u8],
     rest: &[u8],
 ) -> Result<(), Fail> {
-    let mut source = Source::new(Reader {
+    let reader = Reader {
         rest: front,
         at_once: 5,
         fails: true,
-    });
-    assert!(rt; !source.failed());
-    assert!(rt; pump(&mut source, subscriber, NOW) == Err(Fault::Read));
-    assert!(rt; source.failed());
+    };
+    let (pumped, failed) = pump_from(rt, subscriber, reader);
     let position = if rest.is_empty() { 0x130 } else { 0 };
-    assert!(rt;
-        subscriber.position() == Lsn(position),
-        "after {} bytes",
-        front.len()
-    );
-    assert!(rt; subscriber.feed(rest, NOW).is_ok());
+    let is_met = pumped == Err(Fault::Read) && failed && position_of(subscriber) == position;
+    assert!(rt; is_met, "after {} bytes", front.len());
+    assert!(rt; feed(subscriber, rest).is_ok());
     take_steps(rt, subscriber, &STORED, 1)
 }
 
-/// Pumps the bytes of a reader that gives so many a call.
-fn pump_all<P: Spools + Drop, C: ReplicaStore + Drop>(
-    rt: &impl Abort,
+/// Whether pumping the bytes of words, so many at a call, gives this result, and no read fails.
+fn pumps<P: Spools + Drop, C: ReplicaStore + Drop>(
+    rt: &(impl Abort + AllocGlobal),
     subscriber: &mut Subscriber<P, C>,
-    rest: &[u8],
+    words: &str,
     at_once: usize,
-) -> Result<(), Fault> {
-    let mut source = Source::new(Reader {
-        rest,
+    wanted: Result<(), Fault>,
+) -> Result<bool, Fail> {
+    let bytes = bytes_of(rt.alloc(), words)?;
+    let reader = Reader {
+        rest: bytes.as_slice(),
         at_once,
         fails: false,
-    });
-    assert!(rt; !source.failed());
-    let pumped = pump(&mut source, subscriber, NOW);
-    assert!(rt; !source.failed());
-    pumped
+    };
+    let (pumped, failed) = pump_from(rt, subscriber, reader);
+    Ok(pumped == wanted && !failed)
 }
 
 /// Pumps the first bytes over a new store, and feeds the others.
@@ -91,12 +97,12 @@ fn fail_after<P: Spools + Drop, C: ReplicaStore + Drop>(
     count: usize,
 ) -> Result<(), Fail> {
     let (front, rest) = bytes.split_at(count.min(bytes.len()));
-    let mut subscriber = Subscriber::new(rt.alloc(), store, spools, Version::Two, MAX_FRAME);
+    let mut subscriber = over(rt.alloc(), store, spools, Version::Two);
     pump_and_feed(rt, &mut subscriber, front, rest)
 }
 
 /// A reader that fails after so many of the bytes.
-#[derive(Drop)]
+#[derive(Clone, Copy)]
 struct FailsAfter<'t> {
     bytes: &'t [u8],
     count: usize,
@@ -137,24 +143,29 @@ fn a_reader_that_fails_after_each_byte(rt: HostRuntime) -> Result<(), Fail> {
     Ok(())
 }
 
-/// Pumps readers over a new store: one of a transaction, a byte at each call, and one of a Commit in a session of its own.
+/// Pumps readers: one of a transaction, a byte at each call, and one of a Commit in a session of its own.
+fn read_to_the_end<P: Spools + Drop, C: ReplicaStore + Drop>(
+    rt: &(impl Abort + AllocGlobal),
+    subscriber: &mut Subscriber<P, C>,
+) -> Result<(), Fail> {
+    assert!(rt; pumps(rt, subscriber, "t1", 1, Ok(()))?);
+    take_steps(rt, subscriber, &STORED, 1)?;
+    subscriber.disconnect();
+    let fault = Err(Fault::Order(OrderFault::CommitWithoutBegin));
+    assert!(rt; pumps(rt, subscriber, "commit:130", 4096, fault)?);
+    take_steps(rt, subscriber, &STORED, 1)
+}
+
+/// Pumps readers to their end over a new store.
 struct ReadsToTheEnd;
 
 impl<R: Abort + AllocGlobal> Trial<R> for ReadsToTheEnd {
     type Outcome = Result<(), Fail>;
 
     fn run<C: ReplicaStore + Drop>(&self, rt: &R, store: C) -> Result<(), Fail> {
-        let alloc = rt.alloc();
-        let spools = ListSpools::new(alloc, AMPLE);
-        let mut subscriber = Subscriber::new(alloc, store, spools, Version::Two, MAX_FRAME);
-        let bytes = bytes_of(alloc, "t1")?;
-        assert!(rt; pump_all(rt, &mut subscriber, bytes.as_slice(), 1).is_ok());
-        take_steps(rt, &mut subscriber, &STORED, 1)?;
-        subscriber.disconnect();
-        let bytes = bytes_of(alloc, "commit:130")?;
-        let pumped = pump_all(rt, &mut subscriber, bytes.as_slice(), 4096);
-        assert!(rt; pumped == Err(Fault::Order(OrderFault::CommitWithoutBegin)));
-        take_steps(rt, &mut subscriber, &STORED, 1)
+        let spools = ListSpools::new(rt.alloc(), AMPLE);
+        let mut subscriber = over(rt.alloc(), store, spools, Version::Two);
+        read_to_the_end(rt, &mut subscriber)
     }
 }
 

@@ -2,12 +2,11 @@
 
 use crate::blocks::{IN_BLOCKS, IN_PAIRS};
 use crate::row::{AMPLE, Stored, T_1_E, T_1_L, T_2_M};
-use crate::steps::{BadSession, MAX_FRAME, NOW, are_rows, sessions_of};
+use crate::steps::{BadSession, are_rows, follow_all, over, position_of, rows_of, sessions_of};
 use pgapply::{DumpRow, ReplicaStore, StoreFault};
-use pglsn::Lsn;
 use pgorder::Version;
 use pgspool::{ByteSpools, ListSpools, Spools};
-use pgsub_core::{Fault, Session, Subscriber, follow};
+use pgsub_core::{Fault, Session, Subscriber};
 use std::alloc::Global;
 use std::process::Abort;
 use std::test::Fail;
@@ -25,15 +24,15 @@ fn sessions_in_the_end(alloc: Global, session: &'static str) -> Result<Vec<Sessi
 fn rows_in_the_end<P: Spools + Drop, C: ReplicaStore + Drop>(
     subscriber: &mut Subscriber<P, C>,
 ) -> Result<Vec<DumpRow>, Fault> {
-    match subscriber.rows() {
-        Err(Fault::Memory) => subscriber.rows(),
+    match rows_of(subscriber) {
+        Err(Fault::Memory) => rows_of(subscriber),
         answer => answer,
     }
 }
 
 /// The rows that both sessions leave at the end LSN of each commit.
-fn rows_at(position: Lsn) -> Option<&'static [Stored]> {
-    match position.0 {
+fn rows_at(position: u64) -> Option<&'static [Stored]> {
+    match position {
         0 => Some(&[]),
         0x330 => Some(&[T_1_E]),
         0x430 => Some(&[T_1_L, T_2_M]),
@@ -45,7 +44,7 @@ fn rows_at(position: Lsn) -> Option<&'static [Stored]> {
 fn has_rows_of_a_commit<P: Spools + Drop, C: ReplicaStore + Drop>(
     subscriber: &mut Subscriber<P, C>,
 ) -> Result<bool, Fault> {
-    let Some(wanted) = rows_at(subscriber.position()) else {
+    let Some(wanted) = rows_at(position_of(subscriber)) else {
         return Ok(false);
     };
     let rows = rows_in_the_end(subscriber)?;
@@ -59,29 +58,38 @@ fn follow_in_the_end<P: Spools + Drop, C: ReplicaStore + Drop>(
     subscriber: &mut Subscriber<P, C>,
     sessions: &[Session],
 ) -> Result<(), Fault> {
-    let followed = follow(subscriber, sessions, NOW);
-    assert!(rt; rows_at(subscriber.position()).is_some());
+    let followed = follow_all(subscriber, sessions);
+    assert!(rt; rows_at(position_of(subscriber)).is_some());
     if followed != Err(Fault::Memory) {
         return followed;
     }
     assert!(rt; has_rows_of_a_commit(subscriber)?);
-    follow(subscriber, sessions, NOW)
+    follow_all(subscriber, sessions)
 }
 
-/// Whether a session is taken whole over a new store, where one request for memory may be refused.
+/// Whether a session is taken whole, where one request for memory may be refused.
+fn takes_whole<P: Spools + Drop, C: ReplicaStore + Drop>(
+    rt: &impl Abort,
+    subscriber: &mut Subscriber<P, C>,
+    sessions: &[Session],
+) -> Result<bool, Fault> {
+    follow_in_the_end(rt, subscriber, sessions)?;
+    Ok(position_of(subscriber) == 0x430 && has_rows_of_a_commit(subscriber)?)
+}
+
+/// The same over a new store.
 fn takes_all<P: Spools + Drop, C: ReplicaStore + Drop>(
     rt: &(impl Abort + AllocGlobal),
     store: C,
     spools: P,
     sessions: &[Session],
 ) -> Result<bool, Fault> {
-    let mut subscriber = Subscriber::new(rt.alloc(), store, spools, Version::Two, MAX_FRAME);
-    follow_in_the_end(rt, &mut subscriber, sessions)?;
-    Ok(subscriber.position() == Lsn(0x430) && has_rows_of_a_commit(&mut subscriber)?)
+    let mut subscriber = over(rt.alloc(), store, spools, Version::Two);
+    takes_whole(rt, &mut subscriber, sessions)
 }
 
 /// Takes a session whole with spools of either kind.
-#[derive(Drop)]
+#[derive(Clone, Copy)]
 struct TakesAll<'a> {
     as_bytes: bool,
     sessions: &'a [Session],

@@ -2,11 +2,10 @@
 
 use crate::row::Step::{At, Feed, Replies, Rows, Status};
 use crate::row::{AMPLE, Row, T_1_A, T_2_B};
-use crate::steps::{MAX_FRAME, take_steps};
+use crate::steps::taken;
 use pgapply::ReplicaStore;
 use pgorder::Version;
 use pgspool::{ByteSpools, ListSpools};
-use pgsub_core::Subscriber;
 use std::process::Abort;
 use std::test::Fail;
 use trial_stores::{Trial, in_memory};
@@ -40,14 +39,11 @@ impl<R: Abort + AllocGlobal> Trial<R> for Restarts {
     type Outcome = Result<(), Fail>;
 
     fn run<C: ReplicaStore + Drop>(&self, rt: &R, store: C) -> Result<(), Fail> {
-        let alloc = rt.alloc();
-        let spools = ByteSpools::new(alloc, AMPLE);
-        let mut first = Subscriber::new(alloc, store, spools, Version::One, MAX_FRAME);
-        take_steps(rt, &mut first, &FIRST, 51)?;
-        let spools = ListSpools::new(alloc, AMPLE);
-        let store = first.into_store();
-        let mut second = Subscriber::new(alloc, store, spools, Version::Two, MAX_FRAME);
-        take_steps(rt, &mut second, &SECOND, 51)
+        let spools = ByteSpools::new(rt.alloc(), AMPLE);
+        let store = taken(rt, store, spools, &FIRST, Version::One, 51)?;
+        let spools = ListSpools::new(rt.alloc(), AMPLE);
+        taken(rt, store, spools, &SECOND, Version::Two, 51)?;
+        Ok(())
     }
 }
 

@@ -20,6 +20,8 @@ pub(crate) enum Step {
     Replies(&'static str),
     /// Position, confirmed and received.
     At(u64, u64, u64),
+    /// How many changes found no row, and of the first one where its commit ends and the relation; both 0 where there was none.
+    Misses(u64, u64, u32),
     /// All rows that are stored.
     Rows(&'static [Stored]),
 }
@@ -34,6 +36,9 @@ pub(crate) struct Row {
 
 /// A limit that no row meets.
 pub(crate) const AMPLE: u64 = 1048576;
+
+/// A length of chunks that no session has.
+pub(crate) const AT_ONCE: usize = 1048576;
 
 pub(crate) const T_1_A: Stored = (16384, "t", &["1", "a"], 1);
 

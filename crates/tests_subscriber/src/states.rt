@@ -137,11 +137,18 @@ pub(crate) static STATES: &[Row] = &[
     },
 ];
 
-/// A step that version 1 rejects.
+/// A status, and a step that version 1 rejects.
 pub(crate) static VERSION_1: &[Row] = &[Row {
     shows: "a block in version 1",
     limit: AMPLE,
     steps: &[
+        Status(5, true),
+        Replies(
+            "64 00000026 72 0000000000000000 0000000000000000 0000000000000000 0000000000000005 01",
+        ),
+        ClearReplies,
+        Replies(""),
+        At(0, 0, 0),
         Feed("t1", Ok(())),
         Feed("start:10", Err(Order(StreamInVersion1))),
         At(0x130, 0x130, 0x130),

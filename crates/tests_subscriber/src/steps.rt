@@ -7,7 +7,7 @@ use pgapply::{DumpRow, ReplicaStore};
 use pglsn::Lsn;
 use pgorder::Version;
 use pgspool::{ByteSpools, ListSpools, Spools};
-use pgsub_core::{Fault, Session, Subscriber, follow};
+use pgsub_core::{ConvergeFault, Fault, Session, Subscriber, Verdict, converge, follow};
 use pgtuple::{Bytes, Cell, Seq};
 use std::alloc::{AllocError, AllocFailed, Global};
 use std::process::Abort;
@@ -17,7 +17,7 @@ use std::test::Fail;
 pub(crate) const NOW: i64 = 7;
 
 /// The longest payload of a frame.
-pub(crate) const MAX_FRAME: u32 = 64000;
+const MAX_FRAME: u32 = 64000;
 
 /// Why a row's words give no session.
 #[derive(Debug, Drop)]
@@ -136,6 +136,63 @@ pub(crate) fn sessions_of(
     Ok(all)
 }
 
+// The calls below promise nothing of what they return: who calls them is proved without the subscriber's contracts.
+
+/// A new subscriber over a store.
+pub(crate) fn over<P: Spools + Drop, C: ReplicaStore + Drop>(
+    alloc: Global,
+    store: C,
+    spools: P,
+    version: Version,
+) -> Subscriber<P, C> {
+    Subscriber::new(alloc, store, spools, version, MAX_FRAME)
+}
+
+/// Feeds bytes at once.
+pub(crate) fn feed<P: Spools + Drop, C: ReplicaStore + Drop>(
+    subscriber: &mut Subscriber<P, C>,
+    bytes: &[u8],
+) -> Result<(), Fault> {
+    subscriber.feed(bytes, NOW)
+}
+
+/// Follows sessions.
+pub(crate) fn follow_all<P: Spools + Drop, C: ReplicaStore + Drop>(
+    subscriber: &mut Subscriber<P, C>,
+    sessions: &[Session],
+) -> Result<(), Fault> {
+    follow(subscriber, sessions, NOW)
+}
+
+/// The position in the log up to which all is stored.
+pub(crate) fn position_of<P: Spools + Drop, C: ReplicaStore + Drop>(
+    subscriber: &Subscriber<P, C>,
+) -> u64 {
+    subscriber.position().0
+}
+
+/// All rows.
+pub(crate) fn rows_of<P: Spools + Drop, C: ReplicaStore + Drop>(
+    subscriber: &mut Subscriber<P, C>,
+) -> Result<Vec<DumpRow>, Fault> {
+    subscriber.rows()
+}
+
+/// Compares two subscribers that follow these sessions first.
+pub(crate) fn compare_all<
+    P: Spools + Drop,
+    C: ReplicaStore + Drop,
+    Q: Spools + Drop,
+    D: ReplicaStore + Drop,
+>(
+    left: &mut Subscriber<P, C>,
+    left_sessions: &[Session],
+    right: &mut Subscriber<Q, D>,
+    right_sessions: &[Session],
+) -> Result<Verdict, ConvergeFault> {
+    converge(left, left_sessions, right, right_sessions, NOW)
+}
+
 /// Feeds bytes in chunks.
 fn feed_chunks<P: Spools + Drop, C: ReplicaStore + Drop>(
     subscriber: &mut Subscriber<P, C>,
@@ -143,7 +200,7 @@ fn feed_chunks<P: Spools + Drop, C: ReplicaStore + Drop>(
     chunk_len: usize,
 ) -> Result<(), Fault> {
     for chunk in bytes.chunks(chunk_len.max(1)) {
-        subscriber.feed(chunk, NOW)?;
+        feed(subscriber, chunk)?;
     }
     Ok(())
 }
@@ -184,7 +241,7 @@ fn follows<P: Spools + Drop, C: ReplicaStore + Drop>(
     wanted: Result<(), Fault>,
 ) -> Result<bool, Fail> {
     let sessions = sessions_of(alloc, sessions, chunk_len)?;
-    Ok(follow(subscriber, sessions.as_slice(), NOW) == wanted)
+    Ok(follow_all(subscriber, sessions.as_slice()) == wanted)
 }
 
 /// Whether feeding messages gives this result.
@@ -212,9 +269,28 @@ fn is_at<P: Spools + Drop, C: ReplicaStore + Drop>(
     confirmed: u64,
     received: u64,
 ) -> bool {
-    subscriber.position() == Lsn(position)
+    position_of(subscriber) == position
         && subscriber.confirmed() == Lsn(confirmed)
         && subscriber.received() == Lsn(received)
+}
+
+/// Whether so many changes found no row, the first of them in the commit that ends there.
+pub(crate) fn has_missed<P: Spools + Drop, C: ReplicaStore + Drop>(
+    subscriber: &Subscriber<P, C>,
+    count: u64,
+    end: u64,
+    oid: u32,
+) -> bool {
+    let misses = subscriber.misses();
+    let (counted, first) = (misses.count, misses.first);
+    if counted != count {
+        return false;
+    }
+    let Some(first) = first else {
+        return count == 0;
+    };
+    let (at, of) = (first.end.0, first.oid);
+    at == end && of == oid
 }
 
 /// Whether these are all stored rows.
@@ -222,7 +298,7 @@ fn has_rows<P: Spools + Drop, C: ReplicaStore + Drop>(
     subscriber: &mut Subscriber<P, C>,
     stored: &[Stored],
 ) -> Result<bool, Fault> {
-    let rows = subscriber.rows()?;
+    let rows = rows_of(subscriber)?;
     Ok(are_rows(rows.as_slice(), stored))
 }
 
@@ -249,6 +325,7 @@ fn take<P: Spools + Drop, C: ReplicaStore + Drop>(
         Step::At(position, confirmed, received) => {
             Ok(is_at(subscriber, position, confirmed, received))
         }
+        Step::Misses(count, end, oid) => Ok(has_missed(subscriber, count, end, oid)),
         Step::Rows(stored) => Ok(has_rows(subscriber, stored)?),
     }
 }
@@ -271,6 +348,20 @@ pub(crate) fn take_steps<P: Spools + Drop, C: ReplicaStore + Drop>(
     Ok(())
 }
 
+/// Takes the steps of a row by a new subscriber. Returns the store then.
+pub(crate) fn taken<P: Spools + Drop, C: ReplicaStore + Drop>(
+    rt: &(impl Abort + AllocGlobal),
+    store: C,
+    spools: P,
+    row: &Row,
+    version: Version,
+    chunk_len: usize,
+) -> Result<C, Fail> {
+    let mut subscriber = over(rt.alloc(), store, spools, version);
+    take_steps(rt, &mut subscriber, row, chunk_len)?;
+    Ok(subscriber.into_store())
+}
+
 /// How a row is taken.
 #[derive(Clone, Copy)]
 pub(crate) struct Way {
@@ -280,30 +371,18 @@ pub(crate) struct Way {
     pub(crate) chunk_len: usize,
 }
 
-/// Takes the steps of a row by a new subscriber.
-fn check_over<P: Spools + Drop, C: ReplicaStore + Drop>(
-    rt: &(impl Abort + AllocGlobal),
-    store: C,
-    spools: P,
-    row: &Row,
-    way: Way,
-) -> Result<(), Fail> {
-    let mut subscriber = Subscriber::new(rt.alloc(), store, spools, way.version, MAX_FRAME);
-    take_steps(rt, &mut subscriber, row, way.chunk_len)
-}
-
-/// Takes the steps of a row over a new store.
+/// Takes the steps of a row over a new store. Returns the store then.
 pub(crate) fn check<C: ReplicaStore + Drop>(
     rt: &(impl Abort + AllocGlobal),
     store: C,
     row: &Row,
     way: Way,
-) -> Result<(), Fail> {
+) -> Result<C, Fail> {
     if way.is_encoded {
         let spools = ByteSpools::new(rt.alloc(), row.limit);
-        check_over(rt, store, spools, row, way)
+        taken(rt, store, spools, row, way.version, way.chunk_len)
     } else {
         let spools = ListSpools::new(rt.alloc(), row.limit);
-        check_over(rt, store, spools, row, way)
+        taken(rt, store, spools, row, way.version, way.chunk_len)
     }
 }

@@ -1,7 +1,7 @@
 //! The worked rows by each form of spools over each form of store.
 
 use crate::blocks::BLOCKS;
-use crate::row::Row;
+use crate::row::{AT_ONCE, Row};
 use crate::states::{STATES, VERSION_1};
 use crate::steps::{Way, check};
 use crate::transactions::{BAD_CHANGES, TRANSACTIONS};
@@ -29,7 +29,7 @@ const ENCODED_IN_CHUNKS: Way = Way {
 const ENCODED_AT_ONCE: Way = Way {
     version: Version::Two,
     is_encoded: true,
-    chunk_len: 1048576,
+    chunk_len: AT_ONCE,
 };
 
 /// Decoded items, a byte at a time.
@@ -43,18 +43,18 @@ const DECODED_IN_BYTES: Way = Way {
 const DECODED_AT_ONCE: Way = Way {
     version: Version::Two,
     is_encoded: false,
-    chunk_len: 1048576,
+    chunk_len: AT_ONCE,
 };
 
 /// All bytes at once in version 1.
 const IN_VERSION_1: Way = Way {
     version: Version::One,
     is_encoded: true,
-    chunk_len: 1048576,
+    chunk_len: AT_ONCE,
 };
 
 /// Takes the steps of a row.
-#[derive(Drop)]
+#[derive(Clone, Copy)]
 struct TakesRow {
     row: Row,
     way: Way,
@@ -64,7 +64,8 @@ impl<R: Abort + AllocGlobal> Trial<R> for TakesRow {
     type Outcome = Result<(), Fail>;
 
     fn run<C: ReplicaStore + Drop>(&self, rt: &R, store: C) -> Result<(), Fail> {
-        check(rt, store, &self.row, self.way)
+        check(rt, store, &self.row, self.way)?;
+        Ok(())
     }
 }
 

@@ -1,7 +1,7 @@
 //! Whole transactions, which both versions of the protocol send alike.
 
-use crate::row::Step::{At, Disconnect, Feed, Follow, Rows};
-use crate::row::{AMPLE, Row, T_1_A, T_2_B, T_2_G, T_3_G, T_4_G, T_5_G, T_9_B};
+use crate::row::Step::{At, Disconnect, Feed, Follow, Misses, Rows};
+use crate::row::{AMPLE, Row, T_1_A, T_2_B, T_2_G, T_2_M, T_3_G, T_4_G, T_5_G, T_9_B};
 use pgapply::StoreFault::{Clash, NoIdentity, UnchangedInInsert, UnknownIdentity, Width};
 use pgorder::OrderFault::CommitLsnDiffers;
 use pgrel::RelFault::UnknownRelation;
@@ -234,7 +234,27 @@ pub(crate) static TRANSACTIONS: &[Row] = &[
         steps: &[
             Follow(&["t1 begin:200 upd:9z commit:230"], Ok(())),
             At(0x230, 0x230, 0x230),
+            Misses(1, 0x230, 16384),
             Rows(&[T_1_A]),
+        ],
+    },
+    Row {
+        shows: "changes that find no row in a commit that is rejected",
+        limit: AMPLE,
+        steps: &[
+            Feed("t1", Ok(())),
+            Misses(0, 0, 0),
+            Feed(
+                "begin:200 upd:9z del:9 commit:230 begin:300 del:9 ins:1z commit:330",
+                Err(Store(Clash)),
+            ),
+            At(0x230, 0x230, 0x230),
+            Misses(2, 0x230, 16384),
+            Disconnect,
+            Feed("begin:300 rel:t del:9 ins:2m commit:330", Ok(())),
+            At(0x330, 0x330, 0x330),
+            Misses(3, 0x230, 16384),
+            Rows(&[T_1_A, T_2_M]),
         ],
     },
     Row {

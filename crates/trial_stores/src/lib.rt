@@ -5,6 +5,7 @@
 
 use pgapply::{ReplicaStore, StoreFault};
 use pgstore::Store;
+use sqlite::Alter;
 
 /// What is done with a new store.
 pub trait Trial<R> {
@@ -22,10 +23,25 @@ pub trait PairTrial<R> {
     fn run<C: ReplicaStore + Drop>(&self, rt: &R, left: C, right: C) -> Self::Outcome;
 }
 
+/// Runs a trial over a store of any kind, since the proof that one over given disks is a store gets too large.
+fn over<R, S: Alter + Drop, T: Trial<R>>(rt: &R, trial: &T, store: Store<S>) -> T::Outcome {
+    trial.run(rt, store)
+}
+
+/// The same over two stores, if there is the second one.
+fn over_both<R, S: Alter + Drop, T: PairTrial<R>>(
+    rt: &R,
+    trial: &T,
+    left: Store<S>,
+    right: Result<Store<S>, StoreFault>,
+) -> Result<T::Outcome, StoreFault> {
+    Ok(trial.run(rt, left, right?))
+}
+
 /// Runs a trial over a store in memory.
 pub fn in_memory<R: AllocGlobal, T: Trial<R>>(rt: &R, trial: &T) -> Result<T::Outcome, StoreFault> {
     let store = Store::in_memory(rt.alloc())?;
-    Ok(trial.run(rt, store))
+    Ok(over(rt, trial, store))
 }
 
 /// Runs a trial over two stores in memory.
@@ -34,8 +50,7 @@ pub fn two_in_memory<R: AllocGlobal, T: PairTrial<R>>(
     trial: &T,
 ) -> Result<T::Outcome, StoreFault> {
     let left = Store::in_memory(rt.alloc())?;
-    let right = Store::in_memory(rt.alloc())?;
-    Ok(trial.run(rt, left, right))
+    over_both(rt, trial, left, Store::in_memory(rt.alloc()))
 }
 
 /// Runs a trial over a store on disks in memory.
@@ -44,5 +59,5 @@ pub fn on_memory_disks<R: AllocGlobal, T: Trial<R>>(
     trial: &T,
 ) -> Result<T::Outcome, StoreFault> {
     let store = Store::on_memory_disks(rt.alloc())?;
-    Ok(trial.run(rt, store))
+    Ok(over(rt, trial, store))
 }
