@@ -7,7 +7,7 @@
 | publication, slot and first rows | `making`, `publishing`, `comparing`, `copying`, `reading`, `messages`, `waiting` |
 | one table within the stream | `replacing`, `adding`, `requesting`, `refreshing` |
 | the server | `postgres`, `server`, `catalog`, `facts` |
-| what may make the copy wrong | `watching`, `remembered`, `differences` |
+| what may make the copy wrong | `watching`, `missing`, `remembered`, `found`, `differences` |
 | how it goes | `progress`, `asking`, `lag`, `reporting`, `metrics` |
 | copies for readers | `snapshots`, `resting`, `taking`, `exporting`, `stored`, `values`, `naming`, `placing` |
 | copy and server compared | `verifying`, `digests`, `meeting`, `holding` |

@@ -152,10 +152,14 @@ class Adder:
             " a --max-buffered above that, or copy anew"
         )
 
+    def left_out(self) -> dict[int, int]:
+        """The tables whose changes are left out: those that are added next, and of the initial copy's all that are still to come."""
+        return {**dict.fromkeys(sorted(self.remembered.partial), 0), **self.checkpoint.adding()}
+
     def fill(self) -> None:
         """Leaves out the changes of the next tables that are wanted, as many as may be at a time."""
-        adding, wanted = self.checkpoint.adding(), self.remembered.wanted
-        for oid in [it for it, why in wanted.items() if it not in adding and not why]:
+        adding, wanted, partial = self.checkpoint.adding(), self.remembered.wanted, self.remembered.partial
+        for oid in [it for it, why in wanted.items() if it not in adding and it not in partial and not why]:
             if sum(not wanted.get(it) for it in adding) < MOST and self.checkpoint.has_room_for(oid):
                 adding[oid] = 0
                 self.checkpoint.write_adding(adding)
@@ -166,8 +170,8 @@ class Adder:
             return False
         if self.remembered.wanted and not self.next_oid():
             self.fill()
-        adding = self.checkpoint.known.adding
-        return not self.leaving.points.keys() >= set(map(int, adding)) or self.is_whole and not adding
+        left_out = self.left_out()
+        return not self.leaving.points.keys() >= left_out.keys() or self.is_whole and not left_out
 
     # sessions
 
@@ -182,7 +186,7 @@ class Adder:
         self.checkpoint.write_adding(dict.fromkeys(self.checkpoint.adding(), 0))
         self.fill()
         self.leaving.begin_session()
-        self.leaving.set(self.checkpoint.adding())
+        self.leaving.set(self.left_out())
         self.is_whole = bool(self.leaving.points) and streams
         self.show()
         return bool(self.leaving.points)
@@ -256,9 +260,8 @@ class Adder:
             self.fail(error)
             return
         self.look()
-        adding = {**self.checkpoint.adding(), self.oid: point}
-        self.checkpoint.write_adding(adding)
-        self.leaving.set(adding)
+        self.checkpoint.write_adding({**self.checkpoint.adding(), self.oid: point})
+        self.leaving.set(self.left_out())
         self.point = point
         self.hold.go(point)
         self.phase = GOING
@@ -349,6 +352,9 @@ class Adder:
     def refuse(self, oid: int, why: str) -> None:
         """Notes why a table can't be added. What is there of it isn't right, so that is found."""
         self.close()
+        if oid in self.remembered.partial:
+            # (its changes are left out without that, and others need the room)
+            self.checkpoint.write_adding({it: lsn for it, lsn in self.checkpoint.adding().items() if it != oid})
         self.remembered.refuse(oid, why)
         self.remembered.find(PUBLICATION, self.stream.position, f"table {self.remembered.text_of(oid)} can't be added: {why}")
         self.progress.state = "following"

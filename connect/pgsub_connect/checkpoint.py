@@ -1,8 +1,10 @@
 """What is known of a store from one run to the next, in a file beside it, and what a start concludes from it.
 
-The file is `STORE.connector`: one line of JSON, padded to 512 bytes and overwritten in place. It is locked as long as a
+The file is `STORE.connector`: two lines of JSON, each padded to 512 bytes and overwritten in place. It is locked as long as a
 connector or a filter that it started is alive, so that a filter of a killed connector can end its commit before the next
 one opens the store.
+
+The first line:
 
 | Field | Means |
 |---|---|
@@ -15,6 +17,17 @@ one opens the store.
 | `found` | what may have made the copy wrong, and the LSN at which it was found first; until somebody accepts it |
 | `skipped` | the final LSN of the commit that was skipped last |
 | `adding` | where there are any: the OIDs of tables whose changes are left out until their rows are stored, as the module `replacing` says, each with the LSN at which these will be, 0 where that isn't known |
+
+The second line is of changes that found no row. A file of an earlier version has none: they are counted from the store's position on
+then. Such a version leaves one that is there as it is, so what it stores meanwhile is told as not counted. Each line is right by
+itself, whichever of the two a power cut leaves as it was.
+
+| Field | Means |
+|---|---|
+| `since`, `upto` | the positions between which they are counted |
+| `count` | how many there were, until somebody accepts them |
+| `first`, `relation` | the end of the commit that had the first of these, and the OID of its table |
+| `gap` | two positions, of which the store was found at the second one when they were counted up to the first; until somebody accepts it |
 """
 
 from __future__ import annotations
@@ -35,6 +48,8 @@ SIZE = 512
 PATIENCE = 60
 TEXT = json.JSONEncoder(separators=(",", ":"))
 NEW, COPYING, SLOT, COPIED, FOLLOWING = "new", "copying", "slot", "copied", "following"
+# The kind of what is found by changes that found no row.
+MISSING = "missing"
 
 
 @dataclasses.dataclass
@@ -54,8 +69,20 @@ class Known:
     adding: dict[str, int] = dataclasses.field(default_factory=dict)
 
 
+@dataclasses.dataclass(frozen=True)
+class Counted:
+    """The fields of the second line."""
+
+    since: int
+    upto: int
+    count: int = 0
+    first: int = 0
+    relation: int = 0
+    gap: tuple[int, int] | None = None
+
+
 class Checkpoint:
-    """The file, open and locked."""
+    """The file, open and locked. `counted` is None before a filter has begun."""
 
     def __init__(self, store: str, mode: int = 0o600, check: Check = never) -> None:
         self.path = store + ".connector"
@@ -65,7 +92,7 @@ class Checkpoint:
             raise FileError(f"{self.path}: {error.strerror}") from None
         try:
             self.lock(check)
-            self.known = self.read()
+            self.known, self.counted = self.read(), self.read_counted()
         except BaseException:
             os.close(self.file)
             raise
@@ -95,22 +122,35 @@ class Checkpoint:
         except (ValueError, TypeError):
             raise FileError(f"{self.path}: not a checkpoint of this program") from None
 
+    def read_counted(self) -> Counted | None:
+        line = os.pread(self.file, SIZE, SIZE).strip()
+        if not line:
+            return None
+        try:
+            return counted_of(json.loads(line))
+        except (ValueError, TypeError):
+            raise FileError(f"{self.path}: not a checkpoint of this program") from None
+
     def write(self, durably: bool, **fields: Any) -> None:
-        """Changes fields. Where `durably`, the disk has them before this returns."""
-        self.known = dataclasses.replace(self.known, **fields)
-        line = encoded(self.known)
-        if len(line) >= SIZE:
+        """Changes fields of the first line. Where `durably`, the disk has them before this returns."""
+        self.put(durably, dataclasses.replace(self.known, **fields), self.counted)
+
+    def put(self, durably: bool, known: Known, counted: Counted | None) -> None:
+        """Writes both lines. They are known once they are written."""
+        lines = [encoded(known), TEXT.encode(vars(counted)).encode() if counted else b""]
+        if len(max(lines, key=len)) >= SIZE:
             raise FileError(f"{self.path}: names too long for a checkpoint")
         try:
-            os.pwrite(self.file, line.ljust(SIZE - 1) + b"\n", 0)
+            os.pwrite(self.file, b"".join(line.ljust(SIZE - 1) + b"\n" for line in lines), 0)
             if durably:
                 os.fdatasync(self.file)
         except OSError as error:
             raise Passing(f"{self.path}: {error.strerror}") from None
+        self.known, self.counted = known, counted
 
     def begin_anew(self) -> None:
         """Forgets what is known, as where the store is made anew."""
-        self.known = Known()
+        self.known, self.counted = Known(), None
 
     def forget_server(self) -> None:
         """Forgets whose changes the store holds, and how far it was."""
@@ -122,10 +162,45 @@ class Checkpoint:
         What lies above the store's position is known from a keepalive alone, and the next start can't see it in the store.
         So that has to outlast a power cut. The rest is in the store itself.
         """
-        known = self.known
+        known, counted = self.known, self.counted
+        if counted and counted.upto != position:
+            counted = Counted(counted.since, position, counted.count, counted.first, counted.relation, counted.gap)
         confirmed, position = max(confirmed, known.confirmed), max(position, known.position)
-        if (confirmed, position) != (known.confirmed, known.position):
-            self.write(confirmed > position and confirmed > known.confirmed, confirmed=confirmed, position=position)
+        if (confirmed, position, counted) != (known.confirmed, known.position, self.counted):
+            durably = confirmed > position and confirmed > known.confirmed
+            self.put(durably, dataclasses.replace(known, confirmed=confirmed, position=position), counted)
+
+    def begin_counting(self, position: int, accepts: bool) -> bool:
+        """Notes durably that a filter counts from this position of its store on.
+
+        Where it was counted up to less, a filter had stored commits and was killed before it was noted what they found. Returns whether
+        so, unless that is accepted.
+        """
+        before = self.counted or Counted(position, position)
+        gap = before.gap
+        if is_found := position > before.upto and not accepts:
+            gap = (min(before.upto, *gap) if gap else before.upto, position)
+        counted = dataclasses.replace(before, since=min(before.since, position), upto=position, gap=gap)
+        if counted != self.counted:
+            self.put(True, self.known, counted)
+        return is_found
+
+    def note_missing(self, more: int, first: int, relation: int, position: int) -> None:
+        """Notes durably that so many more changes found no row, in commits up to this position."""
+        counted = self.counted or Counted(position, position)
+        if not counted.count:
+            counted = dataclasses.replace(counted, first=first, relation=relation)
+        counted = dataclasses.replace(counted, count=counted.count + more, upto=position)
+        self.put(True, dataclasses.replace(self.known, position=max(position, self.known.position)), counted)
+
+    def findings(self) -> dict[str, str]:
+        """All kinds of what was found, each with the LSN at which it was found first."""
+        found, counted = dict(self.known.found), self.counted
+        if counted and counted.count:
+            found[MISSING] = lsn_text(counted.first)
+        elif counted and counted.gap:
+            found[MISSING] = lsn_text(counted.gap[0])
+        return found
 
     def note_found(self, kind: str, lsn: int) -> bool:
         """Notes durably that something was found. Returns whether nothing of this kind was known yet."""
@@ -156,14 +231,28 @@ class Checkpoint:
     def accept(self, kinds: list[str]) -> None:
         """Forgets what was found of these kinds."""
         left = {kind: lsn for kind, lsn in self.known.found.items() if kind not in kinds and "all" not in kinds}
-        if left != self.known.found:
-            self.write(True, found=left)
+        counted = self.counted
+        if counted and {MISSING, "all"} & set(kinds):
+            counted = Counted(counted.since, counted.upto)
+        if (left, counted) != (self.known.found, self.counted):
+            self.put(True, dataclasses.replace(self.known, found=left), counted)
 
 
 def encoded(known: Known) -> bytes:
     """The line of the file. What came later is left out where there is nothing to say, so that an earlier version reads it too."""
     fields = vars(known)
     return TEXT.encode(fields if known.adding else {name: it for name, it in fields.items() if name != "adding"}).encode()
+
+
+def counted_of(said: Any) -> Counted:
+    """The second line's fields. A ValueError or TypeError says that they are none."""
+    counted = Counted(**said)
+    if not all(isinstance(it, int) for name, it in vars(counted).items() if name != "gap"):
+        raise TypeError
+    if counted.gap is None:
+        return counted
+    first, last = counted.gap
+    return dataclasses.replace(counted, gap=(int(first), int(last)))
 
 
 def check_gap(known: Known, position: int, slot_at: int) -> None:

@@ -52,7 +52,8 @@ confirmed or dropped: SELECT pg_drop_replication_slot('NAME').
 ENDS = """\
 exit status: 0 ended as asked; 1 the filter rejected the stream, or was killed twice in one transaction; 2 usage error; 3 a file
 can't be used; 4 the server rejected a command for good; 5 the store and the slot don't fit together, or the copy may be wrong; 6 a
-bug; 7 something is in the way only for now, such as a server that isn't there: start it again
+bug; 7 something is in the way only for now, such as a server that isn't there: start it again; 9 ended as asked, but changes found no
+row in the copy
 """
 COMPARED = """\
 exit status: 0 equal, or repaired; 1 the copy differs; 8 the server made no slot in time, so nothing was compared; 2 to 7 as those of `follow`
@@ -62,8 +63,8 @@ exit status: 0 done, or left to the next start; 1 a table is left as it was; 2 t
 """
 ENDINGS = {"follow": ENDS, "record": ENDS, "verify": COMPARED, "add": ADDED, "refresh": ADDED}
 TOP = os.path.dirname(os.path.dirname(os.path.dirname(os.path.realpath(__file__))))
-REJECTED, USAGE, FILE, SERVER, UNFIT, BUG, PASSING, NO_SLOT = 1, 2, 3, 4, 5, 6, 7, 8
-KINDS = ("history", "slot", "names", "publication", "values", "gap", "all")
+REJECTED, USAGE, FILE, SERVER, UNFIT, BUG, PASSING, NO_SLOT, MISSED = 1, 2, 3, 4, 5, 6, 7, 8, 9
+KINDS = ("history", "slot", "names", "publication", "values", "missing", "gap", "all")
 
 
 @dataclasses.dataclass
@@ -467,7 +468,8 @@ class Start:
             raise Stopped
 
 
-def follow(options: Options) -> None:
+def follow(options: Options) -> int:
+    """Follows to the end that was asked for; the exit status."""
     start = Start()
     stop_by_signals(start)
     if not (options.create or options.no_copy or any(os.path.exists(options.store + it) for it in ("", ".connector"))):
@@ -509,6 +511,7 @@ def follow(options: Options) -> None:
         asker.finish()
         if reporter:
             reporter.finish()
+    return MISSED if follower.misses.count else 0
 
 
 def no_store(options: Options) -> Unfit:

@@ -276,12 +276,15 @@ class Copier:
         self.later = {oid: "it was altered while the slot was made" for oid in altered_tables(before, after)}
         if before.publications != after.publications:
             raise ServerError(CHANGED)
-        later = {it.oid: "it was published while the slot was made" for it in published_tables(plain, options.publication) if it not in tables}
-        self.later = {**later, **self.later}
+        now = published_tables(plain, options.publication)
+        late = [it for it in now if it not in tables]
+        self.later = {**{it.oid: "it was published while the slot was made" for it in late}, **self.later}
         sizes = sizes_of(plain, tables)
         # (from here on another thread asks it)
         plain.check = self.check_stop
         self.remembered.begin_copy(after, point)
+        self.name_new(late, point)
+        tables = self.still_published(tables, now)
         self.remembered.note_made(self.maker.made)
         self.remembered.save()
         self.make_lasting(temporary, point)
@@ -289,6 +292,15 @@ class Copier:
         # (the largest first: what is cut later is what can be added by itself)
         tables = sorted((it for it in tables if it.oid not in self.later), key=lambda it: -sizes.get(it.oid, 0))
         return tables, point, Readers(options, own, tables, stored, plain)
+
+    def still_published(self, tables: list[Table], now: list[Table]) -> list[Table]:
+        """The tables without those that left while the slot was made, of which nobody would tell that their rows stay."""
+        there = {it.oid for it in now}
+        for it in tables:
+            if it.oid not in there:
+                log.info(f"{it.text()} was dropped, or left the publication, while the slot was made")
+                self.remembered.never_copied(it.oid)
+        return [it for it in tables if it.oid in there]
 
     def hold_snapshot(self, snapshot: str) -> str:
         """Has a transaction without locks keep the slot's snapshot, and export it for others."""
@@ -378,7 +390,7 @@ class Copier:
             log.warning(f"{self.remembered.text_of(oid)}: {why}: it is added by itself")
             self.remembered.find(PUBLICATION, point, f"table {self.remembered.text_of(oid)} isn't copied yet: {why}")
         self.remembered.take_news()
-        self.remembered.want(self.later)
+        self.remembered.want_later(self.later)
         self.progress.copying = None
         self.begin_part()
         self.end_part(point)
@@ -408,10 +420,16 @@ class Copier:
             self.checkpoint.write(True, phase=known_of.COPIED, confirmed=point, position=point)
             return True
         self.later = {it.oid: self.later.get(it.oid, "its copy was interrupted") for it in missing}
+        self.name_new(missing, point)
         # (a part that has the LSN n ends at n + 1)
         self.lsn = max(position - 1, 0)
         self.end_copy(point)
         return True
+
+    def name_new(self, tables: list[Table], point: int) -> None:
+        """Notes the names of tables that aren't remembered, so that what is told of them goes once they are added."""
+        for it in tables:
+            self.remembered.name_new(it.namespace, it.name, it.oid, point)
 
     def begin_part(self) -> None:
         self.lsn += 1

@@ -18,6 +18,8 @@ from .catalog import Catalog, Part, Partition, Publication, Shape, Table
 
 NAMES, PUBLICATION, VALUES = "names", "publication", "values"
 KINDS = (NAMES, PUBLICATION, VALUES)
+# What is said of a table that isn't published any more, and of a partition that isn't by its own name.
+GONE, RENAMED = "was dropped, or left the publication: the rows that it had stay", "is sent under another name now: the rows that it had don't change"
 # How many columns, labels and the like a text names.
 NAMED = 20
 
@@ -74,7 +76,7 @@ def table_differences(oid: int, before: Catalog, now: Catalog) -> Iterator[Diffe
             yield Difference(PUBLICATION, f"table {new.text()} joined: the rows that it had before are missing")
     elif new is None and old is not None:
         if oid in now.partitions and root_of(oid, now):
-            yield Difference(PUBLICATION, f"partition {old.text()} is sent under another name now: the rows that it had don't change")
+            yield Difference(PUBLICATION, f"partition {old.text()} {RENAMED}")
         else:
             yield Difference(PUBLICATION, gone_text(old.text()))
     elif old is not None and new is not None:
@@ -99,7 +101,7 @@ def is_computed_anew(oid: int, before: Catalog, now: Catalog) -> bool:
 
 
 def gone_text(table: str) -> str:
-    return f"table {table} was dropped, or left the publication: the rows that it had stay"
+    return f"table {table} {GONE}"
 
 
 def is_complete(table: Table, before: Catalog, now: Catalog) -> bool:

@@ -7,15 +7,18 @@ import contextlib
 import errno
 import fcntl
 import os
+import re
 import select
 import signal
 import struct
 import subprocess
 from collections.abc import Sequence
+from typing import NamedTuple
 
 from . import builds, log
 from .errors import FilterFault, Passing
 from .postgres import Check, never
+from .texts import parse_lsn
 
 # A status: CopyData, 34 bytes of payload that begin with `r`, and written, flushed, applied, clock and ask in them.
 STATUS = 39
@@ -31,6 +34,11 @@ PIPE = 1 << 20
 # The statuses with which a filter ends by itself.
 REJECTED, USAGE, NO_STORE, SPOOL_FULL, FRAME_TOO_LARGE, UNOPENED, REFUSED, MEMORY, BROKEN = 1, 2, 3, 10, 11, 12, 13, 14, 15
 PASSING = (UNOPENED, REFUSED, MEMORY, BROKEN)
+# The status of one whose input ended, after changes that found no row.
+MISSED = 16
+# What it says of these on standard error, before the status that confirms their commits: how many there were since it began, and of the
+# first one the OID of its table and the end of its commit.
+MISSING = re.compile(r"pgsub: rows not found: ([0-9]{1,20}), first in relation ([0-9]{1,10}) at ([0-9A-F]{1,8}/[0-9A-F]{1,8})")
 # What a filter needs of the environment: not the passwords of a server.
 KEPT = ("PATH", "LANG", "LC_ALL", "LC_MESSAGES", "TMPDIR", "TZ", "HOME")
 
@@ -46,7 +54,7 @@ class FilterEnded(Exception):
 
     def is_rejection(self) -> bool:
         """Whether the same would come of another try. A disk that is full, or too little memory, may pass."""
-        return self.status > 0 and self.status not in PASSING
+        return self.status > 0 and self.status not in (*PASSING, MISSED)
 
     def is_of_commit(self) -> bool:
         """Whether what was rejected is a commit, and not a single message."""
@@ -59,6 +67,20 @@ class FilterEnded(Exception):
     def is_unopened(self) -> bool:
         """Whether the store couldn't be opened, as where another process has it open."""
         return self.status == UNOPENED
+
+
+class Missing(NamedTuple):
+    """The changes of a filter that found no row: how many, and of the first one its commit's end and its table's OID."""
+
+    total: int = 0
+    first: int = 0
+    relation: int = 0
+
+
+def missing_of(line: str) -> Missing | None:
+    """What a line on standard error says of changes that found no row, None where it is another one."""
+    found = MISSING.fullmatch(line)
+    return Missing(int(found[1]), parse_lsn(found[3]), int(found[2])) if found else None
 
 
 def flushed(payload: bytes) -> int:
@@ -109,6 +131,8 @@ class Filter:
         self.mode = mode
         self.runs = False
         self.status = b""
+        # what it has said of changes that found no row since it began
+        self.missing = Missing()
 
     def is_running(self) -> bool:
         return self.runs
@@ -136,6 +160,7 @@ class Filter:
         self.pending: collections.deque[bytearray] = collections.deque()
         self.waiting = self.written = 0
         self.partial, self.line, self.said = bytearray(), b"", ""
+        self.missing = Missing()
         self.status, self.in_session, self.takes, self.speaks = b"", False, True, True
         self.runs = True
 
@@ -206,15 +231,15 @@ class Filter:
         self, timeout: float, reads: Sequence[int] = (), writes: Sequence[int] = ()
     ) -> tuple[list[int], list[int], list[bytes]]:
         """Waits until something is ready, moves bytes both ways, and returns what of `reads` and `writes` is ready and the
-        filter's new statuses."""
+        filter's new statuses. What it said before these is read then, too."""
         takes = [self.down] if self.waiting and self.takes else []
         tells = [self.up, self.err] if self.speaks else [self.up]
         readable, writable, _ = select.select([*tells, *reads], [*takes, *writes], [], timeout)
         if self.takes and self.down in writable:
             self.write()
-        if self.err in readable:
-            self.read_err()
         statuses = self.read_statuses() if self.up in readable else []
+        if statuses or self.err in readable:
+            self.read_err()
         return readable, writable, statuses
 
     def write(self) -> None:
@@ -235,17 +260,26 @@ class Filter:
             self.finish()
 
     def read_err(self) -> None:
-        """Passes on what the filter says, and keeps its last line."""
-        try:
-            piece = os.read(self.err, PIECE)
-        except BlockingIOError:
-            return
-        self.speaks = bool(piece)
-        self.line += piece
-        *lines, self.line = self.line.split(b"\n")
-        for line in lines:
-            self.said = line.decode(errors="replace")
-            log.info(f"filter: {self.said}")
+        """Takes all that the filter has said: notes how many changes found no row, passes on the rest, and keeps its last line."""
+        length = PIECE
+        # (a pipe has no more than that at a time)
+        while self.speaks and length == PIECE:
+            try:
+                piece = os.read(self.err, PIECE)
+            except BlockingIOError:
+                return
+            length = len(piece)
+            self.speaks = length > 0
+            *lines, self.line = (self.line + piece).split(b"\n")
+            for line in lines:
+                self.hear(line.decode(errors="replace"))
+
+    def hear(self, line: str) -> None:
+        if missing := missing_of(line):
+            self.missing = missing
+        else:
+            self.said = line
+            log.info(f"filter: {line}")
 
     def read_statuses(self) -> list[bytes]:
         try:

@@ -6,14 +6,16 @@ import contextlib
 import dataclasses
 import itertools
 import time
+from collections.abc import Sequence
 from typing import TYPE_CHECKING
 
 from . import checkpoint as known_of
 from . import log, sizes
 from .adding import Adder
 from .checkpoint import Checkpoint, check_gap
-from .errors import Passing, ServerError, Stopped, Unfit
-from .filtering import PIECE, Filter, FilterEnded, asking, flushed
+from .errors import FileError, FilterFault, Passing, ServerError, Stopped, Unfit
+from .filtering import MISSED, PIECE, Filter, FilterEnded, asking, flushed
+from .missing import Misses
 from .noting import Noting, final_lsn
 from .postgres import COPY_BOTH, Connection
 from .progress import Progress
@@ -68,6 +70,7 @@ class Follower:
         self.heartbeat = options.heartbeat
         self.noting = Noting(progress, remembered)
         self.watch = Watch(options, checkpoint, progress, remembered)
+        self.misses = Misses(options, checkpoint, progress, remembered)
         self.skipping = Skipping(options.skip, checkpoint, progress, remembered)
         self.adder = Adder(options, checkpoint, progress, remembered, self.watch, self.noting, snapshots.hold, self)
         snapshots.adds = self.adder.take
@@ -75,7 +78,8 @@ class Follower:
         # the greatest end of a commit that was passed on and is confirmed
         self.position = 0
         self.last_sent = self.last_moved = 0.0
-        # a status that moves a position by a keepalive alone, and waits for its time
+        # the last status that was passed on, and one that moves a position by a keepalive alone and waits for its time
+        self.told = b""
         self.held: bytes | None = None
         self.until = options.until if isinstance(options.until, int) else None
         # whether whole transactions are asked for because of tables that are added
@@ -83,6 +87,15 @@ class Follower:
 
     def run(self) -> None:
         """Follows until a signal asks for the end. Raises where going on makes no sense."""
+        try:
+            self.follow()
+        except (FileError, Passing, ServerError, Unfit):
+            self.leave_filter()
+            raise
+        finally:
+            self.misses.tell(is_last=True)
+
+    def follow(self) -> None:
         self.watch.begin()
         self.adder.begin()
         while not self.stop_asked:
@@ -100,6 +113,11 @@ class Follower:
             self.wait()
         self.finish_filter()
         self.snapshots.wait()
+
+    def leave_filter(self) -> None:
+        """Ends the filter in its own time where something else ends the run: what a killed one has stored may not be counted."""
+        with contextlib.suppress(FileError, FilterEnded, FilterFault, Passing):
+            self.finish_filter()
 
     def check_stop(self) -> None:
         self.progress.beat()
@@ -175,13 +193,15 @@ class Follower:
         self.progress.beat()
         if self.connection and self.filter.is_running() and time.monotonic() - self.last_sent >= self.heartbeat:
             self.release()
-            self.send(self.filter.status)
+            self.send(self.told)
 
     def start_filter(self) -> None:
         if self.filter.is_running():
             return
         self.progress.state = "opening the store"
         self.position = self.open_store()
+        if self.misses.begin_filter(self.position):
+            self.watch.show()
         self.noting.begin_store()
         self.held = None
         self.progress.note_confirmed(self.position, self.position)
@@ -218,9 +238,10 @@ class Follower:
                 time.sleep(min(left, SLEEP))
                 continue
             try:
-                self.note_statuses(self.filter.serve(min(left, STEP))[2])
+                self.note_statuses(self.serve(min(left, STEP))[2])
             except FilterEnded as ended:
                 self.note_end(ended)
+            self.tend_misses()
 
     def connect(self) -> Connection:
         """Connects, checks that the store and the slot fit together, and starts the session."""
@@ -361,7 +382,9 @@ class Follower:
             self.checkpoint.write(False, confirmed=max(slot_at, position), position=position)
         else:
             check_gap(known, position, slot_at)
+        self.note_missing([])
         # (the session's statuses say what the filter confirms, also where the last session ended before that was noted)
+        self.told = self.filter.status
         confirmed = max(self.filter.confirmed(), self.checkpoint.known.confirmed)
         self.checkpoint.write(
             True, confirmed=confirmed, phase=known_of.FOLLOWING, system=server.system, timeline=server.timeline, started=server.started,
@@ -388,7 +411,7 @@ class Follower:
         self.held = None
         began = heard = time.monotonic()
         more: bool | None = True
-        socket = connection.socket()
+        socket, is_wrapped = connection.socket(), connection.is_wrapped()
         while not self.is_over():
             self.progress.beat()
             if self.progress.was_promoted:
@@ -400,6 +423,8 @@ class Follower:
             room = not self.holds_for_snapshot() and self.filter.has_room()
             if more and room:
                 more = self.take_payloads(connection)
+                # (at once, since most often the pipe takes all of it)
+                self.filter.write()
                 room = self.filter.has_room()
             self.noting.show()
             self.noting.wants_look = self.watch.tend(self.noting.wants_look, self.serve_server, self.position)
@@ -411,12 +436,13 @@ class Follower:
                 wait = min(wait, QUIET)
             if self.snapshots.hold.into:
                 wait = min(wait, SOON)
-            readable, writable, statuses = self.filter.serve(
+            readable, writable, statuses = self.serve(
                 max(0.0, min(wait, STEP)), [socket] if room else [], [socket] if connection.unsent else []
             )
             self.forward(statuses)
-            # (what TLS has read already doesn't wake select)
-            if room and not more:
+            self.tend_misses()
+            # (what was read already of an encrypted connection doesn't wake select, nor what is read where a flush would block)
+            if room and not more and (socket in readable or socket in writable or is_wrapped or not (readable or writable)):
                 connection.consume()
                 more = True
             if socket in writable:
@@ -442,7 +468,7 @@ class Follower:
         waits = self.snapshots.hold.is_going()
         if time.monotonic() - self.last_sent >= (ASK if waits else min(self.heartbeat, limit / 4)):
             self.release()
-            self.send(asking(self.filter.status) if waits or silent > limit / 2 else self.filter.status)
+            self.send(asking(self.told) if waits or silent > limit / 2 else self.told)
 
     def renew(self, connection: Connection) -> None:
         """Ends a session so that another one begins, with whole transactions where a table is added, or again without."""
@@ -454,7 +480,8 @@ class Follower:
         """Keeps server and filter content in a session while something else is waited for."""
         self.check_stop()
         if self.filter.is_running():
-            self.forward(self.filter.serve(0)[2])
+            self.forward(self.serve(0)[2])
+            self.misses.tell()
         self.keep_alive(0.0)
 
     def is_stored(self) -> bool:
@@ -472,7 +499,7 @@ class Follower:
         self.filter.push(frames)
         self.attend()
         while not self.filter.has_room():
-            self.forward(self.filter.serve(STEP)[2])
+            self.forward(self.serve(STEP)[2])
             self.attend()
 
     def serve_server(self) -> None:
@@ -501,13 +528,38 @@ class Follower:
         self.noting.note_all(payloads)
         return True if hold.kept and more is not None else more
 
+    def serve(
+        self, timeout: float, reads: Sequence[int] = (), writes: Sequence[int] = ()
+    ) -> tuple[list[int], list[int], list[bytes]]:
+        """Serves the filter. What it says of changes that found no row is on the disk before anybody sees the statuses that follow."""
+        statuses: list[bytes] = []
+        try:
+            readable, writable, statuses = self.filter.serve(timeout, reads, writes)
+            return readable, writable, statuses
+        finally:
+            self.note_missing(statuses)
+
+    def note_missing(self, statuses: Sequence[bytes]) -> None:
+        """Notes durably what is new of changes that found no row, in the commits up to the last of these statuses."""
+        if self.misses.is_news(self.filter.missing):
+            position = self.noting.stored(flushed(statuses[-1]), self.position) if statuses else self.position
+            self.misses.note(self.filter.missing, position)
+
+    def tend_misses(self) -> None:
+        """Tells what is new of changes that found no row. Raises where the following is to be strict."""
+        self.misses.tell()
+        if self.misses.is_new:
+            self.misses.is_new = False
+            self.watch.show()
+
     def note_statuses(self, statuses: list[bytes]) -> None:
-        """Notes the last status, before it is sent."""
+        """Notes the last status."""
         if not statuses:
             return
         confirmed = flushed(statuses[-1])
         self.forget_confirmed(confirmed)
         self.checkpoint.note(confirmed, self.position)
+        self.progress.counted = self.checkpoint.counted
         self.progress.note_confirmed(confirmed, self.position)
 
     def forget_confirmed(self, confirmed: int) -> None:
@@ -531,13 +583,22 @@ class Follower:
             self.release()
 
     def pass_on(self, status: bytes) -> None:
-        if flushed(status) > self.checkpoint.known.confirmed:
+        """Sends a status, and notes it: first where only this tells the next start of it, and else afterwards."""
+        lsn = flushed(status)
+        if lsn > self.checkpoint.known.confirmed:
             self.last_moved = time.monotonic()
-        self.held = None
-        if self.noting.asked is not None and flushed(status) >= self.noting.asked:
+        if self.noting.asked is not None and lsn >= self.noting.asked:
             self.noting.asked = None
-        self.note_statuses([status])
-        self.send(status)
+        self.forget_confirmed(lsn)
+        self.held = None
+        if lsn > self.position:
+            self.note_statuses([status])
+        self.told = status
+        try:
+            self.send(status)
+        finally:
+            # (where that waits until now, the store itself has all that is confirmed)
+            self.note_statuses([status])
 
     def release(self) -> None:
         """Passes on the status that waits."""
@@ -556,11 +617,11 @@ class Follower:
         try:
             while True:
                 self.progress.beat()
-                for status in self.filter.serve(STEP)[2][-1:]:
+                for status in self.serve(STEP)[2][-1:]:
                     self.pass_on(status)
                 if time.monotonic() - self.last_sent >= self.heartbeat:
                     self.release()
-                    self.send(self.filter.status)
+                    self.send(self.told)
         except FilterEnded as ended:
             self.release()
             check_end(ended)
@@ -575,7 +636,7 @@ class Follower:
         try:
             while True:
                 self.progress.beat()
-                self.note_statuses(self.filter.serve(STEP)[2])
+                self.note_statuses(self.serve(STEP)[2])
         except FilterEnded as ended:
             check_end(ended)
 
@@ -594,5 +655,5 @@ def check_end(ended: FilterEnded) -> None:
     """Looks at how a filter has ended that was to end. Raises where the next one would end in the same way."""
     if ended.is_rejection():
         raise ended
-    if ended.status:
+    if ended.status not in (0, MISSED):
         log.warning(f"{ended}")

@@ -10,7 +10,7 @@ from .progress import STATES, Progress
 
 GAUGE, COUNTER = "gauge", "counter"
 # The kinds of findings, and what the server says of a slot's log.
-KINDS = ("history", "slot", "names", "publication", "values")
+KINDS = ("history", "slot", "names", "publication", "values", "missing")
 WAL_STATUSES = ("reserved", "extended", "unreserved", "lost")
 
 Value = int | float | None
@@ -52,6 +52,11 @@ def metrics(progress: Progress, now: float) -> Iterator[Metric]:
     if slot.wal_status:
         yield chosen("pgsub_slot_wal_status", "What the server says of the slot's log.", "status", WAL_STATUSES, {slot.wal_status})
     yield chosen("pgsub_found", "What was found that may have made the copy wrong.", "kind", KINDS, set(progress.found))
+    if (counted := progress.counted) is not None:
+        after, upto = counted.gap or (0, 0)
+        yield one("pgsub_missing_total", COUNTER, "Changes that found no row, until they are accepted.", counted.count)
+        yield one("pgsub_counted_lsn", GAUGE, "LSN up to which changes that found no row are counted.", counted.upto)
+        yield one("pgsub_not_counted_bytes", GAUGE, "Log in which such changes weren't counted, until that is accepted.", upto - after)
     yield one("pgsub_changes_total", COUNTER, "Changes that were passed on.", progress.passed_changes)
     yield one("pgsub_commits_total", COUNTER, "Commits that were passed on.", progress.passed_commits)
     yield one("pgsub_sessions_total", COUNTER, "Sessions with the server.", progress.sessions)

@@ -233,6 +233,10 @@ class Noting:
         self.show_waiting()
         return position
 
+    def stored(self, confirmed: int, position: int) -> int:
+        """The store's position where this is confirmed, by commits that were passed on; at least `position`."""
+        return max((end for end in self.ends if end <= confirmed), default=position)
+
     def rejected_text(self, position: int) -> str:
         """What is said of the first commit above a store's position, which its filter has rejected; "" where there is none."""
         for end, (message, counts, about, _) in zip(self.ends, self.passed):

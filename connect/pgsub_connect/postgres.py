@@ -45,6 +45,8 @@ ENDED, FAILED = -1, -2
 # libpq's own calls, where psycopg makes them by ctypes too.
 GET_COPY_DATA: Any = LIBPQ.PQgetCopyData if LIBPQ else None
 FREE: Any = LIBPQ.PQfreemem if LIBPQ else None
+# A call of libpq that psycopg lacks.
+GSS_IN_USE: Any = getattr(LIBPQ, "PQgssEncInUse", None)
 
 Check = Callable[[], None]
 
@@ -293,6 +295,13 @@ class Connection:
 
     def is_encrypted(self) -> bool:
         return bool(self.raw.ssl_in_use)
+
+    def is_wrapped(self) -> bool:
+        """Whether bytes of the server may have been read without having come yet: where they are encrypted, by TLS or GSSAPI."""
+        if self.raw.ssl_in_use or self.raw.host.startswith((b"/", b"@")):
+            return bool(self.raw.ssl_in_use)
+        pointer = getattr(self.raw, "pgconn_ptr", None)
+        return GSS_IN_USE is None or pointer is None or bool(GSS_IN_USE(ctypes.c_void_p(pointer)))
 
     def is_local(self) -> bool:
         """Whether the server is reached by a socket of this machine."""

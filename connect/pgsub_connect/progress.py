@@ -6,6 +6,7 @@ import os
 import time
 
 from . import VERSION
+from .checkpoint import Counted
 from .lag import Lag
 from .texts import lsn_text
 
@@ -41,6 +42,9 @@ class Progress:
         self.version = self.timeline = 0
         self.found: dict[str, str] = {}
         self.skipped = ""
+        # the changes that found no row, and the table of the first one
+        self.counted: Counted | None = None
+        self.missing_in = ""
         # the tables that are being added, and how that goes
         self.adding: dict[str, str] = {}
         self.lag, self.slot = Lag(), Slot()
@@ -105,6 +109,7 @@ class Progress:
             "copying_table": self.copying,
             "last_error": self.last_error,
             "found": self.found or None,
+            **self.shown_missing(),
             "skipped": self.skipped or None,
             "adding": self.adding or None,
             "server_version": self.version or None,
@@ -114,6 +119,20 @@ class Progress:
             "pid": os.getpid(),
         }
         return {name: value for name, value in shown.items() if value is not None}
+
+    def shown_missing(self) -> dict[str, object]:
+        """The status file's fields of changes that found no row."""
+        counted = self.counted
+        if counted is None:
+            return {}
+        return {
+            "missing": counted.count,
+            "missing_first": lsn_text(counted.first) if counted.count else None,
+            "missing_in": self.missing_in or None,
+            "counted_since": lsn_text(counted.since),
+            "counted_upto": lsn_text(counted.upto),
+            "not_counted": [lsn_text(it) for it in counted.gap] if counted.gap else None,
+        }
 
 
 def time_text(at: float | None) -> str | None:

@@ -14,12 +14,11 @@ accepted. Of the server only the catalog is read.
 from __future__ import annotations
 
 import json
-import re
 from typing import TYPE_CHECKING, NamedTuple
 
 from . import log, requesting
 from .catalog import Catalog, Table, read_catalog
-from .differences import PUBLICATION, VALUES, gone_text
+from .differences import GONE, PUBLICATION, RENAMED, VALUES
 from .dropping import ask_terminal, read_known
 from .errors import FileError
 from .making import names_of
@@ -34,7 +33,6 @@ if TYPE_CHECKING:
 
 DONE, LEFT = 0, 1
 MISSING, CHANGED, EXTRA, OTHER = "missing", "changed", "extra", "other"
-TYPE = re.compile(r"type .* \((\d+)\)")
 
 
 class Told(NamedTuple):
@@ -60,16 +58,16 @@ def compared(remembered: Remembered, now: Catalog) -> list[Told]:
     others = []
     for kind in (PUBLICATION, VALUES):
         for text in texts_of(remembered, kind):
-            tables = tables_of(text, now)
-            for it in tables:
-                found.setdefault(it.oid, []).append(text)
-            if not tables:
+            oids = remembered.tables_of(text)
+            for oid in oids:
+                if oid not in remembered.mended.get(text, ()):
+                    found.setdefault(oid, []).append(text)
+            if not oids:
                 others.append(text)
     told = [Told(what_is(it, known, found[oid]), oid, name(it), found[oid]) for oid, it in sorted(now.tables.items()) if oid in found]
-    gone = {gone_text(remembered.text_of(oid)): oid for oid in remembered.left}
     for text in others:
-        oid = gone.get(text, 0)
-        told.append(Told(EXTRA if oid else OTHER, oid, remembered.text_of(oid).rpartition(" ")[0] if oid else "", [text]))
+        oid = left_of(text, remembered)
+        told.append(Told(EXTRA if oid else OTHER, oid, text[text.index(" ") + 1 : text.rindex(f" ({oid}) ")] if oid else "", [text]))
     return told
 
 
@@ -84,15 +82,9 @@ def name(table: Table) -> str:
     return f"{table.namespace}.{table.name}"
 
 
-def tables_of(text: str, now: Catalog) -> list[Table]:
-    """The published tables that a text is about: that are named in it, or are of its publication, or have a column of its type."""
-    tables = list(now.tables.values())
-    if found := TYPE.match(text):
-        return [it for it in tables if any(column.type_oid == int(found[1]) for column in it.shape.columns)]
-    for publication in now.publications:
-        if text.startswith(f"publication {publication} "):
-            return [it for it in tables if publication in it.parts]
-    return [it for it in tables if f" {it.text()}" in text]
+def left_of(text: str, remembered: Remembered) -> int:
+    """The table whose rows stay although none are sent by its name, as a text says; 0 where it says no such thing."""
+    return next((oid for oid in remembered.tables_in(text) if oid in remembered.left), 0) if text.endswith((GONE, RENAMED)) else 0
 
 
 def what_is(table: Table, known: set[int], texts: list[str]) -> str:

@@ -34,12 +34,12 @@ from typing import Any
 from .catalog import Catalog, Column, Part, Partition, Publication, Shape, Table
 from .differences import NAMES, PUBLICATION, differences, gone_text, shape_differences
 from .errors import FileError, Passing
+from .found import PUBLICATION as OF_PUBLICATION
+from .found import LACKS, TYPE, Found, names_in
 from .texts import lsn_text, parse_lsn
 
 FORMAT = 1
 NEW = ".new"
-# How many texts of one kind are kept.
-MOST = 100
 
 
 @dataclasses.dataclass(frozen=True)
@@ -72,15 +72,6 @@ class Name:
     before: list[int]
 
 
-@dataclasses.dataclass
-class Found:
-    """What was found of one kind."""
-
-    lsn: int
-    texts: list[str]
-    more: int = 0
-
-
 class Remembered:
     """The file. `is_urgent`: it says what has to be on the disk before anything more is confirmed; `is_changed`: anything new."""
 
@@ -99,10 +90,14 @@ class Remembered:
         # the name that an OID has
         self.held: dict[int, tuple[str, str]] = {}
         self.found: dict[str, Found] = {}
+        # by a text of several tables: those whose rows came anew since
+        self.mended: dict[str, list[int]] = {}
         self.told: dict[str, int] = {}
         self.left: set[int] = set()
         self.wanted: dict[int, str] = {}
         self.copied: dict[int, int] = {}
+        # the tables that the initial copy has left for later: what the copy has of them is a part at most
+        self.partial: set[int] = set()
         self.unwanted: set[int] = set()
         self.news: list[str] = []
         self.is_urgent = self.is_changed = False
@@ -212,6 +207,11 @@ class Remembered:
         self.is_urgent = self.is_changed = True
         return names_text(key, oid, name.before[-1]) if name.before else ""
 
+    def name_new(self, namespace: str, table: str, oid: int, lsn: int) -> None:
+        """Notes the name of a table that wasn't there at the last look, unless that is known."""
+        if self.catalog and oid not in self.catalog.tables and (text := self.rename(namespace, table, oid, lsn)):
+            self.find(NAMES, lsn, text)
+
     def rename_earlier(self, namespace: str, table: str, oid: int, lsn: int) -> str:
         """Notes the name that a table had which was gone when the server was looked at."""
         name = self.names.get((namespace, table))
@@ -263,11 +263,9 @@ class Remembered:
             return False
         found = self.found.setdefault(kind, Found(lsn, []))
         if text in found.texts:
+            self.mended.pop(text, None)
             return False
-        if len(found.texts) < MOST:
-            found.texts.append(text)
-        else:
-            found.more += 1
+        found.add(text)
         self.news.append(f"{kind} at {lsn_text(lsn)}: {text}")
         self.is_urgent = self.is_changed = True
         return True
@@ -293,6 +291,11 @@ class Remembered:
         self.wanted |= {oid: "" for oid in (*oids, *self.unwanted)}
         self.save()
 
+    def want_later(self, oids: Iterable[int]) -> None:
+        """Notes durably that the initial copy leaves tables for later: no change of them is followed until their rows are added."""
+        self.partial |= set(oids)
+        self.want(self.partial)
+
     def described(self, oid: int) -> Relation | None:
         """A table as it was described last, by which its rows can go; None where that isn't known."""
         sent = self.sent.get(oid)
@@ -307,14 +310,16 @@ class Remembered:
     def added(self, oid: int, texts: Iterable[str] = ()) -> list[str]:
         """Notes durably that a table was added, or isn't to be any more: what was found of it goes. Returns the kinds that go by that."""
         self.wanted.pop(oid, None)
+        self.partial.discard(oid)
+        texts = [it for it in texts if self.is_mended(it, oid)]
         if oid in self.unwanted:
             self.unwanted.discard(oid)
             self.left.discard(oid)
             self.sent.pop(oid, None)
         gone = []
         for kind, found in list(self.found.items()):
-            found.texts = [it for it in found.texts if it not in texts]
-            if not found.texts and not found.more:
+            found.drop(texts)
+            if found.is_empty():
                 del self.found[kind]
                 gone.append(kind)
         self.save()
@@ -322,9 +327,45 @@ class Remembered:
 
     def found_of(self, oid: int) -> list[str]:
         """What was found of the rows of a table. That two tables have had one name stays so, whatever rows they have."""
-        told = {f" {self.text_of(oid)}", *(f" {'.'.join(key)} ({oid})" for key in self.names)}
-        texts = [it for kind, found in self.found.items() if kind != NAMES for it in found.texts]
-        return [text for text in texts if any(it in f" {text}" for it in told)]
+        number, several = f" ({oid})", ("type ", OF_PUBLICATION)
+        texts = [it for kind, found in self.found.items() if kind != NAMES for it in found.texts if number in it or it.startswith(several)]
+        return [it for it in texts if oid in (self.tables_of_several(it) or self.tables_in(it))]
+
+    def is_mended(self, text: str, oid: int) -> bool:
+        """Notes that a table's rows are right, as to what was found of it. Returns whether so are those of the others that it is about."""
+        others = self.tables_of_several(text)
+        if others is None:
+            return True
+        self.mended[text] = sorted({*self.mended.get(text, ()), oid})
+        if not set(others) <= set(self.mended[text]) or self.is_so(text):
+            return False
+        del self.mended[text]
+        return True
+
+    def is_so(self, text: str) -> bool:
+        """Whether a publication lacks changes of a kind, as a text says: then the rows of its tables are right only for now."""
+        found = LACKS.fullmatch(text)
+        publication = self.catalog.publications.get(found[1]) if found and self.catalog else None
+        return publication is not None and found is not None and found[2] not in publication.actions
+
+    def tables_of(self, text: str) -> list[int]:
+        """The published tables that a text is about: that are named in it, or are of its publication, or have a column of its type."""
+        others = self.tables_of_several(text)
+        return [it for it in self.tables_in(text) if self.catalog and it in self.catalog.tables] if others is None else others
+
+    def tables_of_several(self, text: str) -> list[int] | None:
+        """The published tables that a text is about which is of a type, or of a publication; None of any other."""
+        tables = self.catalog.tables.values() if self.catalog else ()
+        if found := TYPE.match(text):
+            return [it.oid for it in tables if any(column.type_oid == int(found[1]) for column in it.shape.columns)]
+        for publication in self.catalog.publications if self.catalog else ():
+            if text.startswith(f"{OF_PUBLICATION}{publication} "):
+                return [it.oid for it in tables if publication in it.parts]
+        return None
+
+    def tables_in(self, text: str) -> list[int]:
+        """The tables that a text names, by names that they have or had."""
+        return [oid for key, oid in names_in(text) if key in self.names]
 
     def never_copied(self, oid: int) -> None:
         """Forgets a table that went before any row of it was copied."""
@@ -376,9 +417,11 @@ class Remembered:
         self.found = {kind: Found(parse_lsn(lsn), list(texts), int(more)) for kind, (lsn, texts, more) in said["found"].items()}
         self.told = {text: parse_lsn(lsn) for text, lsn in said["told"].items()}
         self.left = {int(oid) for oid in said["left"]}
+        self.mended = {text: [int(it) for it in oids] for text, oids in said.get("mended", {}).items()}
         self.wanted = {int(oid): str(why) for oid, why in said.get("wanted", {}).items()}
         self.copied = {int(oid): int(end) for oid, end in said.get("copied", {}).items()}
         self.unwanted = {int(oid) for oid in said.get("unwanted", [])}
+        self.partial = {int(oid) for oid in said.get("partial", [])}
 
     def written(self) -> dict[str, Any]:
         if self.catalog is None:
@@ -390,9 +433,11 @@ class Remembered:
             "sent": {oid: [lsn_text(it.lsn), it.shape and [it.shape.identity, it.shape.columns]] for oid, it in self.sent.items()},
             "names": [[*key, it.oid, lsn_text(it.since), it.before] for key, it in sorted(self.names.items())],
             "found": {kind: [lsn_text(it.lsn), it.texts, it.more] for kind, it in self.found.items()},
+            "mended": self.mended,
             "copied": self.copied,
             "wanted": self.wanted,
             "unwanted": sorted(self.unwanted),
+            "partial": sorted(self.partial),
             "left": sorted(self.left),
             "told": {text: lsn_text(lsn) for text, lsn in self.told.items()},
         }

@@ -16,7 +16,7 @@ import hashlib
 import itertools
 import json
 import sqlite3
-from collections.abc import Iterable, Iterator
+from collections.abc import Collection, Iterable, Iterator
 from typing import TYPE_CHECKING
 
 from . import log, requesting
@@ -29,7 +29,7 @@ from .meeting import Request, Source
 from .messages import unescaped
 from .postgres import Check
 from .publishing import Table, estimated_rows
-from .remembered import Relation
+from .remembered import Relation, Remembered
 from .resting import check_there, is_followed
 from .stored import check_store, opened, read_position, read_relations
 from .texts import counted, lsn_text
@@ -255,7 +255,7 @@ def compare(options: Options, check: Check) -> list[Table]:
         if not is_followed(options.store):
             raise request.ended()
         source = stack.enter_context(contextlib.closing(Source(options, known, check)))
-        tables = settled(source.chosen(options.table), known)
+        tables = settled(source.chosen(options.table), known, Remembered(options.store).partial)
         point = meet(request, source, options.hold)
         copy = stack.enter_context(contextlib.closing(Copy(request.copied(), options.store, point, check)))
         tell_left(copy, source)
@@ -266,9 +266,9 @@ def compare(options: Options, check: Check) -> list[Table]:
     return verifier.different
 
 
-def settled(tables: list[Table], known: Known) -> list[Table]:
+def settled(tables: list[Table], known: Known, partial: Collection[int] = ()) -> list[Table]:
     """Tables none of which is being added, since of such a one the copy has no state of the server."""
-    if going := [it.text() for it in tables if str(it.oid) in known.adding]:
+    if going := [it.text() for it in tables if str(it.oid) in known.adding or it.oid in partial]:
         raise Passing(f"being added just now, or refused: {names_of(going)}: nothing was compared. Wait for it, or choose others by --table")
     return tables
 

@@ -7,8 +7,10 @@ from typing import TYPE_CHECKING
 
 from . import log
 from .catalog import ACTIONS, Catalog, read_catalog
-from .checkpoint import Checkpoint
+from .checkpoint import MISSING, Checkpoint
+from .differences import NAMES
 from .errors import Passing, ServerError, Unfit
+from .missing import texts_of
 from .postgres import QUICK, Check, Connection
 from .progress import Progress
 from .remembered import Remembered
@@ -42,7 +44,7 @@ class Watch:
         if self.remembered.is_urgent:
             self.remembered.save()
         self.note_kinds()
-        for kind, lsn in self.checkpoint.known.found.items():
+        for kind, lsn in self.checkpoint.findings().items():
             for text in self.texts_of(kind):
                 log.warning(f"found: {kind} at {lsn}: {text}")
         self.show()
@@ -53,6 +55,8 @@ class Watch:
             self.checkpoint.note_found(kind, found.lsn)
 
     def texts_of(self, kind: str) -> list[str]:
+        if kind == MISSING and self.checkpoint.counted:
+            return texts_of(self.checkpoint.counted, self.remembered)
         found = self.remembered.found.get(kind)
         if found is None:
             return ["see the log of the run that found it"]
@@ -60,14 +64,13 @@ class Watch:
 
     def lasting_of(self, kind: str) -> list[str]:
         """What was found of this kind but for tables whose rows are being added, by which it goes."""
-        remembered = self.remembered
-        going = {text for oid, why in remembered.wanted.items() if not why for text in remembered.found_of(oid)}
-        return [it for it in self.texts_of(kind) if it not in going]
+        going = {oid for oid, why in self.remembered.wanted.items() if not why}
+        return [it for it in self.texts_of(kind) if kind == NAMES or going.isdisjoint(self.remembered.tables_in(it))]
 
     def show(self) -> None:
         """Tells the progress what was found, and ends the following where it is to be strict."""
-        self.progress.found = {kind: "; ".join(self.texts_of(kind)) for kind in self.checkpoint.known.found}
-        lasting = {kind: text for kind in self.checkpoint.known.found if (text := "; ".join(self.lasting_of(kind)))}
+        self.progress.found = {kind: "; ".join(self.texts_of(kind)) for kind in self.checkpoint.findings()}
+        lasting = {kind: text for kind in self.checkpoint.findings() if (text := "; ".join(self.lasting_of(kind)))}
         if lasting and self.options.strict:
             texts = "\n".join(f"{kind}: {text}" for kind, text in lasting.items())
             raise Unfit(f"the copy may be wrong (copy anew, or take it as it is by --accept KIND)\n{texts}")

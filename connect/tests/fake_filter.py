@@ -3,21 +3,27 @@
 
 usage: fake_filter follow --store FILE [--proto N] ..
 
-The file holds the position as text. FAKE_FILTER in its first line's place: a file FILE.says may hold one of these words:
+The file holds the position as text. A Delete finds no row, and anything else does. FAKE_FILTER in its first line's place: a file
+FILE.says may hold one of these words:
   `status N TEXT`    ends at the first frame, with this status and this line on standard error
   `bytes HEX`        writes these bytes in place of its first status
   `slow SECONDS`     waits so long before its first status
+  `late SECONDS`     waits so long before it takes a commit
+  `parts SECONDS`    says a line on standard error in two parts, the second one so long after the first
+  `dies LSN`         kills itself once it has stored the commit with this end, in decimal, and takes the file away
 """
 
 from __future__ import annotations
 
 import os
+import signal
 import struct
 import sys
 import time
 from collections.abc import Iterator
 
-BEGIN, COMMIT, STREAM_COMMIT = ord("B"), ord("C"), ord("c")
+BEGIN, COMMIT, STREAM_COMMIT, DELETE = ord("B"), ord("C"), ord("c"), ord("D")
+MISSED = 16
 
 
 def frames() -> Iterator[tuple[bytes, bytes]]:
@@ -32,8 +38,11 @@ def frames() -> Iterator[tuple[bytes, bytes]]:
 class Fake:
     """What is stored, and what is confirmed."""
 
-    def __init__(self, store: str) -> None:
-        self.store, self.position = store, 0
+    def __init__(self, store: str, says: list[str]) -> None:
+        self.store, self.position, self.says = store, 0, says
+        # the tables of changes of a commit that found no row, and of all of them how many, and the first one's table and commit
+        self.missing: list[int] = []
+        self.count, self.first = 0, (0, 0)
         if os.path.exists(store):
             with open(store, encoding="ascii") as file:
                 self.position = int(file.read() or 0)
@@ -44,10 +53,30 @@ class Fake:
         os.write(1, struct.pack(">ci", b"d", len(values) + 4) + values)
 
     def keep(self, end: int) -> None:
+        if self.says[:1] == ["late"]:
+            time.sleep(float(self.says[1]))
         self.position = max(self.position, end)
         self.confirmed = max(self.confirmed, end)
         with open(self.store, "w", encoding="ascii") as file:
             file.write(str(self.position))
+        if self.says[:2] == ["dies", str(end)]:
+            os.unlink(self.store + ".says")
+            os.kill(os.getpid(), signal.SIGKILL)
+        self.tell(end)
+
+    def tell(self, end: int) -> None:
+        """Says how many changes have found no row, where the commit with this end had such ones."""
+        if not self.missing:
+            return
+        self.first = self.first if self.count else (self.missing[0], end)
+        self.count += len(self.missing)
+        self.missing = []
+        oid, lsn = self.first
+        line = f"pgsub: rows not found: {self.count}, first in relation {oid} at {lsn >> 32:X}/{lsn & 0xFFFFFFFF:X}\n".encode()
+        cut = 25 if self.says[:1] == ["parts"] else 0
+        os.write(2, line[:cut])
+        time.sleep(float(self.says[1]) if cut else 0.0)
+        os.write(2, line[cut:])
 
     def take(self, payload: bytes) -> None:
         """Takes a payload, and says a status where the confirmed position has moved or one is asked for."""
@@ -57,6 +86,8 @@ class Fake:
                 self.confirmed = max(self.confirmed, int.from_bytes(payload[1:9], "big"))
         elif payload[25] == BEGIN:
             self.inside = True
+        elif payload[25] == DELETE:
+            self.missing.append(int.from_bytes(payload[26:30], "big"))
         elif payload[25] in (COMMIT, STREAM_COMMIT):
             at = 35 if payload[25] == COMMIT else 39
             self.keep(int.from_bytes(payload[at : at + 8], "big"))
@@ -78,7 +109,7 @@ def main(words: list[str]) -> int:
         return 0
     store = words[words.index("--store") + 1]
     says = said(store)
-    fake = Fake(store)
+    fake = Fake(store, says)
     if says[:1] == ["slow"]:
         time.sleep(float(says[1]))
     if says[:1] == ["bytes"]:
@@ -91,7 +122,7 @@ def main(words: list[str]) -> int:
             return int(says[1])
         if tag == b"d":
             fake.take(payload)
-    return 0
+    return MISSED if fake.count else 0
 
 
 if __name__ == "__main__":

@@ -140,7 +140,7 @@ class Store:
         if letter == "T":
             self.base.execute("DELETE FROM held WHERE oid = ?", (oid,))
         before = self.described.get(oid)
-        if before is None or before.shape() != relation.shape() or before.raw != relation.raw or before.name != relation.name:
+        if before != relation:
             if before is not None and before.shape() != relation.shape():
                 self.carry(before, relation)
             self.described[oid] = relation

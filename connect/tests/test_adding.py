@@ -6,9 +6,10 @@ import contextlib
 import unittest
 from unittest import mock
 
+from pgsub_connect import adding
 from pgsub_connect.adding import Adder
 from pgsub_connect.checkpoint import Checkpoint
-from pgsub_connect.errors import Passing, ServerError, Stopped
+from pgsub_connect.errors import NoSlot, Passing, ServerError, Stopped
 from pgsub_connect.remembered import Remembered
 
 from .adding_case import OTHER, THIRD, Case, Run, T
@@ -41,6 +42,27 @@ class Added(Case):
         self.compare()
         streams = ["streaming" in words for _, words in self.server.started[-3:]]
         self.assertEqual(streams, [True, False, True])
+
+    def test_tables_that_the_initial_copy_has_left_for_later(self) -> None:
+        """All of them are left out from the first session on, since their rows are a part at most; none needs a session of its own."""
+        self.patch(adding, "MOST", 1)
+        self.followed()
+        self.spoil()
+        Remembered(self.store).want_later([T, OTHER, THIRD])
+        self.change()
+
+        def no_slot(name: str) -> None:
+            if name == "make_slot":
+                raise NoSlot("late")
+
+        WorldSource.hook = staticmethod(no_slot)
+        run = Run(self)
+        self.assertTrue(run.until(lambda: any("made no slot" in it for it in self.said)), (self.said, run.raised))
+        self.assertEqual((run.follower.adder.leaving.points, run.checkpoint.known.adding), (dict.fromkeys((T, OTHER, THIRD), 0), {}))
+        run.end()
+        WorldSource.hook = staticmethod(lambda name: None)
+        self.goes_on()
+        self.assertEqual((Remembered(self.store).partial, self.server.sessions), (set(), 4))
 
     def test_several_tables_have_their_own_lsn(self) -> None:
         self.followed()

@@ -8,7 +8,8 @@ import unittest
 from unittest import mock
 
 from pgsub_connect import checkpoint as known_of
-from pgsub_connect.checkpoint import SIZE, Checkpoint, Known, check_gap
+from pgsub_connect.checkpoint import MISSING, SIZE, Checkpoint, Counted, Known, check_gap
+from pgsub_connect.dropping import read_known
 from pgsub_connect.errors import FileError, Passing, Stopped, Unfit
 
 from .fake_server import Quiet
@@ -50,7 +51,7 @@ class Gaps(unittest.TestCase):
                 check_gap(known, position, slot_at)
 
 
-class File(Quiet):
+class FileCase(Quiet):
     def setUp(self) -> None:
         super().setUp()
         self.store = self.make_folder() + "/copy.db"
@@ -64,6 +65,8 @@ class File(Quiet):
         with open(self.store + ".connector", "rb") as file:
             return file.read()
 
+
+class File(FileCase):
     def test_what_is_written_is_read(self) -> None:
         before = os.umask(0o022)
         self.addCleanup(os.umask, before)
@@ -71,7 +74,7 @@ class File(Quiet):
         checkpoint = self.open()
         checkpoint.write(True, **dataclasses.asdict(fields))
         self.assertEqual(checkpoint.read(), fields)
-        self.assertEqual((len(self.content()), self.content()[-1:]), (SIZE, b"\n"))
+        self.assertEqual((len(self.content()), self.content()[-1:]), (2 * SIZE, b"\n"))
         self.assertEqual(os.stat(self.store + ".connector").st_mode & 0o777, 0o640)
 
     def test_a_new_one(self) -> None:
@@ -119,6 +122,15 @@ class File(Quiet):
         checkpoint.accept(["all"])
         self.assertEqual(checkpoint.read().found, {})
 
+    def test_a_write_that_fails_changes_nothing(self) -> None:
+        checkpoint = self.open()
+        checkpoint.begin_counting(5, False)
+        known, counted = checkpoint.known, checkpoint.counted
+        for call in ("os.pwrite", "os.fdatasync"):
+            with mock.patch(call, side_effect=OSError(28, "No space left on device")), self.assertRaises(Passing):
+                checkpoint.note_missing(1, 6, 7, 8)
+            self.assertEqual((checkpoint.known, checkpoint.counted), (known, counted))
+
     def test_the_lock(self) -> None:
         self.open()
         with mock.patch.object(known_of, "PATIENCE", 0.0), self.assertRaisesRegex(Passing, "another process"):
@@ -127,6 +139,124 @@ class File(Quiet):
         with mock.patch("time.sleep"), self.assertRaises(Stopped):
             Checkpoint(self.store, check=check)
         self.assertEqual(len(self.said), 1)
+
+
+class Counts(FileCase):
+    """The second line: changes that found no row."""
+
+    def reopened(self) -> Counted | None:
+        """What another run reads."""
+        return self.open_again().counted
+
+    def open_again(self) -> Checkpoint:
+        with mock.patch.object(Checkpoint, "lock"):
+            return self.open()
+
+    def test_what_is_written_is_read(self) -> None:
+        most = (1 << 64) - 1
+        checkpoint = self.open()
+        for counted in (Counted(1, 2), Counted(most, most, most, most, (1 << 32) - 1, (most, most))):
+            checkpoint.put(True, Known(known_of.FOLLOWING), counted)
+            self.assertEqual((self.reopened(), len(self.content())), (counted, 2 * SIZE))
+
+    def test_an_older_file_has_no_such_line(self) -> None:
+        for content in (b"", b'{"phase":"following","position":1280}'.ljust(SIZE - 1) + b"\n"):
+            with open(self.store + ".connector", "wb") as file:
+                file.write(content)
+            checkpoint = self.open_again()
+            self.assertIsNone(checkpoint.counted)
+            checkpoint.note(0x600, 0x600)
+            self.assertFalse(checkpoint.begin_counting(0x600, False))
+            self.assertEqual(self.reopened(), Counted(0x600, 0x600))
+
+    def test_an_earlier_version_reads_the_first_line(self) -> None:
+        checkpoint = self.open()
+        checkpoint.begin_counting(5, False)
+        checkpoint.note_missing(3, 8, 1, 9)
+        checkpoint.write(True, slot="pgsub")
+        self.assertEqual(read_known(self.store + ".connector"), Known(slot="pgsub", position=9))
+
+    def test_what_an_earlier_version_stores_meanwhile(self) -> None:
+        checkpoint = self.open()
+        checkpoint.begin_counting(5, False)
+        os.pwrite(checkpoint.file, b'{"position":9}'.ljust(SIZE - 1) + b"\n", 0)
+        again = self.open_again()
+        self.assertTrue(again.begin_counting(9, False))
+        self.assertEqual((self.reopened(), again.known.position), (Counted(5, 9, gap=(5, 9)), 9))
+
+    def test_torn_or_foreign(self) -> None:
+        for content in (b"x", b"[]", b"5", b"null", b"{}", b'{"since":1}', b'{"since":1,"upto":"2"}', b'{"since":1,"upto":2,"gap":[1]}',
+                        b'{"since":1,"upto":2,"gap":5}', b'{"since":1,"upto":2,"other":3}'):
+            with open(self.store + ".connector", "wb") as file:
+                file.write(b"{}".ljust(SIZE - 1) + b"\n" + content)
+            with self.assertRaises(FileError, msg=repr(content)):
+                self.open_again()
+
+    def test_up_to_where_is_noted_with_the_position(self) -> None:
+        """And costs no sync."""
+        checkpoint = self.open()
+        checkpoint.begin_counting(100, False)
+        with mock.patch("os.fdatasync") as sync:
+            for position in (120, 120, 130):
+                checkpoint.note(position, position)
+                self.assertEqual(self.reopened(), Counted(100, position))
+        sync.assert_not_called()
+
+    def test_missing_ones_are_durable(self) -> None:
+        checkpoint = self.open()
+        checkpoint.begin_counting(100, False)
+        for more, first, relation, position, counted in (
+            (3, 110, 7, 120, Counted(100, 120, 3, 110, 7)), (2, 130, 8, 140, Counted(100, 140, 5, 110, 7)),
+        ):
+            with mock.patch("os.fdatasync") as sync:
+                checkpoint.note_missing(more, first, relation, position)
+            sync.assert_called_once()
+            self.assertEqual((self.reopened(), checkpoint.read().position), (counted, position))
+        self.assertEqual(checkpoint.findings(), {MISSING: "0/6E"})
+
+    def test_a_store_further_than_it_was_counted(self) -> None:
+        checkpoint = self.open()
+        for position, found, counted in (
+            (100, False, Counted(100, 100)), (100, False, Counted(100, 100)), (120, True, Counted(100, 120, gap=(100, 120))),
+            (120, False, Counted(100, 120, gap=(100, 120))), (150, True, Counted(100, 150, gap=(100, 150))),
+        ):
+            self.assertEqual(checkpoint.begin_counting(position, False), found)
+            self.assertEqual(self.reopened(), counted)
+        self.assertEqual(checkpoint.findings(), {MISSING: "0/64"})
+        checkpoint.note(160, 160)
+        checkpoint.begin_counting(180, False)
+        self.assertEqual(self.reopened(), Counted(100, 180, gap=(100, 180)))
+
+    def test_an_older_store(self) -> None:
+        """What it gets again is counted again."""
+        checkpoint = self.open()
+        checkpoint.begin_counting(100, False)
+        checkpoint.note(200, 200)
+        self.assertFalse(checkpoint.begin_counting(90, False))
+        self.assertEqual((self.reopened(), checkpoint.read().position), (Counted(90, 90), 200))
+        self.assertTrue(checkpoint.begin_counting(95, False))
+
+    def test_accepted(self) -> None:
+        for kinds, left in ((["values"], Counted(100, 120, 3, 110, 7, (100, 110))), (["missing"], Counted(100, 120)), (["all"], Counted(100, 120))):
+            checkpoint = self.open_again()
+            checkpoint.put(True, Known(), Counted(100, 120, 3, 110, 7, (100, 110)))
+            checkpoint.accept(kinds)
+            self.assertEqual(self.reopened(), left)
+        checkpoint.begin_counting(100, False)
+        self.assertFalse(checkpoint.begin_counting(120, True), "what is found now is accepted, too")
+        self.assertEqual(self.reopened(), Counted(100, 120))
+
+    def test_forgotten_with_the_copy_alone(self) -> None:
+        checkpoint = self.open()
+        counted = Counted(100, 120, 3, 110, 7)
+        checkpoint.put(True, Known(known_of.FOLLOWING), counted)
+        checkpoint.forget_server()
+        checkpoint.write(True)
+        self.assertEqual(self.reopened(), counted)
+        checkpoint.begin_anew()
+        checkpoint.write(True, phase=known_of.COPYING)
+        self.assertIsNone(self.reopened())
+        self.assertEqual(checkpoint.findings(), {})
 
 
 if __name__ == "__main__":

@@ -313,6 +313,16 @@ class Order(Copying):
         self.assertEqual(remembered.look(a_catalog()), [])
         self.assertEqual(remembered.found, {})
 
+    def test_a_table_that_is_published_beside_the_slot_is_named(self) -> None:
+        """So what is told of it goes once it is added."""
+        self.patch(copying, "read_catalog", lambda *_: a_catalog(a_table(16385, "stock")))
+        both = [STOCK, dataclasses.replace(STOCK, oid=16395, name="more")]
+        looks = iter([[STOCK], both, both])
+        self.patch(copying, "published_tables", lambda *_: next(looks))
+        self.copier().run()
+        remembered = Remembered(self.store)
+        self.assertEqual((self.later(), len(remembered.found_of(16395))), ({16395: ""}, 1))
+
     def test_a_table_that_others_keep_locked_is_added_by_itself(self) -> None:
         self.patch(reading, "PATIENCE", 0.02)
         self.server.answer("LOCK TABLE", ServerError("could not obtain lock", "55P03"))
@@ -537,6 +547,31 @@ class Kept(Copying):
         self.assertEqual((self.server.told("COPY ("), self.server.told("CREATE"), self.made()), ([], [], {"pgsub": 777}))
         self.assertTrue(os.path.exists(self.store))
         self.assertEqual(Remembered(self.store).copied, {})
+
+    def test_a_table_that_was_published_meanwhile(self) -> None:
+        """What is told of it names it, so that it goes once the table is added."""
+        self.patch(copying, "read_catalog", lambda *_: a_catalog(a_table(16385, "stock"), a_table(16390, "other")))
+        self.cut()
+        self.position = 2
+        self.tables.append(dataclasses.replace(OTHER, oid=16395, name="more"))
+        self.copier().run()
+        remembered = Remembered(self.store)
+        self.assertEqual(remembered.wanted, {16390: "", 16395: ""})
+        for oid in (16390, 16395):
+            self.assertEqual(len(remembered.found_of(oid)), 1)
+            remembered.added(oid, remembered.found_of(oid))
+        self.assertEqual(remembered.found, {})
+
+    def test_a_table_that_leaves_while_the_slot_is_made(self) -> None:
+        """It isn't copied, and not remembered."""
+        self.patch(copying, "read_catalog", lambda *_: a_catalog(a_table(16385, "stock"), a_table(16390, "other")))
+        looks = iter([[STOCK, OTHER], [STOCK]])
+        self.patch(copying, "published_tables", lambda *_: next(looks, [STOCK]))
+        self.copier().run()
+        remembered = Remembered(self.store)
+        self.assertEqual(remembered.catalog and list(remembered.catalog.tables), [16385])
+        self.assertEqual((list(remembered.sent), self.progress.copied_tables, len(self.server.told("COPY ("))), ([16385], 1, 1))
+        self.assertIn("public.other was dropped, or left the publication, while the slot was made", " ".join(self.said))
 
     def test_so_it_is_within_one_run(self) -> None:
         self.breaks(ServerError("lost", "57P01"))

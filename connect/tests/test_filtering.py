@@ -5,14 +5,15 @@ from __future__ import annotations
 import os
 import time
 import unittest
+from unittest import mock
 
 from pgsub_connect.errors import FilterFault, Stopped
 from pgsub_connect.filtering import (
-    COPY_DONE, HEADERS, PIECE, ROOM, STATUS_HEAD, Filter, FilterEnded, asking, flushed, header, without_received,
+    COPY_DONE, HEADERS, MISSED, PIECE, ROOM, STATUS_HEAD, Filter, FilterEnded, Missing, asking, flushed, header, missing_of, without_received,
 )
 
 from .fake_server import Quiet
-from .vectors import begin, commit, insert, keepalive
+from .vectors import begin, commit, delete, insert, keepalive
 
 FAKE = os.path.join(os.path.dirname(os.path.abspath(__file__)), "fake_filter.py")
 
@@ -82,7 +83,10 @@ class Statuses(Case):
 
 class Ends(Case):
     def test_each_status(self) -> None:
-        for status, rejected in ((1, True), (2, True), (3, True), (10, True), (11, True), (12, False), (13, False), (14, False), (15, False)):
+        for status, rejected in (
+            (1, True), (2, True), (3, True), (10, True), (11, True), (12, False), (13, False), (14, False), (15, False),
+            (16, False),
+        ):
             child = self.shell(f"echo 'pgsub: why {status}' >&2; exit {status}")
             with self.assertRaises(FilterEnded) as raised:
                 child.start()
@@ -123,6 +127,97 @@ class Ends(Case):
     def test_no_program(self) -> None:
         with self.assertRaisesRegex(FilterFault, "No such file"):
             self.filter("/nonexistent/pgsub").start()
+
+
+class Misses(Case):
+    """What a filter says of changes that found no row."""
+
+    STATUS = "d\\0\\0\\0\\046r" + "\\0" * 15 + "\\007" + "\\0" * 17
+    LINE = "pgsub: rows not found: 3, first in relation 16385 at 0/1A2B3C8"
+
+    def test_lines(self) -> None:
+        self.assertEqual(missing_of(self.LINE), Missing(3, 0x1A2B3C8, 16385))
+        most = "pgsub: rows not found: 18446744073709551615, first in relation 4294967295 at FFFFFFFF/FFFFFFFF"
+        self.assertEqual(missing_of(most), Missing((1 << 64) - 1, (1 << 64) - 1, (1 << 32) - 1))
+        for line in (
+            "", f" {self.LINE}", f"{self.LINE} ", f"{self.LINE}\n", self.LINE[:-9], self.LINE.replace("3,", "-3,"),
+            self.LINE.replace("3,", ","), self.LINE.replace("0/1A2B3C8", "1A2B3C8"), self.LINE.replace("16385", "t"), "pgsub: store 1 Clash",
+        ):
+            self.assertIsNone(missing_of(line), line)
+
+    def statuses(self, child: Filter) -> list[bytes]:
+        """The next statuses that it has."""
+        until = time.monotonic() + 20
+        while time.monotonic() < until:
+            if statuses := child.serve(0.1)[2]:
+                return statuses
+        raise AssertionError("no status comes")
+
+    def test_a_line_is_there_with_its_status(self) -> None:
+        """Also where only the status had come when it was looked what has."""
+        child = self.filter()
+        child.start()
+        child.push_payloads([begin(0x100, 7), delete(3), delete(4), commit(0x100, 0x108)])
+        child.write()
+        while not os.path.exists(self.store):
+            time.sleep(0.01)
+        time.sleep(0.2)
+        with mock.patch("select.select", lambda *_: ([child.up], [], [])):
+            self.assertEqual(len(child.serve(1.0)[2]), 1)
+        self.assertEqual(child.missing, Missing(2, 0x108, 3))
+        child.push_payloads([begin(0x110, 7), insert(3), commit(0x110, 0x118), begin(0x120, 7), delete(9), commit(0x120, 0x128)])
+        while child.confirmed() < 0x128:
+            self.statuses(child)
+        self.assertEqual(child.missing, Missing(3, 0x108, 3))
+        child.finish()
+        ended = self.end(child)
+        self.assertEqual((ended.status, ended.said, ended.is_rejection(), self.said), (MISSED, "", False, []))
+
+    def test_a_line_in_two_parts(self) -> None:
+        """Each of which is read by itself."""
+        child = self.shell(
+            f"printf '{self.STATUS}'; printf 'pgsub: rows not fou' >&2; sleep 0.3; printf 'nd: {self.LINE[23:]}\\nmore' >&2;"
+            f" printf '{self.STATUS}'; sleep 0.3; printf '!\\n' >&2; cat > /dev/null"
+        )
+        child.start()
+        while not child.line:
+            child.serve(0.01)
+        self.assertEqual((child.line, child.missing), (b"pgsub: rows not fou", Missing()))
+        self.statuses(child)
+        self.assertEqual((child.missing, child.line, self.said), (Missing(3, 0x1A2B3C8, 16385), b"more", []))
+        while child.line:
+            child.serve(0.01)
+        self.assertEqual(self.said, ["filter: more!"])
+
+    def test_more_than_a_pipe_has(self) -> None:
+        """Lines before it are taken, too."""
+        child = self.shell(
+            f"printf '{self.STATUS}'; i=0; while [ $i -lt 4000 ]; do echo 'a line that says nothing of rows'; i=$((i+1)); done >&2;"
+            f" echo '{self.LINE}' >&2; printf '{self.STATUS}'; cat > /dev/null"
+        )
+        child.start()
+        if not child.missing.total:
+            self.statuses(child)
+        self.assertEqual((child.missing.total, len(self.said)), (3, 4000))
+
+    def test_each_filter_counts_anew(self) -> None:
+        child = self.filter()
+        child.start()
+        child.push_payloads([begin(0x100, 7), delete(3), commit(0x100, 0x108)])
+        self.statuses(child)
+        child.finish()
+        self.end(child)
+        self.assertEqual(child.missing.total, 1)
+        child.start()
+        self.assertEqual((child.missing, child.confirmed()), (Missing(), 0x108))
+
+    def test_what_it_said_before_it_was_killed(self) -> None:
+        """Also a line without its end isn't one."""
+        for line, missing in ((f"{self.LINE}\\n", Missing(3, 0x1A2B3C8, 16385)), (self.LINE, Missing())):
+            child = self.shell(f"printf '{self.STATUS}'; read it; printf '{line}' >&2; kill -9 $$")
+            child.start()
+            child.push(b"x\n")
+            self.assertEqual((self.end(child).status, child.missing, self.said), (-9, missing, []))
 
 
 class Given(Case):

@@ -148,10 +148,16 @@ class Sessions(Case):
         self.patch(following, "QUIET", 30.0)
         follower = self.follower()
         follower.last_moved = time.monotonic()
-        self.server.to_send = [keepalive(0x1000)]
         ends = iter([True])
         self.patch(follower.adder, "wants_session", lambda: follower.held is not None and next(ends, False))
-        self.run_until(follower, lambda: self.server.sessions == 2 and self.confirmed() == 0x1000)
+
+        def holds() -> bool:
+            # (a session's first status passes on what waits)
+            if len(self.server.statuses) == 1:
+                self.server.to_send = [keepalive(0x1000)]
+            return self.server.sessions == 2 and self.confirmed() == 0x1000
+
+        self.run_until(follower, holds)
         self.assertEqual(self.checkpoint.read().confirmed, 0x1000)
 
     def test_until(self) -> None:

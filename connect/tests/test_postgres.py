@@ -285,5 +285,24 @@ class Copies(Case):
         self.assertFalse(raised.exception.is_lasting())
 
 
+class Wrapped(unittest.TestCase):
+    def test_each(self) -> None:
+        """Where it can't be told it may be."""
+        connection = Connection.__new__(Connection)
+        call = mock.Mock()
+        for tls, host, gss, wrapped in (
+            (True, b"db.example", 0, True), (False, b"db.example", 0, False), (False, b"db.example", 1, True), (False, b"db.example", None, True),
+            (False, b"/run/postgresql", None, False), (False, b"@socket", None, False), (True, b"", None, True), (False, b"", 0, False),
+        ):
+            connection.raw = mock.Mock(ssl_in_use=tls, host=host, pgconn_ptr=77)
+            call.return_value = gss
+            with mock.patch.object(postgres, "GSS_IN_USE", None if gss is None else call):
+                self.assertIs(connection.is_wrapped(), wrapped, (tls, host, gss))
+
+    def test_of_a_connection(self) -> None:
+        """libpq has the call."""
+        self.assertTrue(postgres.LIBPQ is None or postgres.GSS_IN_USE is not None)
+
+
 if __name__ == "__main__":
     unittest.main()

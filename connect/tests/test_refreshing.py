@@ -3,6 +3,7 @@
 from __future__ import annotations
 
 import contextlib
+import dataclasses
 import fcntl
 import io
 import json
@@ -14,7 +15,7 @@ from typing import Any
 from unittest import mock
 
 from pgsub_connect import refreshing, requesting, resting, snapshots
-from pgsub_connect.catalog import Catalog, Part
+from pgsub_connect.catalog import Catalog, Part, Partition
 from pgsub_connect.cli import Options, arguments
 from pgsub_connect.errors import FileError, Passing, ServerError, Stopped, Unfit
 from pgsub_connect.postgres import Check, never
@@ -24,7 +25,7 @@ from pgsub_connect.snapshots import Snapshots
 
 from .fake_server import FakeServer, Quiet
 from .small_world import table
-from .vectors import ID, NAME, a_catalog, a_shape, a_table
+from .vectors import ID, NAME, PGSUB, a_catalog, a_shape, a_table
 
 ONE, TWO, THREE = a_table(1, "one"), a_table(2, "two"), a_table(3, "three")
 
@@ -67,6 +68,29 @@ class Compared(unittest.TestCase):
         now = a_catalog(ONE, *longer)
         text = ("values", f"column c of {ONE.text()} was added or renamed: rows that were there have nulls in it")
         self.assertEqual(self.told(now, now, text), [(CHANGED, 1, 1)])
+
+    def test_a_table_that_was_renamed_since(self) -> None:
+        now = a_catalog(a_table(1, "uno"), a_table(2, "one"), lsn=200)
+        text = ("values", f"column c of {ONE.text()} was added or renamed: rows that were there have nulls in it")
+        self.assertEqual(self.told(a_catalog(ONE, TWO), now, text), [(CHANGED, 1, 1)])
+
+    def test_a_table_that_left_after_it_was_renamed(self) -> None:
+        """Its rows can go, whatever names it had, and whichever table has them now."""
+        remembered = Remembered("/nonexistent/s")
+        remembered.begin_copy(a_catalog(ONE, TWO), 100)
+        remembered.look(a_catalog(ONE, a_table(2, "b (1)"), lsn=200))
+        remembered.look(a_catalog(ONE, lsn=300))
+        told = compared(remembered, a_catalog(a_table(1, "b (1)"), lsn=400))
+        self.assertEqual([(it.what, it.oid, it.table) for it in told], [(EXTRA, 2, "public.b (1)")])
+
+    def test_a_partition_that_is_sent_under_its_root(self) -> None:
+        """Its rows by its own name can go."""
+        remembered = Remembered("/nonexistent/s")
+        part, root = a_table(2, "part"), a_table(9, "root", kind="p")
+        partitions = [Partition(2, 9, "public.part", True), Partition(9, 0, "public.root", False)]
+        remembered.begin_copy(a_catalog(ONE, part, partitions=partitions), 100)
+        told = compared(remembered, a_catalog(ONE, root, partitions=partitions, lsn=200))
+        self.assertIn((EXTRA, 2, "public.part"), [(it.what, it.oid, it.table) for it in told])
 
     def test_lines(self) -> None:
         self.assertEqual(json.loads(Told(MISSING, 2, "public.two", ["why"]).line()), {"is": MISSING, "table": "public.two", "oid": 2, "why": ["why"]})
@@ -187,6 +211,44 @@ class Adds(Case):
         for words in ("add --store s", "add --table t", "refresh", "refresh --store s --table t"):
             with contextlib.redirect_stderr(io.StringIO()), self.assertRaises(SystemExit):
                 arguments(words.split())
+
+
+class Mended(Case):
+    """What was found of several tables, once one after the other is copied anew."""
+
+    def test_what_is_of_several_tables_is_mended_table_by_table(self) -> None:
+        remembered = self.remembered
+        now = a_catalog(ONE, TWO)
+        remembered.begin_copy(now, 100)
+        for kind, text in (("publication", "publication pgsub was dropped and made anew: changes in between aren't sent"), ("values", "type x (25): a became b")):
+            remembered.find(kind, 50, text)
+        for oid, left, kinds in ((1, [2], []), (2, [], ["publication", "values"])):
+            self.assertEqual(remembered.added(oid, remembered.found_of(oid)), kinds)
+            self.assertEqual([it.oid for it in compared(remembered, now)], left)
+            remembered.restore(remembered.written())
+        self.assertEqual((remembered.found, remembered.mended), ({}, {}))
+
+    def test_what_is_found_again_is_to_be_mended_again(self) -> None:
+        remembered = self.remembered
+        remembered.begin_copy(a_catalog(ONE, TWO), 100)
+        text = "publication pgsub was dropped and made anew: changes in between aren't sent"
+        remembered.find("publication", 50, text)
+        remembered.added(1, remembered.found_of(1))
+        remembered.find("publication", 60, text)
+        self.assertEqual(remembered.added(2, remembered.found_of(2)), [])
+        self.assertEqual([it.oid for it in compared(remembered, a_catalog(ONE, TWO))], [1])
+
+    def test_what_a_publication_lacks_stays_found(self) -> None:
+        """Nothing is copied again and again because of it."""
+        remembered = self.remembered
+        lacks = a_catalog(ONE, publication=dataclasses.replace(PGSUB, actions=("insert", "delete", "truncate")), lsn=200)
+        remembered.begin_copy(a_catalog(ONE), 100)
+        self.assertEqual([it.what for it in compared(remembered, lacks)], [CHANGED])
+        self.assertEqual(remembered.added(1, remembered.found_of(1)), [])
+        self.assertEqual(compared(remembered, lacks), [])
+        again = a_catalog(ONE, lsn=300)
+        self.assertEqual([it.what for it in compared(remembered, again)], [CHANGED])
+        self.assertEqual(remembered.added(1, remembered.found_of(1)), ["publication"])
 
 
 class Refreshes(Case):

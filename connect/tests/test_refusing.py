@@ -54,7 +54,7 @@ class InTheWay(Case):
         self.fails("make_slot", *[NoSlot("late")] * 10000)
         run = Run(self)
         self.assertTrue(run.until(lambda: len([it for it in self.said if "made no slot" in it]) > 3), self.said)
-        self.assertIn("made no slot", run.progress.adding["public.t (16385)"])
+        self.assertTrue(run.until(lambda: "made no slot" in run.progress.adding["public.t (16385)"]), run.progress.adding)
         self.world.commit(insert(THIRD, (1, "x")))
         end = self.world.end
         self.assertTrue(run.until(lambda: run.filter.confirmed() >= end))

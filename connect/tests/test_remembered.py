@@ -14,7 +14,8 @@ from unittest import mock
 
 from pgsub_connect.catalog import Part, Partition
 from pgsub_connect.errors import FileError, Passing
-from pgsub_connect.remembered import MOST, Relation, Remembered, print_names
+from pgsub_connect.found import MOST, Found
+from pgsub_connect.remembered import Relation, Remembered, print_names
 
 from .vectors import ID, NAME, PGSUB, a_catalog, a_shape, a_table
 
@@ -184,11 +185,29 @@ class Looks(Case):
         self.again().look(a_catalog(T, lsn=400))
         self.assertEqual(self.remembered.found, {})
 
-    def test_many(self) -> None:
+    def test_many_tables(self) -> None:
+        """Each of them is told and can be mended, and then nothing is left."""
+        tables = [a_table(20000 + it, f"t {it}.x") for it in range(MOST + 7)]
         self.remembered.begin_copy(a_catalog(), 100)
-        self.remembered.look(a_catalog(*(a_table(it, f"t{it}") for it in range(MOST + 7)), lsn=200))
+        self.remembered.look(a_catalog(*tables, lsn=200))
         found = self.again().found["publication"]
-        self.assertEqual((len(found.texts), found.more), (MOST, 7))
+        self.assertEqual((len(found.texts), found.more), (MOST + 7, 0))
+        for it in tables:
+            self.assertEqual(len(self.remembered.found_of(it.oid)), 1)
+            self.remembered.added(it.oid, self.remembered.found_of(it.oid))
+        self.assertEqual(self.again().found, {})
+
+    def test_many_texts(self) -> None:
+        """Those of one table are no more than fit, and of those of no table it is counted how many aren't there."""
+        found = Found(1, [])
+        for it in range(MOST):
+            found.add(f"column c{it} of public.t (16385) was added")
+        for text in ("column d of public.t (16385) was added", "type mood (17000): a became b", "column d of public.u (16386) was added"):
+            found.add(text)
+        self.assertEqual((found.texts[MOST:], found.more), (["column d of public.u (16386) was added"], 1))
+        found.drop([it for it in found.texts if "16385" in it])
+        found.add("column e of public.t (16385) was added")
+        self.assertEqual((len(found.texts), found.more, found.numbers), (2, 1, {16385, 16386}))
 
 
 class LooksAndMessages(Case):

@@ -10,6 +10,7 @@ from unittest import mock
 
 from pgsub_connect import asking, reporting, server
 from pgsub_connect.asking import Asker, SlotWarning
+from pgsub_connect.checkpoint import Counted
 from pgsub_connect.cli import Options
 from pgsub_connect.errors import ServerError
 from pgsub_connect.metrics import metrics_text
@@ -96,6 +97,7 @@ class Metrics(unittest.TestCase):
         progress.slot.wal_status, progress.slot.safe_wal_size = "extended", 77
         progress.found = {"values": "x"}
         progress.passed_changes = 5
+        progress.counted = Counted(1, 20, 3, 7, 16385, (5, 12))
         return metrics_text(progress, 1e9 + 2, {"slot": "pgsub", "store": store})
 
     def test_each_sample_is_described_once(self) -> None:
@@ -120,6 +122,8 @@ class Metrics(unittest.TestCase):
         text, labels = self.text(), 'slot="pgsub",store="copy.db"'
         for sample in (
             f"pgsub_lag_bytes{{{labels}}} 16", f"pgsub_confirmed_lsn{{{labels}}} 16", f"pgsub_changes_total{{{labels}}} 5",
+            f"pgsub_missing_total{{{labels}}} 3", f"pgsub_counted_lsn{{{labels}}} 20", f"pgsub_not_counted_bytes{{{labels}}} 7",
+            f'pgsub_found{{{labels},kind="missing"}} 0',
             f'pgsub_slot_wal_status{{{labels},status="extended"}} 1', f'pgsub_slot_wal_status{{{labels},status="lost"}} 0',
             f"pgsub_slot_safe_wal_bytes{{{labels}}} 77", f'pgsub_found{{{labels},kind="values"}} 1',
             f'pgsub_found{{{labels},kind="names"}} 0', f'pgsub_state{{{labels},state="following"}} 1',

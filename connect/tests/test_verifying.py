@@ -275,6 +275,8 @@ class Reads(Case):
         self.assertEqual(verifying.settled([KEYED], known), [KEYED])
         with self.assertRaisesRegex(Passing, "being added just now, or refused: public.whole"):
             verifying.settled([KEYED, WHOLE], known)
+        with self.assertRaisesRegex(Passing, "keyed"):
+            verifying.settled([KEYED], known, {1})
 
     def test_nobody_follows(self) -> None:
         with self.assertRaisesRegex(Passing, "a follower has to run"):
