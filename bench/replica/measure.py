@@ -24,6 +24,7 @@ from pathlib import Path
 
 import servers
 from built import add_program, check_program
+from processor import processor_seconds
 
 KEEPALIVE = b"d" + struct.pack(">i", 22) + b"k" + struct.pack(">QqB", 0, 0, 0)
 # more than either program reads at once
@@ -87,7 +88,7 @@ def run_program(command, session, output):
         while not reading.is_over() and not has_ended(child.pid):
             time.sleep(0.001)
         wall = time.monotonic() - began
-        processor = None if has_ended(child.pid) else servers.processor_seconds(child.pid)
+        processor = None if has_ended(child.pid) else processor_seconds(child.pid)
         _, status, usage = os.wait4(child.pid, 0)
     child.returncode = os.waitstatus_to_exitcode(status)
     if child.returncode != 0:
@@ -107,7 +108,7 @@ def run_worker(publisher, subscriber, slot, position):
     began = time.monotonic()
     worker, sender = subscription.start()
     subscription.wait_for(position)
-    run = Run(time.monotonic() - began, servers.processor_seconds(worker), servers.processor_seconds(sender))
+    run = Run(time.monotonic() - began, processor_seconds(worker), processor_seconds(sender))
     subscription.drop()
     return run
 

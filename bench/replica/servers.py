@@ -9,7 +9,7 @@ import time
 from pathlib import Path
 
 TOP = Path(__file__).resolve().parent.parent.parent
-sys.path[:0] = [str(TOP / "connect"), str(TOP / "tools")]
+sys.path[:0] = [str(TOP / "connect"), str(TOP / "tools"), str(TOP / "bench")]
 from histories_model.recording import sessions_of  # noqa: E402
 from pgsub_connect.postgres import Connection  # noqa: E402
 
@@ -131,12 +131,6 @@ def record(publisher, slot, file):
         out.writelines(chunk for chunks in sessions_of(recording.read_bytes()) for chunk in chunks)
     recording.unlink()
     return file
-
-
-def processor_seconds(pid):
-    """Returns what a process has taken of a processor."""
-    with open(f"/proc/{pid}/schedstat", encoding="ascii") as numbers:
-        return int(numbers.read().split()[0]) / 1e9
 
 
 class Subscription:
