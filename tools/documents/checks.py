@@ -39,6 +39,7 @@ LONG = re.compile(r"\.long\(\s*\"([a-z0-9-]+)\"")
 CLAUSES = (
     "pgsub_core::follow.followed",
     "pgsub_core::follow.crash",
+    "pgsub_core::follow.missed",
     "pgsub_core::follow.fed",
     "pgsub_core::converge.agree",
     "pgsub_core::converge.converges",

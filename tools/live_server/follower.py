@@ -3,6 +3,7 @@
 from __future__ import annotations
 
 import contextlib
+import json
 import os
 import signal
 import subprocess
@@ -10,6 +11,7 @@ import threading
 import time
 from collections.abc import Callable, Sequence
 from pathlib import Path
+from typing import Any
 
 import psycopg
 
@@ -109,8 +111,10 @@ class Supervisor(threading.Thread):
             raise Failed(f"{self.failure}\n{self.last_said()}")
 
 
-def wait_until(condition: Callable[[], bool], what: str, seconds: float = 60, check: Callable[[], None] = nothing) -> None:
-    """Waits for a condition. A server that isn't there meanwhile is no fault."""
+def wait_until(
+    condition: Callable[[], bool], what: str, seconds: float = 60, check: Callable[[], None] = nothing, step: float = 0.05
+) -> None:
+    """Waits for a condition, which is looked at every `step` seconds. A server that isn't there meanwhile is no fault."""
     seconds *= Patience.factor
     until = time.monotonic() + seconds
     while True:
@@ -120,10 +124,25 @@ def wait_until(condition: Callable[[], bool], what: str, seconds: float = 60, ch
                 return
         if time.monotonic() > until:
             raise Failed(f"{what} took more than {seconds:.0f} seconds")
-        time.sleep(0.05)
+        time.sleep(step)
 
 
 def is_confirmed(cluster: Cluster, slot: str, lsn: str, database: str = "shop") -> bool:
     """Whether the server has been told that everything up to an LSN is stored."""
     query = f"SELECT confirmed_flush_lsn >= '{lsn}' FROM pg_replication_slots WHERE slot_name = '{slot}'"
     return cluster.value(query, database) == "t"
+
+
+def checkpoint_of(store: Path) -> tuple[dict[str, Any], dict[str, Any]]:
+    """The fields of both lines of a store's checkpoint, of which there may be one alone, or none."""
+    first, second, *_ = [*Path(f"{store}.connector").read_text(encoding="utf-8").splitlines(), "", ""]
+    return json.loads(first.strip() or "{}"), json.loads(second.strip() or "{}")
+
+
+def is_adding(store: Path) -> bool:
+    """Whether rows of some table are still to come into a copy, by the files beside it."""
+    try:
+        remembered, (known, _) = json.loads(Path(f"{store}.tables").read_text(encoding="utf-8")), checkpoint_of(store)
+    except FileNotFoundError:
+        return True
+    return not store.exists() or bool(remembered.get("wanted") or known.get("adding"))

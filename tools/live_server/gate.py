@@ -29,8 +29,7 @@ def copies(run: Run, load: Mixed) -> None:
     load.truncate(False)
     load.fill(20_000)
     run.begin()
-    run.wait_for("0/1", 60, "the copy")
-    run.supervisor.check()
+    run.wait_copied(60)
 
 
 def follows(run: Run, checks: Checks) -> None:

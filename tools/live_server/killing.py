@@ -2,21 +2,34 @@
 
 from __future__ import annotations
 
+import collections
+import contextlib
 import random
 import time
-from collections.abc import Callable
+from collections.abc import Callable, Sequence
 from pathlib import Path
 from typing import Protocol
 
+import psycopg
+
 from .cluster import Cluster
 from .errors import Failed
-from .follower import Supervisor, is_confirmed, wait_until
+from .follower import Supervisor, checkpoint_of, is_adding, is_confirmed, wait_until
 from .load import SCHEMA, Mixed
 from .options import Options
 from .rows import compare, rows_of_server, rows_of_store
+from .sessions import Session
 
 SLOT = "pgsub"
-VICTIMS = ("filter", "filter", "connector", "connector", "server", "session")
+VICTIMS = ("filter", "filter", "connector", "connector", "server", "session", "connection")
+# All connections of the connector.
+CONNECTIONS = f"SELECT pid FROM pg_stat_activity WHERE application_name LIKE '{SLOT}%' ORDER BY pid"
+# The tables whose rows are read, for the first copy or because they are added.
+READING = (
+    "SELECT DISTINCT c.relname FROM pg_stat_activity a JOIN pg_locks l USING (pid) JOIN pg_class c ON c.oid = l.relation"
+    f" WHERE a.application_name LIKE '{SLOT} %' AND a.query LIKE 'COPY %' AND a.state = 'active' AND c.relkind IN ('r', 'p')"
+    " AND c.relnamespace <> 'pg_catalog'::regnamespace"
+)
 
 
 class Load(Protocol):
@@ -41,7 +54,7 @@ class Run:
         self.load = load(self.cluster)
         self.store = options.folder / f"{self.cluster.folder.name}.db"
         words = options.words(self.cluster.dsn(), self.store, "--create", "--proto", str(proto))
-        words += ["--status-file", f"{self.store}.status"]
+        words += ["--status-file", f"{self.store}.status", "--jobs", str(self.rng.choice((1, 2, 4)))]
         self.supervisor = Supervisor(words, Path(f"{self.store}.log"))
         self.counts = dict.fromkeys(VICTIMS, 0)
 
@@ -54,6 +67,8 @@ class Run:
         elif victim == "session":
             ended = "SELECT count(pg_terminate_backend(active_pid)) FROM pg_replication_slots WHERE active"
             there = self.cluster.value(ended) != "0"
+        elif victim == "connection":
+            there = self.end_connection()
         else:
             there = True
             self.cluster.stop(self.rng.choice(("immediate", "immediate", "fast")))
@@ -62,29 +77,52 @@ class Run:
         self.counts[victim] += there
         return there
 
+    def end_connection(self) -> bool:
+        """Ends one of the connector's connections. Returns whether one was there."""
+        with self.cluster.connect() as session:
+            found = session.column(CONNECTIONS)
+            return bool(found) and session.value(f"SELECT pg_terminate_backend({self.rng.choice(found)})") == "t"
+
     def kill_often(self, kills: int) -> None:
-        done = 0
-        while done < kills:
+        for _ in range(kills):
             # often just after the last one, and often once all is running again
             time.sleep(self.rng.choice((0.1, 0.5, 1.5, 3.0, 5.0)) * self.rng.random())
-            self.supervisor.check()
-            done += self.kill(self.rng.choice(VICTIMS))
+            victim = self.rng.choice(VICTIMS)
+            wait_until(lambda victim=victim: self.kill(victim), f"finding a {victim} that runs", 60, self.supervisor.check)  # type: ignore[misc]
 
-    def kill_copying(self, kills: int) -> int:
-        """Kills something in the midst of the initial copy, again and again. Returns how often."""
-        done = 0
-        while done < kills and not self.store.exists():
+    def kill_copying(self, kills: int, tables: Sequence[str]) -> str:
+        """Kills something so often while rows are copied, and in the midst of each of these tables. Returns where."""
+        done, hit = 0, collections.Counter[str]()
+        while (done < kills or not all(hit[it] for it in tables)) and is_adding(self.store):
             self.supervisor.check()
-            if Path(f"{self.store}.copying").exists():
-                time.sleep(self.rng.choice((0.2, 0.6, 1.2)) * self.rng.random())
-                done += self.kill(self.rng.choice(VICTIMS))
-            time.sleep(0.01)
-        return done
+            with contextlib.suppress(psycopg.Error), self.cluster.connect() as session:
+                done += self.kill_reading(session, [it for it in tables if not hit[it]], hit)
+        if not done or not all(hit[it] for it in tables):
+            raise Failed(f"all was copied before something was killed in the midst of each table ({dict(hit)}): there were too few rows")
+        return ", ".join(f"{count} in {name}" for name, count in hit.items())
+
+    def kill_reading(self, session: Session, tables: Sequence[str], hit: collections.Counter[str]) -> bool:
+        """Waits until one of some tables is read, or any where none is left, and kills something. Returns whether that was there."""
+        while not is_read(session.column(READING), tables):
+            self.supervisor.check()
+            if not is_adding(self.store):
+                return False
+            time.sleep(0.005)
+        time.sleep(self.rng.choice((0.0, 0.03, 0.3)) * self.rng.random())
+        found = session.column(READING)
+        if not found or not self.kill(self.rng.choice(VICTIMS)):
+            return False
+        hit.update(found)
+        return True
 
     def begin(self) -> None:
         """Starts load and follower."""
         self.load.begin()
         self.supervisor.begin()
+
+    def wait_copied(self, seconds: float) -> None:
+        """Waits until the rows of all tables have come."""
+        wait_until(lambda: not is_adding(self.store), "copying all tables", seconds, self.supervisor.check)
 
     def wait_for(self, lsn: str, seconds: float, what: str) -> None:
         wait_until(lambda: is_confirmed(self.cluster, SLOT, lsn), what, seconds, self.supervisor.check)
@@ -98,7 +136,17 @@ class Run:
         self.supervisor.finish()
         rows, position = rows_of_store(self.options.program, self.store)
         count = compare(rows_of_server(self.cluster, "pgsub"), rows)
+        self.check_left()
         return f"{count} rows at {position}, caught up in {waited:.1f} s"
+
+    def check_left(self) -> None:
+        """Fails where a copy has left a slot or a file, or changes found no row."""
+        slots = "SELECT string_agg(slot_name, ' ') FROM pg_replication_slots"
+        wait_until(lambda: self.cluster.value(slots) == SLOT, "dropping the temporary slots", 20)
+        if left := [it.name for it in self.store.parent.glob(f"{self.store.name}.copying*")]:
+            raise Failed(f"left: {left}")
+        if missed := checkpoint_of(self.store)[1].get("count"):
+            raise Failed(f"{missed} changes found no row: {checkpoint_of(self.store)}")
 
     def close(self) -> None:
         self.supervisor.kill()
@@ -106,22 +154,25 @@ class Run:
         self.cluster.remove()
 
 
-def killed(run: Run, copying: int, before_kills: Callable[[], None]) -> str:
-    """Starts, kills parts while rows are copied and afterwards, and compares."""
+def is_read(found: Sequence[str], tables: Sequence[str]) -> bool:
+    """Whether any of some tables is among those that are read, or any at all where there are none."""
+    return bool(found) and (not tables or not set(tables).isdisjoint(found))
+
+
+def killed(run: Run, copying: int, tables: Sequence[str], before_kills: Callable[[], None]) -> str:
+    """Starts, kills parts while rows are copied and afterwards, and compares. `tables`: in the copy of each something is killed."""
     try:
         run.begin()
-        while_copying = run.kill_copying(copying) if copying else 0
-        run.wait_for("0/1", 300, "the first copy")
+        while_copying = run.kill_copying(copying, tables) if copying else "none"
+        run.wait_copied(300)
         before_kills()
         run.kill_often(run.options.kills)
         committed = run.load.end()
         said = run.compare()
     finally:
         run.close()
-    if copying and not while_copying:
-        raise Failed("the copy was complete before anything was killed: there were too few rows")
     kills = ", ".join(f"{count} {name}" for name, count in run.counts.items())
-    return f"{said}; {committed} transactions, killed {kills} ({while_copying} while copying), {run.supervisor.starts} starts"
+    return f"{said}; {committed} transactions, killed {kills} (while copying: {while_copying}), {run.supervisor.starts} starts"
 
 
 def mixed(options: Options, proto: int) -> tuple[Run, Mixed]:
@@ -143,4 +194,4 @@ def follow(options: Options, proto: int) -> str:
     load.truncate(not options.before)
     if options.before:
         load.fill(options.rows)
-    return killed(run, 4 if options.before else 0, lambda: load.truncate(True))
+    return killed(run, 4 if options.before else 0, (), lambda: load.truncate(True))

@@ -25,7 +25,6 @@ class Options:
     pause: float = 0.05
     before: bool = False
     rows: int = 200_000
-    changes: int = 100_000
     keep: bool = False
 
     def versions(self) -> tuple[int, ...]:

@@ -18,7 +18,7 @@ import psycopg
 from .child import Child
 from .cluster import Cluster
 from .errors import Failed, Unusable
-from .follower import is_confirmed, wait_until
+from .follower import checkpoint_of, is_confirmed, wait_until
 from .options import Options
 from .proxy import Proxy
 from .rows import Rows, compare, rows_of_server, rows_of_store
@@ -163,8 +163,8 @@ class Place:
         return Path(f"{self.store}{suffix}")
 
     def checkpoint(self) -> dict[str, Any]:
-        found: dict[str, Any] = json.loads(self.beside(".connector").read_text())
-        return found
+        """The fields of its first line."""
+        return checkpoint_of(self.store)[0]
 
     def found(self) -> dict[str, str]:
         """What was found that may have made the copy wrong, by kind."""

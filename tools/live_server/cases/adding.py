@@ -12,15 +12,14 @@ from collections.abc import Callable, Sequence
 
 from ..child import Child
 from ..errors import Failed
-from ..follower import Supervisor, filters_of, wait_until
-from ..load import SCHEMA, Worker, final_statements
+from ..follower import Supervisor, filters_of, is_adding, wait_until
 from ..pgbench import PgBench
 from ..place import OK, PASSING, REJECTED, SERVER, Place
 from .case import Case
-from .exports import Load
-from .verifying import PLANTED, TABLES, plant, verified, verify
+from .common import PLANTED, TABLES, changing, check_slots, moving, plant, verified, verify
 
 REFUSED = 1
+MORE = ("CREATE TABLE more (id int PRIMARY KEY, note text)", "INSERT INTO more SELECT it, 'note ' || it FROM generate_series(1, 20000) it")
 
 
 def words(place: Place, *tables: str) -> list[str]:
@@ -35,8 +34,7 @@ def add(place: Place, *tables: str, status: int = OK, text: str = "", seconds: f
 
 def check_left(place: Place) -> None:
     """Fails where a table is still being added, or the server has a slot of it."""
-    slots = "SELECT string_agg(slot_name, ' ') FROM pg_replication_slots"
-    wait_until(lambda: place.value(slots) == place.slot, "dropping the temporary slot", 20)
+    check_slots(place)
     if place.beside(".request").exists() or place.checkpoint().get("adding"):
         raise Failed(f"left: {place.checkpoint()}")
 
@@ -44,7 +42,7 @@ def check_left(place: Place) -> None:
 def joined(place: Place) -> None:
     """A table with rows joins the publication: its rows are there after it was added, and nothing is wrong any more."""
     place.stock()
-    place.run("CREATE TABLE more (id int PRIMARY KEY, note text)", "INSERT INTO more SELECT it, 'note ' || it FROM generate_series(1, 20000) it")
+    place.run(*MORE)
     child = place.start("--create")
     place.catch_up(child)
     place.run("ALTER PUBLICATION pgsub ADD TABLE more", "INSERT INTO more VALUES (0, E'a\\tb\\\\c\\nd'), (-1, NULL)", "UPDATE more SET note = 'x' WHERE id = 7")
@@ -64,23 +62,10 @@ def joined(place: Place) -> None:
 
 def under_load(place: Place) -> None:
     """Tables are added again and again while moves between accounts are followed; large transactions come in parts before and after."""
-    place.run(
-        "CREATE TABLE account (id int PRIMARY KEY, amount int)", "INSERT INTO account SELECT it, 100 FROM generate_series(0, 19) it",
-        "CREATE TABLE move (id int PRIMARY KEY, source int, target int, padding int)",
-        "CREATE TABLE padding (move int, id int, PRIMARY KEY (move, id))", "CREATE PUBLICATION pgsub FOR ALL TABLES",
-    )
-    place.set(logical_decoding_work_mem="64kB")
-    child = place.start("--create")
-    place.catch_up(child)
-    load = Load(place)
-    load.thread.start()
-    try:
+    with moving(place) as child:
         for tables in (("account",), ("padding", "move"), ("account", "padding", "move")):
             add(place, *tables)
             child.check()
-    finally:
-        load.ended.set()
-        load.thread.join(60)
     verify(place)
     check_left(place)
     place.catch_up(child)
@@ -90,24 +75,11 @@ def under_load(place: Place) -> None:
 
 def under_all(place: Place) -> None:
     """So they are while changes of every kind are followed, TRUNCATEs and rolled-back subtransactions among them."""
-    place.run(*SCHEMA, "CREATE PUBLICATION pgsub FOR ALL TABLES")
-    tables = place.value("SELECT string_agg(relname, ' ') FROM pg_class WHERE relkind = 'r' AND relnamespace = 'public'::regnamespace").split()
-    child = place.start("--create")
-    place.catch_up(child)
-    workers = [Worker(place.cluster, f"add {it}", 0.05) for it in range(3)]
-    for it in workers:
-        it.start()
-    try:
+    with changing(place, "add") as child:
+        tables = place.value("SELECT string_agg(relname, ' ') FROM pg_class WHERE relkind = 'r' AND relnamespace = 'public'::regnamespace").split()
         for table in tables[:4]:
             add(place, table)
             child.check()
-    finally:
-        for it in workers:
-            it.ended.set()
-        for it in workers:
-            it.join(60)
-    place.run(*final_statements())
-    place.catch_up(child)
     verified(place)
     child.stop()
     place.equal()
@@ -189,7 +161,7 @@ CUTS = (
 def cut(place: Place) -> None:
     """The connector is killed at each step: it goes on, and the copy is that of the server."""
     place.stock()
-    place.run("CREATE TABLE more (id int PRIMARY KEY, note text)", "INSERT INTO more SELECT it, 'note ' || it FROM generate_series(1, 20000) it")
+    place.run(*MORE)
     place.follow("--create")
     place.run("ALTER PUBLICATION pgsub ADD TABLE more", "INSERT INTO more VALUES (-1, 'new')")
     place.follow()
@@ -224,7 +196,7 @@ def goes_on(place: Place, what: str) -> None:
 def parts_killed(place: Place) -> None:
     """Filter, session and the connection that reads rows are lost while a table is added: it is tried again."""
     place.stock()
-    place.run("CREATE TABLE more (id int PRIMARY KEY, note text)", "INSERT INTO more SELECT it, 'note ' || it FROM generate_series(1, 20000) it")
+    place.run(*MORE)
     place.run("ALTER PUBLICATION pgsub ADD TABLE more")
     place.follow("--create")
     proxy = place.proxy()
@@ -396,8 +368,7 @@ def under_kills(place: Place) -> None:
 def has_added(place: Place, tables: Sequence[str]) -> bool:
     """Adds tables. Returns whether they are there, and all else that was to be added."""
     status = place.started(words(place, *tables)).end(120)
-    wanted = json.loads(place.beside(".tables").read_text())["wanted"]
-    return status == OK and not wanted and not place.checkpoint().get("adding")
+    return status == OK and not is_adding(place.store)
 
 
 def kill(place: Place, supervisor: Supervisor, victim: str) -> None:

@@ -3,13 +3,12 @@
 from __future__ import annotations
 
 import itertools
-import json
 import threading
 import time
 
 from ..child import Child
 from ..errors import Failed
-from ..follower import wait_until
+from ..follower import is_adding, wait_until
 from ..place import SERVER, Place
 from .case import Case
 
@@ -17,17 +16,12 @@ from .case import Case
 def added(place: Place, child: Child) -> None:
     """Waits until each table is there, and compares."""
     child.wait_for("following slot")
-    wait_until(lambda: not wanted(place), "adding tables", 60, child.check)
+    wait_until(lambda: not is_adding(place.store), "adding tables", 60, child.check)
     place.catch_up(child)
     child.stop()
     if place.found():
         raise Failed(f"found: {place.found()}")
     place.equal()
-
-
-def wanted(place: Place) -> bool:
-    """Whether tables are still to be added."""
-    return bool(json.loads(place.beside(".tables").read_text())["wanted"] or place.checkpoint().get("adding"))
 
 
 def adds_later(place: Place, *commands: str, text: str = "it is added by itself") -> None:

@@ -4,7 +4,6 @@ from __future__ import annotations
 
 import contextlib
 import sqlite3
-import threading
 import time
 from collections.abc import Callable
 from pathlib import Path
@@ -14,6 +13,7 @@ from ..errors import Failed
 from ..place import Place
 from ..rows import SETTINGS
 from .case import Case
+from .common import moving
 
 Value = Union[int, float, bytes, str, None]
 
@@ -115,29 +115,6 @@ def types(place: Place) -> None:
     place.equal()
 
 
-class Load:
-    """Moves between accounts, each with a row that tells it, while exports are made."""
-
-    def __init__(self, place: Place) -> None:
-        self.place, self.ended, self.moves = place, threading.Event(), 0
-        self.thread = threading.Thread(target=self.run, daemon=True)
-
-    def run(self) -> None:
-        with self.place.cluster.connect(self.place.database) as session:
-            while not self.ended.is_set():
-                self.moves += 1
-                source, target = self.moves % 20, (self.moves * 7 + 3) % 20
-                # (each tenth one is streamed in parts)
-                more = 700 if self.moves % 10 == 0 else 1
-                session.run(
-                    "BEGIN", f"UPDATE account SET amount = amount - 5 WHERE id = {source}",
-                    f"INSERT INTO padding SELECT {self.moves}, it FROM generate_series(1, {more}) it",
-                    f"UPDATE account SET amount = amount + 5 WHERE id = {target}",
-                    f"INSERT INTO move VALUES ({self.moves}, {source}, {target}, {more})", "COMMIT",
-                )
-                time.sleep(0.03)
-
-
 def check_whole(base: sqlite3.Connection) -> tuple[int, int]:
     """Fails where an export has a part of a commit. Returns its position, and how many moves it has."""
     amounts = dict(base.execute("SELECT id, amount FROM account"))
@@ -156,25 +133,13 @@ def check_whole(base: sqlite3.Connection) -> tuple[int, int]:
 
 def under_load(place: Place) -> None:
     """Each export has whole commits alone, no older ones than the export before, and the follower goes on."""
-    place.run(
-        "CREATE TABLE account (id int PRIMARY KEY, amount int)", "INSERT INTO account SELECT it, 100 FROM generate_series(0, 19) it",
-        "CREATE TABLE move (id int PRIMARY KEY, source int, target int, padding int)",
-        "CREATE TABLE padding (move int, id int, PRIMARY KEY (move, id))", "CREATE PUBLICATION pgsub FOR ALL TABLES",
-    )
-    place.set(logical_decoding_work_mem="64kB")
-    child = place.start("--create")
-    place.catch_up(child)
-    load, found = Load(place), list[tuple[int, int]]()
-    load.thread.start()
-    try:
+    found: list[tuple[int, int]] = []
+    with moving(place) as child:
         for number in range(5):
             time.sleep(0.5)
             with contextlib.closing(export(place, place.folder / f"rows{number % 2}.db")) as base:
                 found.append(check_whole(base))
             child.check()
-    finally:
-        load.ended.set()
-        load.thread.join(60)
     if found != sorted(found) or found[-1][1] <= found[0][1]:
         raise Failed(f"positions and moves of the exports: {found}")
     place.catch_up(child)

@@ -7,40 +7,23 @@ import json
 import os
 import shutil
 import sqlite3
-import struct
 import threading
 import time
-from collections.abc import Callable, Iterator
-from pathlib import Path
-from typing import Any, Optional
+from collections.abc import Iterator
 
 from ..errors import Failed
 from ..follower import wait_until
-from ..load import SCHEMA, Worker, final_statements
 from ..place import OK, PASSING, SERVER, Place
 from .case import Case
-from .exports import Load
+from .common import PLANTED, TABLES, changing, check_slots, moving, plant, spelled, verified, verify, verify_words
 
 DIFFERENT, NO_SLOT = 1, 8
-Cells = tuple[Optional[str], ...]
-Line = dict[str, Any]
-
-
-def words(place: Place, *more: str, dsn: str = "") -> list[str]:
-    return [str(place.options.connect), "verify", "--dsn", dsn or place.dsn(), "--store", str(place.store), *more]
-
-
-def verify(place: Place, *more: str, status: int = OK, dsn: str = "") -> tuple[list[Line], str]:
-    """Compares. Returns the differences that were printed, and all that was said."""
-    said = place.has_ended(place.started(words(place, *more, dsn=dsn)), status, "")
-    return [json.loads(line) for line in said.splitlines() if line.startswith("{")], said
 
 
 def check_left(place: Place) -> None:
     """Fails where a comparison has left a slot, a request or a copy."""
     wait_until(lambda: not place.beside(".request").exists(), "letting the request go", 10)
-    slots = "SELECT string_agg(slot_name, ' ') FROM pg_replication_slots"
-    wait_until(lambda: place.value(slots) == place.slot, "dropping the temporary slot", 20)
+    check_slots(place)
 
 
 def check_tidy(place: Place) -> None:
@@ -51,24 +34,11 @@ def check_tidy(place: Place) -> None:
 
 def equal_under_moves(place: Place) -> None:
     """Is equal at five moments while moves between accounts are followed, of which some are streamed."""
-    place.run(
-        "CREATE TABLE account (id int PRIMARY KEY, amount int)", "INSERT INTO account SELECT it, 100 FROM generate_series(0, 19) it",
-        "CREATE TABLE move (id int PRIMARY KEY, source int, target int, padding int)",
-        "CREATE TABLE padding (move int, id int, PRIMARY KEY (move, id))", "CREATE PUBLICATION pgsub FOR ALL TABLES",
-    )
-    place.set(logical_decoding_work_mem="64kB")
-    child = place.start("--create")
-    place.catch_up(child)
-    load = Load(place)
-    load.thread.start()
-    try:
+    with moving(place) as child:
         for _ in range(5):
             time.sleep(0.5)
             verify(place)
             child.check()
-    finally:
-        load.ended.set()
-        load.thread.join(60)
     check_tidy(place)
     place.catch_up(child)
     child.stop()
@@ -77,141 +47,15 @@ def equal_under_moves(place: Place) -> None:
 
 def equal_under_all(place: Place) -> None:
     """Is equal at five moments while changes of every kind are followed, TRUNCATEs and rolled-back subtransactions among them."""
-    place.run(*SCHEMA, "CREATE PUBLICATION pgsub FOR ALL TABLES")
-    child = place.start("--create")
-    place.catch_up(child)
-    workers = [Worker(place.cluster, f"verify {it}", 0.05) for it in range(3)]
-    for it in workers:
-        it.start()
-    try:
+    with changing(place, "verify") as child:
         for _ in range(5):
             time.sleep(1.0)
             verified(place)
             child.check()
-    finally:
-        for it in workers:
-            it.ended.set()
-        for it in workers:
-            it.join(60)
-    place.run(*final_statements())
-    place.catch_up(child)
     verified(place)
     check_tidy(place)
     child.stop()
     place.equal()
-
-
-def verified(place: Place) -> None:
-    """Compares until no TRUNCATE comes between the slot and the locks."""
-    for _ in range(10):
-        child = place.started(words(place, "--hold", "30"))
-        status = child.end()
-        if status == OK:
-            return
-        if status != PASSING or "the published tables changed" not in child.said():
-            raise Failed(f"status {status}: {child.said()}")
-    raise Failed("the published tables changed at each try")
-
-
-# The planted differences. `stock` and `other` have rows (sku, name, note), and `log`, which has no key, rows (a, b).
-TABLES = (
-    "CREATE TABLE stock (sku int PRIMARY KEY, name text, note text)", "CREATE TABLE other (sku int PRIMARY KEY, name text, note text)",
-    "CREATE TABLE log (a text, b text)", "ALTER TABLE log REPLICA IDENTITY FULL", "CREATE PUBLICATION pgsub FOR ALL TABLES",
-    "INSERT INTO stock SELECT it, 'name ' || it, CASE WHEN it % 3 = 0 THEN NULL WHEN it % 3 = 1 THEN '' ELSE 'note' END"
-    " FROM generate_series(1, 1000) it",
-    "INSERT INTO other VALUES (1, 'one', 'a'), (2, 'two', 'b'), (3, 'three', NULL)",
-    "INSERT INTO log SELECT 'line ' || it % 10, NULL FROM generate_series(1, 100) it",
-)
-
-
-def spelled(cells: Cells) -> bytes:
-    """Cells as a store has them."""
-    parts = [struct.pack(">H", len(cells))]
-    for it in cells:
-        body = None if it is None else it.encode()
-        parts.append(b"n" if body is None else b"t" + struct.pack(">I", len(body)) + body)
-    return b"".join(parts)
-
-
-class Editor:
-    """Changes the rows in the file of a store that nobody follows into."""
-
-    def __init__(self, place: Place, base: sqlite3.Connection) -> None:
-        self.base = base
-        self.oids = {it: int(place.value(f"SELECT '{it}'::regclass::oid")) for it in ("stock", "other", "log")}
-
-    def run(self, query: str, *values: object) -> None:
-        if not (changed := self.base.execute(query, values).rowcount):
-            raise Failed(f"{query}: {changed} rows")
-
-    def put(self, sku: int, *cells: Optional[str], key: Optional[int] = None) -> None:
-        """Puts other cells into a row of `stock`, and another key."""
-        body, ident = spelled((str(key or sku), *cells)), spelled((str(key or sku),))
-        self.run("UPDATE held SET body = ?, ident = ? WHERE oid = ? AND ident = ?", body, ident, self.oids["stock"], spelled((str(sku),)))
-
-    def add(self, sku: int, *cells: Optional[str]) -> None:
-        row = spelled((str(sku), *cells))
-        self.run("INSERT INTO held VALUES (?, ?, ?, 1)", self.oids["stock"], spelled((str(sku),)), row)
-
-    def drop(self, sku: int) -> None:
-        self.run("DELETE FROM held WHERE oid = ? AND ident = ?", self.oids["stock"], spelled((str(sku),)))
-
-    def move(self, sku: int) -> None:
-        """Moves a row of `stock` into `other`."""
-        self.run(
-            "UPDATE held SET oid = ? WHERE oid = ? AND ident = ?", self.oids["other"], self.oids["stock"], spelled((str(sku),))
-        )
-
-    def count(self, a: str, more: int) -> None:
-        """Changes how often a row of `log` is there."""
-        self.run("UPDATE held SET copies = copies + ? WHERE oid = ? AND ident = ?", more, self.oids["log"], spelled((a, None)))
-
-    def empty(self, table: str) -> None:
-        self.run("DELETE FROM held WHERE oid = ?", self.oids[table])
-
-
-def row(sku: int, name: str, note: Optional[str]) -> Line:
-    return {"sku": str(sku), "name": name, "note": note}
-
-
-def keyed(sku: int, server: Optional[Line], copy: Optional[Line], table: str = "public.stock") -> Line:
-    return {"table": table, "key": {"sku": str(sku)}, "server": server, "copy": copy}
-
-
-def counted(a: str, server: int, copy: int) -> Line:
-    return {"table": "public.log", "row": {"a": a, "b": None}, "more_on_server": server, "more_in_copy": copy}
-
-
-EMPTY = [keyed(it, row(it, name, note), None, "public.other") for it, name, note in ((1, "one", "a"), (2, "two", "b"), (3, "three", None))]
-# By what it is: how it is planted, and what is to be found.
-PLANTED: dict[str, tuple[Callable[[Editor], None], list[Line]]] = {
-    "a changed cell": (lambda it: it.put(8, "other", "note"), [keyed(8, row(8, "name 8", "note"), row(8, "other", "note"))]),
-    "a NULL for an empty text": (lambda it: it.put(7, "name 7", None), [keyed(7, row(7, "name 7", ""), row(7, "name 7", None))]),
-    "an empty text for a NULL": (lambda it: it.put(9, "name 9", ""), [keyed(9, row(9, "name 9", None), row(9, "name 9", ""))]),
-    "a row that is missing": (lambda it: it.drop(500), [keyed(500, row(500, "name 500", "note"), None)]),
-    "a row too many": (lambda it: it.add(5000, "x", None), [keyed(5000, None, row(5000, "x", None))]),
-    "a copy too many of a row": (lambda it: it.count("line 3", 1), [counted("line 3", 0, 1)]),
-    "a copy too few of a row": (lambda it: it.count("line 4", -2), [counted("line 4", 2, 0)]),
-    "a changed key": (
-        lambda it: it.put(10, "name 10", "", key=5010), [keyed(10, row(10, "name 10", ""), None), keyed(5010, None, row(5010, "name 10", ""))]
-    ),
-    "a trailing blank": (lambda it: it.put(11, "name 11 ", "note"), [keyed(11, row(11, "name 11", "note"), row(11, "name 11 ", "note"))]),
-    "an empty table": (lambda it: it.empty("other"), EMPTY),
-    "swapped cells": (lambda it: it.put(14, "note", "name 14"), [keyed(14, row(14, "name 14", "note"), row(14, "note", "name 14"))]),
-    "a row in another table": (
-        lambda it: it.move(17), [keyed(17, row(17, "name 17", "note"), None), keyed(17, None, row(17, "name 17", "note"), "public.other")]
-    ),
-}
-
-
-def plant(place: Place, good: Path, change: Callable[[Editor], None]) -> None:
-    """Makes the store's file anew, with a difference."""
-    if good != place.store:
-        shutil.copyfile(good, place.store)
-    with contextlib.closing(sqlite3.connect(place.store)) as base:
-        change(Editor(place, base))
-        base.commit()
-    place.beside("-shm").unlink(missing_ok=True)
 
 
 def planted(place: Place) -> None:
@@ -379,7 +223,7 @@ def killed(place: Place) -> None:
     child = place.start("--create")
     place.catch_up(child)
     with open_transaction(place):
-        verifier = place.started(words(place, "--hold", "8"))
+        verifier = place.started(verify_words(place, "--hold", "8"))
         wait_until(lambda: is_held(place), "holding the stream", 30, verifier.check)
         place.change()
         end = place.value("SELECT pg_current_wal_insert_lsn()")
@@ -394,7 +238,7 @@ def killed(place: Place) -> None:
     place.run("INSERT INTO stock SELECT it, it FROM generate_series(1000, 60000) it")
     place.catch_up(child)
     for wait in (0.3, 0.6, 0.9, 1.2):
-        verifier = place.started(words(place))
+        verifier = place.started(verify_words(place))
         time.sleep(wait)
         verifier.process.kill()
         place.change()
@@ -412,7 +256,7 @@ def follower_killed(place: Place) -> None:
     place.catch_up(child)
     for is_killed in (True, False):
         with open_transaction(place):
-            verifier = place.started(words(place, "--hold", "5"))
+            verifier = place.started(verify_words(place, "--hold", "5"))
             wait_until(lambda: is_held(place), "holding the stream", 30, verifier.check)
             place.change()
             child.kill() if is_killed else child.stop()
@@ -422,7 +266,7 @@ def follower_killed(place: Place) -> None:
         place.catch_up(child)
         verify(place)
     for wait in (0.5, 0.8, 1.1):
-        verifier = place.started(words(place))
+        verifier = place.started(verify_words(place))
         time.sleep(wait)
         child.kill()
         status = verifier.end()
@@ -451,7 +295,7 @@ def filter_killed(place: Place) -> None:
     thread.start()
     try:
         for wait in (0.4, 0.6, 0.8, 1.0):
-            verifier = place.started(words(place, "--hold", "30"))
+            verifier = place.started(verify_words(place, "--hold", "30"))
             time.sleep(wait)
             for pid in child.filters():
                 os.kill(pid, 9)
@@ -486,7 +330,7 @@ def synchronous(place: Place) -> None:
     thread.start()
     try:
         for _ in range(3):
-            verifier = place.started(words(place, "--hold", "1"))
+            verifier = place.started(verify_words(place, "--hold", "1"))
             status = verifier.end()
             if status not in (OK, NO_SLOT):
                 raise Failed(f"status {status}: {verifier.said()}")
