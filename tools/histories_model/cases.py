@@ -46,6 +46,13 @@ def stop_line(fault):
     return b"" if fault is None else f"pgsub: {fault}\n".encode()
 
 
+def compare_followed(what, program, words, followed, file):
+    """Compares a `follow` over this file with what the model has followed."""
+    read = followed.reader
+    line = followed.told + stop_line(read.fault)
+    compare(what, program, ["follow", *words], exit_status(read), followed.written, line, file)
+
+
 def version_words(rng, version):
     if version == 1:
         return rng.choice((["--proto", "1"], ["--proto=1"]))
@@ -242,9 +249,9 @@ def followed(case, program):
     at = rng.randint(0, len(content)) if rng.random() < 0.3 else len(content)
     for number, part in enumerate((content[:at], content[at:]) if at < len(content) else (content,)):
         read = read.restarted()
-        written = Followed(read).follow(part).written
+        after = Followed(read).follow(part)
         file = program.file(f"input.{number}", part)
-        compare("following", program, ["follow", *words, *cache_words(number)], exit_status(read.fault), written, stop_line(read.fault), file)
+        compare_followed("following", program, [*words, *cache_words(number)], after, file)
         check_store(program, store, read)
     compare("what the file holds", program, ["dump", "--store", store], 0, model.dump(read.tables, read.position), b"")
 

@@ -1,10 +1,13 @@
-"""What `follow` writes while it reads: a status at once, and after each piece the replies and what has been confirmed since."""
+"""What `follow` writes while it reads: a status at once, and after each piece the replies and what has been confirmed since.
+
+Where changes of a piece found no row, a line tells how many have by then.
+"""
 
 import struct
 
 from . import tables as model
 from .reader import Fault
-from .wire import COPY_DONE
+from .wire import COPY_DONE, lsn_text
 
 # the most bytes that are read at once
 PIECE = 65536
@@ -17,9 +20,21 @@ STATUSES = {
 }
 
 
-def exit_status(fault):
-    """The exit status of a `follow` that ended with this fault, or with none."""
-    return 0 if fault is None else STATUSES.get(fault, 1)
+# where there is no fault, but changes found no row
+ROWS_MISSED = 16
+
+
+def exit_status(read):
+    """The exit status of a `follow` that read this."""
+    if read.fault is None:
+        return ROWS_MISSED if read.missed else 0
+    return STATUSES.get(read.fault, 1)
+
+
+def missed_line(missed):
+    """What is told of changes that found no row: how many they are, and where the first one was."""
+    oid, end = missed[0]
+    return f"pgsub: rows not found: {len(missed)}, first in relation {oid} at {lsn_text(end)}\n".encode()
 
 
 def status(fields):
@@ -66,7 +81,7 @@ class Followed:
     """A filter over a reader's store."""
 
     def __init__(self, reader):
-        self.reader, self.splitter, self.written = reader, Splitter(), b""
+        self.reader, self.splitter, self.written, self.told = reader, Splitter(), b"", b""
 
     def follow(self, content):
         self.reader.disconnect()
@@ -87,8 +102,12 @@ class Followed:
             content = content[length:]
 
     def part(self, content, ends):
-        reader, told = self.reader, self.reader.confirmed
-        reader.feed(content)
+        reader, told, missed = self.reader, self.reader.confirmed, len(self.reader.missed)
+        try:
+            reader.feed(content)
+        finally:
+            if len(reader.missed) > missed:
+                self.told += missed_line(reader.missed)
         if reader.confirmed != told:
             reader.replies.append(reader.status_fields())
         self.written += b"".join(map(status, reader.replies))

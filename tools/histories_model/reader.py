@@ -200,6 +200,8 @@ class Reader:
         self.tables = {}
         self.position = self.confirmed = 0
         self.fault = None
+        # the OID of each change that found no row, and the end of its commit; and those of the commit that is tried
+        self.missed, self.trial_missed = [], []
         self.disconnect()
 
     def restarted(self):
@@ -363,7 +365,8 @@ class Reader:
                     self.drop(xid, labels.index(fields[1]))
 
     def apply(self, tables, it):
-        model.apply_change(tables, it)
+        if not model.apply_change(tables, it):
+            self.trial_missed.append(it.definitions[0].oid)
 
     def joined(self, chunks):
         """The bytes of a session from its chunks."""
@@ -386,10 +389,11 @@ class Reader:
                 definitions = [self.cache[oid] for oid in it.definitions]
                 changes.append(Change(it.letter, definitions, it.old_kind, it.old, it.new))
         if end > self.position:
-            trial = model.copied(self.tables)
+            trial, self.trial_missed = model.copied(self.tables), []
             for it in changes:
                 self.apply(trial, it)
             self.tables, self.position = trial, end
+            self.missed += [(oid, end) for oid in self.trial_missed]
             self.confirmed = max(self.confirmed, end)
         self.drop(xid)
         del self.spools[xid]

@@ -97,13 +97,14 @@ def resolve(new, found):
 
 
 def apply_change(tables, change):
-    """Applies one change. At a fault the tables are unchanged."""
+    """Applies one change, and returns whether it found the row that it looked for. At a fault the tables are unchanged."""
     if change.letter == b"T":
         for definition in change.definitions:
             tables[definition.oid] = (definition, {})
-        return
+        return True
     definition = change.definitions[0]
     rows = rows_under(tables, definition)
+    found = True
     if change.letter == b"I":
         if len(change.new) != definition.width:
             raise StoreFault(WIDTH)
@@ -112,12 +113,14 @@ def apply_change(tables, change):
         add(definition, rows, tuple(change.new))
     else:
         identity = searched_identity(change, definition)
-        if identity in rows:
+        found = identity in rows
+        if found:
             if change.letter == b"U":
                 add(definition, rows, resolve(change.new, rows[identity][0]), identity)
             else:
                 remove(rows, identity)
     tables[definition.oid] = (definition, rows)
+    return found
 
 
 def copied(tables):

@@ -6,8 +6,8 @@ from pathlib import Path
 from stores.text import PAGE_SIZES, Writer
 
 from . import tables as model
-from .cases import check_store, compare, stop_line, version_words
-from .followed import Followed, exit_status
+from .cases import check_store, compare, compare_followed, stop_line, version_words
+from .followed import Followed
 from .history import Maker, Values
 from .reader import Reader
 from .stream import Session
@@ -75,10 +75,9 @@ class Turns:
         compare("applied after SQL text", self.program, ["apply", *self.words(), "--raw", file], status, rows, line)
 
     def follow(self, content):
-        written = Followed(self.read).follow(content).written
-        fault = self.read.fault
+        followed = Followed(self.read).follow(content)
         file = self.program.file(f"input.{self.number}", content)
-        compare("followed after SQL text", self.program, ["follow", *self.words()], exit_status(fault), written, stop_line(fault), file)
+        compare_followed("followed after SQL text", self.program, self.words(), followed, file)
 
     def words(self):
         return [*self.store_words(), *version_words(self.rng, self.version)]
