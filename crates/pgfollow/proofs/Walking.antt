@@ -15,7 +15,7 @@ use Rattle.pgsub_core.specs.Feeding.{IsFedWhole, IsFedUntil}
 use Rattle.pgsub_core.specs.Following.{AreFedWhole}
 use Rattle.pgsub_core.specs.Counted.{IsCountedWhole, IsCountedFront, AreCountedWhole, FeedsCounted}
 use Rattle.pgsub_core.specs.Missed.{history_missed, CountsHistory}
-use Rattle.pgsub_core.specs.Handled.{IsSent}
+use Rattle.pgsub_core.specs.Safely.{IsSent}
 use Rattle.pgsub_core.specs.Confirming.{AreSafeReplies}
 use Rattle.pgsub_core.specs.Crashing.{LeavesOldOr, FedOver, IsLeftSafely}
 use Rattle.pgsub_core.proofs.FollowSteps.{until_of}

@@ -8,7 +8,7 @@ use Rattle.pgapply.specs.declared.misses.Misses.{Misses}
 use Rattle.pgapply.specs.Value.{Tables}
 use Rattle.pgsub_core.specs.History.{Transaction}
 use Rattle.pgsub_core.specs.Stream.{Sent}
-use Rattle.pgsub_core.specs.Handled.{IsSent}
+use Rattle.pgsub_core.specs.Safely.{IsSent}
 use Rattle.pgsub_core.specs.Confirming.{AreSafeReplies}
 use Rattle.pgsub_core.specs.Subscribed.{IsSafeFor}
 use Rattle.pgsub_core.specs.Crashing.{IsLeftSafely}

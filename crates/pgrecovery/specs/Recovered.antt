@@ -20,7 +20,7 @@ use Rattle.pgsub_core.specs.Safe.{NothingBetween}
 use Rattle.pgsub_core.specs.Sessions.{AreIncoming, starting_by}
 use Rattle.pgsub_core.specs.Subscribed.{IsSafeFor, newly, progress_of}
 use Rattle.pgsub_core.specs.Confirming.{AreSafeReplies}
-use Rattle.pgsub_core.specs.Handled.{IsSent}
+use Rattle.pgsub_core.specs.Safely.{IsSent}
 use Rattle.pgsub_core.specs.SubscriberValue.{SubscriberValue, seen}
 use Rattle.pgsub_core.specs.Crashing.{IsLeftSafely, LeavesHistory}
 

@@ -11,7 +11,8 @@ use Rattle.pgsub_core.specs.declared.session.Session.{Session}
 use Rattle.pgsub_core.specs.Applied.{Applied, IsKept}
 use Rattle.pgsub_core.specs.Crashing.{LeavesOldOr, FedOver, StandsAsFed, IsLeftSafely, LeavesHistory}
 use Rattle.pgsub_core.specs.Following.{AreFed, FedSessionsAreFollowed, FeedsSessions}
-use Rattle.pgsub_core.specs.Handled.{IsSent, fault_in}
+use Rattle.pgsub_core.specs.Safely.{IsSent}
+use Rattle.pgsub_core.specs.Handled.{fault_in}
 use Rattle.pgsub_core.specs.History.{Transaction, tables_as_of}
 use Rattle.pgsub_core.specs.Safe.{NothingBetween}
 use Rattle.pgsub_core.specs.Stream.{Sent}
@@ -137,7 +138,7 @@ module _ {R C : Type 0} (gives begins : R → List ℕ → Type 0) (failed : R �
         let more = front_read bytes fed.0 stopped from fed.1 in
         let front = sent_front history (seen place old tables) [] fed.0 more.0 [] all_complete (subst (λ (b : List ℕ). IsSent history (seen place old tables) (b ∷ []) all_complete) more.1 is) in
         let done = follows holds place clock old s (fed.0 ∷ []) (fault_of_feeding stopped) fed.2 history front.0 tables h front.1 in
-        (done.0, done.1, done.2.safe.same, done.2.safe.stored)
+        (done.0, done.1, done.2.safely.safe.same, done.2.safely.safe.stored)
 
     pub file_leaves : LeavesOldOr place reopens serves (FedOver (λ s. FeedsFile gives begins failed holds place file old s (Some fault.Memory))) old.applied.store new.applied.store
         → held.Leaves holds place reopens old.applied.store → StandsFed place (FeedsFile gives begins failed holds place file old) new

@@ -9,7 +9,8 @@ use Rattle.pgsub_core.specs.declared.fault.Fault.{Fault}
 use Rattle.pgsub_core.specs.History.{Transaction}
 use Rattle.pgsub_core.specs.Stream.{Sent}
 use Rattle.pgsub_core.specs.Subscribed.{Subscribed, newly}
-use Rattle.pgsub_core.specs.Handled.{IsSent, IsFollowed}
+use Rattle.pgsub_core.specs.Safely.{IsSent}
+use Rattle.pgsub_core.specs.Handled.{IsFollowed}
 use Rattle.pgsub_core.specs.Following.{AreFed, Becomes}
 use Rattle.pgsub_core.specs.SubscriberValue.{SubscriberValue, seen}
 use Rattle.pglsn.specs.Texts.{lsn_text}

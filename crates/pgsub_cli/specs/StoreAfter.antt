@@ -10,7 +10,7 @@ use Rattle.pgsub_core.specs.declared.fault.Fault.{Fault}
 use Rattle.pgsub_core.specs.declared.fault.Fault.TheVariants as fault
 use Rattle.pgsub_core.specs.Crashing.{LeavesOldOr, FedOver, StandsAsFed, IsLeftSafely, LeavesHistory}
 use Rattle.pgsub_core.specs.Following.{FeedsSessions}
-use Rattle.pgsub_core.specs.Handled.{IsSent}
+use Rattle.pgsub_core.specs.Safely.{IsSent}
 use Rattle.pgsub_core.specs.History.{Transaction}
 use Rattle.pgsub_core.specs.Stream.{Sent}
 use Rattle.pgsub_core.specs.Subscribed.{Subscribed, bytes_of}

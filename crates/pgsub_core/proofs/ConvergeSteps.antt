@@ -35,7 +35,7 @@ side_fails now sessions old new f (inr fed) = inr (fed.0, side_followed now sess
 -- where all was handled, the position is what all of it reaches
 stands_at : (now : ℤ) (history : List Transaction) (sessions : List (List ℕ)) (all_complete : List (List Sent)) (old new : Subscribed) → IsFollowed now history sessions all_complete old new None
     → new.position ≡ position_reached old all_complete
-stands_at now history sessions all_complete old new f = ap (λ (p : Progress). p.position) (f.progress ∙ ap (reached_all (progress_of old)) f.why.0)
+stands_at now history sessions all_complete old new f = ap (λ (p : Progress). p.position) (f.safely.progress ∙ ap (reached_all (progress_of old)) f.why.0)
 
 module _ (history : List Transaction) (left right : Subscribed) where
   agreed_by : (v : Verdict) (p q : ℕ) → IsSafeFor history left → IsSafeFor history right → IsVerdict left right v → left.position ≡ p → right.position ≡ q → (b : Bool) → (p == q) ≡ b
@@ -125,5 +125,5 @@ module _ {C D : Type 0} (holds : C → Tables → Type 0) (place : C → ℕ) (h
       let c = converges tables h tables' k in
       let a = c.4.followed history left_complete is in
       let b = c.5.followed history right_complete is' in
-      verdict_agreed history (seen place left' c.0) (seen place' right' c.2) v (position_reached (seen place left tables) left_complete) (position_reached (seen place' right tables') right_complete) a.safe b.safe c.6
+      verdict_agreed history (seen place left' c.0) (seen place' right' c.2) v (position_reached (seen place left tables) left_complete) (position_reached (seen place' right tables') right_complete) a.safely.safe b.safely.safe c.6
       (stands_at now history sessions left_complete (seen place left tables) (seen place left' c.0) a) (stands_at now history others right_complete (seen place' right tables') (seen place' right' c.2) b)

@@ -12,7 +12,7 @@ use Rattle.std.specs.Prelude.{IsErrAnd}
 use Rattle.pgsub_core.specs.Handled.{fault_in}
 use Rattle.pgsub_core.specs.Feeding.{IsFed, IsFedWhole, IsFedUntil}
 use Rattle.pgsub_core.specs.SubscriberValue.{SubscriberValue, seen, Feeds, FeedsUntil}
-use Rattle.pgsub_core.specs.Following.{FeedsSession, FeedsSessionUntil, FeedsSessions, FollowsSessions}
+use Rattle.pgsub_core.specs.Following.{FeedsSession, FeedsSessionUntil, FeedsSessions, FollowsSafely, FollowsSessions}
 use Rattle.pgsub_core.proofs.Pieces.{two_pieces, piece_then_stop, stop_stands, stays_open, nothing_fed}
 use Rattle.pgsub_core.proofs.Followed.{fed_more, fed_then_stopped, fed_followed}
 
@@ -96,6 +96,11 @@ module _ {C : Type 0} (holds : C → Tables → Type 0) (place : C → ℕ) (now
   follows old new sessions answered so history all_complete tables h is =
       let a = so tables h in
       (a.0, a.1, fed_followed now history sessions all_complete (seen place old tables) (seen place new a.0) answered is a.2)
+
+  pub follows_safely : (old new : SubscriberValue C) (sessions : List (List ℕ)) (answered : Option Fault) → FollowsSessions holds place now old sessions new answered → FollowsSafely holds place old sessions new
+  follows_safely old new sessions answered followed history all_complete tables h is =
+      let a = followed history all_complete tables h is in
+      (a.0, a.1, a.2.safely)
 
   -- the same of a loop over the pieces, and of one over the sessions
   pub session_more : (old mid new : SubscriberValue C) (pieces items : List (List ℕ)) → items ≡ pieces → (i : ℕ) (piece : List ℕ) → i < length items → piece ≡ get_or items i piece

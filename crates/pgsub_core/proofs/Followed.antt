@@ -12,7 +12,8 @@ use Rattle.pgsub_core.specs.Confirming.{AreSafeReplies}
 use Rattle.pgsub_core.proofs.Confirmed.{status_is_safe}
 use Rattle.pgsub_core.proofs.SessionCuts.{sent_front}
 use Rattle.pgsub_core.specs.Taking.{take_all, take_sessions}
-use Rattle.pgsub_core.specs.Handled.{IsSent, IsHandled, IsFollowed, IsLeft, NoneForeign}
+use Rattle.pgsub_core.specs.Safely.{IsSent, IsHandled}
+use Rattle.pgsub_core.specs.Handled.{IsFollowed, IsLeft, NoneForeign}
 use Rattle.pgsub_core.specs.Causes.{Cause, OutOfMemory, StatementRefused, HeaderTooLarge, ForeignBytes, NextMessage, NeverAnswered, cause}
 use Rattle.pgsub_core.specs.HandledLaws.{StopsBy}
 use Rattle.pgsub_core.specs.Feeding.{IsFedWhole, IsFedUntil}
@@ -162,5 +163,6 @@ pub confirmed_stored : (now : ℤ) (history : List Transaction) (old new : Subsc
 confirmed_stored now history old new sessions bytes more later all_complete answered is before fed =
     let front = sent_front history old sessions bytes more later all_complete is in
     let followed = fed_followed now history (sessions ++ bytes ∷ []) front.0 old new answered front.1 fed in
-    let replies = followed.replies before in
-    (followed.safe, replies, λ clock ask. status_is_safe history clock ask new followed.safe replies)
+    let safely = followed.safely in
+    let replies = safely.replies before in
+    (safely.safe, replies, λ clock ask. status_is_safe history clock ask new safely.safe replies)

@@ -13,7 +13,7 @@ use Rattle.pgsub_core.specs.Subscribed.{session_bytes, bytes_of}
 use Rattle.pgsub_core.specs.History.{Transaction, tables_as_of}
 use Rattle.pgsub_core.specs.Stream.{Sent}
 use Rattle.pgsub_core.specs.Safe.{NothingBetween}
-use Rattle.pgsub_core.specs.Handled.{IsSent}
+use Rattle.pgsub_core.specs.Safely.{IsSent}
 use Rattle.pgsub_core.specs.SubscriberValue.{SubscriberValue, seen, FeedsUntil}
 use Rattle.std.specs.Io.KnownBytes.{Consumes, Keeps}
 use Rattle.pgsub_core.specs.Feeding.{IsFed}
@@ -97,13 +97,13 @@ module _ {C : Type 0} (serves : C → Type 0) (holds : C → Tables → Type 0) 
 
   pub confirms_followed : (answered : Option Fault) → FollowsSessions holds place now old sessions new answered
       → (history : List Transaction) (all_complete : List (List Sent)) (tables : Tables) → holds old.applied.store tables → IsSent history (seen place old tables) sessions all_complete → Confirms history
-  confirms_followed answered follows history all_complete tables h is = (follows history all_complete tables h is).2.safe.stored
+  confirms_followed answered follows history all_complete tables h is = (follows history all_complete tables h is).2.safely.safe.stored
 
   pub confirms_standing : StandsAsFed place (λ s. FeedsSessions holds place now old sessions s (Some fault.Memory)) new
       → (history : List Transaction) (all_complete : List (List Sent)) (tables : Tables) → holds old.applied.store tables → IsSent history (seen place old tables) sessions all_complete → Confirms history
   confirms_standing stands history all_complete tables h is =
       let s = stands.0 in
-      let stored = (follows holds place now old s sessions (Some fault.Memory) stands.2 history all_complete tables h is).2.safe.stored in
+      let stored = (follows holds place now old s sessions (Some fault.Memory) stands.2 history all_complete tables h is).2.safely.safe.stored in
       subst (λ (p : ℕ). NothingBetween history p new.applied.confirmed) (sym stands.1.position) (subst (NothingBetween history (place s.applied.store)) (sym stands.1.confirmed) stored)
 
   pub leaves_history : LeavesOldOr place reopens serves (FedOver (λ s. FeedsSessions holds place now old sessions s (Some fault.Memory))) old.applied.store new.applied.store → held.Leaves holds place reopens old.applied.store
@@ -128,7 +128,7 @@ module _ {C : Type 0} (serves : C → Type 0) (holds : C → Tables → Type 0) 
             record {
               tables = done.0;
               held = subst (λ (x : C). holds x done.0) fed.2.1 done.1;
-              same = subst (λ (x : C). tables_as_of history (place x) ≡ Ok done.0) fed.2.1 done.2.safe.same;
+              same = subst (λ (x : C). tables_as_of history (place x) ≡ Ok done.0) fed.2.1 done.2.safely.safe.same;
               position = fed.1;
               stored = more_stored history (place new.applied.store) (place other) new.applied.confirmed fed.1 stored;
             }

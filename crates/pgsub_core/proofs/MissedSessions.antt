@@ -10,7 +10,7 @@ use Rattle.pgsub_core.specs.Reached.{Progress, reached, disconnected}
 use Rattle.pgsub_core.specs.Sessions.{AreIncoming, IsIncoming, starting_by, whole_frames}
 use Rattle.pgsub_core.specs.Subscribed.{Subscribed, IsSafeFor, progress_of, replica_of, disconnect}
 use Rattle.pgsub_core.specs.SubscriberValue.{SubscriberValue, seen}
-use Rattle.pgsub_core.specs.Handled.{IsSent}
+use Rattle.pgsub_core.specs.Safely.{IsSent}
 use Rattle.pgsub_core.specs.Counted.{AreCountedWhole, AreCountedFront, CountsSessions, CountsSessionsFront}
 use Rattle.pgsub_core.specs.Missed.{history_missed, CountsHistory}
 use Rattle.pgsub_core.proofs.AllSessions.{GoesOn}

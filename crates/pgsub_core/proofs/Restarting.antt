@@ -9,7 +9,7 @@ use Rattle.pgsub_core.specs.Safe.{NothingBetween}
 use Rattle.pgsub_core.specs.Sessions.{AreIncoming, starting_by}
 use Rattle.pgsub_core.specs.Subscribed.{progress_of, newly}
 use Rattle.pgsub_core.specs.Confirming.{AreSafeReplies}
-use Rattle.pgsub_core.specs.Handled.{IsSent}
+use Rattle.pgsub_core.specs.Safely.{IsSent}
 
 -- up to the position all is stored
 nothing_yet : (history : List Transaction) (p : ℕ) → NothingBetween history p p

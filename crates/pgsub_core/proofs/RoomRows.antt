@@ -53,4 +53,4 @@ module _ (history : List Transaction) (bytes : List ℕ) (new : Subscribed) (fol
   by_handled (front ∷ next ∷ handled) takes why = why.1.1
 
   not_full : ⊥
-  not_full = by_handled followed.handled followed.takes followed.why
+  not_full = by_handled followed.safely.handled followed.takes followed.why

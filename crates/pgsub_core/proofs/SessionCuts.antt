@@ -7,7 +7,7 @@ use Rattle.pgsub_core.specs.History.{Transaction}
 use Rattle.pgsub_core.specs.Stream.{Sent}
 use Rattle.pgsub_core.specs.Reached.{Progress, reached, disconnected}
 use Rattle.pgsub_core.specs.Sessions.{frames_of, IsPartOfNextFrame, IsSession, IsIncoming, IsForeign, AreIncoming, whole_frames}
-use Rattle.pgsub_core.specs.Handled.{IsSent}
+use Rattle.pgsub_core.specs.Safely.{IsSent}
 use Rattle.pgsub_core.specs.Subscribed.{Subscribed}
 use Rattle.pgsub_core.proofs.SessionFrames.{frame_for}
 

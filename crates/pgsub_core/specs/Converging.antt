@@ -17,7 +17,7 @@ use Rattle.pgsub_core.specs.History.{Transaction}
 use Rattle.pgsub_core.specs.Stream.{Sent}
 use Rattle.pgsub_core.specs.Sessions.{reached_all}
 use Rattle.pgsub_core.specs.Subscribed.{Subscribed, progress_of}
-use Rattle.pgsub_core.specs.Handled.{IsSent}
+use Rattle.pgsub_core.specs.Safely.{IsSent}
 use Rattle.pgsub_core.specs.SubscriberValue.{SubscriberValue, seen}
 use Rattle.pgsub_core.specs.Following.{AreFed}
 use Rattle.pgsub_core.specs.Verdicts.{IsVerdict, LeftIsFollowed, RightIsFollowed}

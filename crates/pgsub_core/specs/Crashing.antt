@@ -11,7 +11,7 @@ use Rattle.pgsub_core.specs.Sessions.{AreIncoming, starting_by}
 use Rattle.pgsub_core.specs.Subscribed.{progress_of, newly}
 use Rattle.pgsub_core.specs.Confirming.{AreSafeReplies}
 use Rattle.pgsub_core.specs.Applied.{Applied, IsKept}
-use Rattle.pgsub_core.specs.Handled.{IsSent}
+use Rattle.pgsub_core.specs.Safely.{IsSent}
 use Rattle.pgsub_core.specs.SubscriberValue.{SubscriberValue, seen}
 
 module _ {C : Type 0} (place : C → ℕ) (reopens : C → C → Type 0) (serves : C → Type 0) where

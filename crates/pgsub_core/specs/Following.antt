@@ -9,7 +9,8 @@ use Rattle.pgsub_core.specs.Stream.{Sent}
 use Rattle.pgsub_core.specs.Subscribed.{Subscribed, IsSafeFor, disconnect, with_status}
 use Rattle.pgsub_core.specs.Confirming.{AreSafeReplies}
 use Rattle.pgsub_core.specs.Feeding.{IsFedWhole, IsFedUntil, IsSettled, EndsSame}
-use Rattle.pgsub_core.specs.Handled.{IsSent, IsFollowed}
+use Rattle.pgsub_core.specs.Safely.{IsSent, IsFollowedSafely}
+use Rattle.pgsub_core.specs.Handled.{IsFollowed}
 use Rattle.pgsub_core.specs.SubscriberValue.{SubscriberValue, seen}
 
 abbrev pub AreFedWhole : ℤ → Subscribed → List (List ℕ) → Subscribed → Type 0
@@ -74,6 +75,14 @@ module _ {C : Type 0} (holds : C → Tables → Type 0) (place : C → ℕ) (now
   FollowsSessions old sessions new answered =
       (history : List Transaction) (all_complete : List (List Sent)) (tables : Tables) → holds old.applied.store tables → IsSent history (seen place old tables) sessions all_complete
       → (tables' : Tables) × holds new.applied.store tables' × IsFollowed now history sessions all_complete (seen place old tables) (seen place new tables') answered
+
+-- Of whatever history the sessions are, and whatever tables the store held before, it holds others, with which this is safe.
+abbrev pub FollowsSafely : {C : Type 0} → (C → Tables → Type 0) → (C → ℕ) → SubscriberValue C → List (List ℕ) → SubscriberValue C → Type 0
+FollowsSafely holds place old sessions new =
+    (history : List Transaction) (all_complete : List (List Sent)) (tables : Tables)
+    → holds old.applied.store tables → IsSent history (seen place old tables) sessions all_complete
+    → (tables' : Tables) × holds new.applied.store tables'
+    × IsFollowedSafely history all_complete (seen place old tables) (seen place new tables')
 
 -- What waited to be sent of a state that is safe for a history confirmed no more than is stored, and so it is again.
 abbrev pub ConfirmsSafely : {C : Type 0} → (C → ℕ) → SubscriberValue C → SubscriberValue C → Type 0

@@ -13,7 +13,8 @@ use Rattle.pgsub_core.specs.Reached.{reached, disconnected}
 use Rattle.pgsub_core.specs.Sessions.{reached_all}
 use Rattle.pgsub_core.specs.Subscribed.{Subscribed, progress_of, replica_of, apply_state_of, IsSafeFor, newly, disconnect, with_status}
 use Rattle.pgsub_core.specs.Taking.{take, take_all, take_sessions, message_passes_limit}
-use Rattle.pgsub_core.specs.Handled.{IsSent, IsHandled, IsNextBehind, IsTooLargeBehind, IsForeignBehind, NoneForeign, IsRefusedBehind, IsAllowedFault, KeepsSettings, IsLeft, IsLeftBy, IsFollowed}
+use Rattle.pgsub_core.specs.Safely.{IsSent, IsHandled, KeepsSettings}
+use Rattle.pgsub_core.specs.Handled.{IsNextBehind, IsTooLargeBehind, IsForeignBehind, NoneForeign, IsRefusedBehind, IsAllowedFault, IsLeft, IsLeftBy, IsFollowed}
 use Rattle.pgsub_core.specs.Causes.{Cause, OutOfMemory, StatementRefused, HeaderTooLarge, ForeignBytes, NextMessage, NeverAnswered, cause}
 
 -- Why following stopped in the state that what was handled leaves, of the messages alone: the next one has this fault, or the header

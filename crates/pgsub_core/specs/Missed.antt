@@ -9,7 +9,7 @@ use Rattle.pgapply.specs.Missing.{all_missing, with_misses}
 use Rattle.pgsub_core.specs.Work.{surviving_changes}
 use Rattle.pgsub_core.specs.History.{Transaction, ended_by, ended_after, tables_as_of}
 use Rattle.pgsub_core.specs.Stream.{Sent}
-use Rattle.pgsub_core.specs.Handled.{IsSent}
+use Rattle.pgsub_core.specs.Safely.{IsSent}
 use Rattle.pgsub_core.specs.Subscribed.{Subscribed}
 use Rattle.pgsub_core.specs.SubscriberValue.{SubscriberValue, seen}
 use Rattle.pgsub_core.specs.Counted.{AreCountedFront}

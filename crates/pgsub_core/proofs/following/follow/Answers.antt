@@ -12,7 +12,7 @@ use Rattle.pgsub_core.specs.Handled.{fault_in}
 use Rattle.pgsub_core.specs.Subscribed.{bytes_of}
 use Rattle.pgsub_core.specs.Following.{FeedsSessions}
 use Rattle.pgsub_core.proofs.DescribedChanges.{if_err, on_residual}
-use Rattle.pgsub_core.proofs.FollowSteps.{none_followed, follows_more, follows_stops, follows_whole, follows, answers_fault}
+use Rattle.pgsub_core.proofs.FollowSteps.{none_followed, follows_more, follows_stops, follows_whole, follows, follows_safely, answers_fault}
 use Rattle.pgsub_core.proofs.following.follow.Goals as goal
 
 pub loop-session-init : goal.loop-session-init
@@ -48,6 +48,10 @@ pub returns-clause-followed : goal.returns-clause-followed
 returns-clause-followed g c serves =
     follows g.C.ReplicaStore.holds g.C.ReplicaStore.place c.args.now c.args.subscriber.now c.loop-session.subscriber (bytes_of c.args.sessions.now) None (returns-clause-fed g c serves)
 
+pub returns-clause-safe : goal.returns-clause-safe
+returns-clause-safe g c serves =
+    follows_safely g.C.ReplicaStore.holds g.C.ReplicaStore.place c.args.now c.args.subscriber.now c.loop-session.subscriber (bytes_of c.args.sessions.now) None (returns-clause-followed g c serves)
+
 pub returns-in_err-follow_session-clause-fed : goal.returns-in_err-follow_session-clause-fed
 returns-in_err-follow_session-clause-fed g c serves =
     let f = c.in_err-follow_session.field-0.0 in
@@ -59,6 +63,10 @@ returns-in_err-follow_session-clause-fed g c serves =
 pub returns-in_err-follow_session-clause-followed : goal.returns-in_err-follow_session-clause-followed
 returns-in_err-follow_session-clause-followed g c serves =
     follows g.C.ReplicaStore.holds g.C.ReplicaStore.place c.args.now c.args.subscriber.now c.follow_session.new.subscriber (bytes_of c.args.sessions.now) (fault_in c.from_residual.result) (returns-in_err-follow_session-clause-fed g c serves)
+
+pub returns-in_err-follow_session-clause-safe : goal.returns-in_err-follow_session-clause-safe
+returns-in_err-follow_session-clause-safe g c serves =
+    follows_safely g.C.ReplicaStore.holds g.C.ReplicaStore.place c.args.now c.args.subscriber.now c.follow_session.new.subscriber (bytes_of c.args.sessions.now) (fault_in c.from_residual.result) (returns-in_err-follow_session-clause-followed g c serves)
 
 pub returns-clause-left : goal.returns-clause-left
 returns-clause-left g c honest =
