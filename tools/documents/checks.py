@@ -3,7 +3,7 @@
 import os
 import re
 import subprocess
-from collections.abc import Iterator
+from collections.abc import Iterator, Sequence
 from dataclasses import dataclass
 from fnmatch import fnmatch
 from functools import cached_property
@@ -36,7 +36,9 @@ PARTS = ("src", "specs", "proofs", "must-fail", "mutants")
 OPTION = re.compile(r"(?<![\w-])--[a-z][a-z0-9-]*")
 LONG = re.compile(r"\.long\(\s*\"([a-z0-9-]+)\"")
 # what PROOFS says of the definitions behind the statement is said of these clauses
+THEOREM = "pgsub_core::follow.safe"
 CLAUSES = (
+    THEOREM,
     "pgsub_core::follow.followed",
     "pgsub_core::follow.crash",
     "pgsub_core::follow.missed",
@@ -227,15 +229,26 @@ def check_options(tree: Tree, file: str) -> list[str]:
     return wrong
 
 
+def statement_of(tree: Tree, clauses: Sequence[str]) -> str:
+    """What tools/statement prints of these clauses."""
+    words = [it for clause in clauses for it in ("--clause", clause)]
+    return subprocess.run([tree.top / "tools/statement", *words], capture_output=True, text=True, check=True).stdout
+
+
 def check_statement(tree: Tree) -> list[str]:
-    """PROOFS names each module of the definitions that its clauses stand on."""
-    words = [it for clause in CLAUSES for it in ("--clause", clause)]
-    ran = subprocess.run([tree.top / "tools/statement", *words], capture_output=True, text=True, check=False)
-    if ran.returncode:
-        return [ran.stderr.strip()]
-    modules = re.findall(r"^(\w+)\.specs\.([\w.]+): \d", ran.stdout, re.M)
-    named = {span for line in texts.lines_of(tree.text("docs/PROOFS.md")) for span in texts.spans_of(line.text)}
-    return [f"docs/PROOFS.md doesn't name {crate}/{module}" for crate, module in modules if f"{crate}/{module}" not in named]
+    """PROOFS names each module of the definitions that its clauses stand on, and says how many the theorem itself has."""
+    told = tree.text("docs/PROOFS.md")
+    try:
+        all_of_them, theorem = statement_of(tree, CLAUSES), statement_of(tree, [THEOREM])
+    except subprocess.CalledProcessError as error:
+        return [str(error.stderr).strip()]
+    modules = [it.replace(".specs.", "/").replace(".", "/") for it in re.findall(r"^(\w+\.specs\.[\w.]+): \d", all_of_them, re.M)]
+    named = {span for line in texts.lines_of(told) for span in texts.spans_of(line.text)}
+    wrong = [f"docs/PROOFS.md doesn't name {it}" for it in modules if it not in named]
+    count = re.search(r"^(\d+) definitions, (\d+) lines", theorem, re.M)
+    if not count or f"{count[1]} definitions in {count[2]} lines" not in told:
+        wrong.append(f"docs/PROOFS.md doesn't say that the theorem stands on {count[0] if count else 'nothing'}")
+    return wrong
 
 
 def groups_of(crates: str) -> dict[str, list[str]]:

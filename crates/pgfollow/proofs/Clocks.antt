@@ -10,15 +10,15 @@ use Rattle.pgwire.specs.declared.fault.WireFault.{WireFault}
 use Rattle.pgspool.specs.declared.spools.SpoolFault.TheVariants as spool
 use Rattle.pgsub_core.specs.declared.fault.Fault.{Fault}
 use Rattle.pgsub_core.specs.declared.fault.Fault.TheVariants as fault
-use Rattle.pgsub_core.specs.Stream.{Sent, Data, Kind, BeginsPair, CommitsPair, Holds, StartsBlock, StopsBlock, CommitsStream, AbortsStream, ChangesNothing, kind}
-use Rattle.pgsub_core.specs.Stream as stream
-use Rattle.pgsub_core.specs.Replica.{Outcome, Running, Stopped, then_run}
-use Rattle.pgsub_core.specs.ApplyState.{ApplyState, ApplyResult, step}
-use Rattle.pgsub_core.specs.Subscribed.{Subscribed, apply_state_of}
-use Rattle.pgsub_core.specs.Taking.{take, taken_with, take_message, take_payload, take_frame, take_frames, handled, passes_limit, message_passes_limit}
-use Rattle.pgsub_core.specs.Feeding.{IsFedWhole, IsFedUntil}
+use Rattle.pgsub_core.specs.Server.Stream.{Sent, Data, Kind, BeginsPair, CommitsPair, Holds, StartsBlock, StopsBlock, CommitsStream, AbortsStream, ChangesNothing, kind}
+use Rattle.pgsub_core.specs.Server.Stream as stream
+use Rattle.pgsub_core.specs.Machine.Replica.{Outcome, Running, Stopped, then_run}
+use Rattle.pgsub_core.specs.Machine.ApplyState.{ApplyState, ApplyResult, step}
+use Rattle.pgsub_core.specs.Subscriber.Subscribed.{Subscribed, apply_state_of}
+use Rattle.pgsub_core.specs.Machine.Taking.{take, taken_with, take_message, take_payload, take_frame, take_frames, handled, passes_limit, message_passes_limit}
+use Rattle.pgsub_core.specs.Machine.Feeding.{IsFedWhole, IsFedUntil}
 use Rattle.pgapply.specs.declared.misses.Misses.{Misses}
-use Rattle.pgsub_core.specs.Counted.{decoded_counted, payload_counted, frame_counted, counted_behind, frames_counted, IsCountedWhole, IsCountedFront}
+use Rattle.pgsub_core.specs.Machine.Counted.{decoded_counted, payload_counted, frame_counted, counted_behind, frames_counted, IsCountedWhole, IsCountedFront}
 use Rattle.pgsub_core.proofs.Steps.{goes_through}
 
 -- the same with these bytes waiting to be sent

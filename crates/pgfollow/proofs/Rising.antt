@@ -11,16 +11,16 @@ use Rattle.pgwire.specs.Payloads.{ServerMessage, XLogData, Keepalive, payload_at
 use Rattle.pgwire.specs.declared.fault.WireFault.{WireFault}
 use Rattle.pgwire.specs.Statuses.{status_frame}
 use Rattle.pgwire.specs.declared.status.Status.{Status}
-use Rattle.pgsub_core.specs.History.{Transaction}
-use Rattle.pgsub_core.specs.Safe.{NothingBetween}
-use Rattle.pgsub_core.specs.Stream.{Sent, Data}
-use Rattle.pgsub_core.specs.Stream as stream
-use Rattle.pgsub_core.specs.Replica.{Running}
-use Rattle.pgsub_core.specs.Subscribed.{Subscribed, status_of}
-use Rattle.pgsub_core.specs.Taking.{take, take_message, take_payload, take_frame, take_frames}
-use Rattle.pgsub_core.specs.Confirming.{IsSafeStatus, AreSafeReplies}
-use Rattle.pgsub_core.specs.Feeding.{IsFedWhole}
-use Rattle.pgsub_core.specs.SubscriberValue.{SubscriberValue}
+use Rattle.pgsub_core.specs.Server.History.{Transaction}
+use Rattle.pgsub_core.specs.Subscriber.Safe.{NothingBetween}
+use Rattle.pgsub_core.specs.Server.Stream.{Sent, Data}
+use Rattle.pgsub_core.specs.Server.Stream as stream
+use Rattle.pgsub_core.specs.Machine.Replica.{Running}
+use Rattle.pgsub_core.specs.Subscriber.Subscribed.{Subscribed, status_of}
+use Rattle.pgsub_core.specs.Machine.Taking.{take, take_message, take_payload, take_frame, take_frames}
+use Rattle.pgsub_core.specs.Subscriber.Confirming.{IsSafeStatus, AreSafeReplies}
+use Rattle.pgsub_core.specs.Machine.Feeding.{IsFedWhole}
+use Rattle.pgsub_core.specs.Subscriber.SubscriberValue.{SubscriberValue}
 use Rattle.pgsub_core.proofs.Steps.{running, goes_through, takes_one, takes_reply}
 use Rattle.pgfollow.specs.Live.{news, status_at}
 use Rattle.pgfollow.specs.Told.{Rises, AreRising}

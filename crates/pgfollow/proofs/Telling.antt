@@ -9,8 +9,8 @@ use Rattle.pgapply.specs.declared.misses.Misses.{Misses}
 use Rattle.pgapply.specs.Value.{Tables}
 use Rattle.pgsub_core.specs.declared.fault.Fault.{Fault}
 use Rattle.pgsub_core.specs.declared.fault.Fault.TheVariants as fault
-use Rattle.pgsub_core.specs.Subscribed.{Subscribed, disconnect, with_status}
-use Rattle.pgsub_core.specs.SubscriberValue.{SubscriberValue, seen}
+use Rattle.pgsub_core.specs.Subscriber.Subscribed.{Subscribed, disconnect, with_status}
+use Rattle.pgsub_core.specs.Subscriber.SubscriberValue.{SubscriberValue, seen}
 use Rattle.pgfollow.specs.declared.fault.FollowFault.{FollowFault}
 use Rattle.pgfollow.specs.declared.fault.FollowFault.TheVariants as follow
 use Rattle.pgfollow.specs.Live.{IsFront, IsShort, piece_len, IsGreeted, StopsGreeting, Step, IsFedPart, AreSteps, LiveSteps, LiveStops, LiveEnds, FollowsPiece, IsFollowedPart, StopsPart, StopsPiece, news, status_at, settled, parts_of, told_of, told_in}

@@ -6,18 +6,18 @@ use Rattle.pgapply.specs.Value.{Tables}
 use Rattle.pgapply.specs.Taken as held
 use Rattle.pgsub_core.specs.declared.fault.Fault.{Fault}
 use Rattle.pgsub_core.specs.declared.fault.Fault.TheVariants as fault
-use Rattle.pgsub_core.specs.History.{Transaction, tables_as_of}
-use Rattle.pgsub_core.specs.Safe.{NothingBetween}
-use Rattle.pgsub_core.specs.Stream.{Sent}
-use Rattle.pgsub_core.specs.Subscribed.{Subscribed, IsSafeFor, disconnect}
-use Rattle.pgsub_core.specs.SubscriberValue.{SubscriberValue, seen, Feeds, FeedsUntil}
-use Rattle.pgsub_core.specs.Feeding.{IsFedWhole, IsFedUntil}
-use Rattle.pgsub_core.specs.Following.{AreFedWhole}
-use Rattle.pgsub_core.specs.Counted.{IsCountedWhole, IsCountedFront, AreCountedWhole, FeedsCounted}
-use Rattle.pgsub_core.specs.Missed.{history_missed, CountsHistory}
-use Rattle.pgsub_core.specs.Safely.{IsSent}
-use Rattle.pgsub_core.specs.Confirming.{AreSafeReplies}
-use Rattle.pgsub_core.specs.Crashing.{LeavesOldOr, FedOver, IsLeftSafely}
+use Rattle.pgsub_core.specs.Server.History.{Transaction, tables_as_of}
+use Rattle.pgsub_core.specs.Subscriber.Safe.{NothingBetween}
+use Rattle.pgsub_core.specs.Server.Stream.{Sent}
+use Rattle.pgsub_core.specs.Subscriber.Subscribed.{Subscribed, IsSafeFor, disconnect}
+use Rattle.pgsub_core.specs.Subscriber.SubscriberValue.{SubscriberValue, seen, Feeds, FeedsUntil}
+use Rattle.pgsub_core.specs.Machine.Feeding.{IsFedWhole, IsFedUntil}
+use Rattle.pgsub_core.specs.Subscriber.Following.{AreFedWhole}
+use Rattle.pgsub_core.specs.Machine.Counted.{IsCountedWhole, IsCountedFront, AreCountedWhole, FeedsCounted}
+use Rattle.pgsub_core.specs.Subscriber.Missed.{history_missed, CountsHistory}
+use Rattle.pgsub_core.specs.Subscriber.Safely.{IsSent}
+use Rattle.pgsub_core.specs.Subscriber.Confirming.{AreSafeReplies}
+use Rattle.pgsub_core.specs.Subscriber.Crashing.{LeavesOldOr, FedOver, IsLeftSafely}
 use Rattle.pgsub_core.proofs.FollowSteps.{until_of}
 use Rattle.pgsub_core.proofs.Followed.{fed_more, fed_then_stopped, confirmed_stored}
 use Rattle.pgsub_core.proofs.Pieces.{two_pieces, piece_then_stop, nothing_fed, counted_pieces, front_pieces, front_stands}

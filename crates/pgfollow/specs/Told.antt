@@ -6,14 +6,14 @@ use Rattle.pgwire.specs.Statuses.{status_frame}
 use Rattle.pgwire.specs.declared.status.Status.{Status}
 use Rattle.pgapply.specs.declared.misses.Misses.{Misses}
 use Rattle.pgapply.specs.Value.{Tables}
-use Rattle.pgsub_core.specs.History.{Transaction}
-use Rattle.pgsub_core.specs.Stream.{Sent}
-use Rattle.pgsub_core.specs.Safely.{IsSent}
-use Rattle.pgsub_core.specs.Confirming.{AreSafeReplies}
-use Rattle.pgsub_core.specs.Subscribed.{IsSafeFor}
-use Rattle.pgsub_core.specs.Crashing.{IsLeftSafely}
-use Rattle.pgsub_core.specs.Missed.{CountsHistory}
-use Rattle.pgsub_core.specs.SubscriberValue.{SubscriberValue, seen}
+use Rattle.pgsub_core.specs.Server.History.{Transaction}
+use Rattle.pgsub_core.specs.Server.Stream.{Sent}
+use Rattle.pgsub_core.specs.Subscriber.Safely.{IsSent}
+use Rattle.pgsub_core.specs.Subscriber.Confirming.{AreSafeReplies}
+use Rattle.pgsub_core.specs.Subscriber.Subscribed.{IsSafeFor}
+use Rattle.pgsub_core.specs.Subscriber.Crashing.{IsLeftSafely}
+use Rattle.pgsub_core.specs.Subscriber.Missed.{CountsHistory}
+use Rattle.pgsub_core.specs.Subscriber.SubscriberValue.{SubscriberValue, seen}
 use Rattle.pgfollow.specs.declared.fault.FollowFault.{FollowFault}
 use Rattle.pgfollow.specs.declared.fault.FollowFault.TheVariants as follow
 use Rattle.pgfollow.specs.Live.{IsGreeted, LiveEnds, Step, StopsGreeting, news, status_at, told_of, told_in}

@@ -5,7 +5,7 @@
 ghost use Rattle.std.specs.Prelude.{◌≡◌, ◌≢◌, ◌≤◌, ◌<◌, ◌↔◌, ◌++◌, Err, false, true, ℕ, List, length, take, OnOk, OnErr, IfOk, IfErr};
 ghost use Rattle.std.specs.Io.KnownBytes.{Appends};
 ghost use Rattle.pgapply.specs.Value.{Tables};
-ghost use Rattle.pgsub_core.specs.SubscriberValue.{seen};
+ghost use Rattle.pgsub_core.specs.Subscriber.SubscriberValue.{seen};
 ghost use Rattle.pgfollow.specs.Told.{FollowsLive};
 ghost use Rattle.pgfollow.specs.Live.{FollowsPiece, IsFollowedPart, IsFront, IsGreeted, IsOfFollowing, LiveEnds, StopsFront, StopsGreeting, StopsPiece, ended_by, news, piece_len, settled};
 

@@ -7,8 +7,8 @@ use Rattle.sqlite.specs.Files.{over_files}
 use Rattle.pgapply.specs.Value.{Tables}
 use Rattle.pgstore.specs.StoreValue.{StoreValue}
 use Rattle.pgstore.proofs.Reopened as reopened
-use Rattle.pgsub_core.specs.History.{Transaction, IsHistory, tables_as_of}
-use Rattle.pgsub_core.specs.Safe.{NothingBetween}
+use Rattle.pgsub_core.specs.Server.History.{Transaction, IsHistory, tables_as_of}
+use Rattle.pgsub_core.specs.Subscriber.Safe.{NothingBetween}
 use Rattle.pgsub_core.proofs.Restarting.{left_starts}
 use Rattle.pgrecovery.specs.Recovered.{FollowedIsRecovered, LeftSafelyIsRecovered, Recovers, ServedIsRecovered, holds_tables}
 

@@ -14,15 +14,15 @@ use Rattle.pgstore.specs.Acts.{committed_of}
 use Rattle.pgstore.specs.Spelled.{IsStored}
 use Rattle.pgstore.specs.StoreValue.{StoreValue, Contains}
 use Rattle.pgstore.specs.Reopened.{CrashLeaves, HoldsContent, Reopens}
-use Rattle.pgsub_core.specs.History.{Transaction, IsHistory, tables_as_of}
-use Rattle.pgsub_core.specs.Stream.{Sent}
-use Rattle.pgsub_core.specs.Safe.{NothingBetween}
-use Rattle.pgsub_core.specs.Sessions.{AreIncoming, starting_by}
-use Rattle.pgsub_core.specs.Subscribed.{IsSafeFor, newly, progress_of}
-use Rattle.pgsub_core.specs.Confirming.{AreSafeReplies}
-use Rattle.pgsub_core.specs.Safely.{IsSent}
-use Rattle.pgsub_core.specs.SubscriberValue.{SubscriberValue, seen}
-use Rattle.pgsub_core.specs.Crashing.{IsLeftSafely, LeavesHistory}
+use Rattle.pgsub_core.specs.Server.History.{Transaction, IsHistory, tables_as_of}
+use Rattle.pgsub_core.specs.Server.Stream.{Sent}
+use Rattle.pgsub_core.specs.Subscriber.Safe.{NothingBetween}
+use Rattle.pgsub_core.specs.Server.Sessions.{AreIncoming, starting_by}
+use Rattle.pgsub_core.specs.Subscriber.Subscribed.{IsSafeFor, newly, progress_of}
+use Rattle.pgsub_core.specs.Subscriber.Confirming.{AreSafeReplies}
+use Rattle.pgsub_core.specs.Subscriber.Safely.{IsSent}
+use Rattle.pgsub_core.specs.Subscriber.SubscriberValue.{SubscriberValue, seen}
+use Rattle.pgsub_core.specs.Subscriber.Crashing.{IsLeftSafely, LeavesHistory}
 
 -- Whatever sessions of the history come next, a new subscriber over these tables starts as they ask it: also where they start as far as
 -- what was confirmed. Nothing waits to be sent.

@@ -5,9 +5,9 @@
 ghost use Rattle.std.specs.Prelude.{OnOk};
 ghost use Rattle.sqlite.specs.Files.{over_files};
 ghost use Rattle.pgstore.specs.StoreValue.{IsHonest, Serves};
-ghost use Rattle.pgsub_core.specs.Subscribed.{bytes_of};
-ghost use Rattle.pgsub_core.specs.Handled.{fault_in};
-ghost use Rattle.pgsub_core.specs.Following.{FollowsSessions};
+ghost use Rattle.pgsub_core.specs.Subscriber.Subscribed.{bytes_of};
+ghost use Rattle.pgsub_core.specs.Subscriber.Handled.{fault_in};
+ghost use Rattle.pgsub_core.specs.Subscriber.Following.{FollowsSessions};
 ghost use Rattle.pgrecovery.specs.Recovered.{RecoversHistory, holds_tables, position_of};
 
 use pgspool::Spools;

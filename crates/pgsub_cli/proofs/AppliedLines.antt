@@ -8,10 +8,10 @@ use Rattle.pgapply.specs.Dump.{dump}
 use Rattle.pgapply.specs.declared.rows.DumpRow.{DumpRow}
 use Rattle.pgapply.specs.Taken as taken
 use Rattle.pgsub_core.specs.declared.fault.Fault.{Fault}
-use Rattle.pgsub_core.specs.Handled.{fault_in}
-use Rattle.pgsub_core.specs.Subscribed.{Subscribed}
-use Rattle.pgsub_core.specs.SubscriberValue.{SubscriberValue, seen}
-use Rattle.pgsub_core.specs.Following.{AreFed, Becomes, FedSessionsAreFollowed, FeedsSessions}
+use Rattle.pgsub_core.specs.Subscriber.Handled.{fault_in}
+use Rattle.pgsub_core.specs.Subscriber.Subscribed.{Subscribed}
+use Rattle.pgsub_core.specs.Subscriber.SubscriberValue.{SubscriberValue, seen}
+use Rattle.pgsub_core.specs.Subscriber.Following.{AreFed, Becomes, FedSessionsAreFollowed, FeedsSessions}
 use Rattle.pgsub_cli.specs.DumpText.{dump_of, resumed_of}
 use Rattle.pgsub_cli.specs.Fed.{FeedsFile, ShowsFile, ShowsProgress}
 use Rattle.pgsub_cli.specs.Limits.{clock}

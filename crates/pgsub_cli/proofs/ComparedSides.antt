@@ -8,11 +8,11 @@ use Rattle.pgsub_core.specs.declared.converging.Side.TheVariants.{Left, Right}
 use Rattle.pgsub_core.specs.declared.converging.Verdict.{Verdict}
 use Rattle.pgsub_core.specs.declared.fault.Fault.{Fault}
 use Rattle.pgsub_core.specs.declared.session.Session.{Session}
-use Rattle.pgsub_core.specs.Converging.{Converges, FollowsLeft, FollowsRight, OnceLeftIsRead}
-use Rattle.pgsub_core.specs.Faults.{IsReadFault}
-use Rattle.pgsub_core.specs.Subscribed.{Subscribed, bytes_of}
-use Rattle.pgsub_core.specs.SubscriberValue.{SubscriberValue, seen}
-use Rattle.pgsub_core.specs.Verdicts.{SideIsFollowed, SideFails}
+use Rattle.pgsub_core.specs.Subscriber.Converging.{Converges, FollowsLeft, FollowsRight, OnceLeftIsRead}
+use Rattle.pgsub_core.specs.Machine.Faults.{IsReadFault}
+use Rattle.pgsub_core.specs.Subscriber.Subscribed.{Subscribed, bytes_of}
+use Rattle.pgsub_core.specs.Subscriber.SubscriberValue.{SubscriberValue, seen}
+use Rattle.pgsub_core.specs.Subscriber.Verdicts.{SideIsFollowed, SideFails}
 use Rattle.pgsub_cli.specs.Compared.{Stops, StopsAt, EndsWith, EndsOver}
 use Rattle.pgsub_cli.specs.Followed.{Leaves, new_subscriber}
 use Rattle.pgsub_cli.specs.Limits.{clock, default_limits}

@@ -7,14 +7,14 @@ use Rattle.std.specs.Io.KnownBytes.{Consumes, IsAtEnd}
 use Rattle.pgapply.specs.Value.{Tables}
 use Rattle.pgsub_core.specs.declared.fault.Fault.{Fault}
 use Rattle.pgsub_core.specs.declared.fault.Fault.TheVariants as fault
-use Rattle.pgsub_core.specs.Feeding.{IsFedWhole, IsFedUntil}
-use Rattle.pgsub_core.specs.Following.{FeedsSessions}
-use Rattle.pgsub_core.specs.Handled.{fault_in}
-use Rattle.pgsub_core.specs.Pumping.{IsReadOut, Pumps, PumpsUntil, bytes_in}
-use Rattle.pgsub_core.specs.Pumping as pumping
-use Rattle.pgsub_core.specs.Subscribed.{Subscribed, disconnect}
-use Rattle.pgsub_core.specs.SubscriberValue.{SubscriberValue, seen}
-use Rattle.pgsub_core.specs.Crashing.{LeavesOldOr, FedOver, StandsAsFed}
+use Rattle.pgsub_core.specs.Machine.Feeding.{IsFedWhole, IsFedUntil}
+use Rattle.pgsub_core.specs.Subscriber.Following.{FeedsSessions}
+use Rattle.pgsub_core.specs.Subscriber.Handled.{fault_in}
+use Rattle.pgsub_core.specs.Calls.Pumping.{IsReadOut, Pumps, PumpsUntil, bytes_in}
+use Rattle.pgsub_core.specs.Calls.Pumping as pumping
+use Rattle.pgsub_core.specs.Subscriber.Subscribed.{Subscribed, disconnect}
+use Rattle.pgsub_core.specs.Subscriber.SubscriberValue.{SubscriberValue, seen}
+use Rattle.pgsub_core.specs.Subscriber.Crashing.{LeavesOldOr, FedOver, StandsAsFed}
 use Rattle.pgsub_core.proofs.Crashes.{leaves_as}
 use Rattle.pgsub_core.proofs.FollowSteps.{until_of}
 use Rattle.pgsub_core.proofs.Pumped.{pumps_session}

@@ -4,9 +4,9 @@ use Rattle.pgcommand.specs.declared.limits.Limits.{Limits}
 use Rattle.pgorder.specs.declared.Version.{Version}
 use Rattle.pgapply.specs.Value.{Tables}
 use Rattle.pgsub_core.specs.declared.fault.Fault.{Fault}
-use Rattle.pgsub_core.specs.Following.{AreFed, FedSessionsAreFollowed}
-use Rattle.pgsub_core.specs.Subscribed.{Subscribed, bytes_of}
-use Rattle.pgsub_core.specs.SubscriberValue.{SubscriberValue, seen}
+use Rattle.pgsub_core.specs.Subscriber.Following.{AreFed, FedSessionsAreFollowed}
+use Rattle.pgsub_core.specs.Subscriber.Subscribed.{Subscribed, bytes_of}
+use Rattle.pgsub_core.specs.Subscriber.SubscriberValue.{SubscriberValue, seen}
 use Rattle.pgsub_core.specs.declared.session.Session.{Session}
 use Rattle.pgsub_cli.specs.declared.printed.Printed.{Printed}
 use Rattle.pgsub_cli.specs.declared.storing.Incoming.{Incoming}

@@ -8,16 +8,16 @@ use Rattle.pgapply.specs.Taken as held
 use Rattle.pgsub_core.specs.declared.fault.Fault.{Fault}
 use Rattle.pgsub_core.specs.declared.fault.Fault.TheVariants as fault
 use Rattle.pgsub_core.specs.declared.session.Session.{Session}
-use Rattle.pgsub_core.specs.Applied.{Applied, IsKept}
-use Rattle.pgsub_core.specs.Crashing.{LeavesOldOr, FedOver, StandsAsFed, IsLeftSafely, LeavesHistory}
-use Rattle.pgsub_core.specs.Following.{AreFed, FedSessionsAreFollowed, FeedsSessions}
-use Rattle.pgsub_core.specs.Safely.{IsSent}
-use Rattle.pgsub_core.specs.Handled.{fault_in}
-use Rattle.pgsub_core.specs.History.{Transaction, tables_as_of}
-use Rattle.pgsub_core.specs.Safe.{NothingBetween}
-use Rattle.pgsub_core.specs.Stream.{Sent}
-use Rattle.pgsub_core.specs.Subscribed.{Subscribed, bytes_of}
-use Rattle.pgsub_core.specs.SubscriberValue.{SubscriberValue, seen}
+use Rattle.pgsub_core.specs.Subscriber.Applied.{Applied, IsKept}
+use Rattle.pgsub_core.specs.Subscriber.Crashing.{LeavesOldOr, FedOver, StandsAsFed, IsLeftSafely, LeavesHistory}
+use Rattle.pgsub_core.specs.Subscriber.Following.{AreFed, FedSessionsAreFollowed, FeedsSessions}
+use Rattle.pgsub_core.specs.Subscriber.Safely.{IsSent}
+use Rattle.pgsub_core.specs.Subscriber.Handled.{fault_in}
+use Rattle.pgsub_core.specs.Server.History.{Transaction, tables_as_of}
+use Rattle.pgsub_core.specs.Subscriber.Safe.{NothingBetween}
+use Rattle.pgsub_core.specs.Server.Stream.{Sent}
+use Rattle.pgsub_core.specs.Subscriber.Subscribed.{Subscribed, bytes_of}
+use Rattle.pgsub_core.specs.Subscriber.SubscriberValue.{SubscriberValue, seen}
 use Rattle.pgsub_core.proofs.FollowSteps.{follows}
 use Rattle.pgsub_core.proofs.SessionCuts.{sent_front}
 use Rattle.pgsub_cli.specs.declared.storing.Incoming.{Incoming}

@@ -5,9 +5,9 @@ use Rattle.pgorder.specs.declared.Version.{Version}
 use Rattle.pgapply.specs.Value.{Tables}
 use Rattle.pgsub_core.specs.declared.fault.Fault.{Fault}
 use Rattle.pgsub_core.specs.declared.fault.Fault.TheVariants as fault
-use Rattle.pgsub_core.specs.Applied.{IsKept}
-use Rattle.pgsub_core.specs.Crashing.{IsLeftSafely}
-use Rattle.pgsub_core.specs.SubscriberValue.{SubscriberValue}
+use Rattle.pgsub_core.specs.Subscriber.Applied.{IsKept}
+use Rattle.pgsub_core.specs.Subscriber.Crashing.{IsLeftSafely}
+use Rattle.pgsub_core.specs.Subscriber.SubscriberValue.{SubscriberValue}
 use Rattle.pgsub_cli.specs.declared.storing.Incoming.{Incoming}
 use Rattle.pgsub_cli.specs.declared.storing.Incoming.TheVariants.{Sessions, Raw}
 use Rattle.pgsub_cli.specs.Reports.{CountsIncoming}

@@ -7,7 +7,7 @@ use Rattle.std.proofs.lemmas.List.{append_assoc, append-nil}
 use Rattle.pgapply.specs.declared.rows.DumpRow.{DumpRow}
 use Rattle.pgapply.specs.declared.rows.StoreFault.{StoreFault}
 use Rattle.pgapply.specs.Stored.{IsOwnFault}
-use Rattle.pgsub_core.specs.Faults.{IsReadFault, fault_of_store}
+use Rattle.pgsub_core.specs.Machine.Faults.{IsReadFault, fault_of_store}
 use Rattle.pgsub_core.specs.declared.fault.Fault.{Fault}
 use Rattle.pgsub_core.specs.declared.fault.Fault.TheVariants.{Memory}
 use Rattle.pgsub_cli.specs.declared.fault.Ending.{Ending}

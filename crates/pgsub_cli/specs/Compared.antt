@@ -6,10 +6,10 @@ use Rattle.pgsub_core.specs.declared.converging.Side.{Side}
 use Rattle.pgsub_core.specs.declared.converging.Side.TheVariants.{Left, Right}
 use Rattle.pgsub_core.specs.declared.converging.Verdict.{Verdict}
 use Rattle.pgsub_core.specs.declared.fault.Fault.{Fault}
-use Rattle.pgsub_core.specs.Faults.{IsReadFault}
-use Rattle.pgsub_core.specs.Subscribed.{Subscribed}
-use Rattle.pgsub_core.specs.SubscriberValue.{SubscriberValue, seen}
-use Rattle.pgsub_core.specs.Verdicts.{IsVerdict, SideIsFollowed}
+use Rattle.pgsub_core.specs.Machine.Faults.{IsReadFault}
+use Rattle.pgsub_core.specs.Subscriber.Subscribed.{Subscribed}
+use Rattle.pgsub_core.specs.Subscriber.SubscriberValue.{SubscriberValue, seen}
+use Rattle.pgsub_core.specs.Subscriber.Verdicts.{IsVerdict, SideIsFollowed}
 use Rattle.pgorder.specs.declared.Version.{Version}
 use Rattle.pgsub_cli.specs.Followed.{new_subscriber}
 use Rattle.pgsub_cli.specs.Limits.{clock, default_limits}

@@ -1,7 +1,7 @@
 -- How the rows of a store are printed as they are read, and what is printed where that stops.
 use Rattle.std.specs.Prelude.{◌≡◌, ◌++◌, ℕ, List, [], ◌∷◌, Result, Ok, Err}
 use Rattle.pgapply.specs.declared.rows.DumpRow.{DumpRow}
-use Rattle.pgsub_core.specs.Faults.{IsReadFault}
+use Rattle.pgsub_core.specs.Machine.Faults.{IsReadFault}
 use Rattle.pgsub_cli.specs.declared.fault.Ending.{Ending}
 use Rattle.pgsub_cli.specs.declared.fault.Ending.TheVariants.{Done, Differs}
 use Rattle.pgsub_cli.specs.declared.fault.RunFault.{RunFault}

@@ -6,13 +6,13 @@ use Rattle.pgorder.specs.declared.Version.{Version}
 use Rattle.pgapply.specs.Dump.{dump}
 use Rattle.pgapply.specs.Value.{Tables}
 use Rattle.pgsub_core.specs.declared.fault.Fault.{Fault}
-use Rattle.pgsub_core.specs.History.{Transaction}
-use Rattle.pgsub_core.specs.Stream.{Sent}
-use Rattle.pgsub_core.specs.Subscribed.{Subscribed, newly}
-use Rattle.pgsub_core.specs.Safely.{IsSent}
-use Rattle.pgsub_core.specs.Handled.{IsFollowed}
-use Rattle.pgsub_core.specs.Following.{AreFed, Becomes}
-use Rattle.pgsub_core.specs.SubscriberValue.{SubscriberValue, seen}
+use Rattle.pgsub_core.specs.Server.History.{Transaction}
+use Rattle.pgsub_core.specs.Server.Stream.{Sent}
+use Rattle.pgsub_core.specs.Subscriber.Subscribed.{Subscribed, newly}
+use Rattle.pgsub_core.specs.Subscriber.Safely.{IsSent}
+use Rattle.pgsub_core.specs.Subscriber.Handled.{IsFollowed}
+use Rattle.pgsub_core.specs.Subscriber.Following.{AreFed, Becomes}
+use Rattle.pgsub_core.specs.Subscriber.SubscriberValue.{SubscriberValue, seen}
 use Rattle.pglsn.specs.Texts.{lsn_text}
 use Rattle.pgsub_cli.specs.DumpText.{dump_of, position_line}
 use Rattle.pgsub_cli.specs.Limits.{clock, longest_within}

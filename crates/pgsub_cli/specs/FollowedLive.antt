@@ -5,7 +5,7 @@ use Rattle.pgorder.specs.declared.Version.{Version}
 use Rattle.pgapply.specs.declared.misses.Misses.{Misses}
 use Rattle.pgapply.specs.Value.{Tables}
 use Rattle.pgsub_core.specs.declared.fault.Fault.TheVariants as fault
-use Rattle.pgsub_core.specs.SubscriberValue.{SubscriberValue, seen}
+use Rattle.pgsub_core.specs.Subscriber.SubscriberValue.{SubscriberValue, seen}
 use Rattle.pgfollow.specs.declared.fault.FollowFault.{FollowFault}
 use Rattle.pgfollow.specs.declared.fault.FollowFault.TheVariants as follow
 use Rattle.pgfollow.specs.Told.{FollowsLive}

@@ -16,9 +16,9 @@ use Rattle.pgsub_core.specs.declared.converging.Verdict.TheVariants as verdict
 use Rattle.pgsub_core.specs.declared.fault.Fault.{Fault}
 use Rattle.pgsub_core.specs.declared.fault.Fault.TheVariants as fault
 use Rattle.pgsub_core.specs.declared.session.Session.{Session}
-use Rattle.pgsub_core.specs.Faults.{IsReadFault}
-use Rattle.pgsub_core.specs.Subscribed.{Subscribed, bytes_of}
-use Rattle.pgsub_core.specs.Verdicts.{IsVerdict}
+use Rattle.pgsub_core.specs.Machine.Faults.{IsReadFault}
+use Rattle.pgsub_core.specs.Subscriber.Subscribed.{Subscribed, bytes_of}
+use Rattle.pgsub_core.specs.Subscriber.Verdicts.{IsVerdict}
 use Rattle.pgsub_cli.specs.declared.fault.Ending.{Ending}
 use Rattle.pgsub_cli.specs.declared.fault.Ending.TheVariants.{Done, Differs}
 use Rattle.pgsub_cli.specs.declared.fault.RunFault.{RunFault}

@@ -11,7 +11,7 @@ use Rattle.pgapply.specs.Value.{Tables}
 use Rattle.pgstore.specs.Acts.{committed_of}
 use Rattle.pgstore.specs.Spelled.{IsStored}
 use Rattle.pgstore.specs.StoreValue.{StoreValue}
-use Rattle.pgsub_core.specs.SubscriberValue.{SubscriberValue, seen}
+use Rattle.pgsub_core.specs.Subscriber.SubscriberValue.{SubscriberValue, seen}
 use Rattle.pgsub_cli.specs.Followed.{new_subscriber}
 
 abbrev pub InMemory : Type 0

@@ -8,8 +8,8 @@ use Rattle.pgapply.specs.Dump.{dump}
 use Rattle.pgapply.specs.Value.{Tables}
 use Rattle.pgsub_core.specs.declared.converging.Side.TheVariants.{Left}
 use Rattle.pgsub_core.specs.declared.fault.Fault.{Fault}
-use Rattle.pgsub_core.specs.Subscribed.{Subscribed, bytes_of}
-use Rattle.pgsub_core.specs.SubscriberValue.{SubscriberValue}
+use Rattle.pgsub_core.specs.Subscriber.Subscribed.{Subscribed, bytes_of}
+use Rattle.pgsub_core.specs.Subscriber.SubscriberValue.{SubscriberValue}
 use Rattle.pgsub_cli.specs.declared.fault.RunFault.{RunFault}
 use Rattle.pgsub_cli.specs.declared.fault.RunFault.TheVariants as run
 use Rattle.pgsub_cli.specs.declared.storing.Incoming.{Incoming}

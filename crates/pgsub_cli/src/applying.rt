@@ -4,11 +4,11 @@ ghost use Rattle.std.specs.Prelude.{◌≡◌, Option, Some, OnOk, IfOk, IfErr, 
 ghost use Rattle.pgapply.specs.Taken.{Stays};
 ghost use Rattle.pgapply.specs.Value.{Tables};
 ghost use Rattle.pgstore.specs.StoreValue.{HasTables, IsHonest, StoreValue};
-ghost use Rattle.pgsub_core.specs.Crashing.{LeavesOldOr, FedOver, LeavesHistory};
-ghost use Rattle.pgsub_core.specs.Faults.{IsReadFault};
-ghost use Rattle.pgsub_core.specs.Following.{FeedsSessions};
-ghost use Rattle.pgsub_core.specs.Subscribed.{bytes_of};
-ghost use Rattle.pgsub_core.specs.SubscriberValue.{SubscriberValue, seen};
+ghost use Rattle.pgsub_core.specs.Subscriber.Crashing.{LeavesOldOr, FedOver, LeavesHistory};
+ghost use Rattle.pgsub_core.specs.Machine.Faults.{IsReadFault};
+ghost use Rattle.pgsub_core.specs.Subscriber.Following.{FeedsSessions};
+ghost use Rattle.pgsub_core.specs.Subscriber.Subscribed.{bytes_of};
+ghost use Rattle.pgsub_core.specs.Subscriber.SubscriberValue.{SubscriberValue, seen};
 ghost use Rattle.pgsub_cli.specs.Fed.{FeedsFile, ResumesFed, ShowsFile, ShowsProgress};
 ghost use Rattle.pgsub_cli.specs.Followed.{Shows, ShowsFed};
 ghost use Rattle.pgsub_cli.specs.Limits.{clock};

@@ -3,8 +3,8 @@
 ghost use Rattle.std.specs.Prelude.{◌≡◌, ◌⊎◌, IfOk, IfErr, string_bytes};
 ghost use Rattle.pgstore.specs.StoreValue.{HasTables, IsHonest, StoreValue};
 ghost use Rattle.pgsub_core.specs.declared.converging.Side.TheVariants.{Left};
-ghost use Rattle.pgsub_core.specs.Faults.{IsReadFault};
-ghost use Rattle.pgsub_core.specs.Subscribed.{bytes_of};
+ghost use Rattle.pgsub_core.specs.Machine.Faults.{IsReadFault};
+ghost use Rattle.pgsub_core.specs.Subscriber.Subscribed.{bytes_of};
 ghost use Rattle.pgsub_cli.specs.Compared.{EndsBesideNew, EndsOver};
 ghost use Rattle.pgsub_cli.specs.Runs.{AreComparedAs, IsUncompared, ending_of, verdict_line};
 ghost use Rattle.pgsub_cli.specs.Stores.{IsNew, position_of};

@@ -4,8 +4,8 @@
 //! return a fault of theirs only where it met one.
 ghost use Rattle.std.specs.Prelude.{◌≡◌, ◌≤◌, ◌<◌, ◌++◌, ℕ, List, None, Some, Ok, length, IfSome, IfOk, OnOk, OnErr, ⊤};
 ghost use Rattle.std.specs.Io.KnownBytes.{Appends};
-ghost use Rattle.pgsub_core.specs.Crashing.{LeavesOldOr, FedOver};
-ghost use Rattle.pgsub_core.specs.Handled.{fault_in};
+ghost use Rattle.pgsub_core.specs.Subscriber.Crashing.{LeavesOldOr, FedOver};
+ghost use Rattle.pgsub_core.specs.Subscriber.Handled.{fault_in};
 ghost use Rattle.pgsub_cli.specs.Fed.{FeedsFile};
 ghost use Rattle.pgsub_cli.specs.StoreAfter.{StandsFed};
 

@@ -1,7 +1,7 @@
 //! Tells, while a store takes commits, how far that is. What a reader gives and what a store holds are as without it.
 
 ghost use Rattle.std.specs.Prelude.{◌≡◌, ◌≤◌, ◌+◌, ◌⊎◌, [], Result, Some, IfOk, ⊤};
-ghost use Rattle.pgsub_core.specs.Faults.{IsReadFault};
+ghost use Rattle.pgsub_core.specs.Machine.Faults.{IsReadFault};
 ghost use Rattle.pgsub_cli.specs.declared.fault.Ending.{Ending};
 ghost use Rattle.pgsub_cli.specs.declared.fault.RunFault.{RunFault};
 ghost use Rattle.pgsub_cli.specs.Reports.{CountsIncoming, IsCounted, ReaderBegins, ReaderGives, TellsProgress, bytes_text, nothing_of, progress_line, with_bytes, with_commits};

@@ -1,7 +1,7 @@
 //! Runs a task over readers and writers.
 
 ghost use Rattle.std.specs.Prelude.{◌≡◌, ◌≤◌, None, Result, IfOk, option_map, string_bytes};
-ghost use Rattle.pgsub_core.specs.Faults.{IsReadFault};
+ghost use Rattle.pgsub_core.specs.Machine.Faults.{IsReadFault};
 ghost use Rattle.pgsub_cli.specs.declared.fault.Ending.{Ending};
 ghost use Rattle.pgsub_cli.specs.declared.fault.RunFault.{RunFault};
 ghost use Rattle.pgsub_cli.specs.FaultTexts.{stop_line};

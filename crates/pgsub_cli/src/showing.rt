@@ -1,7 +1,7 @@
 //! The lines of a recording's frames.
 
 ghost use Rattle.std.specs.Prelude.{◌≡◌, [], ◌∷◌, string_bytes};
-ghost use Rattle.pgsub_core.specs.Subscribed.{bytes_of, session_bytes};
+ghost use Rattle.pgsub_core.specs.Subscriber.Subscribed.{bytes_of, session_bytes};
 ghost use Rattle.pgsub_cli.specs.Shown.{AddsLines, AreShown, AreShownLater, IsShown, fault_of_show};
 
 use crate::limits::MAX_FRAME;

@@ -2,8 +2,8 @@
 
 ghost use Rattle.std.specs.Prelude.{◌≡◌, IfOk, IfErr};
 ghost use Rattle.pgapply.specs.Value.{Tables};
-ghost use Rattle.pgsub_core.specs.Faults.{IsReadFault};
-ghost use Rattle.pgsub_core.specs.SubscriberValue.{seen};
+ghost use Rattle.pgsub_core.specs.Machine.Faults.{IsReadFault};
+ghost use Rattle.pgsub_core.specs.Subscriber.SubscriberValue.{seen};
 ghost use Rattle.pgsub_cli.specs.Followed.{subscriber_over};
 ghost use Rattle.pgsub_cli.specs.Stores.{IsNew, position_of};
 

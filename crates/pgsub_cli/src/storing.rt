@@ -3,8 +3,8 @@
 ghost use Rattle.std.specs.Prelude.{◌≡◌, ◌≤◌, [], Option, Result, Err, IfOk, IfErr, string_bytes};
 ghost use Rattle.pgapply.specs.Taken.{Stays};
 ghost use Rattle.pgapply.specs.Value.{Tables};
-ghost use Rattle.pgsub_core.specs.Faults.{IsReadFault, fault_of_store};
-ghost use Rattle.pgsub_core.specs.SubscriberValue.{seen};
+ghost use Rattle.pgsub_core.specs.Machine.Faults.{IsReadFault, fault_of_store};
+ghost use Rattle.pgsub_core.specs.Subscriber.SubscriberValue.{seen};
 ghost use Rattle.pgsub_cli.specs.declared.fault.Ending.{Ending};
 ghost use Rattle.pgsub_cli.specs.declared.fault.RunFault.{RunFault};
 ghost use Rattle.pgsub_cli.specs.declared.fault.RunFault.TheVariants.{Stream};

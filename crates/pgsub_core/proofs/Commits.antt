@@ -10,12 +10,12 @@ use Rattle.pgapply.specs.Stored.{IsFault}
 use Rattle.pgapply.specs.Taken as held
 use Rattle.pgsub_core.specs.declared.fault.Fault.{Fault}
 use Rattle.pgsub_core.specs.declared.fault.Fault.TheVariants as fault
-use Rattle.pgsub_core.specs.Described.{described_from}
-use Rattle.pgsub_core.specs.Drafts.{known_to, LacksDefinition}
-use Rattle.pgsub_core.specs.Replica.{Replica, RelationCache, UnknownRelation, StoreRefuses, Running, Stopped, GoesOrStops, IsOfStore, stored, all_cached, on_commit}
-use Rattle.pgsub_core.specs.Causes.{cause}
-use Rattle.pgsub_core.specs.Faults.{fault_of_store}
-use Rattle.pgsub_core.specs.Committing.{replica_with, StopsAtCommit, Commits, RefusesCommit}
+use Rattle.pgsub_core.specs.Server.Described.{described_from}
+use Rattle.pgsub_core.specs.Calls.Drafts.{known_to, LacksDefinition}
+use Rattle.pgsub_core.specs.Machine.Replica.{Replica, RelationCache, UnknownRelation, StoreRefuses, Running, Stopped, GoesOrStops, IsOfStore, stored, all_cached, on_commit}
+use Rattle.pgsub_core.specs.Subscriber.Causes.{cause}
+use Rattle.pgsub_core.specs.Machine.Faults.{fault_of_store}
+use Rattle.pgsub_core.specs.Calls.Committing.{replica_with, StopsAtCommit, Commits, RefusesCommit}
 
 module _ (tables : Tables) (position confirmed end : ℕ) (relations : RelationCache) (items : List Item) where
   abbrev was : Replica

@@ -6,7 +6,7 @@ use Rattle.std.proofs.lemmas.Slice.Eq.{bytes_eq-Decides, slice_eq-Decides}
 use Rattle.std.proofs.lemmas.Bool.{eqb-true}
 use Rattle.pgtuple.proofs.Equality.{cells_eq-Decides}
 use Rattle.pgapply.specs.declared.rows.DumpRow.{DumpRow}
-use Rattle.pgsub_core.specs.Converging.{same_row}
+use Rattle.pgsub_core.specs.Subscriber.Converging.{same_row}
 
 both : (p q : Bool) → p ≡ true → q ≡ true → (p && q) ≡ true
 both p q h k = λ i. h i && k i

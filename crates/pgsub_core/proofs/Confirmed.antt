@@ -4,13 +4,13 @@ use Rattle.std.specs.List.{AllByRecursion, flat_map}
 use Rattle.std.proofs.lemmas.Grind.{flat_map-append}
 use Rattle.pgwire.specs.Statuses.{status_frame}
 use Rattle.pgwire.specs.declared.status.Status.{Status}
-use Rattle.pgsub_core.specs.History.{Transaction}
-use Rattle.pgsub_core.specs.Stream.{Sent, Data, Keepalive}
-use Rattle.pgsub_core.specs.Replica.{Running}
-use Rattle.pgsub_core.specs.Safe.{NothingBetween}
-use Rattle.pgsub_core.specs.Subscribed.{Subscribed, IsSafeFor, disconnect, status_of, with_status}
-use Rattle.pgsub_core.specs.Taking.{take, take_all, take_sessions}
-use Rattle.pgsub_core.specs.Confirming.{IsSafeStatus, AreSafeReplies}
+use Rattle.pgsub_core.specs.Server.History.{Transaction}
+use Rattle.pgsub_core.specs.Server.Stream.{Sent, Data, Keepalive}
+use Rattle.pgsub_core.specs.Machine.Replica.{Running}
+use Rattle.pgsub_core.specs.Subscriber.Safe.{NothingBetween}
+use Rattle.pgsub_core.specs.Subscriber.Subscribed.{Subscribed, IsSafeFor, disconnect, status_of, with_status}
+use Rattle.pgsub_core.specs.Machine.Taking.{take, take_all, take_sessions}
+use Rattle.pgsub_core.specs.Subscriber.Confirming.{IsSafeStatus, AreSafeReplies}
 use Rattle.pgsub_core.proofs.Steps.{running, goes_through, takes_one, takes_reply}
 
 abbrev ConfirmsBy : ℕ → Status → Type 0

@@ -11,17 +11,17 @@ use Rattle.pgsub_core.specs.declared.converging.ConvergeFault.{ConvergeFault}
 use Rattle.pgsub_core.specs.declared.converging.Verdict.{Verdict}
 use Rattle.pgsub_core.specs.declared.converging.Verdict.TheVariants.{Same, Positions, Rows}
 use Rattle.pgsub_core.specs.declared.fault.Fault.{Fault}
-use Rattle.pgsub_core.specs.Faults.{IsReadFault}
-use Rattle.pgsub_core.specs.History.{Transaction}
-use Rattle.pgsub_core.specs.Stream.{Sent}
-use Rattle.pgsub_core.specs.Reached.{Progress}
-use Rattle.pgsub_core.specs.Sessions.{reached_all}
-use Rattle.pgsub_core.specs.Subscribed.{Subscribed, IsSafeFor, progress_of}
-use Rattle.pgsub_core.specs.Handled.{IsFollowed}
-use Rattle.pgsub_core.specs.SubscriberValue.{SubscriberValue, seen}
-use Rattle.pgsub_core.specs.Following.{AreFed, FeedsSessions}
-use Rattle.pgsub_core.specs.Verdicts.{IsVerdictOf, IsVerdict, SideIsFollowed, SideFails}
-use Rattle.pgsub_core.specs.Converging.{ShowsFed, FailsFed, Converges, Agree, FollowsLeft, FollowsRight, agreed, position_reached}
+use Rattle.pgsub_core.specs.Machine.Faults.{IsReadFault}
+use Rattle.pgsub_core.specs.Server.History.{Transaction}
+use Rattle.pgsub_core.specs.Server.Stream.{Sent}
+use Rattle.pgsub_core.specs.Server.Reached.{Progress}
+use Rattle.pgsub_core.specs.Server.Sessions.{reached_all}
+use Rattle.pgsub_core.specs.Subscriber.Subscribed.{Subscribed, IsSafeFor, progress_of}
+use Rattle.pgsub_core.specs.Subscriber.Handled.{IsFollowed}
+use Rattle.pgsub_core.specs.Subscriber.SubscriberValue.{SubscriberValue, seen}
+use Rattle.pgsub_core.specs.Subscriber.Following.{AreFed, FeedsSessions}
+use Rattle.pgsub_core.specs.Subscriber.Verdicts.{IsVerdictOf, IsVerdict, SideIsFollowed, SideFails}
+use Rattle.pgsub_core.specs.Subscriber.Converging.{ShowsFed, FailsFed, Converges, Agree, FollowsLeft, FollowsRight, agreed, position_reached}
 use Rattle.pgsub_core.proofs.Verdicts.{one_history}
 use Rattle.pgsub_core.proofs.Followed.{fed_followed}
 

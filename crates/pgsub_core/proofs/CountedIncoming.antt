@@ -5,14 +5,14 @@ use Rattle.pgorder.specs.Laws.{AreMessagesFor}
 use Rattle.pgorder.specs.declared.Version.{Version}
 use Rattle.pgwire.specs.Frames.{Frame, CopyDone}
 use Rattle.pgapply.specs.declared.misses.Misses.{Misses}
-use Rattle.pgsub_core.specs.History.{Transaction}
-use Rattle.pgsub_core.specs.Stream.{Sent, messages_in}
-use Rattle.pgsub_core.specs.Replica.{Running, then_run}
-use Rattle.pgsub_core.specs.Sessions.{frames_of, IsWireSent, IsIncoming}
-use Rattle.pgsub_core.specs.Subscribed.{Subscribed, apply_state_of, disconnect}
-use Rattle.pgsub_core.specs.Taking.{take_all, take_frames}
-use Rattle.pgsub_core.specs.Counted.{frames_counted, IsCountedWhole, IsCountedFront}
-use Rattle.pgsub_core.specs.Readings.{MessagesAreReadAgain, AreFramesOf}
+use Rattle.pgsub_core.specs.Server.History.{Transaction}
+use Rattle.pgsub_core.specs.Server.Stream.{Sent, messages_in}
+use Rattle.pgsub_core.specs.Machine.Replica.{Running, then_run}
+use Rattle.pgsub_core.specs.Server.Sessions.{frames_of, IsWireSent, IsIncoming}
+use Rattle.pgsub_core.specs.Subscriber.Subscribed.{Subscribed, apply_state_of, disconnect}
+use Rattle.pgsub_core.specs.Machine.Taking.{take_all, take_frames}
+use Rattle.pgsub_core.specs.Machine.Counted.{frames_counted, IsCountedWhole, IsCountedFront}
+use Rattle.pgsub_core.specs.Server.Readings.{MessagesAreReadAgain, AreFramesOf}
 use Rattle.pgsub_core.proofs.FedSessions.{take_frames-append}
 use Rattle.pgsub_core.proofs.FrameMessages.{frames_taken}
 use Rattle.pgsub_core.proofs.Pieces.{frames_counted-append}

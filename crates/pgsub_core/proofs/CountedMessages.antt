@@ -11,12 +11,12 @@ use Rattle.pgwire.specs.Frames.{CopyData}
 use Rattle.pgwire.specs.Payloads.{payload}
 use Rattle.pgwire.proofs.Messages.{payload_again}
 use Rattle.pgapply.specs.declared.misses.Misses.{Misses}
-use Rattle.pgsub_core.specs.Stream.{Sent, Data, Keepalive, messages_in}
-use Rattle.pgsub_core.specs.Replica.{Running}
-use Rattle.pgsub_core.specs.Sessions.{server_message, frames_of, IsWireSent}
-use Rattle.pgsub_core.specs.Subscribed.{Subscribed, apply_state_of}
-use Rattle.pgsub_core.specs.Taking.{take, take_all, take_frame, take_payload}
-use Rattle.pgsub_core.specs.Counted.{decoded_counted, payload_counted, frame_counted, counted_behind, frames_counted}
+use Rattle.pgsub_core.specs.Server.Stream.{Sent, Data, Keepalive, messages_in}
+use Rattle.pgsub_core.specs.Machine.Replica.{Running}
+use Rattle.pgsub_core.specs.Server.Sessions.{server_message, frames_of, IsWireSent}
+use Rattle.pgsub_core.specs.Subscriber.Subscribed.{Subscribed, apply_state_of}
+use Rattle.pgsub_core.specs.Machine.Taking.{take, take_all, take_frame, take_payload}
+use Rattle.pgsub_core.specs.Machine.Counted.{decoded_counted, payload_counted, frame_counted, counted_behind, frames_counted}
 use Rattle.pgsub_core.proofs.FrameMessages.{data_taken, in_block_behind, same_block}
 use Rattle.pgsub_core.proofs.Steps.{goes_through, takes_one}
 use Rattle.pgsub_core.proofs.CountedRuns.{then_count, sent_counted, run_counted}

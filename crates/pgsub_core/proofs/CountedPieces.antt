@@ -11,14 +11,14 @@ use Rattle.std.specs.Prelude.{Option}
 use Rattle.pgapply.specs.declared.misses.Misses.{Misses}
 use Rattle.pgapply.specs.Value.{Tables}
 use Rattle.pgsub_core.specs.declared.fault.Fault.{Fault}
-use Rattle.pgsub_core.specs.Replica.{Outcome, Running, Stopped, then_run}
-use Rattle.pgsub_core.specs.Subscribed.{Subscribed}
-use Rattle.pgsub_core.specs.Taking.{take_frame, take_frames}
-use Rattle.pgsub_core.specs.Feeding.{done_frames}
-use Rattle.pgsub_core.specs.Applied.{Applied, subscribed}
-use Rattle.pgsub_core.specs.Framing.{framing_behind, framing_of, done_of, Releases, FramesGo}
-use Rattle.pgsub_core.specs.SubscriberValue.{SubscriberValue}
-use Rattle.pgsub_core.specs.Counted.{frame_counted, counted_behind, frames_counted, CountsBy, IsCountedWhole, IsCountedFront, IsCountedTo, FeedCounts, FeedCountsFront, FeedsCounted, FeedsCountedFront}
+use Rattle.pgsub_core.specs.Machine.Replica.{Outcome, Running, Stopped, then_run}
+use Rattle.pgsub_core.specs.Subscriber.Subscribed.{Subscribed}
+use Rattle.pgsub_core.specs.Machine.Taking.{take_frame, take_frames}
+use Rattle.pgsub_core.specs.Machine.Feeding.{done_frames}
+use Rattle.pgsub_core.specs.Subscriber.Applied.{Applied, subscribed}
+use Rattle.pgsub_core.specs.Calls.Framing.{framing_behind, framing_of, done_of, Releases, FramesGo}
+use Rattle.pgsub_core.specs.Subscriber.SubscriberValue.{SubscriberValue}
+use Rattle.pgsub_core.specs.Machine.Counted.{frame_counted, counted_behind, frames_counted, CountsBy, IsCountedWhole, IsCountedFront, IsCountedTo, FeedCounts, FeedCountsFront, FeedsCounted, FeedsCountedFront}
 use Rattle.pgsub_core.proofs.FeedSteps.{take_whole, one_done, goes_then, waiting_leads, deframed, stands_or_waits, released_waits}
 
 -- ---- one frame more

@@ -5,9 +5,9 @@ use Rattle.std.specs.Io.KnownBytes.{Consumes, Keeps}
 use Rattle.pgapply.specs.declared.misses.Misses.{Misses}
 use Rattle.pgapply.specs.Value.{Tables}
 use Rattle.pgsub_core.specs.declared.fault.Fault.{Fault}
-use Rattle.pgsub_core.specs.SubscriberValue.{SubscriberValue, seen, Feeds, FeedsUntil}
-use Rattle.pgsub_core.specs.Counted.{FeedsCounted, FeedsCountedFront}
-use Rattle.pgsub_core.specs.Pumping.{bytes_in, FeedsPieces, CountsPieces, PumpsCounted, PumpsCountedUntil}
+use Rattle.pgsub_core.specs.Subscriber.SubscriberValue.{SubscriberValue, seen, Feeds, FeedsUntil}
+use Rattle.pgsub_core.specs.Machine.Counted.{FeedsCounted, FeedsCountedFront}
+use Rattle.pgsub_core.specs.Calls.Pumping.{bytes_in, FeedsPieces, CountsPieces, PumpsCounted, PumpsCountedUntil}
 use Rattle.pgsub_core.proofs.Pieces.{counted_pieces, front_pieces}
 use Rattle.pgsub_core.proofs.Pumped.{IsPiece, nothing_read, read_on, kept_on, read_more, bytes_more, pieces_and, pieces_stop}
 

@@ -3,10 +3,10 @@ use Rattle.std.proofs.Common.{List, [], ◌∷◌}
 use Rattle.pgorder.specs.declared.Version.{Version}
 use Rattle.pgorder.specs.Steps.{order_step}
 use Rattle.pgapply.specs.declared.misses.Misses.{Misses}
-use Rattle.pgsub_core.specs.Stream.{Sent, Data, Keepalive, CommitOrKeepalive, Committed, KeepaliveEnd, end_of}
-use Rattle.pgsub_core.specs.Replica.{Replica, Outcome, Running, Stopped, surviving_items, apply_one}
-use Rattle.pgsub_core.specs.ApplyState.{ApplyState, step}
-use Rattle.pgsub_core.specs.Counted.{commit_counted, step_counted}
+use Rattle.pgsub_core.specs.Server.Stream.{Sent, Data, Keepalive, CommitOrKeepalive, Committed, KeepaliveEnd, end_of}
+use Rattle.pgsub_core.specs.Machine.Replica.{Replica, Outcome, Running, Stopped, surviving_items, apply_one}
+use Rattle.pgsub_core.specs.Machine.ApplyState.{ApplyState, step}
+use Rattle.pgsub_core.specs.Machine.Counted.{commit_counted, step_counted}
 
 abbrev pub then_count : {S F : Type 0} → Outcome S F → (S → Misses) → Misses → Misses
 then_count (Running next) more m = more next

@@ -4,11 +4,11 @@ use Rattle.std.specs.List.{flat_map}
 use Rattle.pgapply.specs.declared.misses.Misses.{Misses}
 use Rattle.pgapply.specs.Value.{Tables}
 use Rattle.pgsub_core.specs.declared.session.Session.{Session}
-use Rattle.pgsub_core.specs.Subscribed.{Subscribed, disconnect, session_bytes, bytes_of}
-use Rattle.pgsub_core.specs.Feeding.{IsFedWhole}
-use Rattle.pgsub_core.specs.SubscriberValue.{SubscriberValue, seen}
-use Rattle.pgsub_core.specs.Following.{FeedsSession}
-use Rattle.pgsub_core.specs.Counted.{IsCountedWhole, IsCountedFront, AreCountedWhole, AreCountedFront, FeedsCounted, FeedsCountedFront, CountsSession, CountsSessionFront, CountsSessions, CountsSessionsFront}
+use Rattle.pgsub_core.specs.Subscriber.Subscribed.{Subscribed, disconnect, session_bytes, bytes_of}
+use Rattle.pgsub_core.specs.Machine.Feeding.{IsFedWhole}
+use Rattle.pgsub_core.specs.Subscriber.SubscriberValue.{SubscriberValue, seen}
+use Rattle.pgsub_core.specs.Subscriber.Following.{FeedsSession}
+use Rattle.pgsub_core.specs.Machine.Counted.{IsCountedWhole, IsCountedFront, AreCountedWhole, AreCountedFront, FeedsCounted, FeedsCountedFront, CountsSession, CountsSessionFront, CountsSessions, CountsSessionsFront}
 use Rattle.pgsub_core.proofs.Pieces.{counted_pieces, front_pieces, front_stands}
 use Rattle.pgsub_core.proofs.FollowSteps.{joined_more, joined_all, sessions_more, sessions_all}
 

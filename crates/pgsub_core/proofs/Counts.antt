@@ -10,8 +10,8 @@ use Rattle.pgwire.specs.Frames.{CopyData}
 use Rattle.pgwire.specs.Payloads.{XLogData, Keepalive, payload_at}
 use Rattle.pgapply.specs.declared.misses.Misses.{Misses}
 use Rattle.pgapply.specs.Value.{Tables}
-use Rattle.pgsub_core.specs.Applied.{Applied}
-use Rattle.pgsub_core.specs.Counted.{message_counted, decoded_counted, frame_counted, CountsEvent, CountsBy}
+use Rattle.pgsub_core.specs.Subscriber.Applied.{Applied}
+use Rattle.pgsub_core.specs.Machine.Counted.{message_counted, decoded_counted, frame_counted, CountsEvent, CountsBy}
 
 module _ {C : Type 0} (holds : C → Tables → Type 0) (place : C → ℕ) (count : C → Misses) where
   pub counts_message : (m : Message) (v a : Applied C) → v ≡ a → (o : OrderState) (version : Version) (e : Event) → order_step v.version v.order m ≡ Ok (o, e) → (w ev : Applied C) → w ≡ ev

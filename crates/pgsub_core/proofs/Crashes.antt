@@ -1,6 +1,6 @@
 -- What a crash may leave, of one call after the other.
 use Rattle.std.proofs.Common.{◌≡◌, ◌≤◌, inl, inr, ℕ, sym, ap, subst, ◌∙◌}
-use Rattle.pgsub_core.specs.Crashing.{LeavesOldOr}
+use Rattle.pgsub_core.specs.Subscriber.Crashing.{LeavesOldOr}
 
 module _ {C : Type 0} (place : C → ℕ) (reopens : C → C → Type 0) (serves : C → Type 0) where
   -- by a call that does something with the store, behind others

@@ -19,10 +19,10 @@ use Rattle.pgspool.specs.Labels.{LabelledItem, items_of}
 use Rattle.pgapply.specs.declared.op.Op.TheVariants as op
 use Rattle.pgapply.specs.Apply.{Change}
 use Rattle.pgsub_core.specs.declared.fault.Fault.{Fault}
-use Rattle.pgsub_core.specs.Work.{changes_of}
-use Rattle.pgsub_core.specs.Described.{described_from, definitions_of, with_definition, with_changes, found_behind}
-use Rattle.pgsub_core.specs.Replica.{RelationCache}
-use Rattle.pgsub_core.specs.Drafts.{known_to, behind_changes, AreNumbered, Adds, IsUndescribed, of_truncate, truncated, LacksDefinition}
+use Rattle.pgsub_core.specs.Server.Work.{changes_of}
+use Rattle.pgsub_core.specs.Server.Described.{described_from, definitions_of, with_definition, with_changes, found_behind}
+use Rattle.pgsub_core.specs.Machine.Replica.{RelationCache}
+use Rattle.pgsub_core.specs.Calls.Drafts.{known_to, behind_changes, AreNumbered, Adds, IsUndescribed, of_truncate, truncated, LacksDefinition}
 
 same_test : (x y : ℕ) → eq_by_cmp nat_cmp x y ≡ (y == x)
 same_test x y = grind (arith, nat_tests)

@@ -9,13 +9,13 @@ use Rattle.pgorder.specs.Steps.{OrderState}
 use Rattle.pgspool.specs.Labels.{HeldMap, items_of, held_of}
 use Rattle.pgapply.specs.Value.{Tables}
 use Rattle.pgsub_core.specs.declared.fault.Fault.{Fault}
-use Rattle.pgsub_core.specs.Stream.{Kind, BeginsPair, CommitsPair, Holds, StartsBlock, StopsBlock, CommitsStream, AbortsStream, ChangesNothing}
-use Rattle.pgsub_core.specs.Replica.{Replica, Running, on_commit, Outcome, GoesOrStops, IsOfStore, Halt, Stopped}
-use Rattle.pgsub_core.specs.ApplyState.{ApplyState, ApplyResult, pushed, committed, on_event}
-use Rattle.pgsub_core.specs.Causes.{Cause, OutOfMemory, StatementRefused, HeaderTooLarge, ForeignBytes, NextMessage, NeverAnswered, cause}
-use Rattle.pgsub_core.specs.Committing.{replica_with, StopsAtCommit, Commits, RefusesCommit}
-use Rattle.pgsub_core.specs.Applied.{Applied}
-use Rattle.pgsub_core.specs.Events.{state_with, event_end, StopsAtEvent, EventGoes, EventStops, StaysBeside}
+use Rattle.pgsub_core.specs.Server.Stream.{Kind, BeginsPair, CommitsPair, Holds, StartsBlock, StopsBlock, CommitsStream, AbortsStream, ChangesNothing}
+use Rattle.pgsub_core.specs.Machine.Replica.{Replica, Running, on_commit, Outcome, GoesOrStops, IsOfStore, Halt, Stopped}
+use Rattle.pgsub_core.specs.Machine.ApplyState.{ApplyState, ApplyResult, pushed, committed, on_event}
+use Rattle.pgsub_core.specs.Subscriber.Causes.{Cause, OutOfMemory, StatementRefused, HeaderTooLarge, ForeignBytes, NextMessage, NeverAnswered, cause}
+use Rattle.pgsub_core.specs.Calls.Committing.{replica_with, StopsAtCommit, Commits, RefusesCommit}
+use Rattle.pgsub_core.specs.Subscriber.Applied.{Applied}
+use Rattle.pgsub_core.specs.Calls.Events.{state_with, event_end, StopsAtEvent, EventGoes, EventStops, StaysBeside}
 use Rattle.pgsub_core.proofs.Opening.{key_inserted, one_xid}
 
 abbrev goes_on : ApplyState → ApplyResult

@@ -11,11 +11,11 @@ use Rattle.pgwire.proofs.Runs.{frames_of_the_bytes}
 use Rattle.pgwire.proofs.Readings.{partial_is_short, two_readings}
 use Rattle.pgapply.specs.Value.{Tables}
 use Rattle.pgsub_core.specs.declared.fault.Fault.{Fault}
-use Rattle.pgsub_core.specs.Replica.{Outcome, Running, then_run}
-use Rattle.pgsub_core.specs.Subscribed.{Subscribed}
-use Rattle.pgsub_core.specs.Taking.{take_frames}
-use Rattle.pgsub_core.specs.Applied.{Applied, Framing, subscribed}
-use Rattle.pgsub_core.specs.Framing.{framing_behind, framing_of, done_of, Releases, FramesGo, IsFedTo, FeedGoes}
+use Rattle.pgsub_core.specs.Machine.Replica.{Outcome, Running, then_run}
+use Rattle.pgsub_core.specs.Subscriber.Subscribed.{Subscribed}
+use Rattle.pgsub_core.specs.Machine.Taking.{take_frames}
+use Rattle.pgsub_core.specs.Subscriber.Applied.{Applied, Framing, subscribed}
+use Rattle.pgsub_core.specs.Calls.Framing.{framing_behind, framing_of, done_of, Releases, FramesGo, IsFedTo, FeedGoes}
 use Rattle.pgsub_core.proofs.FedSessions.{take_frames-append}
 
 pub take_whole : {A : Type 0} (xs : List A) (n : ℕ) → n ≡ length xs → take n xs ≡ xs

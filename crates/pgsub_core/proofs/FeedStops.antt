@@ -10,13 +10,13 @@ use Rattle.pgwire.proofs.Runs.{counted}
 use Rattle.pgapply.specs.Value.{Tables}
 use Rattle.pgsub_core.specs.declared.fault.Fault.{Fault}
 use Rattle.pgsub_core.specs.declared.fault.Fault.TheVariants as fault
-use Rattle.pgsub_core.specs.Subscribed.{Subscribed}
-use Rattle.pgsub_core.specs.Reached.{Progress}
-use Rattle.pgsub_core.specs.Handled.{IsLeft}
-use Rattle.pgsub_core.specs.Causes.{Cause, OutOfMemory, StatementRefused, HeaderTooLarge, ForeignBytes, NextMessage, NeverAnswered, cause}
-use Rattle.pgsub_core.specs.Feeding.{StopsIn, BeginsWith}
-use Rattle.pgsub_core.specs.Applied.{Applied, Framing, subscribed, IsKept}
-use Rattle.pgsub_core.specs.Framing.{framing_behind, framing_of, done_of, Releases, StopsAt, StopsAtFrame, IsStopped, FramesGo, IsFedTo, IsTakenTo, FeedStops}
+use Rattle.pgsub_core.specs.Subscriber.Subscribed.{Subscribed}
+use Rattle.pgsub_core.specs.Server.Reached.{Progress}
+use Rattle.pgsub_core.specs.Subscriber.Handled.{IsLeft}
+use Rattle.pgsub_core.specs.Subscriber.Causes.{Cause, OutOfMemory, StatementRefused, HeaderTooLarge, ForeignBytes, NextMessage, NeverAnswered, cause}
+use Rattle.pgsub_core.specs.Machine.Feeding.{StopsIn, BeginsWith}
+use Rattle.pgsub_core.specs.Subscriber.Applied.{Applied, Framing, subscribed, IsKept}
+use Rattle.pgsub_core.specs.Calls.Framing.{framing_behind, framing_of, done_of, Releases, StopsAt, StopsAtFrame, IsStopped, FramesGo, IsFedTo, IsTakenTo, FeedStops}
 use Rattle.pgsub_core.proofs.FeedSteps.{one_done, goes_then, waiting_leads}
 
 module _ {C : Type 0} (serves : C → Type 0) (holds : C → Tables → Type 0) (place : C → ℕ) (now : ℤ) (d₀ : Deframed) (a₀ : Applied C) (piece : List ℕ) where

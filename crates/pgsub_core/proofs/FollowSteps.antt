@@ -7,12 +7,12 @@ use Rattle.pgapply.specs.Value.{Tables}
 use Rattle.pgsub_core.specs.declared.fault.Fault.{Fault}
 use Rattle.pgsub_core.specs.declared.fault.Fault.TheVariants as fault
 use Rattle.pgsub_core.specs.declared.session.Session.{Session}
-use Rattle.pgsub_core.specs.Subscribed.{Subscribed, disconnect, session_bytes, bytes_of}
+use Rattle.pgsub_core.specs.Subscriber.Subscribed.{Subscribed, disconnect, session_bytes, bytes_of}
 use Rattle.std.specs.Prelude.{IsErrAnd}
-use Rattle.pgsub_core.specs.Handled.{fault_in}
-use Rattle.pgsub_core.specs.Feeding.{IsFed, IsFedWhole, IsFedUntil}
-use Rattle.pgsub_core.specs.SubscriberValue.{SubscriberValue, seen, Feeds, FeedsUntil}
-use Rattle.pgsub_core.specs.Following.{FeedsSession, FeedsSessionUntil, FeedsSessions, FollowsSafely, FollowsSessions}
+use Rattle.pgsub_core.specs.Subscriber.Handled.{fault_in}
+use Rattle.pgsub_core.specs.Machine.Feeding.{IsFed, IsFedWhole, IsFedUntil}
+use Rattle.pgsub_core.specs.Subscriber.SubscriberValue.{SubscriberValue, seen, Feeds, FeedsUntil}
+use Rattle.pgsub_core.specs.Subscriber.Following.{FeedsSession, FeedsSessionUntil, FeedsSessions, FollowsSafely, FollowsSessions}
 use Rattle.pgsub_core.proofs.Pieces.{two_pieces, piece_then_stop, stop_stands, stays_open, nothing_fed}
 use Rattle.pgsub_core.proofs.Followed.{fed_more, fed_then_stopped, fed_followed}
 

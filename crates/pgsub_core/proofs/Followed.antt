@@ -2,22 +2,22 @@
 use Rattle.std.proofs.Common.{◌≡◌, ◌++◌, inl, inr, ℕ, ℤ, List, [], ◌∷◌, Option, Some, None, Bool, true, refl, sym, ap, subst, ◌∙◌, append-nil}
 use Rattle.pgorder.specs.declared.Version.{Version}
 use Rattle.pgsub_core.specs.declared.fault.Fault.{Fault}
-use Rattle.pgsub_core.specs.History.{Transaction}
-use Rattle.pgsub_core.specs.Stream.{Sent}
-use Rattle.pgsub_core.specs.Reached.{Progress}
-use Rattle.pgsub_core.specs.Sessions.{AreIncoming, starting_by}
-use Rattle.pgsub_core.specs.Replica.{Running, then_run}
-use Rattle.pgsub_core.specs.Subscribed.{Subscribed, IsSafeFor, disconnect, progress_of, with_status}
-use Rattle.pgsub_core.specs.Confirming.{AreSafeReplies}
+use Rattle.pgsub_core.specs.Server.History.{Transaction}
+use Rattle.pgsub_core.specs.Server.Stream.{Sent}
+use Rattle.pgsub_core.specs.Server.Reached.{Progress}
+use Rattle.pgsub_core.specs.Server.Sessions.{AreIncoming, starting_by}
+use Rattle.pgsub_core.specs.Machine.Replica.{Running, then_run}
+use Rattle.pgsub_core.specs.Subscriber.Subscribed.{Subscribed, IsSafeFor, disconnect, progress_of, with_status}
+use Rattle.pgsub_core.specs.Subscriber.Confirming.{AreSafeReplies}
 use Rattle.pgsub_core.proofs.Confirmed.{status_is_safe}
 use Rattle.pgsub_core.proofs.SessionCuts.{sent_front}
-use Rattle.pgsub_core.specs.Taking.{take_all, take_sessions}
-use Rattle.pgsub_core.specs.Safely.{IsSent, IsHandled}
-use Rattle.pgsub_core.specs.Handled.{IsFollowed, IsLeft, NoneForeign}
-use Rattle.pgsub_core.specs.Causes.{Cause, OutOfMemory, StatementRefused, HeaderTooLarge, ForeignBytes, NextMessage, NeverAnswered, cause}
-use Rattle.pgsub_core.specs.HandledLaws.{StopsBy}
-use Rattle.pgsub_core.specs.Feeding.{IsFedWhole, IsFedUntil}
-use Rattle.pgsub_core.specs.Following.{AreFedWhole, AreFedUntil, AreFed}
+use Rattle.pgsub_core.specs.Machine.Taking.{take_all, take_sessions}
+use Rattle.pgsub_core.specs.Subscriber.Safely.{IsSent, IsHandled}
+use Rattle.pgsub_core.specs.Subscriber.Handled.{IsFollowed, IsLeft, NoneForeign}
+use Rattle.pgsub_core.specs.Subscriber.Causes.{Cause, OutOfMemory, StatementRefused, HeaderTooLarge, ForeignBytes, NextMessage, NeverAnswered, cause}
+use Rattle.pgsub_core.specs.Subscriber.HandledLaws.{StopsBy}
+use Rattle.pgsub_core.specs.Machine.Feeding.{IsFedWhole, IsFedUntil}
+use Rattle.pgsub_core.specs.Subscriber.Following.{AreFedWhole, AreFedUntil, AreFed}
 use Rattle.pgsub_core.proofs.ReadAgain.{read_again}
 use Rattle.pgsub_core.proofs.StoppedSessions.{fed_stopped, fed_session_whole}
 use Rattle.pgsub_core.proofs.HandledSessions.{taking_followed}

@@ -6,9 +6,9 @@ use Rattle.pgorder.specs.declared.Version.TheVariants.{Two}
 use Rattle.pgwire.specs.Frames as wire
 use Rattle.pgwire.specs.declared.fault.WireFault.TheVariants as wire_fault
 use Rattle.pgsub_core.specs.declared.fault.Fault.TheVariants as fault
-use Rattle.pgsub_core.specs.Stream.{Sent}
-use Rattle.pgsub_core.specs.Sessions.{IsSession, IsIncoming, EndsForeign, whole_frames}
-use Rattle.pgsub_core.specs.Handled.{IsForeignBehind}
+use Rattle.pgsub_core.specs.Server.Stream.{Sent}
+use Rattle.pgsub_core.specs.Server.Sessions.{IsSession, IsIncoming, EndsForeign, whole_frames}
+use Rattle.pgsub_core.specs.Subscriber.Handled.{IsForeignBehind}
 use Rattle.pgsub_core.proofs.NestedRows.{skipped_history, behind_it, delivers_behind, fits_behind}
 
 -- CommandComplete: the letter `C`, a length and a tag

@@ -12,13 +12,13 @@ use Rattle.pgwire.specs.Payloads.{ServerMessage, payload_at}
 use Rattle.pgwire.specs.declared.fault.WireFault.{WireFault}
 use Rattle.pgsub_core.specs.declared.fault.Fault.{Fault}
 use Rattle.pgsub_core.specs.declared.fault.Fault.TheVariants as fault
-use Rattle.pgsub_core.specs.Stream.{Sent, Data, Keepalive, Kind, BeginsPair, CommitsPair, Holds, StartsBlock, StopsBlock, CommitsStream, AbortsStream, ChangesNothing, kind, commits_and_keepalives}
-use Rattle.pgsub_core.specs.Replica.{Outcome, Running, Stopped, then_run, apply_all}
-use Rattle.pgsub_core.specs.ApplyState.{ApplyState, ApplyResult, step}
-use Rattle.pgsub_core.specs.Reached.{reached, disconnected}
-use Rattle.pgsub_core.specs.Readings.{SaysMessage, SayMessages, block_after}
-use Rattle.pgsub_core.specs.Subscribed.{Subscribed, apply_state_of, disconnect, progress_of, replica_of}
-use Rattle.pgsub_core.specs.Taking.{take, taken_with, take_all, take_message, take_payload, take_frames, handled, passes_limit, message_passes_limit}
+use Rattle.pgsub_core.specs.Server.Stream.{Sent, Data, Keepalive, Kind, BeginsPair, CommitsPair, Holds, StartsBlock, StopsBlock, CommitsStream, AbortsStream, ChangesNothing, kind, commits_and_keepalives}
+use Rattle.pgsub_core.specs.Machine.Replica.{Outcome, Running, Stopped, then_run, apply_all}
+use Rattle.pgsub_core.specs.Machine.ApplyState.{ApplyState, ApplyResult, step}
+use Rattle.pgsub_core.specs.Server.Reached.{reached, disconnected}
+use Rattle.pgsub_core.specs.Server.Readings.{SaysMessage, SayMessages, block_after}
+use Rattle.pgsub_core.specs.Subscriber.Subscribed.{Subscribed, apply_state_of, disconnect, progress_of, replica_of}
+use Rattle.pgsub_core.specs.Machine.Taking.{take, taken_with, take_all, take_message, take_payload, take_frames, handled, passes_limit, message_passes_limit}
 use Rattle.pgsub_core.proofs.FrameMessages.{in_block_behind, same_block}
 use Rattle.pgsub_core.proofs.Steps.{running, goes_through}
 use Rattle.pgsub_core.proofs.Taken.{taken_reaches, taken_applies}

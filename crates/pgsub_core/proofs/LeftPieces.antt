@@ -7,19 +7,19 @@ use Rattle.pgapply.specs.Taken as held
 use Rattle.pgsub_core.specs.declared.fault.Fault.{Fault}
 use Rattle.pgsub_core.specs.declared.fault.Fault.TheVariants as fault
 use Rattle.pgsub_core.specs.declared.session.Session.{Session}
-use Rattle.pgsub_core.specs.Applied.{Applied}
-use Rattle.pgsub_core.specs.Framing.{framing_of, IsTakenTo, FeedStops}
-use Rattle.pgsub_core.specs.Subscribed.{session_bytes, bytes_of}
-use Rattle.pgsub_core.specs.History.{Transaction, tables_as_of}
-use Rattle.pgsub_core.specs.Stream.{Sent}
-use Rattle.pgsub_core.specs.Safe.{NothingBetween}
-use Rattle.pgsub_core.specs.Safely.{IsSent}
-use Rattle.pgsub_core.specs.SubscriberValue.{SubscriberValue, seen, FeedsUntil}
+use Rattle.pgsub_core.specs.Subscriber.Applied.{Applied}
+use Rattle.pgsub_core.specs.Calls.Framing.{framing_of, IsTakenTo, FeedStops}
+use Rattle.pgsub_core.specs.Subscriber.Subscribed.{session_bytes, bytes_of}
+use Rattle.pgsub_core.specs.Server.History.{Transaction, tables_as_of}
+use Rattle.pgsub_core.specs.Server.Stream.{Sent}
+use Rattle.pgsub_core.specs.Subscriber.Safe.{NothingBetween}
+use Rattle.pgsub_core.specs.Subscriber.Safely.{IsSent}
+use Rattle.pgsub_core.specs.Subscriber.SubscriberValue.{SubscriberValue, seen, FeedsUntil}
 use Rattle.std.specs.Io.KnownBytes.{Consumes, Keeps}
-use Rattle.pgsub_core.specs.Feeding.{IsFed}
-use Rattle.pgsub_core.specs.Pumping.{bytes_in, Pumps, PumpsUntil}
-use Rattle.pgsub_core.specs.Following.{FeedsSession, FeedsSessionUntil, FeedsSessions, FollowsSessions}
-use Rattle.pgsub_core.specs.Crashing.{LeavesOldOr, Over, FedOver, StandsAs, StandsAsFed, LeavesHistory}
+use Rattle.pgsub_core.specs.Machine.Feeding.{IsFed}
+use Rattle.pgsub_core.specs.Calls.Pumping.{bytes_in, Pumps, PumpsUntil}
+use Rattle.pgsub_core.specs.Subscriber.Following.{FeedsSession, FeedsSessionUntil, FeedsSessions, FollowsSessions}
+use Rattle.pgsub_core.specs.Subscriber.Crashing.{LeavesOldOr, Over, FedOver, StandsAs, StandsAsFed, LeavesHistory}
 use Rattle.pgsub_core.proofs.PayloadStops.{unchanged}
 use Rattle.pgsub_core.proofs.FeedStops.{for_memory, stopped_at}
 use Rattle.pgsub_core.proofs.Starting.{feeds_until}

@@ -11,13 +11,13 @@ use Rattle.pgorder.specs.OpenXids.{open_rows}
 use Rattle.pgorder.specs.declared.Version.TheVariants.{Two}
 use Rattle.pgorder.specs.Shape.{StreamPart, Pair, Block, StreamEnd, Abort, LogicalMessage}
 use Rattle.pgapply.specs.Apply.{apply, fold_changes, rows_after}
-use Rattle.pgsub_core.specs.Work.{Work, Nothing, Changed, Subtransaction, RolledBack}
-use Rattle.pgsub_core.specs.History.{Transaction, IsHistory}
-use Rattle.pgsub_core.specs.Streamed.{StreamedItem, Change, SubtransactionAbort, IsStreamOf}
-use Rattle.pgsub_core.specs.Stream.{Sent, Keepalive}
-use Rattle.pgsub_core.specs.Delivers.{Delivers}
-use Rattle.pgsub_core.specs.ApplyState.{follow_all}
-use Rattle.pgsub_core.specs.Replica.{Replica, Halt, Outcome, Running, then_run}
+use Rattle.pgsub_core.specs.Server.Work.{Work, Nothing, Changed, Subtransaction, RolledBack}
+use Rattle.pgsub_core.specs.Server.History.{Transaction, IsHistory}
+use Rattle.pgsub_core.specs.Server.Streamed.{StreamedItem, Change, SubtransactionAbort, IsStreamOf}
+use Rattle.pgsub_core.specs.Server.Stream.{Sent, Keepalive}
+use Rattle.pgsub_core.specs.Server.Delivers.{Delivers}
+use Rattle.pgsub_core.specs.Machine.ApplyState.{follow_all}
+use Rattle.pgsub_core.specs.Machine.Replica.{Replica, Halt, Outcome, Running, then_run}
 use Rattle.pgapply.specs.Value.{Tables}
 use Rattle.pgsub_core.proofs.OneSession.{session_agrees}
 use Rattle.pgsub_core.proofs.Samples.{t, w, insert_t, put_t, first_tables, sent, alone, under, empty_replica, stands, lookups}

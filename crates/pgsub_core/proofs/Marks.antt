@@ -11,19 +11,19 @@ use Rattle.pgapply.specs.Value.{Tables}
 use Rattle.pgapply.specs.Taken as held
 use Rattle.pgsub_core.specs.declared.fault.Fault.{Fault}
 use Rattle.pgsub_core.specs.declared.fault.Fault.TheVariants as fault
-use Rattle.pgsub_core.specs.Subscribed.{Subscribed, progress_of}
-use Rattle.pgsub_core.specs.Reached.{Progress}
-use Rattle.pgsub_core.specs.Replica.{Outcome, Running, Stopped, then_run}
-use Rattle.pgsub_core.specs.Taking.{take_frames}
-use Rattle.pgsub_core.specs.Handled.{IsLeft}
-use Rattle.pgsub_core.specs.Feeding.{IsFedWhole, IsFedUntil}
-use Rattle.pgsub_core.specs.Applied.{Applied, Framing, subscribed, IsKept}
-use Rattle.pgsub_core.specs.Framing.{framing_of, framing_behind, FramesGo, FeedGoes, FeedStops, IsFedTo}
-use Rattle.pgsub_core.specs.Crashing.{LeavesOldOr, Over, StandsAs}
+use Rattle.pgsub_core.specs.Subscriber.Subscribed.{Subscribed, progress_of}
+use Rattle.pgsub_core.specs.Server.Reached.{Progress}
+use Rattle.pgsub_core.specs.Machine.Replica.{Outcome, Running, Stopped, then_run}
+use Rattle.pgsub_core.specs.Machine.Taking.{take_frames}
+use Rattle.pgsub_core.specs.Subscriber.Handled.{IsLeft}
+use Rattle.pgsub_core.specs.Machine.Feeding.{IsFedWhole, IsFedUntil}
+use Rattle.pgsub_core.specs.Subscriber.Applied.{Applied, Framing, subscribed, IsKept}
+use Rattle.pgsub_core.specs.Calls.Framing.{framing_of, framing_behind, FramesGo, FeedGoes, FeedStops, IsFedTo}
+use Rattle.pgsub_core.specs.Subscriber.Crashing.{LeavesOldOr, Over, StandsAs}
 use Rattle.pgapply.specs.declared.misses.Misses.{Misses}
-use Rattle.pgsub_core.specs.Counted.{IsCountedWhole, IsCountedFront, FeedCounts, FeedCountsFront}
-use Rattle.pgsub_core.specs.Faults.{IsReadFault, IsOfFeeding}
-use Rattle.pgsub_core.specs.Staging.{Rests, Grows, KeepsItsSettings, IsMark, IsMarked, IsRenewed, GoesBack, StandsStaged}
+use Rattle.pgsub_core.specs.Machine.Counted.{IsCountedWhole, IsCountedFront, FeedCounts, FeedCountsFront}
+use Rattle.pgsub_core.specs.Machine.Faults.{IsReadFault, IsOfFeeding}
+use Rattle.pgsub_core.specs.Calls.Staging.{Rests, Grows, KeepsItsSettings, IsMark, IsMarked, IsRenewed, GoesBack, StandsStaged}
 use Rattle.pgsub_core.proofs.PayloadStops.{unchanged}
 use Rattle.pgsub_core.proofs.FeedStops.{for_memory, stops_by_frame, taken_to}
 use Rattle.pgsub_core.proofs.LeftPieces.{piece_stands}

@@ -15,16 +15,16 @@ use Rattle.pgorder.specs.Steps.{Context, Outside, InPair, InBlock, OrderState, S
 use Rattle.pgspool.specs.Labels.{HeldMap, cost, all_costs, items_of, held_of}
 use Rattle.pgapply.specs.Value.{Tables}
 use Rattle.pgsub_core.specs.declared.fault.Fault.{Fault}
-use Rattle.pgsub_core.specs.Stream.{Data, Kind, BeginsPair, CommitsPair, Holds, StartsBlock, StopsBlock, CommitsStream, AbortsStream, ChangesNothing, kind}
-use Rattle.pgsub_core.specs.Replica.{Replica, Halt, UnknownRelation, StoreRefuses, OutOfOrder, Outcome, Running, Stopped, GoesOrStops, IsOfStore, on_commit}
-use Rattle.pgsub_core.specs.ApplyState.{ApplyState, ApplyResult, committed, on_event}
-use Rattle.pgsub_core.specs.Subscribed.{Subscribed}
-use Rattle.pgsub_core.specs.Taking.{with_state, receive, passes_limit, fault_of, take, IsStoreFault, ReachesStore}
-use Rattle.pgsub_core.specs.Handled.{end_by_kind}
-use Rattle.pgsub_core.specs.Causes.{Cause, OutOfMemory, StatementRefused, HeaderTooLarge, ForeignBytes, NextMessage, NeverAnswered, cause}
-use Rattle.pgsub_core.specs.Applied.{Applied, Framing, subscribed, StopsAtMessage, IsKept, Goes, Stops}
-use Rattle.pgsub_core.specs.Events.{state_with, FindsRoom, FindsNoRoom, event_end, StopsAtEvent, EventGoes, EventStops, StaysBeside}
-use Rattle.pgsub_core.specs.Faults.{fault_of_order}
+use Rattle.pgsub_core.specs.Server.Stream.{Data, Kind, BeginsPair, CommitsPair, Holds, StartsBlock, StopsBlock, CommitsStream, AbortsStream, ChangesNothing, kind}
+use Rattle.pgsub_core.specs.Machine.Replica.{Replica, Halt, UnknownRelation, StoreRefuses, OutOfOrder, Outcome, Running, Stopped, GoesOrStops, IsOfStore, on_commit}
+use Rattle.pgsub_core.specs.Machine.ApplyState.{ApplyState, ApplyResult, committed, on_event}
+use Rattle.pgsub_core.specs.Subscriber.Subscribed.{Subscribed}
+use Rattle.pgsub_core.specs.Machine.Taking.{with_state, receive, passes_limit, fault_of, take, IsStoreFault, ReachesStore}
+use Rattle.pgsub_core.specs.Subscriber.Handled.{end_by_kind}
+use Rattle.pgsub_core.specs.Subscriber.Causes.{Cause, OutOfMemory, StatementRefused, HeaderTooLarge, ForeignBytes, NextMessage, NeverAnswered, cause}
+use Rattle.pgsub_core.specs.Subscriber.Applied.{Applied, Framing, subscribed, StopsAtMessage, IsKept, Goes, Stops}
+use Rattle.pgsub_core.specs.Calls.Events.{state_with, FindsRoom, FindsNoRoom, event_end, StopsAtEvent, EventGoes, EventStops, StaysBeside}
+use Rattle.pgsub_core.specs.Machine.Faults.{fault_of_order}
 
 -- ---- what an event says of its message
 

@@ -10,10 +10,10 @@ use Rattle.pgapply.specs.declared.rows.StoreFault.{StoreFault}
 use Rattle.pgapply.specs.Value.{Tables}
 use Rattle.pgapply.specs.Apply.{fold_changes, ◌>>=◌}
 use Rattle.pgapply.specs.Missing.{all_missing, with_misses}
-use Rattle.pgsub_core.specs.Work.{surviving_changes}
-use Rattle.pgsub_core.specs.History.{Transaction, IsHistory, IsHistoryFrom, all_changes, ended_by, ended_after, tables_as_of, ChangesRows}
-use Rattle.pgsub_core.specs.Delivers.{ChangeNothing}
-use Rattle.pgsub_core.specs.Missed.{missed_over, transactions_missed, ended_between, history_missed}
+use Rattle.pgsub_core.specs.Server.Work.{surviving_changes}
+use Rattle.pgsub_core.specs.Server.History.{Transaction, IsHistory, IsHistoryFrom, all_changes, ended_by, ended_after, tables_as_of, ChangesRows}
+use Rattle.pgsub_core.specs.Server.Delivers.{ChangeNothing}
+use Rattle.pgsub_core.specs.Subscriber.Missed.{missed_over, transactions_missed, ended_between, history_missed}
 use Rattle.pgsub_core.proofs.Changes.{AllEndBy, AllEndAfter, fold-append, changes-append, none_changed, AllEndAfter-less, ended-append, ended-none, history-after}
 
 -- ---- of transactions

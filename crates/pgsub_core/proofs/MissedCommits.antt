@@ -11,14 +11,14 @@ use Rattle.pgapply.specs.declared.rows.StoreFault.{StoreFault}
 use Rattle.pgapply.specs.Value.{Tables}
 use Rattle.pgapply.specs.Apply.{fold_changes}
 use Rattle.pgapply.specs.Missing.{all_missing, with_misses}
-use Rattle.pgsub_core.specs.Work.{surviving_changes, xids_of, AllDiffer}
-use Rattle.pgsub_core.specs.History.{Transaction, IsHistory, IsHistoryFrom}
-use Rattle.pgsub_core.specs.Described.{described, described_from, relations_after}
-use Rattle.pgsub_core.specs.Stream.{CommitOrKeepalive, Committed, KeepaliveEnd, end_of}
-use Rattle.pgsub_core.specs.Delivers.{ChangeNothing, CommitsFollow}
-use Rattle.pgsub_core.specs.Replica.{Replica, RelationCache, Running, stored, taken, on_commit, then_run, apply_all, all_cached, surviving_items}
-use Rattle.pgsub_core.specs.Counted.{changes_counted, commit_counted}
-use Rattle.pgsub_core.specs.Missed.{history_missed}
+use Rattle.pgsub_core.specs.Server.Work.{surviving_changes, xids_of, AllDiffer}
+use Rattle.pgsub_core.specs.Server.History.{Transaction, IsHistory, IsHistoryFrom}
+use Rattle.pgsub_core.specs.Server.Described.{described, described_from, relations_after}
+use Rattle.pgsub_core.specs.Server.Stream.{CommitOrKeepalive, Committed, KeepaliveEnd, end_of}
+use Rattle.pgsub_core.specs.Server.Delivers.{ChangeNothing, CommitsFollow}
+use Rattle.pgsub_core.specs.Machine.Replica.{Replica, RelationCache, Running, stored, taken, on_commit, then_run, apply_all, all_cached, surviving_items}
+use Rattle.pgsub_core.specs.Machine.Counted.{changes_counted, commit_counted}
+use Rattle.pgsub_core.specs.Subscriber.Missed.{history_missed}
 use Rattle.pgsub_core.proofs.Changes.{AllEndBy-append, AllEndBy-nothing, later-after}
 use Rattle.pgsub_core.proofs.Surviving.{commit_survives}
 use Rattle.pgsub_core.proofs.RelationCaches.{Knows, knows_all, described_by_cache}

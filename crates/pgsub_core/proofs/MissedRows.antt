@@ -8,9 +8,9 @@ use Rattle.pglogical.specs.declared.item.OldKind.TheVariants.{Key}
 use Rattle.pgapply.specs.declared.misses.Misses.{Misses}
 use Rattle.pgapply.specs.Apply.{apply, fold_changes, rows_after}
 use Rattle.pgapply.specs.Missing.{all_missing, nothing_missed}
-use Rattle.pgsub_core.specs.Work.{Changed, RolledBack, Nothing}
-use Rattle.pgsub_core.specs.History.{Transaction, tables_as_of}
-use Rattle.pgsub_core.specs.Missed.{history_missed}
+use Rattle.pgsub_core.specs.Server.Work.{Changed, RolledBack, Nothing}
+use Rattle.pgsub_core.specs.Server.History.{Transaction, tables_as_of}
+use Rattle.pgsub_core.specs.Subscriber.Missed.{history_missed}
 use Rattle.pgsub_core.proofs.Samples.{t, text, insert_t, update_t, lookups}
 
 abbrev delete_t : ℕ → Item

@@ -3,16 +3,16 @@ use Rattle.std.proofs.Common.{◌≡◌, ◌≤◌, ◌++◌, inl, inr, ℕ, ℤ
 use Rattle.pgorder.specs.declared.Version.{Version}
 use Rattle.pgapply.specs.declared.misses.Misses.{Misses}
 use Rattle.pgapply.specs.Value.{Tables}
-use Rattle.pgsub_core.specs.History.{Transaction, IsHistory, ended_after}
-use Rattle.pgsub_core.specs.Stream.{Sent, commits_and_keepalives}
-use Rattle.pgsub_core.specs.Delivers.{Delivers}
-use Rattle.pgsub_core.specs.Reached.{Progress, reached, disconnected}
-use Rattle.pgsub_core.specs.Sessions.{AreIncoming, IsIncoming, starting_by, whole_frames}
-use Rattle.pgsub_core.specs.Subscribed.{Subscribed, IsSafeFor, progress_of, replica_of, disconnect}
-use Rattle.pgsub_core.specs.SubscriberValue.{SubscriberValue, seen}
-use Rattle.pgsub_core.specs.Safely.{IsSent}
-use Rattle.pgsub_core.specs.Counted.{AreCountedWhole, AreCountedFront, CountsSessions, CountsSessionsFront}
-use Rattle.pgsub_core.specs.Missed.{history_missed, CountsHistory}
+use Rattle.pgsub_core.specs.Server.History.{Transaction, IsHistory, ended_after}
+use Rattle.pgsub_core.specs.Server.Stream.{Sent, commits_and_keepalives}
+use Rattle.pgsub_core.specs.Server.Delivers.{Delivers}
+use Rattle.pgsub_core.specs.Server.Reached.{Progress, reached, disconnected}
+use Rattle.pgsub_core.specs.Server.Sessions.{AreIncoming, IsIncoming, starting_by, whole_frames}
+use Rattle.pgsub_core.specs.Subscriber.Subscribed.{Subscribed, IsSafeFor, progress_of, replica_of, disconnect}
+use Rattle.pgsub_core.specs.Subscriber.SubscriberValue.{SubscriberValue, seen}
+use Rattle.pgsub_core.specs.Subscriber.Safely.{IsSent}
+use Rattle.pgsub_core.specs.Machine.Counted.{AreCountedWhole, AreCountedFront, CountsSessions, CountsSessionsFront}
+use Rattle.pgsub_core.specs.Subscriber.Missed.{history_missed, CountsHistory}
 use Rattle.pgsub_core.proofs.AllSessions.{GoesOn}
 use Rattle.pgsub_core.proofs.HandledSessions.{front_delivered}
 use Rattle.pgsub_core.proofs.ReadAgain.{read_again}

@@ -14,13 +14,13 @@ use Rattle.pgapply.specs.declared.rows.StoreFault.{StoreFault}
 use Rattle.pgapply.specs.declared.rows.StoreFault.TheVariants as store
 use Rattle.pgsub_core.specs.declared.fault.Fault.{Fault}
 use Rattle.pgsub_core.specs.declared.fault.Fault.TheVariants as fault
-use Rattle.pgsub_core.specs.Replica.{Outcome, Running, Stopped, then_run}
-use Rattle.pgsub_core.specs.Subscribed.{Subscribed, disconnect}
-use Rattle.pgsub_core.specs.Taking.{take_frame, take_frames}
-use Rattle.pgsub_core.specs.Handled.{IsLeft}
-use Rattle.pgsub_core.specs.Causes.{Cause, OutOfMemory, StatementRefused, HeaderTooLarge, ForeignBytes, NextMessage, NeverAnswered, cause, wire_cause, order_cause, relation_cause, spool_cause, store_cause}
-use Rattle.pgsub_core.specs.Feeding.{IsFed, IsFedWhole, IsFedUntil, BeginsWith, StopsIn, IsSettled, IsSettledFault, EndsSame}
-use Rattle.pgsub_core.specs.Following.{AreFed, AreFedWhole, AreFedUntil}
+use Rattle.pgsub_core.specs.Machine.Replica.{Outcome, Running, Stopped, then_run}
+use Rattle.pgsub_core.specs.Subscriber.Subscribed.{Subscribed, disconnect}
+use Rattle.pgsub_core.specs.Machine.Taking.{take_frame, take_frames}
+use Rattle.pgsub_core.specs.Subscriber.Handled.{IsLeft}
+use Rattle.pgsub_core.specs.Subscriber.Causes.{Cause, OutOfMemory, StatementRefused, HeaderTooLarge, ForeignBytes, NextMessage, NeverAnswered, cause, wire_cause, order_cause, relation_cause, spool_cause, store_cause}
+use Rattle.pgsub_core.specs.Machine.Feeding.{IsFed, IsFedWhole, IsFedUntil, BeginsWith, StopsIn, IsSettled, IsSettledFault, EndsSame}
+use Rattle.pgsub_core.specs.Subscriber.Following.{AreFed, AreFedWhole, AreFedUntil}
 use Rattle.pgsub_core.proofs.FedSessions.{take_frames-append}
 use Rattle.pgsub_core.proofs.Pieces.{front_of, without_done}
 use Rattle.pgsub_core.proofs.SessionFrames.{not_partial}

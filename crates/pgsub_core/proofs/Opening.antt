@@ -15,7 +15,7 @@ use Rattle.pgorder.specs.declared.Event.TheVariants as event
 use Rattle.pgorder.specs.OpenXids.{OpenXids, is_open, is_open-with_open, is_open-without, is_open-opened}
 use Rattle.pgorder.specs.Steps.{Context, Outside, InPair, InBlock, OrderState, StepResult, order_step, in_version_2, step_inner, step_item, step_begin, step_commit, step_stream_start, step_stream_stop, step_stream_commit, step_stream_abort}
 use Rattle.pgspool.specs.Labels.{HeldMap, LabelledItem}
-use Rattle.pgsub_core.specs.Opened.{is_under_way, IsSoundContext, AreOpened, Fits, under_way_behind}
+use Rattle.pgsub_core.specs.Machine.Opened.{is_under_way, IsSoundContext, AreOpened, Fits, under_way_behind}
 
 same_xid : (x : ℕ) → (x == x) ≡ true
 same_xid x = grind (arith, nat_tests)

@@ -10,14 +10,14 @@ use Rattle.pgsub_core.specs.declared.converging.Side.TheVariants.{Left, Right}
 use Rattle.pgsub_core.specs.declared.converging.Verdict.TheVariants.{Same, Positions, Rows}
 use Rattle.pgsub_core.specs.declared.fault.Fault.{Fault}
 use Rattle.pgsub_core.specs.declared.fault.Fault.TheVariants as fault
-use Rattle.pgsub_core.specs.Replica.{Running}
-use Rattle.pgsub_core.specs.Subscribed.{Subscribed, newly, progress_of}
-use Rattle.pgsub_core.specs.Stream.{Sent}
-use Rattle.pgsub_core.specs.Taking.{take_sessions}
-use Rattle.pgsub_core.specs.Handled.{IsFollowed}
-use Rattle.pgsub_core.specs.Feeding.{IsFed, IsFedWhole, IsFedUntil}
-use Rattle.pgsub_core.specs.Verdicts.{IsVerdictOf, SideIsFollowed, LeftIsFollowed, RightIsFollowed}
-use Rattle.pgsub_core.specs.Converging.{failed_side}
+use Rattle.pgsub_core.specs.Machine.Replica.{Running}
+use Rattle.pgsub_core.specs.Subscriber.Subscribed.{Subscribed, newly, progress_of}
+use Rattle.pgsub_core.specs.Server.Stream.{Sent}
+use Rattle.pgsub_core.specs.Machine.Taking.{take_sessions}
+use Rattle.pgsub_core.specs.Subscriber.Handled.{IsFollowed}
+use Rattle.pgsub_core.specs.Machine.Feeding.{IsFed, IsFedWhole, IsFedUntil}
+use Rattle.pgsub_core.specs.Subscriber.Verdicts.{IsVerdictOf, SideIsFollowed, LeftIsFollowed, RightIsFollowed}
+use Rattle.pgsub_core.specs.Subscriber.Converging.{failed_side}
 use Rattle.pgsub_core.proofs.Followed.{fed_followed}
 use Rattle.pgsub_core.proofs.Samples.{text, empty_one, first_tables}
 use Rattle.pgsub_core.proofs.Steps.{running}

@@ -6,16 +6,16 @@ use Rattle.pgorder.specs.States.{is_in_block, is_outside}
 use Rattle.pgwire.specs.Frames.{CopyData}
 use Rattle.pgwire.specs.Payloads.{XLogData, Keepalive, payload_at}
 use Rattle.pgapply.specs.Value.{Tables}
-use Rattle.pgsub_core.specs.Stream as sent
+use Rattle.pgsub_core.specs.Server.Stream as sent
 use Rattle.pgwire.specs.Statuses.{status_frame}
 use Rattle.pgwire.specs.declared.status.Status.{Status}
 use Rattle.pgsub_core.specs.declared.fault.Fault.{Fault}
-use Rattle.pgsub_core.specs.Replica.{Outcome, Running, on_keepalive}
-use Rattle.pgsub_core.specs.Subscribed.{Subscribed}
-use Rattle.pgsub_core.specs.Committing.{replica_with}
-use Rattle.pgsub_core.specs.Taking.{take, reply, receive, with_state}
-use Rattle.pgsub_core.specs.Applied.{Applied, Framing, subscribed, Goes}
-use Rattle.pgsub_core.specs.Framing.{FramesGo}
+use Rattle.pgsub_core.specs.Machine.Replica.{Outcome, Running, on_keepalive}
+use Rattle.pgsub_core.specs.Subscriber.Subscribed.{Subscribed}
+use Rattle.pgsub_core.specs.Calls.Committing.{replica_with}
+use Rattle.pgsub_core.specs.Machine.Taking.{take, reply, receive, with_state}
+use Rattle.pgsub_core.specs.Subscriber.Applied.{Applied, Framing, subscribed, Goes}
+use Rattle.pgsub_core.specs.Calls.Framing.{FramesGo}
 
 module _ {C : Type 0} (holds : C → Tables → Type 0) (place : C → ℕ) (now : ℤ) (payload : List ℕ) where
   pub data_goes : (start end : ℕ) (clock : ℤ) (body : List ℕ) (a b : Applied C) → payload_at payload ≡ Ok (XLogData start end clock body) → (m : Message) → message_at (is_in_block a.order.context) body ≡ Ok m

@@ -6,7 +6,7 @@ use Rattle.pglogical.specs.declared.fault.DecodeFault.{DecodeFault}
 use Rattle.pglogical.specs.declared.fault.Reason.{Reason}
 use Rattle.pglogical.specs.declared.fault.Reason.TheVariants as reason
 use Rattle.pglogical.specs.Answers.{out_of_memory}
-use Rattle.pgsub_core.specs.Faults.{fault_at, fault_of_decode}
+use Rattle.pgsub_core.specs.Machine.Faults.{fault_at, fault_of_decode}
 use Rattle.pgorder.specs.States.{is_in_block}
 use Rattle.pgwire.specs.Frames.{CopyData}
 use Rattle.pgwire.specs.Payloads.{XLogData, payload_at, HasPayloadFault}
@@ -15,11 +15,11 @@ use Rattle.pgwire.specs.declared.fault.WireFault.TheVariants as wire_fault
 use Rattle.pgapply.specs.Value.{Tables}
 use Rattle.pgsub_core.specs.declared.fault.Fault.{Fault}
 use Rattle.pgsub_core.specs.declared.fault.Fault.TheVariants as fault
-use Rattle.pgsub_core.specs.Stream.{Sent, Data}
-use Rattle.pgsub_core.specs.Subscribed.{Subscribed}
-use Rattle.pgsub_core.specs.Causes.{Cause, OutOfMemory, StatementRefused, HeaderTooLarge, ForeignBytes, NextMessage, NeverAnswered, cause}
-use Rattle.pgsub_core.specs.Applied.{Applied, subscribed, StopsAtMessage, IsKept, Stops}
-use Rattle.pgsub_core.specs.Framing.{StopsAtBody, StopsAtFrame, StopsAt, IsStopped}
+use Rattle.pgsub_core.specs.Server.Stream.{Sent, Data}
+use Rattle.pgsub_core.specs.Subscriber.Subscribed.{Subscribed}
+use Rattle.pgsub_core.specs.Subscriber.Causes.{Cause, OutOfMemory, StatementRefused, HeaderTooLarge, ForeignBytes, NextMessage, NeverAnswered, cause}
+use Rattle.pgsub_core.specs.Subscriber.Applied.{Applied, subscribed, StopsAtMessage, IsKept, Stops}
+use Rattle.pgsub_core.specs.Calls.Framing.{StopsAtBody, StopsAtFrame, StopsAt, IsStopped}
 
 pub unchanged : {C : Type 0} (place : C → ℕ) (a : Applied C) → IsKept place a a
 unchanged place a = record { position = refl; confirmed = refl; received = refl; version = refl; limit = refl; replies = refl }

@@ -10,24 +10,24 @@ use Rattle.pgwire.specs.declared.fault.WireFault.{WireFault}
 use Rattle.pgspool.specs.declared.spools.SpoolFault.TheVariants as spool
 use Rattle.pgsub_core.specs.declared.fault.Fault.{Fault}
 use Rattle.pgsub_core.specs.declared.fault.Fault.TheVariants as fault
-use Rattle.pgsub_core.specs.Stream.{Sent, Data, Kind, BeginsPair, CommitsPair, Holds, StartsBlock, StopsBlock, CommitsStream, AbortsStream, ChangesNothing, kind}
-use Rattle.pgsub_core.specs.Stream as stream
-use Rattle.pgsub_core.specs.Replica.{Outcome, Running, Stopped, then_run}
-use Rattle.pgsub_core.specs.ApplyState.{ApplyState, ApplyResult, step}
-use Rattle.pgsub_core.specs.Subscribed.{Subscribed, apply_state_of}
-use Rattle.pgsub_core.specs.Taking.{take, taken_with, take_message, take_payload, take_frame, take_frames, handled, passes_limit, message_passes_limit, ReachesStore}
+use Rattle.pgsub_core.specs.Server.Stream.{Sent, Data, Kind, BeginsPair, CommitsPair, Holds, StartsBlock, StopsBlock, CommitsStream, AbortsStream, ChangesNothing, kind}
+use Rattle.pgsub_core.specs.Server.Stream as stream
+use Rattle.pgsub_core.specs.Machine.Replica.{Outcome, Running, Stopped, then_run}
+use Rattle.pgsub_core.specs.Machine.ApplyState.{ApplyState, ApplyResult, step}
+use Rattle.pgsub_core.specs.Subscriber.Subscribed.{Subscribed, apply_state_of}
+use Rattle.pgsub_core.specs.Machine.Taking.{take, taken_with, take_message, take_payload, take_frame, take_frames, handled, passes_limit, message_passes_limit, ReachesStore}
 use Rattle.pgsub_core.proofs.FedSessions.{take_frames-append}
 use Rattle.std.specs.Prelude.{if◌then◌else◌}
-use Rattle.pgsub_core.specs.Handled.{IsLeft}
-use Rattle.pgsub_core.specs.Causes.{Cause, OutOfMemory, StatementRefused, HeaderTooLarge, ForeignBytes, NextMessage, NeverAnswered, cause}
+use Rattle.pgsub_core.specs.Subscriber.Handled.{IsLeft}
+use Rattle.pgsub_core.specs.Subscriber.Causes.{Cause, OutOfMemory, StatementRefused, HeaderTooLarge, ForeignBytes, NextMessage, NeverAnswered, cause}
 use Rattle.pgwire.specs.declared.fault.WireFault.TheVariants as wire_fault
 use Rattle.pgwire.specs.Frames.{IsFramingFault}
 use Rattle.pgwire.proofs.Holding.{fault-append}
-use Rattle.pgsub_core.specs.Subscribed.{disconnect}
+use Rattle.pgsub_core.specs.Subscriber.Subscribed.{disconnect}
 use Rattle.pgapply.specs.declared.misses.Misses.{Misses}
 use Rattle.pgwire.proofs.Readings.{one_deframing}
-use Rattle.pgsub_core.specs.Counted.{decoded_counted, payload_counted, frame_counted, counted_behind, frames_counted, IsCountedWhole, IsCountedFront}
-use Rattle.pgsub_core.specs.Feeding.{IsFedWhole, IsFedUntil, IsCommitFrame, BeginsWith, StopsIn, done_frames}
+use Rattle.pgsub_core.specs.Machine.Counted.{decoded_counted, payload_counted, frame_counted, counted_behind, frames_counted, IsCountedWhole, IsCountedFront}
+use Rattle.pgsub_core.specs.Machine.Feeding.{IsFedWhole, IsFedUntil, IsCommitFrame, BeginsWith, StopsIn, done_frames}
 
 -- the same with these bytes waiting
 abbrev wait : List ℕ → Subscribed → Subscribed

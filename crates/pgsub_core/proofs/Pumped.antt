@@ -7,11 +7,11 @@ use Rattle.std.proofs.lemmas.List.Elements.{All-append, All-nil}
 use Rattle.std.specs.Io.KnownBytes.{Consumes, Keeps}
 use Rattle.pgapply.specs.Value.{Tables}
 use Rattle.pgsub_core.specs.declared.fault.Fault.{Fault}
-use Rattle.pgsub_core.specs.Subscribed.{Subscribed, disconnect}
-use Rattle.pgsub_core.specs.Feeding.{IsFedWhole}
-use Rattle.pgsub_core.specs.SubscriberValue.{SubscriberValue, seen, Feeds, FeedsUntil}
-use Rattle.pgsub_core.specs.Following.{FeedsSession}
-use Rattle.pgsub_core.specs.Pumping.{bytes_in, AreRead, FeedsPieces, Pumps, PumpsUntil}
+use Rattle.pgsub_core.specs.Subscriber.Subscribed.{Subscribed, disconnect}
+use Rattle.pgsub_core.specs.Machine.Feeding.{IsFedWhole}
+use Rattle.pgsub_core.specs.Subscriber.SubscriberValue.{SubscriberValue, seen, Feeds, FeedsUntil}
+use Rattle.pgsub_core.specs.Subscriber.Following.{FeedsSession}
+use Rattle.pgsub_core.specs.Calls.Pumping.{bytes_in, AreRead, FeedsPieces, Pumps, PumpsUntil}
 use Rattle.pgsub_core.proofs.Starting.{fed_until}
 use Rattle.pgsub_core.proofs.FollowSteps.{until_of}
 use Rattle.pgsub_core.proofs.Pieces.{two_pieces, piece_then_stop, stays_open, nothing_fed}

@@ -5,11 +5,11 @@ use Rattle.std.specs.FinMap as map
 use Rattle.pgrel.specs.declared.fault.RelFault.TheVariants as rel
 use Rattle.pgorder.specs.Steps.{InPair, initial_order}
 use Rattle.pgsub_core.specs.declared.fault.Fault.TheVariants as fault
-use Rattle.pgsub_core.specs.Stream.{Sent}
-use Rattle.pgsub_core.specs.Replica.{Stopped}
-use Rattle.pgsub_core.specs.Subscribed.{Subscribed}
-use Rattle.pgsub_core.specs.Taking.{take, ReachesStore}
-use Rattle.pgsub_core.specs.Handled.{IsRefusedBehind}
+use Rattle.pgsub_core.specs.Server.Stream.{Sent}
+use Rattle.pgsub_core.specs.Machine.Replica.{Stopped}
+use Rattle.pgsub_core.specs.Subscriber.Subscribed.{Subscribed}
+use Rattle.pgsub_core.specs.Machine.Taking.{take, ReachesStore}
+use Rattle.pgsub_core.specs.Subscriber.Handled.{IsRefusedBehind}
 use Rattle.pgsub_core.proofs.Samples.{insert_t, sent, commit, empty_one, spools}
 
 -- the only message of the only session

@@ -3,13 +3,13 @@ use Rattle.std.proofs.Common.{◌≡◌, ◌≤◌, inl, inr, ℕ, List, [], ◌
 use Rattle.std.proofs.lemmas.Bool.{cases_lt}
 use Rattle.pgorder.specs.declared.Version.{Version}
 use Rattle.pgapply.specs.Value.{Tables}
-use Rattle.pgsub_core.specs.History.{Transaction, IsHistory, tables_as_of}
-use Rattle.pgsub_core.specs.Stream.{Sent}
-use Rattle.pgsub_core.specs.Safe.{NothingBetween}
-use Rattle.pgsub_core.specs.Sessions.{AreIncoming, starting_by}
-use Rattle.pgsub_core.specs.Subscribed.{progress_of, newly}
-use Rattle.pgsub_core.specs.Confirming.{AreSafeReplies}
-use Rattle.pgsub_core.specs.Safely.{IsSent}
+use Rattle.pgsub_core.specs.Server.History.{Transaction, IsHistory, tables_as_of}
+use Rattle.pgsub_core.specs.Server.Stream.{Sent}
+use Rattle.pgsub_core.specs.Subscriber.Safe.{NothingBetween}
+use Rattle.pgsub_core.specs.Server.Sessions.{AreIncoming, starting_by}
+use Rattle.pgsub_core.specs.Subscriber.Subscribed.{progress_of, newly}
+use Rattle.pgsub_core.specs.Subscriber.Confirming.{AreSafeReplies}
+use Rattle.pgsub_core.specs.Subscriber.Safely.{IsSent}
 
 -- up to the position all is stored
 nothing_yet : (history : List Transaction) (p : ℕ) → NothingBetween history p p

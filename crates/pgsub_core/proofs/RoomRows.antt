@@ -6,12 +6,12 @@ use Rattle.pglogical.specs.declared.item.Item.TheVariants as item
 use Rattle.pgorder.specs.Steps.{InPair, initial_order}
 use Rattle.pgspool.specs.declared.spools.SpoolFault.TheVariants as spool
 use Rattle.pgsub_core.specs.declared.fault.Fault.TheVariants as fault
-use Rattle.pgsub_core.specs.History.{Transaction}
-use Rattle.pgsub_core.specs.Stream.{Sent}
-use Rattle.pgsub_core.specs.Replica.{Running, then_run}
-use Rattle.pgsub_core.specs.Subscribed.{Subscribed, disconnect}
-use Rattle.pgsub_core.specs.Taking.{take, take_sessions, message_passes_limit}
-use Rattle.pgsub_core.specs.Handled.{IsFollowed, StopsAt}
+use Rattle.pgsub_core.specs.Server.History.{Transaction}
+use Rattle.pgsub_core.specs.Server.Stream.{Sent}
+use Rattle.pgsub_core.specs.Machine.Replica.{Running, then_run}
+use Rattle.pgsub_core.specs.Subscriber.Subscribed.{Subscribed, disconnect}
+use Rattle.pgsub_core.specs.Machine.Taking.{take, take_sessions, message_passes_limit}
+use Rattle.pgsub_core.specs.Subscriber.Handled.{IsFollowed, StopsAt}
 use Rattle.pgsub_core.proofs.Samples.{t, sent, alone, begin, empty_one, spools}
 use Rattle.pgsub_core.proofs.Steps.{running}
 

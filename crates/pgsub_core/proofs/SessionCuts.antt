@@ -3,12 +3,12 @@ use Rattle.std.proofs.Common.{◌≡◌, ◌≤◌, ◌++◌, inl, inr, ℕ, Lis
 use Rattle.std.proofs.lemmas.Bool.{cases_lt}
 use Rattle.pgorder.specs.declared.Version.{Version}
 use Rattle.pgwire.specs.Frames.{frame, frames}
-use Rattle.pgsub_core.specs.History.{Transaction}
-use Rattle.pgsub_core.specs.Stream.{Sent}
-use Rattle.pgsub_core.specs.Reached.{Progress, reached, disconnected}
-use Rattle.pgsub_core.specs.Sessions.{frames_of, IsPartOfNextFrame, IsSession, IsIncoming, IsForeign, AreIncoming, whole_frames}
-use Rattle.pgsub_core.specs.Safely.{IsSent}
-use Rattle.pgsub_core.specs.Subscribed.{Subscribed}
+use Rattle.pgsub_core.specs.Server.History.{Transaction}
+use Rattle.pgsub_core.specs.Server.Stream.{Sent}
+use Rattle.pgsub_core.specs.Server.Reached.{Progress, reached, disconnected}
+use Rattle.pgsub_core.specs.Server.Sessions.{frames_of, IsPartOfNextFrame, IsSession, IsIncoming, IsForeign, AreIncoming, whole_frames}
+use Rattle.pgsub_core.specs.Subscriber.Safely.{IsSent}
+use Rattle.pgsub_core.specs.Subscriber.Subscribed.{Subscribed}
 use Rattle.pgsub_core.proofs.SessionFrames.{frame_for}
 
 -- bytes that begin as these, where they are long enough

@@ -6,13 +6,13 @@ use Rattle.pgwire.specs.declared.fault.WireFault.TheVariants as wire_fault
 use Rattle.pgapply.specs.Value.{Tables}
 use Rattle.pgsub_core.specs.declared.fault.Fault.{Fault}
 use Rattle.pgsub_core.specs.declared.fault.Fault.TheVariants as fault
-use Rattle.pgsub_core.specs.Causes.{cause}
-use Rattle.pgsub_core.specs.Subscribed.{Subscribed}
-use Rattle.pgsub_core.specs.SubscriberValue.{SubscriberValue, seen, Feeds, FeedsUntil}
-use Rattle.pgsub_core.specs.Feeding.{IsFedUntil, StopsIn, done_frames}
-use Rattle.pgsub_core.specs.Framing.{IsCut}
-use Rattle.pgsub_core.specs.Handled.{IsLeft}
-use Rattle.pgsub_core.specs.Crashing.{LeavesOldOr, FedOver}
+use Rattle.pgsub_core.specs.Subscriber.Causes.{cause}
+use Rattle.pgsub_core.specs.Subscriber.Subscribed.{Subscribed}
+use Rattle.pgsub_core.specs.Subscriber.SubscriberValue.{SubscriberValue, seen, Feeds, FeedsUntil}
+use Rattle.pgsub_core.specs.Machine.Feeding.{IsFedUntil, StopsIn, done_frames}
+use Rattle.pgsub_core.specs.Calls.Framing.{IsCut}
+use Rattle.pgsub_core.specs.Subscriber.Handled.{IsLeft}
+use Rattle.pgsub_core.specs.Subscriber.Crashing.{LeavesOldOr, FedOver}
 use Rattle.pgsub_core.proofs.Crashes.{leaves_as}
 use Rattle.pgsub_core.proofs.Pieces.{front_of, piece_then_stop, stop_stands}
 use Rattle.pgsub_core.proofs.Starting.{fed_until}

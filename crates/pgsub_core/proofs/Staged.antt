@@ -17,13 +17,13 @@ use Rattle.pgapply.specs.declared.rows.StoreFault.{StoreFault}
 use Rattle.pgapply.specs.Value.{Tables}
 use Rattle.pgapply.specs.Apply.{Change}
 use Rattle.pgsub_core.specs.declared.fault.Fault.{Fault}
-use Rattle.pgsub_core.specs.Stream.{Data, Keepalive, kind}
-use Rattle.pgsub_core.specs.Replica.{Replica, RelationCache, Halt, Outcome, Running, Stopped, stored, taken, on_commit, on_keepalive}
-use Rattle.pgsub_core.specs.ApplyState.{ApplyState, ApplyResult, committed, on_event, on_message, step}
-use Rattle.pgsub_core.specs.Subscribed.{Subscribed, apply_state_of, replica_of}
-use Rattle.pgsub_core.specs.Taking.{take as take_one, take_message, take_payload, take_frame, ReachesStore}
-use Rattle.pgsub_core.specs.Handled.{commit_end, end_by_kind}
-use Rattle.pgsub_core.specs.Feeding.{IsCommitFrame}
+use Rattle.pgsub_core.specs.Server.Stream.{Data, Keepalive, kind}
+use Rattle.pgsub_core.specs.Machine.Replica.{Replica, RelationCache, Halt, Outcome, Running, Stopped, stored, taken, on_commit, on_keepalive}
+use Rattle.pgsub_core.specs.Machine.ApplyState.{ApplyState, ApplyResult, committed, on_event, on_message, step}
+use Rattle.pgsub_core.specs.Subscriber.Subscribed.{Subscribed, apply_state_of, replica_of}
+use Rattle.pgsub_core.specs.Machine.Taking.{take as take_one, take_message, take_payload, take_frame, ReachesStore}
+use Rattle.pgsub_core.specs.Subscriber.Handled.{commit_end, end_by_kind}
+use Rattle.pgsub_core.specs.Machine.Feeding.{IsCommitFrame}
 use Rattle.pgsub_core.proofs.Stops.{end_of_event, event_end}
 
 -- ---- a frame behind which the position is another is a commit

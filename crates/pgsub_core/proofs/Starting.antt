@@ -7,17 +7,17 @@ use Rattle.std.specs.FinMap.{get-empty}
 use Rattle.pgorder.specs.OpenXids.{is_open-none_open}
 use Rattle.pgorder.specs.Steps.{initial_order}
 use Rattle.pgwire.specs.Deframed.{Deframed, Waits, fresh}
-use Rattle.pgsub_core.specs.Opened.{AreOpened}
-use Rattle.pgsub_core.specs.Applied.{Applied}
+use Rattle.pgsub_core.specs.Machine.Opened.{AreOpened}
+use Rattle.pgsub_core.specs.Subscriber.Applied.{Applied}
 use Rattle.pgapply.specs.Value.{Tables}
-use Rattle.pgsub_core.specs.Framing.{framing_of, FeedGoes, FeedStops}
-use Rattle.pgsub_core.specs.SubscriberValue.{SubscriberValue, seen, IsReady, Feeds, FeedsUntil}
-use Rattle.pgsub_core.specs.Subscribed.{with_status}
+use Rattle.pgsub_core.specs.Calls.Framing.{framing_of, FeedGoes, FeedStops}
+use Rattle.pgsub_core.specs.Subscriber.SubscriberValue.{SubscriberValue, seen, IsReady, Feeds, FeedsUntil}
+use Rattle.pgsub_core.specs.Subscriber.Subscribed.{with_status}
 use Rattle.pgwire.specs.Statuses.{status_frame}
 use Rattle.pgsub_core.specs.declared.fault.Fault.{Fault}
 use Rattle.pgsub_core.specs.declared.fault.Fault.TheVariants as fault
-use Rattle.pgsub_core.specs.Subscribed.{Subscribed}
-use Rattle.pgsub_core.specs.Feeding.{IsFed, IsFedUntil}
+use Rattle.pgsub_core.specs.Subscriber.Subscribed.{Subscribed}
+use Rattle.pgsub_core.specs.Machine.Feeding.{IsFed, IsFedUntil}
 
 none_opened : AreOpened initial_order map.empty
 none_opened = record { each = λ x. ap is_some (get-empty nat_cmp x) ∙ sym (is_open-none_open x); sound = tt }

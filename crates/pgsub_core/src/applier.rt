@@ -10,22 +10,22 @@ ghost use Rattle.pglogical.specs.Reading.{message_at};
 ghost use Rattle.pglogical.specs.declared.message.Message.{Message};
 ghost use Rattle.pgwire.specs.Frames.{CopyData};
 ghost use Rattle.pgwire.specs.Statuses.{status_frame};
-ghost use Rattle.pgsub_core.specs.Framing.{FramesGo, IsStopped, StopsAtBody, StopsAt};
+ghost use Rattle.pgsub_core.specs.Calls.Framing.{FramesGo, IsStopped, StopsAtBody, StopsAt};
 ghost use Rattle.pglogical.specs.Spelling.{IsSpellableMessage, IsMessageFor};
 ghost use Rattle.pgorder.specs.States.{is_in_block};
 ghost use Rattle.pgorder.specs.Steps.{initial_order};
 ghost use Rattle.pgspool.specs.Labels.{items_of, held_of};
-ghost use Rattle.pgsub_core.specs.Stream.{Data, Keepalive, kind};
-ghost use Rattle.pgsub_core.specs.ApplyState.{pushed};
-ghost use Rattle.pgsub_core.specs.Taking.{take};
-ghost use Rattle.pgsub_core.specs.Opened.{AreOpened, Fits, under_way_behind};
+ghost use Rattle.pgsub_core.specs.Server.Stream.{Data, Keepalive, kind};
+ghost use Rattle.pgsub_core.specs.Machine.ApplyState.{pushed};
+ghost use Rattle.pgsub_core.specs.Machine.Taking.{take};
+ghost use Rattle.pgsub_core.specs.Machine.Opened.{AreOpened, Fits, under_way_behind};
 ghost use Rattle.pgapply.specs.Taken.{Begins, Leaves, LeavesStaged, Settles, Stays, Shows};
-ghost use Rattle.pgsub_core.specs.Applied.{Goes, Stops, IsKept, StaysBesideStore};
-ghost use Rattle.pgsub_core.specs.Committing.{Commits, RefusesCommit};
-ghost use Rattle.pgsub_core.specs.Counted.{message_counted, decoded_counted, frame_counted, CountsCommit, CountsEvent, CountsBy};
-ghost use Rattle.pgsub_core.specs.Staging.{Rests, Grows, KeepsItsSettings, IsMark, GoesBack};
-ghost use Rattle.pgsub_core.specs.Events.{HasRoom, IsFull, FindsRoom, EventGoes, EventStops, StaysBeside};
-ghost use Rattle.pgsub_core.specs.Faults.{fault_of_decode, fault_of_order, fault_of_spool, IsOfFeeding, IsReadFault};
+ghost use Rattle.pgsub_core.specs.Subscriber.Applied.{Goes, Stops, IsKept, StaysBesideStore};
+ghost use Rattle.pgsub_core.specs.Calls.Committing.{Commits, RefusesCommit};
+ghost use Rattle.pgsub_core.specs.Machine.Counted.{message_counted, decoded_counted, frame_counted, CountsCommit, CountsEvent, CountsBy};
+ghost use Rattle.pgsub_core.specs.Calls.Staging.{Rests, Grows, KeepsItsSettings, IsMark, GoesBack};
+ghost use Rattle.pgsub_core.specs.Calls.Events.{HasRoom, IsFull, FindsRoom, EventGoes, EventStops, StaysBeside};
+ghost use Rattle.pgsub_core.specs.Machine.Faults.{fault_of_decode, fault_of_order, fault_of_spool, IsOfFeeding, IsReadFault};
 
 use crate::committing::{Ending, about_of, commit, later, store_fault};
 use crate::fault::Fault;
@@ -62,7 +62,7 @@ pub(crate) struct Applier<P: Spools + Drop, C: ReplicaStore + Drop> {
 }
 
 impl<P: Spools + Drop, C: ReplicaStore + Drop> Model for Applier<P, C> {
-    ghost use Rattle.pgsub_core.specs.Applied.{Applied, applied_code};
+    ghost use Rattle.pgsub_core.specs.Subscriber.Applied.{Applied, applied_code};
 
     ghost Value = { Applied C };
 

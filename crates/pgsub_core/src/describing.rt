@@ -9,9 +9,9 @@ ghost use Rattle.pglogical.specs.declared.item.Item.{Item};
 ghost use Rattle.pglogical.specs.LentItems.{def_value};
 ghost use Rattle.pglogical.specs.Spelling.{IsSpellable, IsDefinition};
 ghost use Rattle.pgspool.specs.Labels.{items_of, held_of};
-ghost use Rattle.pgsub_core.specs.Described.{described_from};
-ghost use Rattle.pgsub_core.specs.Replica.{cached, all_cached};
-ghost use Rattle.pgsub_core.specs.Drafts.{known_to, behind_changes, AreNumbered, IsNumbered, Adds, IsUndescribed, truncated, LacksDefinition};
+ghost use Rattle.pgsub_core.specs.Server.Described.{described_from};
+ghost use Rattle.pgsub_core.specs.Machine.Replica.{cached, all_cached};
+ghost use Rattle.pgsub_core.specs.Calls.Drafts.{known_to, behind_changes, AreNumbered, IsNumbered, Adds, IsUndescribed, truncated, LacksDefinition};
 
 use crate::fault::Fault;
 use indexmap::IndexMap;

@@ -4,8 +4,8 @@
 
 ghost use Rattle.std.specs.Prelude.{◌≡◌, ◌≢◌, ◌↔◌, ◌<◌, ◌≤◌, None, Err, false, true, length, take, OnOk, IfErr, IfSome};
 ghost use Rattle.std.specs.Io.KnownBytes.{Consumes, IsAtEnd, Keeps};
-ghost use Rattle.pgsub_core.specs.Crashing.{LeavesOldOr, FedOver, StandsAsFed};
-ghost use Rattle.pgsub_core.specs.Pumping.{IsReadOut, Pumps, PumpsUntil, PumpsCounted, PumpsCountedUntil};
+ghost use Rattle.pgsub_core.specs.Subscriber.Crashing.{LeavesOldOr, FedOver, StandsAsFed};
+ghost use Rattle.pgsub_core.specs.Calls.Pumping.{IsReadOut, Pumps, PumpsUntil, PumpsCounted, PumpsCountedUntil};
 
 use crate::fault::Fault;
 use crate::subscriber::Subscriber;

@@ -1,7 +1,7 @@
 use Rattle.std.proofs.Common.{rules, ap, to_z, of_z}
 use Rattle.std.specs.Int.{w64}
 use Rattle.std.proofs.lemmas.Int.{to_z-of_z}
-use Rattle.pgsub_core.specs.SubscriberValue.{SubscriberValue}
+use Rattle.pgsub_core.specs.Subscriber.SubscriberValue.{SubscriberValue}
 use Rattle.pgfollow.proofs.Telling.{on_ok_as, by_result, keeps_confirmed, announced_replies, announced_state}
 use Rattle.pgfollow.proofs.live.announce.Goals as goal
 

@@ -1,8 +1,8 @@
 use Rattle.std.proofs.Common.{◌∙◌, ap, to_z, of_z}
 use Rattle.std.specs.Int.{w64}
 use Rattle.std.specs.FinMap as map
-use Rattle.pgsub_core.specs.Subscribed.{Subscribed}
-use Rattle.pgsub_core.specs.SubscriberValue.{SubscriberValue}
+use Rattle.pgsub_core.specs.Subscriber.Subscribed.{Subscribed}
+use Rattle.pgsub_core.specs.Subscriber.SubscriberValue.{SubscriberValue}
 use Rattle.pgfollow.specs.Live.{StopsGreeting}
 use Rattle.pgfollow.proofs.Telling.{on_ok_as, on_ok_both, by_result, if_unwritten, is_greeted, stops_greeting, keeps_confirmed}
 use Rattle.pgfollow.proofs.live.greet.Goals as goal

@@ -1,5 +1,5 @@
 use Rattle.std.proofs.Common.{◌∙◌, Bool, ap, sym}
-use Rattle.pgsub_core.specs.SubscriberValue.{seen}
+use Rattle.pgsub_core.specs.Subscriber.SubscriberValue.{seen}
 use Rattle.pgfollow.specs.Live.{settled}
 use Rattle.pgfollow.proofs.live.tell.Goals as goal
 

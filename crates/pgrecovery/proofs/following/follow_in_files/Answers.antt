@@ -2,9 +2,9 @@ use Rattle.std.proofs.Common.{ℤ, subst}
 use Rattle.std.specs.Int.{w64}
 use Rattle.std.proofs.lemmas.Int.{to_z-of_z}
 use Rattle.sqlite.specs.Files.{over_files}
-use Rattle.pgsub_core.specs.Subscribed.{bytes_of}
-use Rattle.pgsub_core.specs.Handled.{fault_in}
-use Rattle.pgsub_core.specs.Following.{FollowsSessions}
+use Rattle.pgsub_core.specs.Subscriber.Subscribed.{bytes_of}
+use Rattle.pgsub_core.specs.Subscriber.Handled.{fault_in}
+use Rattle.pgsub_core.specs.Subscriber.Following.{FollowsSessions}
 use Rattle.pgrecovery.specs.Recovered.{holds_tables, position_of}
 use Rattle.pgrecovery.proofs.Recovered.{followed}
 use Rattle.pgrecovery.proofs.following.follow_in_files.Goals as goal

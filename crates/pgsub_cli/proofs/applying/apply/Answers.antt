@@ -1,4 +1,4 @@
-use Rattle.pgsub_core.specs.Subscribed.{bytes_of}
+use Rattle.pgsub_core.specs.Subscriber.Subscribed.{bytes_of}
 use Rattle.pgsub_cli.specs.Followed.{lines_of}
 use Rattle.pgsub_cli.specs.Stores.{holds_tables, position_of}
 use Rattle.pgsub_cli.proofs.AppliedLines.{if_ok, lines_of_new}

@@ -1,4 +1,4 @@
-use Rattle.pgsub_core.specs.Handled.{fault_in}
+use Rattle.pgsub_core.specs.Subscriber.Handled.{fault_in}
 use Rattle.pgsub_cli.specs.Fed.{FeedsFile}
 use Rattle.pgsub_cli.proofs.AppliedLines.{lines_of_file}
 use Rattle.pgsub_cli.proofs.LeftStores.{file_fed_same, stands_same, fronts_same, safely_same, file_leaves}

@@ -1,7 +1,7 @@
-use Rattle.pgsub_core.specs.Subscribed.{bytes_of}
+use Rattle.pgsub_core.specs.Subscriber.Subscribed.{bytes_of}
 use Rattle.pgsub_cli.specs.Followed.{lines_of}
-use Rattle.pgsub_core.specs.Following.{FeedsSessions}
-use Rattle.pgsub_core.specs.Handled.{fault_in}
+use Rattle.pgsub_core.specs.Subscriber.Following.{FeedsSessions}
+use Rattle.pgsub_core.specs.Subscriber.Handled.{fault_in}
 use Rattle.pgsub_cli.specs.Limits.{clock}
 use Rattle.pgsub_cli.proofs.AppliedLines.{lines_of_followed}
 use Rattle.pgsub_cli.proofs.LeftStores.{fed_same, stands_same, stands_either, fronts_same, safely_same}

@@ -1,5 +1,5 @@
 use Rattle.pgorder.specs.declared.Version.TheVariants.{Two}
-use Rattle.pgsub_core.specs.Subscribed.{bytes_of}
+use Rattle.pgsub_core.specs.Subscriber.Subscribed.{bytes_of}
 use Rattle.pgsub_cli.specs.Followed.{resumed_lines_of}
 use Rattle.pgsub_cli.specs.Limits.{default_limits}
 use Rattle.pgsub_cli.specs.Stores.{holds_tables, position_of}

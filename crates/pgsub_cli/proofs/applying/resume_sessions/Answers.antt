@@ -1,5 +1,5 @@
 use Rattle.std.proofs.Common.{ap, ◌∙◌}
-use Rattle.pgsub_core.specs.Subscribed.{bytes_of}
+use Rattle.pgsub_core.specs.Subscriber.Subscribed.{bytes_of}
 use Rattle.pgstore.specs.StoreValue.{HasTables}
 use Rattle.pgsub_cli.specs.Followed.{resumed_lines_of}
 use Rattle.pgsub_cli.specs.Stores.{position_of}

@@ -1,6 +1,6 @@
 use Rattle.std.specs.FinMap as map
-use Rattle.pgsub_core.specs.Subscribed.{bytes_of}
-use Rattle.pgsub_core.specs.SubscriberValue.{seen}
+use Rattle.pgsub_core.specs.Subscriber.Subscribed.{bytes_of}
+use Rattle.pgsub_core.specs.Subscriber.SubscriberValue.{seen}
 use Rattle.pgsub_cli.specs.Stores.{position_of}
 use Rattle.pgsub_cli.proofs.ComparedSides.{compared_as, uncompared, ends_of_new}
 use Rattle.pgsub_cli.proofs.comparing.compare.Goals as goal

@@ -1,6 +1,6 @@
 use Rattle.std.proofs.Common.{subst, sym}
 use Rattle.pgsub_core.specs.declared.fault.Fault.{Fault}
-use Rattle.pgsub_core.specs.Subscribed.{bytes_of}
+use Rattle.pgsub_core.specs.Subscriber.Subscribed.{bytes_of}
 use Rattle.pgsub_cli.specs.Compared.{EndsOver}
 use Rattle.std.proofs.Common.{Err}
 use Rattle.pgsub_cli.proofs.ComparedSides.{compared_ends, left_ends, right_ends}

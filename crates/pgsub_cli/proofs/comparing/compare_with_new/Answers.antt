@@ -1,6 +1,6 @@
 use Rattle.std.specs.FinMap as map
-use Rattle.pgsub_core.specs.Subscribed.{bytes_of}
-use Rattle.pgsub_core.specs.SubscriberValue.{seen}
+use Rattle.pgsub_core.specs.Subscriber.Subscribed.{bytes_of}
+use Rattle.pgsub_core.specs.Subscriber.SubscriberValue.{seen}
 use Rattle.pgsub_cli.specs.Followed.{new_subscriber}
 use Rattle.pgsub_cli.specs.Limits.{default_limits}
 use Rattle.pgsub_cli.specs.Stores.{position_of}

@@ -2,7 +2,7 @@ use Rattle.std.proofs.Common.{◌≡◌, ℕ, List, Option, Some, refl, subst, s
 use Rattle.std.specs.Prelude.{⊤}
 use Rattle.pgorder.specs.declared.Version.{Version}
 use Rattle.pgsub_core.specs.declared.fault.Fault.{Fault}
-use Rattle.pgsub_core.specs.Faults.{IsReadFault}
+use Rattle.pgsub_core.specs.Machine.Faults.{IsReadFault}
 use Rattle.pgsub_cli.specs.declared.storing.Incoming.{Incoming}
 use Rattle.pgsub_cli.specs.declared.reporting.Counted.{Counted}
 use Rattle.pgsub_cli.specs.declared.reported.Reported.{Reported}

@@ -1,5 +1,5 @@
 use Rattle.std.proofs.Common.{Option, subst, sym}
-use Rattle.pgsub_core.specs.Faults.{IsReadFault}
+use Rattle.pgsub_core.specs.Machine.Faults.{IsReadFault}
 use Rattle.pgsub_cli.specs.Runs.{PrintsBytes, PrintsFile}
 use Rattle.pgsub_cli.proofs.Writing.{writes_as}
 use Rattle.pgsub_cli.proofs.running.apply_file.Goals as goal

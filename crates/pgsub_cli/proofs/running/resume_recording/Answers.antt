@@ -1,4 +1,4 @@
-use Rattle.pgsub_core.specs.Faults.{IsReadFault}
+use Rattle.pgsub_core.specs.Machine.Faults.{IsReadFault}
 use Rattle.pgsub_cli.specs.Runs.{PrintsResumed}
 use Rattle.pgsub_cli.proofs.Writing.{prints_sessions}
 use Rattle.pgsub_cli.proofs.running.resume_recording.Goals as goal

@@ -1,6 +1,6 @@
 use Rattle.std.proofs.Common.{[], ◌++◌, List, None, refl, sym, subst, append-nil, take_all, string_bytes}
 use Rattle.pgsub_core.specs.declared.session.Session.{Session}
-use Rattle.pgsub_core.specs.Subscribed.{bytes_of}
+use Rattle.pgsub_core.specs.Subscriber.Subscribed.{bytes_of}
 use Rattle.pgsub_cli.specs.Shown.{AreShownLater}
 use Rattle.pgsub_cli.proofs.ShownLines.{more_shown, more_stops, then_lines}
 use Rattle.pgsub_cli.proofs.showing.show_later.Goals as goal

@@ -1,6 +1,6 @@
 use Rattle.std.proofs.Common.{◌≡◌, ◌++◌, [], inl, refl, sym, ◌∙◌, append-nil, rules, string_bytes}
 use Rattle.std.specs.Result.{result_err}
-use Rattle.pgsub_core.specs.Subscribed.{session_bytes}
+use Rattle.pgsub_core.specs.Subscriber.Subscribed.{session_bytes}
 use Rattle.pgsub_cli.specs.Shown.{disconnection_line}
 use Rattle.pgsub_cli.proofs.ShownLines.{is_next, then_lines}
 use Rattle.pgsub_cli.proofs.showing.show_next.Goals as goal

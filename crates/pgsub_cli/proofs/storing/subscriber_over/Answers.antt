@@ -1,5 +1,5 @@
 use Rattle.std.proofs.Common.{ℕ, ap, ◌∙◌}
-use Rattle.pgsub_core.specs.Subscribed.{newly}
+use Rattle.pgsub_core.specs.Subscriber.Subscribed.{newly}
 use Rattle.pgsub_cli.proofs.storing.subscriber_over.Goals as goal
 
 pub returns-clause-state : goal.returns-clause-state

@@ -1,8 +1,8 @@
 use Rattle.std.proofs.Common.{ℤ, Ok, subst}
 use Rattle.std.specs.Int.{w64}
 use Rattle.std.proofs.lemmas.Int.{to_z-of_z}
-use Rattle.pgsub_core.specs.Subscribed.{bytes_of}
-use Rattle.pgsub_core.specs.Converging.{ShowsFed, FailsFed}
+use Rattle.pgsub_core.specs.Subscriber.Subscribed.{bytes_of}
+use Rattle.pgsub_core.specs.Subscriber.Converging.{ShowsFed, FailsFed}
 use Rattle.pgsub_core.proofs.ConvergeSteps.{left_fails, right_fails, both_shown, agrees, left_stopped, left_read, right_stopped, right_read, right_untouched}
 use Rattle.pgsub_core.proofs.converging.converge.Goals as goal
 

@@ -1,8 +1,8 @@
 use Rattle.std.proofs.Common.{ℤ, None, Some, subst}
 use Rattle.std.specs.Int.{w64}
 use Rattle.std.proofs.lemmas.Int.{to_z-of_z}
-use Rattle.pgsub_core.specs.Subscribed.{bytes_of}
-use Rattle.pgsub_core.specs.Following.{FeedsSessions}
+use Rattle.pgsub_core.specs.Subscriber.Subscribed.{bytes_of}
+use Rattle.pgsub_core.specs.Subscriber.Following.{FeedsSessions}
 use Rattle.pgsub_core.proofs.DescribedChanges.{on_residual}
 use Rattle.pgsub_core.proofs.ConvergeSteps.{fails_first, shows_rows, fails_rows}
 use Rattle.pgsub_core.proofs.converging.followed_rows.Goals as goal

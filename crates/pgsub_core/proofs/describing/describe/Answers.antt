@@ -1,8 +1,8 @@
 use Rattle.std.proofs.Common.{◌+◌, [], drop, ap, sym, ◌∙◌, inl, inr}
 use Rattle.pgspool.specs.Labels.{items_of, held_of}
-use Rattle.pgsub_core.specs.Described.{described_from}
-use Rattle.pgsub_core.specs.Replica.{RelationCache, all_cached}
-use Rattle.pgsub_core.specs.Drafts.{known_to, behind_changes}
+use Rattle.pgsub_core.specs.Server.Described.{described_from}
+use Rattle.pgsub_core.specs.Machine.Replica.{RelationCache, all_cached}
+use Rattle.pgsub_core.specs.Calls.Drafts.{known_to, behind_changes}
 use Rattle.pgsub_core.proofs.DescribedChanges.{item_at, lacks_behind, on_residual}
 use Rattle.pgsub_core.proofs.describing.describe.Goals as goal
 

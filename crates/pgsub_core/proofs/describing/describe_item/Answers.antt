@@ -3,9 +3,9 @@ use Rattle.pglogical.specs.declared.item.Item.{Item}
 use Rattle.pglogical.specs.LentItems.{def_value, item_value}
 use Rattle.std.specs.Prelude.{nat_eq}
 use Rattle.indexmap.specs.IndexMap.{get}
-use Rattle.pgsub_core.specs.Described.{described_from}
-use Rattle.pgsub_core.specs.Replica.{RelationCache}
-use Rattle.pgsub_core.specs.Drafts.{known_to, behind_changes, AreNumbered}
+use Rattle.pgsub_core.specs.Server.Described.{described_from}
+use Rattle.pgsub_core.specs.Machine.Replica.{RelationCache}
+use Rattle.pgsub_core.specs.Calls.Drafts.{known_to, behind_changes, AreNumbered}
 use Rattle.pgsub_core.proofs.DescribedChanges.{on_ok, on_ok_three, described-relation, described-truncate, numbered_relation}
 use Rattle.pgsub_core.proofs.describing.describe_item.Goals as goal
 

@@ -1,5 +1,5 @@
 use Rattle.std.proofs.Common.{ap, sym, ◌∙◌, inl, inr}
-use Rattle.pgsub_core.specs.Drafts.{known_to, behind_changes, truncated}
+use Rattle.pgsub_core.specs.Calls.Drafts.{known_to, behind_changes, truncated}
 use Rattle.pgsub_core.proofs.DescribedChanges.{truncates_one, lacks_one, lacks_behind, on_residual}
 use Rattle.pgsub_core.proofs.describing.describe_truncate.Goals as goal
 

@@ -1,7 +1,7 @@
 use Rattle.std.proofs.Common.{◌≡◌}
 use Rattle.std.specs.Prelude.{nat_eq}
 use Rattle.indexmap.specs.IndexMap.{get}
-use Rattle.pgsub_core.specs.Drafts.{known_to, behind_changes, truncated, AreNumbered}
+use Rattle.pgsub_core.specs.Calls.Drafts.{known_to, behind_changes, truncated, AreNumbered}
 use Rattle.pgsub_core.proofs.describing.describe_truncate.Given as goal
 
 abbrev pub invariant-loop-oid : goal.invariant-loop-oid

@@ -2,19 +2,19 @@ use Rattle.std.proofs.Common.{◌≡◌, ◌≢◌, ◌<◌, ◌⊎◌, inl, ℕ
 use Rattle.std.specs.Int.{w64}
 use Rattle.std.proofs.lemmas.Int.{to_z-of_z}
 use Rattle.pgwire.specs.Deframed.{Deframed, IsFed}
-use Rattle.pgsub_core.specs.Applied.{Applied}
+use Rattle.pgsub_core.specs.Subscriber.Applied.{Applied}
 use Rattle.pgwire.specs.declared.fault.WireFault.{WireFault}
 use Rattle.pgwire.specs.declared.fault.WireFault.TheVariants as wire_fault
 use Rattle.pgsub_core.specs.declared.fault.Fault.TheVariants as fault
-use Rattle.pgsub_core.specs.Framing.{FeedGoes, FeedStops}
+use Rattle.pgsub_core.specs.Calls.Framing.{FeedGoes, FeedStops}
 use Rattle.pgsub_core.proofs.DescribedChanges.{on_residual}
 use Rattle.pgsub_core.proofs.PayloadStops.{unchanged}
-use Rattle.pgsub_core.specs.Staging.{IsMarked}
+use Rattle.pgsub_core.specs.Calls.Staging.{IsMarked}
 use Rattle.pgsub_core.proofs.Marks.{rests_same, rests_then, renewed, of_head, head_held, mark_here, marked_frame}
 use Rattle.pgsub_core.proofs.LeftPieces.{piece_stands, on_err}
 use Rattle.pgsub_core.proofs.FeedStops.{stops_by_bytes, stops_by_frame, start_to, released_to}
 use Rattle.pgsub_core.proofs.FeedSteps.{fed_start, fed_one, fed_whole, fed_front, fed_less, all_taken, released_waits, rest_of, some_taken, take_whole}
-use Rattle.pgsub_core.specs.Counted.{FeedCounts, FeedCountsFront}
+use Rattle.pgsub_core.specs.Machine.Counted.{FeedCounts, FeedCountsFront}
 use Rattle.pgsub_core.proofs.CountedPieces.{counted_zero, counted_stops, counted_released, counted_start, counted_one, counted_whole, counted_front}
 use Rattle.pgsub_core.proofs.feeding.stage_piece.Goals as goal
 

@@ -1,9 +1,9 @@
 use Rattle.std.proofs.Common.{◌≡◌, ◌<◌, ◌+◌, ◌-◌, length}
-use Rattle.pgsub_core.specs.Opened.{AreOpened}
-use Rattle.pgsub_core.specs.Counted.{IsCountedTo}
-use Rattle.pgsub_core.specs.Staging.{Rests}
+use Rattle.pgsub_core.specs.Machine.Opened.{AreOpened}
+use Rattle.pgsub_core.specs.Machine.Counted.{IsCountedTo}
+use Rattle.pgsub_core.specs.Calls.Staging.{Rests}
 use Rattle.pgsub_core.proofs.Marks.{Head}
-use Rattle.pgsub_core.specs.Framing.{IsFedTo, FeedStops}
+use Rattle.pgsub_core.specs.Calls.Framing.{IsFedTo, FeedStops}
 use Rattle.pgsub_core.proofs.feeding.stage_piece.Given as goal
 
 abbrev pub invariant-loop-applier : goal.invariant-loop-applier

@@ -4,14 +4,14 @@ use Rattle.std.specs.Int.{w64}
 use Rattle.std.proofs.lemmas.Int.{to_z-of_z}
 use Rattle.pgapply.specs.Taken as held
 use Rattle.pgsub_core.specs.declared.fault.Fault.TheVariants as fault
-use Rattle.pgsub_core.specs.Applied.{Applied}
-use Rattle.pgsub_core.specs.Framing.{FeedGoes, FeedStops}
-use Rattle.pgsub_core.specs.Crashing.{LeavesOldOr, Over, StandsAs}
-use Rattle.pgsub_core.specs.Staging.{IsMarked, StandsStaged}
+use Rattle.pgsub_core.specs.Subscriber.Applied.{Applied}
+use Rattle.pgsub_core.specs.Calls.Framing.{FeedGoes, FeedStops}
+use Rattle.pgsub_core.specs.Subscriber.Crashing.{LeavesOldOr, Over, StandsAs}
+use Rattle.pgsub_core.specs.Calls.Staging.{IsMarked, StandsStaged}
 use Rattle.pgsub_core.proofs.DescribedChanges.{if_err, on_residual}
 use Rattle.pgsub_core.proofs.PayloadStops.{unchanged}
 use Rattle.pgsub_core.proofs.LeftPieces.{on_err, on_err_as}
-use Rattle.pgsub_core.specs.Counted.{FeedCounts, FeedCountsFront}
+use Rattle.pgsub_core.specs.Machine.Counted.{FeedCounts, FeedCountsFront}
 use Rattle.pgsub_core.proofs.Marks.{settled_counts, settled_front, all_settled, none_settled, none_stands, leaves_none, leaves_all, over_all, settled_goes, any_stops, behind_all, some_or_none, of_feeding, if_ok_as, if_ok_under, on_ok_here, settled_stands}
 use Rattle.pgsub_core.proofs.CountedPieces.{counted_zero, counted_stops}
 use Rattle.pgsub_core.proofs.feeding.take_piece.Goals as goal

@@ -4,8 +4,8 @@ use Rattle.std.proofs.lemmas.Int.{to_z-of_z}
 use Rattle.pgwire.specs.Deframed.{Deframed, Stands}
 use Rattle.pgwire.specs.Frames.{Frame}
 use Rattle.pgwire.specs.Lent.{frame_value}
-use Rattle.pgsub_core.specs.Counted.{frame_counted, CountsBy}
-use Rattle.pgsub_core.specs.Framing.{FramesGo, IsStopped, StopsAt}
+use Rattle.pgsub_core.specs.Machine.Counted.{frame_counted, CountsBy}
+use Rattle.pgsub_core.specs.Calls.Framing.{FramesGo, IsStopped, StopsAt}
 use Rattle.pgsub_core.proofs.DescribedChanges.{on_residual}
 use Rattle.pgsub_core.proofs.FeedSteps.{one_done, one_stands}
 use Rattle.pgsub_core.proofs.feeding.take_whole.Goals as goal

@@ -1,16 +1,16 @@
 use Rattle.std.proofs.Common.{ℤ, None, Some, refl, subst, take_all}
 use Rattle.pgsub_core.proofs.CountedSessions.{no_session, counts_one_more, counts_each, counts_stop_in}
 use Rattle.pgsub_core.proofs.MissedSessions.{front_history, whole_history}
-use Rattle.pgsub_core.specs.Counted.{CountsSessions, CountsSessionsFront}
+use Rattle.pgsub_core.specs.Machine.Counted.{CountsSessions, CountsSessionsFront}
 use Rattle.pgsub_core.specs.declared.fault.Fault.TheVariants as fault
-use Rattle.pgsub_core.specs.Crashing.{LeavesOldOr, FedOver, StandsAsFed}
+use Rattle.pgsub_core.specs.Subscriber.Crashing.{LeavesOldOr, FedOver, StandsAsFed}
 use Rattle.pgsub_core.proofs.Crashes.{leaves_same}
 use Rattle.pgsub_core.proofs.LeftPieces.{on_err, leaves_sessions, sessions_stand, confirms_followed, confirms_standing, leaves_history}
 use Rattle.std.specs.Int.{w64}
 use Rattle.std.proofs.lemmas.Int.{to_z-of_z}
-use Rattle.pgsub_core.specs.Handled.{fault_in}
-use Rattle.pgsub_core.specs.Subscribed.{bytes_of}
-use Rattle.pgsub_core.specs.Following.{FeedsSessions}
+use Rattle.pgsub_core.specs.Subscriber.Handled.{fault_in}
+use Rattle.pgsub_core.specs.Subscriber.Subscribed.{bytes_of}
+use Rattle.pgsub_core.specs.Subscriber.Following.{FeedsSessions}
 use Rattle.pgsub_core.proofs.DescribedChanges.{if_err, on_residual}
 use Rattle.pgsub_core.proofs.FollowSteps.{none_followed, follows_more, follows_stops, follows_whole, follows, follows_safely, answers_fault}
 use Rattle.pgsub_core.proofs.following.follow.Goals as goal

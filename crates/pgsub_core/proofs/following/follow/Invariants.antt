@@ -1,9 +1,9 @@
 use Rattle.std.proofs.Common.{Some, None, take}
-use Rattle.pgsub_core.specs.Counted.{CountsSessions}
-use Rattle.pgsub_core.specs.Subscribed.{bytes_of}
+use Rattle.pgsub_core.specs.Machine.Counted.{CountsSessions}
+use Rattle.pgsub_core.specs.Subscriber.Subscribed.{bytes_of}
 use Rattle.pgsub_core.specs.declared.fault.Fault.TheVariants as fault
-use Rattle.pgsub_core.specs.Following.{FeedsSessions}
-use Rattle.pgsub_core.specs.Crashing.{LeavesOldOr, FedOver}
+use Rattle.pgsub_core.specs.Subscriber.Following.{FeedsSessions}
+use Rattle.pgsub_core.specs.Subscriber.Crashing.{LeavesOldOr, FedOver}
 use Rattle.pgsub_core.proofs.following.follow.Given as goal
 
 abbrev pub invariant-loop-session : goal.invariant-loop-session

@@ -3,13 +3,13 @@ use Rattle.std.specs.FinMap as map
 use Rattle.std.specs.Int.{w64}
 use Rattle.std.proofs.lemmas.Int.{to_z-of_z}
 use Rattle.pgsub_core.proofs.CountedSessions.{counts_start, counts_more, counts_all, counts_stop}
-use Rattle.pgsub_core.specs.Counted.{CountsSession, CountsSessionFront}
+use Rattle.pgsub_core.specs.Machine.Counted.{CountsSession, CountsSessionFront}
 use Rattle.pgsub_core.specs.declared.fault.Fault.TheVariants as fault
-use Rattle.pgsub_core.specs.Subscribed.{Subscribed, session_bytes}
-use Rattle.pgsub_core.specs.Crashing.{LeavesOldOr, FedOver, StandsAsFed}
+use Rattle.pgsub_core.specs.Subscriber.Subscribed.{Subscribed, session_bytes}
+use Rattle.pgsub_core.specs.Subscriber.Crashing.{LeavesOldOr, FedOver, StandsAsFed}
 use Rattle.pgsub_core.proofs.Crashes.{leaves_same}
 use Rattle.pgsub_core.proofs.LeftPieces.{on_err, leaves_pieces, session_stands}
-use Rattle.pgsub_core.specs.Following.{FeedsSession, FeedsSessionUntil}
+use Rattle.pgsub_core.specs.Subscriber.Following.{FeedsSession, FeedsSessionUntil}
 use Rattle.pgsub_core.proofs.DescribedChanges.{on_residual}
 use Rattle.pgsub_core.proofs.FollowSteps.{session_start, session_more, session_stops, session_whole}
 use Rattle.pgsub_core.proofs.following.follow_session.Goals as goal

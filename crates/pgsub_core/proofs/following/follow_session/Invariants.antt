@@ -1,10 +1,10 @@
 use Rattle.std.proofs.Common.{◌≡◌, ℕ, List, false, take}
 use Rattle.std.specs.List.{flat_map}
-use Rattle.pgsub_core.specs.Counted.{CountsSession}
+use Rattle.pgsub_core.specs.Machine.Counted.{CountsSession}
 use Rattle.pgsub_core.specs.declared.fault.Fault.TheVariants as fault
-use Rattle.pgsub_core.specs.Subscribed.{session_bytes}
-use Rattle.pgsub_core.specs.Following.{FeedsSession, FeedsSessionUntil}
-use Rattle.pgsub_core.specs.Crashing.{LeavesOldOr, FedOver}
+use Rattle.pgsub_core.specs.Subscriber.Subscribed.{session_bytes}
+use Rattle.pgsub_core.specs.Subscriber.Following.{FeedsSession, FeedsSessionUntil}
+use Rattle.pgsub_core.specs.Subscriber.Crashing.{LeavesOldOr, FedOver}
 use Rattle.pgsub_core.proofs.following.follow_session.Given as goal
 
 abbrev pub invariant-loop-piece : goal.invariant-loop-piece

@@ -2,10 +2,10 @@ use Rattle.std.proofs.Common.{ℕ, ℤ, take, sym, subst, ◌∙◌}
 use Rattle.std.specs.Io.KnownBytes.{Consumes}
 use Rattle.std.specs.Int.{w64}
 use Rattle.std.proofs.lemmas.Int.{to_z-of_z}
-use Rattle.pgsub_core.specs.Pumping.{Pumps, PumpsUntil, PumpsCounted, PumpsCountedUntil}
+use Rattle.pgsub_core.specs.Calls.Pumping.{Pumps, PumpsUntil, PumpsCounted, PumpsCountedUntil}
 use Rattle.pgsub_core.proofs.DescribedChanges.{on_residual}
 use Rattle.pgsub_core.specs.declared.fault.Fault.TheVariants as fault
-use Rattle.pgsub_core.specs.Crashing.{LeavesOldOr, FedOver, StandsAsFed}
+use Rattle.pgsub_core.specs.Subscriber.Crashing.{LeavesOldOr, FedOver, StandsAsFed}
 use Rattle.pgsub_core.proofs.LeftPieces.{leaves_read, leaves_end, leaves_failed, read_stands}
 use Rattle.pgsub_core.proofs.Pumped.{taken_piece, pumps_more, pumps_until, pumps_end}
 use Rattle.pgsub_core.proofs.CountedPumps.{counts_more, counts_until, counts_end}

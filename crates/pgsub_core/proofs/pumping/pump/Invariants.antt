@@ -1,7 +1,7 @@
 use Rattle.std.proofs.Common.{◌-◌, ◌≡◌, false, length}
 use Rattle.pgsub_core.specs.declared.fault.Fault.TheVariants as fault
-use Rattle.pgsub_core.specs.Crashing.{LeavesOldOr, FedOver}
-use Rattle.pgsub_core.specs.Pumping.{Pumps, PumpsUntil, PumpsCounted}
+use Rattle.pgsub_core.specs.Subscriber.Crashing.{LeavesOldOr, FedOver}
+use Rattle.pgsub_core.specs.Calls.Pumping.{Pumps, PumpsUntil, PumpsCounted}
 use Rattle.pgsub_core.proofs.pumping.pump.Given as goal
 
 abbrev pub invariant-loop-source : goal.invariant-loop-source

@@ -2,7 +2,7 @@ use Rattle.std.proofs.Common.{IfErr, inl, refl, subst, sym}
 use Rattle.std.specs.String.{string_bytes}
 use Rattle.pgapply.specs.Stored.{IsOwnFault}
 use Rattle.pgsub_core.specs.declared.fault.Fault.TheVariants.{Memory}
-use Rattle.pgsub_core.specs.Faults.{IsReadFault}
+use Rattle.pgsub_core.specs.Machine.Faults.{IsReadFault}
 use Rattle.pgsub_cli.specs.Lines.{IsWriting}
 use Rattle.pgsub_cli.proofs.LineSteps.{own_read, stops, unread}
 use Rattle.pgsub_cli.proofs.dumping.LineSink.end.Goals as goal

@@ -1,6 +1,6 @@
 use Rattle.std.proofs.Common.{ap, sym, subst}
 use Rattle.std.specs.FinMap as map
-use Rattle.pgsub_core.specs.Subscribed.{Subscribed}
+use Rattle.pgsub_core.specs.Subscriber.Subscribed.{Subscribed}
 use Rattle.pgsub_core.specs.declared.pumping.Source.{Source}
 use Rattle.pgsub_cli.proofs.FedBytes.{file_fed, file_stands, file_left}
 use Rattle.pgsub_cli.proofs.LeftStores.{stands_read}

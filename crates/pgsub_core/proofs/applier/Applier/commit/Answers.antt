@@ -1,8 +1,8 @@
 use Rattle.std.proofs.Common.{subst}
 use Rattle.pgspool.specs.Labels.{items_of, held_of}
-use Rattle.pgsub_core.specs.Applied.{Applied}
-use Rattle.pgsub_core.specs.Committing.{Commits}
-use Rattle.pgsub_core.specs.Counted.{CountsCommit}
+use Rattle.pgsub_core.specs.Subscriber.Applied.{Applied}
+use Rattle.pgsub_core.specs.Calls.Committing.{Commits}
+use Rattle.pgsub_core.specs.Machine.Counted.{CountsCommit}
 use Rattle.pgsub_core.proofs.applier.Applier.commit.Goals as goal
 
 pub returns-clause-taken : goal.returns-clause-taken

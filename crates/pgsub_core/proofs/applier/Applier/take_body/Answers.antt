@@ -2,7 +2,7 @@ use Rattle.std.proofs.Common.{◌≡◌, inr, Bool, Ok, Err, ap, subst, ◌∙�
 use Rattle.pglogical.specs.Reading.{message_at}
 use Rattle.pglogical.specs.Lent.{message_value}
 use Rattle.pgorder.specs.States.{is_in_block}
-use Rattle.pgsub_core.specs.Applied.{Applied}
+use Rattle.pgsub_core.specs.Subscriber.Applied.{Applied}
 use Rattle.pgsub_core.proofs.DescribedChanges.{on_ok, if_err}
 use Rattle.pgsub_core.proofs.Counts.{counts_body}
 use Rattle.pgsub_core.proofs.PayloadStops.{body_stops, refused_body}

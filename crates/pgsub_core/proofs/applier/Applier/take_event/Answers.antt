@@ -4,10 +4,10 @@ use Rattle.std.specs.FinMap as map
 use Rattle.pglogical.specs.Lent.{message_value}
 use Rattle.pgspool.specs.Labels.{HeldMap, cut, held_of}
 use Rattle.pgorder.specs.declared.Event.{Event}
-use Rattle.pgsub_core.specs.Stream.{kind}
-use Rattle.pgsub_core.specs.Applied.{Applied}
-use Rattle.pgsub_core.specs.Opened.{Fits, under_way_behind}
-use Rattle.pgsub_core.specs.Events.{event_end}
+use Rattle.pgsub_core.specs.Server.Stream.{kind}
+use Rattle.pgsub_core.specs.Subscriber.Applied.{Applied}
+use Rattle.pgsub_core.specs.Machine.Opened.{Fits, under_way_behind}
+use Rattle.pgsub_core.specs.Calls.Events.{event_end}
 use Rattle.pgsub_core.proofs.Opening.{key_inserted, key_removed}
 use Rattle.pgsub_core.proofs.DescribedChanges.{on_ok, on_ok_two, if_err}
 use Rattle.pgsub_core.proofs.EventSteps.{goes_by, goes_commit, stops_commit, pushed_keys, cut_when_open}

@@ -1,6 +1,6 @@
 use Rattle.std.proofs.Common.{◌≡◌, ◌++◌, ℕ, ℤ, List, Bool, false, cond, max, ap, subst, ◌∙◌}
-use Rattle.pgsub_core.specs.Applied.{Applied}
-use Rattle.pgsub_core.specs.Staging.{Grows}
+use Rattle.pgsub_core.specs.Subscriber.Applied.{Applied}
+use Rattle.pgsub_core.specs.Calls.Staging.{Grows}
 use Rattle.pgsub_core.proofs.Marks.{grows_if}
 use Rattle.std.specs.Int.{w64}
 use Rattle.std.proofs.lemmas.Int.{to_z-of_z}

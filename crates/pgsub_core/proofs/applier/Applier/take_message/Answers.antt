@@ -1,8 +1,8 @@
 use Rattle.std.proofs.Common.{◌≡◌, max, sym, ap, subst, ◌∙◌}
 use Rattle.pglogical.specs.Lent.{message_value}
-use Rattle.pgsub_core.specs.Stream.{Data}
-use Rattle.pgsub_core.specs.Applied.{Applied, Stops}
-use Rattle.pgsub_core.specs.Opened.{AreOpened}
+use Rattle.pgsub_core.specs.Server.Stream.{Data}
+use Rattle.pgsub_core.specs.Subscriber.Applied.{Applied, Stops}
+use Rattle.pgsub_core.specs.Machine.Opened.{AreOpened}
 use Rattle.pgsub_core.proofs.Opening.{event_opens}
 use Rattle.pgsub_core.proofs.DescribedChanges.{on_residual}
 use Rattle.pgsub_core.proofs.Counts.{counts_message}

@@ -3,9 +3,9 @@ use Rattle.std.specs.Int.{w64}
 use Rattle.std.proofs.lemmas.Int.{to_z-of_z}
 use Rattle.pgwire.specs.declared.message.ServerMsg.{ServerMsg}
 use Rattle.pgwire.specs.Lent.{message_value}
-use Rattle.pgsub_core.specs.Stream.{Keepalive}
-use Rattle.pgsub_core.specs.Taking.{take}
-use Rattle.pgsub_core.specs.Applied.{Goes}
+use Rattle.pgsub_core.specs.Server.Stream.{Keepalive}
+use Rattle.pgsub_core.specs.Machine.Taking.{take}
+use Rattle.pgsub_core.specs.Subscriber.Applied.{Goes}
 use Rattle.pgsub_core.proofs.DescribedChanges.{on_ok, if_err, if_err_kept}
 use Rattle.pgsub_core.proofs.Counts.{counts_data, counts_keepalive}
 use Rattle.pgsub_core.proofs.PayloadSteps.{data_goes, keepalive_goes}

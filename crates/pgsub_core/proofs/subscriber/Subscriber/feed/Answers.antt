@@ -3,9 +3,9 @@ use Rattle.std.specs.Int.{w64}
 use Rattle.std.proofs.lemmas.Int.{to_z-of_z}
 use Rattle.pgwire.specs.declared.fault.WireFault.TheVariants as wire_fault
 use Rattle.pgsub_core.specs.declared.fault.Fault.TheVariants as fault
-use Rattle.pgsub_core.specs.SubscriberValue.{SubscriberValue, Feeds, FeedsUntil, seen}
-use Rattle.pgsub_core.specs.Crashing.{LeavesOldOr, FedOver, StandsAsFed}
-use Rattle.pgsub_core.specs.Counted.{FeedsCounted, FeedsCountedFront, IsCountedFront}
+use Rattle.pgsub_core.specs.Subscriber.SubscriberValue.{SubscriberValue, Feeds, FeedsUntil, seen}
+use Rattle.pgsub_core.specs.Subscriber.Crashing.{LeavesOldOr, FedOver, StandsAsFed}
+use Rattle.pgsub_core.specs.Machine.Counted.{FeedsCounted, FeedsCountedFront, IsCountedFront}
 use Rattle.pgsub_core.proofs.CountedPieces.{whole_front}
 use Rattle.pgsub_core.proofs.DescribedChanges.{on_residual}
 use Rattle.pgsub_core.proofs.FeedSteps.{take_whole}

@@ -1,15 +1,15 @@
 use Rattle.std.proofs.Common.{ℤ, take, refl, sym, ap, subst, ◌∙◌, true}
-use Rattle.pgsub_core.specs.SubscriberValue.{SubscriberValue}
+use Rattle.pgsub_core.specs.Subscriber.SubscriberValue.{SubscriberValue}
 use Rattle.std.specs.Int.{w64}
 use Rattle.std.proofs.lemmas.Int.{to_z-of_z}
-use Rattle.pgsub_core.specs.Framing.{framing_of, FeedGoes, FeedStops}
-use Rattle.pgsub_core.specs.Crashing.{LeavesOldOr, FedOver, Over, StandsAs}
-use Rattle.pgsub_core.specs.Counted.{FeedCounts, FeedCountsFront}
+use Rattle.pgsub_core.specs.Calls.Framing.{framing_of, FeedGoes, FeedStops}
+use Rattle.pgsub_core.specs.Subscriber.Crashing.{LeavesOldOr, FedOver, Over, StandsAs}
+use Rattle.pgsub_core.specs.Machine.Counted.{FeedCounts, FeedCountsFront}
 use Rattle.pgsub_core.proofs.CountedPieces.{feeds_counted, feeds_counted_front}
 use Rattle.pgsub_core.proofs.Crashes.{leaves_as}
 use Rattle.pgsub_core.proofs.LeftPieces.{feed_over, feed_stands, feed_stands_memory}
 use Rattle.pgsub_core.specs.declared.fault.Fault.TheVariants as fault
-use Rattle.pgsub_core.specs.SubscriberValue.{FeedsUntil}
+use Rattle.pgsub_core.specs.Subscriber.SubscriberValue.{FeedsUntil}
 use Rattle.pgsub_core.proofs.Starting.{feeds, feeds_until}
 use Rattle.pgsub_core.proofs.subscriber.Subscriber.feed_session.Goals as goal
 

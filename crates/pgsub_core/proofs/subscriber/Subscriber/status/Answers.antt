@@ -2,8 +2,8 @@ use Rattle.std.proofs.Common.{sym, subst}
 use Rattle.std.specs.Int.{w64}
 use Rattle.std.proofs.lemmas.Int.{to_z-of_z}
 use Rattle.pgsub_core.proofs.DescribedChanges.{on_ok}
-use Rattle.pgsub_core.specs.SubscriberValue.{seen}
-use Rattle.pgsub_core.specs.Confirming.{AreSafeReplies}
+use Rattle.pgsub_core.specs.Subscriber.SubscriberValue.{seen}
+use Rattle.pgsub_core.specs.Subscriber.Confirming.{AreSafeReplies}
 use Rattle.pgsub_core.proofs.Confirmed.{status_is_safe}
 use Rattle.pgsub_core.proofs.Starting.{status_seen}
 use Rattle.pgsub_core.proofs.subscriber.Subscriber.status.Goals as goal

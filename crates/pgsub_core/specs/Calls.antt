@@ -1,0 +1,6 @@
+pub mod Drafts
+pub mod Committing
+pub mod Events
+pub mod Framing
+pub mod Staging
+pub mod Pumping

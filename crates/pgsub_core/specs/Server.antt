@@ -1,0 +1,9 @@
+pub mod Work
+pub mod History
+pub mod Described
+pub mod Streamed
+pub mod Stream
+pub mod Delivers
+pub mod Reached
+pub mod Sessions
+pub mod Readings

@@ -1,0 +1,15 @@
+pub mod Safe
+pub mod Outcomes
+pub mod Subscribed
+pub mod Confirming
+pub mod Causes
+pub mod Safely
+pub mod Handled
+pub mod HandledLaws
+pub mod Verdicts
+pub mod Applied
+pub mod SubscriberValue
+pub mod Following
+pub mod Crashing
+pub mod Missed
+pub mod Converging
