@@ -1,4 +1,5 @@
--- Commits follow as before where one table's definition was replaced, and is replaced again before the table is named.
+-- Commits follow as before where one table's definition was replaced, and is replaced again before
+-- the table is named.
 use Rattle.std.proofs.Common.{◌≡◌, inl, inr, ℕ, List, [], ◌∷◌, ◌++◌, Option, Some, None, sym, subst, ◌∙◌}
 use Rattle.std.specs.List.{AllByRecursion}
 use Rattle.pglogical.specs.declared.item.RelationDef.{RelationDef}

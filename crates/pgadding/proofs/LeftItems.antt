@@ -53,7 +53,8 @@ others_all oid (o ∷ oids) isnt =
       | false ↦ λ isnt'. ap (λ os. o ∷ os) (others_all oid oids isnt')
     ] isnt
 
--- An item that is left does to the other tables what the whole one does; where nothing is left, it names no other.
+-- An item that is left does to the other tables what the whole one does; where nothing is left, it
+-- names no other.
 abbrev pub IsLeft : List ℕ → Item → List Item → Type 0
 IsLeft others i [] = IsChange i × (others ≡ [])
 IsLeft others i (kept ∷ []) =

@@ -10,6 +10,7 @@ mod RowsCommit
 mod Point
 mod Passed
 mod Histories
+mod Whole
 mod Steps
 mod Kept
 mod Fronts

@@ -32,8 +32,8 @@ PlaceSeen point (Some l) = l < point
 abbrev history_behind : Addition → List Transaction → List Transaction → List Transaction
 history_behind a below above = all_without a.definition.oid below ++ rows_transaction a ∷ above
 
--- What holds before a message of the session, before the point: `below` and `above` remain; `before` and `other` are the messages that
--- came and those of them that were passed on.
+-- What holds before a message of the session, before the point: `below` and `above` remain;
+-- `before` and `other` are the messages that came and those of them that were passed on.
 pub record Ready (a : Addition) (above : List Transaction) (place : Option ℕ) (before other : List Message) (earlier : List RelationDef) (below : List Transaction) (sent : List Sent) : Type 0 where
   pub order : InOrder place (messages_in sent)
   pub whole : AreWhole (messages_in sent)

@@ -69,7 +69,8 @@ same_commits (Data start end clock (message.StreamAbort xid label) ∷ sent) bef
 
 -- ---- the definition that came with the rows
 
--- the definition is kept: the last one before the rows is the same, or the table gets another one before it is named
+-- the definition is kept: the last one before the rows is the same, or the table gets another one
+-- before it is named
 abbrev pub KeepsBy : Addition → List RelationDef → List Sent → List Sent → Type 0
 KeepsBy a known front rest =
     Agrees a.definition (last_of a.definition.oid (relations_after known (items_in front))) ⊎ DefinedBeforeNamed a.definition.oid (Unit {0}) (items_in rest)

@@ -1,4 +1,5 @@
--- What is described where one table's definition was replaced, and is replaced again before the table is named.
+-- What is described where one table's definition was replaced, and is replaced again before the
+-- table is named.
 use Rattle.std.proofs.Common.{◌≡◌, ◌⊎◌, inl, inr, ℕ, List, [], ◌∷◌, ◌++◌, Bool, true, false, cond, eqb, ◌||◌, Option, Some, None, Ok, refl, sym, ap, subst, ◌∙◌, arith}
 use Rattle.std.proofs.lemmas.Bool.Decides.{nat_tests}
 use Rattle.pglogical.specs.Named.{named}

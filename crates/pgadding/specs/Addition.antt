@@ -11,8 +11,9 @@ use Rattle.pgsub_core.specs.Work.{Work, Nothing, Changed}
 use Rattle.pgsub_core.specs.History.{Transaction}
 use Rattle.pgsub_core.specs.Stream.{Sent, Data}
 
--- A table's rows as the snapshot of a slot shows them, whose consistent point is `point`: the end of a record that is no commit.
--- `clock` is when the transaction is made, in microseconds since 2000.
+-- A table's rows as the snapshot of a slot shows them, whose consistent point is `point`: the end
+-- of a record that is no commit. `clock` is when the transaction is made, in microseconds since
+-- 2000.
 pub record Addition : Type 0 where
   pub point : ℕ
   pub definition : RelationDef
@@ -23,7 +24,8 @@ pub record Addition : Type 0 where
 abbrev pub rows_xid : ℕ
 rows_xid = 2
 
--- The place of the transaction's commit, and its end: no server's commit has either, since records begin and end at multiples of eight.
+-- The place of the transaction's commit, and its end: no server's commit has either, since records
+-- begin and end at multiples of eight.
 abbrev pub rows_lsn : Addition → ℕ
 rows_lsn a = a.point - 1
 

@@ -18,8 +18,9 @@ use Rattle.pgadding.specs.LeftOut.{transaction_without}
 use Rattle.pgadding.specs.Addition.{Addition, rows_transaction}
 use Rattle.pgadding.specs.Passing.{place_behind, place_after, before_rows, behind_rows}
 
--- The server's history in three parts: the transactions that the store has already, the others that the snapshot sees, and those that
--- it doesn't see. The point is the end of a record that is no commit: a commit ends before it, or begins at it or behind it.
+-- The server's history in three parts: the transactions that the store has already, the others that
+-- the snapshot sees, and those that it doesn't see. The point is the end of a record that is no
+-- commit: a commit ends before it, or begins at it or behind it.
 pub record IsAround (a : Addition) (before below above : List Transaction) : Type 0 where
   pub history : IsHistory (before ++ (below ++ above))
   pub some : 1 ≤ a.point
@@ -27,9 +28,11 @@ pub record IsAround (a : Addition) (before below above : List Transaction) : Typ
   pub seen : AllByRecursion (λ (t : Transaction). t.end < a.point) below
   pub unseen : AllByRecursion (λ (t : Transaction). a.point ≤ t.lsn) above
 
--- the history that the copy has: the rows' transaction stands for all that the others do to the table
+-- the history that the copy has: the rows' transaction stands for all that the others do to the
+-- table
 abbrev pub with_rows : Addition → List Transaction → List Transaction → List Transaction → List Transaction
-with_rows a before below above = before ++ (map (transaction_without a.definition.oid) below ++ rows_transaction a ∷ above)
+with_rows a before below above =
+    before ++ (map (transaction_without a.definition.oid) below ++ rows_transaction a ∷ above)
 
 -- no message of a stream block
 abbrev pub IsWhole : Message → Type 0
@@ -43,16 +46,17 @@ abbrev pub BeginsFrom : ℕ → Message → Type 0
 BeginsFrom from (message.Begin lsn time xid) = from ≤ lsn
 BeginsFrom from _ = Unit {0}
 
--- A keepalive between transactions says up to where the server has read its log, and sent what is committed there: whatever begins
--- behind it has a final LSN of its end or above.
+-- A keepalive between transactions says up to where the server has read its log, and sent what is
+-- committed there: whatever begins behind it has a final LSN of its end or above.
 abbrev pub KeepalivesTell : Option ℕ → List Sent → Type 0
 KeepalivesTell place [] = Unit {0}
 KeepalivesTell place (Data start end clock m ∷ sent) = KeepalivesTell (place_behind m place) sent
-KeepalivesTell None (Keepalive end clock reply ∷ sent) = AllByRecursion (BeginsFrom end) (messages_in sent) × KeepalivesTell None sent
+KeepalivesTell None (Keepalive end clock reply ∷ sent) =
+    AllByRecursion (BeginsFrom end) (messages_in sent) × KeepalivesTell None sent
 KeepalivesTell (Some lsn) (Keepalive end clock reply ∷ sent) = KeepalivesTell (Some lsn) sent
 
--- A session of whole transactions that ends between two of them. A server sends a transaction once it is committed, so that a session
--- that is cut off is a front of such a one.
+-- A session of whole transactions that ends between two of them. A server sends a transaction once
+-- it is committed, so that a session that is cut off is a front of such a one.
 pub record IsWholeSession (v : Version) (history : List Transaction) (s : ℕ) (sent : List Sent) : Type 0 where
   pub delivered : Delivers v history s sent
   pub whole : AllByRecursion IsWhole (messages_in sent)
@@ -83,9 +87,10 @@ abbrev pub Agrees : RelationDef → Option RelationDef → Type 0
 Agrees def None = Unit {0}
 Agrees def (Some last) = last ≡ def
 
--- Changes behind the rows have the definition of the last Relation message of their table, and that may now be the one that came with
--- the rows. So one of two things must hold: the server's last Relation message of the table before the rows, if there was one, is the
--- same; or the server sends another one before the next change that names the table.
+-- Changes behind the rows have the definition of the last Relation message of their table, and that
+-- may now be the one that came with the rows. So one of two things must hold: the server's last
+-- Relation message of the table before the rows, if there was one, is the same; or the server sends
+-- another one before the next change that names the table.
 abbrev pub KeepsDefinition : Addition → List Sent → Type 0
 KeepsDefinition a sent =
     Agrees a.definition (last_of a.definition.oid (relations_after [] (items_in (before_rows a.point None sent))))

@@ -12,7 +12,8 @@ use Rattle.pgadding.specs.Addition.{Addition}
 use Rattle.pgadding.specs.Passing.{passed_on}
 use Rattle.pgadding.specs.Around.{IsAround, IsWholeSession, KeepsDefinition, with_rows}
 
--- The bytes are a front of the frames of these messages, behind which CopyDone may stand. These are complete in them.
+-- The bytes are a front of the frames of these messages, behind which CopyDone may stand. These are
+-- complete in them.
 pub record AreBytesOf (sent : List Sent) (bytes : List ℕ) (complete : List Sent) : Type 0 where
   pub done : List wire.Frame
   pub behind : List ℕ
@@ -27,7 +28,8 @@ pub record AreBytesOf (sent : List Sent) (bytes : List ℕ) (complete : List Sen
   pub short : IsPartOfNextFrame later rest
 
 -- These bytes come of what is passed on of a session that starts at s.
-pub record IsPassedSession (v : Version) (a : Addition) (before below above : List Transaction) (s : ℕ) (bytes : List ℕ) (complete : List Sent) : Type 0 where
+pub record IsPassedSession (v : Version) (a : Addition) (before below above : List Transaction)
+    (s : ℕ) (bytes : List ℕ) (complete : List Sent) : Type 0 where
   pub sent : List Sent
   pub later : List Sent
   pub stored : AllByRecursion (λ (t : Transaction). t.end ≤ s) before
@@ -36,14 +38,19 @@ pub record IsPassedSession (v : Version) (a : Addition) (before below above : Li
   pub written : AreBytesOf (passed_on a s sent) bytes complete
 
 -- or something foreign comes behind
-abbrev pub IsPassedIncoming : Version → Addition → List Transaction → List Transaction → List Transaction → ℕ → List ℕ → List Sent → Type 0
+abbrev pub IsPassedIncoming : Version → Addition → List Transaction → List Transaction → List Transaction
+    → ℕ → List ℕ → List Sent → Type 0
 IsPassedIncoming v a before below above s bytes complete =
     IsPassedSession v a before below above s bytes complete
-    ⊎ ((ends : EndsForeign complete bytes) × IsPassedSession v a before below above s (whole_frames complete ends.done) complete)
+    ⊎ ((ends : EndsForeign complete bytes)
+    × IsPassedSession v a before below above s (whole_frames complete ends.done) complete)
 
--- Whatever is passed on of sessions, one after the other, it is sessions of the copy's history, of which every law of sessions speaks.
+-- Whatever is passed on of sessions, one after the other, it is sessions of the copy's history, of
+-- which every law of sessions speaks.
 abbrev pub PassedSessionsAreSessions : Type 0
-PassedSessionsAreSessions = (v : Version) (a : Addition) (before below above : List Transaction) (p : Progress) (sessions : List (List ℕ)) (all_complete : List (List Sent))
+PassedSessionsAreSessions =
+    (v : Version) (a : Addition) (before below above : List Transaction) (p : Progress)
+    (sessions : List (List ℕ)) (all_complete : List (List Sent))
     → IsAround a before below above
     → EachStarts (IsPassedIncoming v a before below above) p sessions all_complete
     → AreIncoming v (with_rows a before below above) p sessions all_complete

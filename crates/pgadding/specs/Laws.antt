@@ -12,13 +12,28 @@ use Rattle.pgadding.specs.Around.{IsAround, IsWholeSession, KeepsDefinition, wit
 
 -- the copy's history is one
 abbrev pub WithRowsIsHistory : Type 0
-WithRowsIsHistory = (a : Addition) (before below above : List Transaction) → IsAround a before below above → IsHistory (with_rows a before below above)
+WithRowsIsHistory =
+    (a : Addition) (before below above : List Transaction)
+    → IsAround a before below above
+    → IsHistory (with_rows a before below above)
 
 -- Of a session of the server's, cut off anywhere, a session of the copy's history is passed on.
 abbrev pub PassedOnIsDelivered : Type 0
-PassedOnIsDelivered = (v : Version) (a : Addition) (before below above : List Transaction) (s : ℕ) (sent later : List Sent)
+PassedOnIsDelivered =
+    (v : Version) (a : Addition) (before below above : List Transaction) (s : ℕ) (sent later : List Sent)
     → IsAround a before below above
     → AllByRecursion (λ (t : Transaction). t.end ≤ s) before
     → IsWholeSession v (before ++ (below ++ above)) s (sent ++ later)
     → (s < a.point → KeepsDefinition a (sent ++ later))
     → Delivers v (with_rows a before below above) s (passed_on a s sent)
+
+-- Of one that isn't cut off it is one that isn't cut off. So by the same laws another table is
+-- added to that.
+abbrev pub PassedOnIsWhole : Type 0
+PassedOnIsWhole =
+    (v : Version) (a : Addition) (before below above : List Transaction) (s : ℕ) (sent : List Sent)
+    → IsAround a before below above
+    → AllByRecursion (λ (t : Transaction). t.end ≤ s) before
+    → IsWholeSession v (before ++ (below ++ above)) s sent
+    → (s < a.point → KeepsDefinition a sent)
+    → IsWholeSession v (with_rows a before below above) s (passed_on a s sent)

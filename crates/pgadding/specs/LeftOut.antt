@@ -19,13 +19,15 @@ abbrev pub truncation : ℕ → List ℕ → List Item
 truncation options [] = []
 truncation options (o ∷ oids) = Truncate options (o ∷ oids) ∷ []
 
--- An item without what it does to the table; nothing where nothing else is left. A Relation message isn't a change.
+-- An item without what it does to the table; nothing where nothing else is left. A Relation message
+-- isn't a change.
 abbrev pub item_without : ℕ → Item → List Item
 item_without oid (Relation def) = Relation def ∷ []
 item_without oid (Insert o row) = if o == oid then [] else Insert o row ∷ []
 item_without oid (Update o prior row) = if o == oid then [] else Update o prior row ∷ []
 item_without oid (Delete o kind row) = if o == oid then [] else Delete o kind row ∷ []
-item_without oid (Truncate options oids) = if is_among oids oid then truncation options (other_oids oid oids) else Truncate options oids ∷ []
+item_without oid (Truncate options oids) =
+    if is_among oids oid then truncation options (other_oids oid oids) else Truncate options oids ∷ []
 
 abbrev pub with_change : List Item → List RelationDef → Work → Work
 with_change [] definitions rest = rest
@@ -34,7 +36,8 @@ with_change (change ∷ none) definitions rest = Changed change definitions rest
 -- the same work without the table's changes
 abbrev pub work_without : ℕ → Work → Work
 work_without oid Nothing = Nothing
-work_without oid (Changed change definitions rest) = with_change (item_without oid change) (other_definitions oid definitions) (work_without oid rest)
+work_without oid (Changed change definitions rest) =
+    with_change (item_without oid change) (other_definitions oid definitions) (work_without oid rest)
 work_without oid (Subtransaction xid inner rest) = Subtransaction xid (work_without oid inner) (work_without oid rest)
 work_without oid (RolledBack xid inside rest) = RolledBack xid inside (work_without oid rest)
 

@@ -1,7 +1,8 @@
-//! Adding a table to a copy within a stream that goes on: what a connector leaves out of a server's sessions and puts into them
-//! (`docs/PROTOCOL.md`, "What the connector changes"), and that the result is sessions of a history.
+//! Adding a table to a copy within a stream that goes on: what a connector leaves out of a server's
+//! sessions and puts into them (`docs/PROTOCOL.md`, "What the connector changes"), and that the
+//! result is sessions of a history.
 //!
-//! It has no code that runs: `connect/pgsub_connect/replacing.py` does what `specs/Passing.antt` defines.
+//! No code here runs: `connect/pgsub_connect/replacing.py` does what `specs/Passing.antt` defines.
 #![tactic(auto)]
 
 pub mod laws;

@@ -6,5 +6,6 @@ pub returns : goal.returns
 returns c = record {
   history = delivered.is_history;
   delivered = delivered.passed_delivered;
+  whole = delivered.passed_whole;
   bytes = bytes.passed_sessions;
 }
