@@ -20,7 +20,7 @@ use Rattle.pgadding.specs.Passing.{place_behind, place_after, before_rows, behin
 
 -- The server's history in three parts: the transactions that the store has already, the others that
 -- the snapshot sees, and those that it doesn't see. The point is the end of a record that is no
--- commit: a commit ends before it, or begins at it or behind it.
+-- commit: a commit ends before it, or begins at it or later.
 pub record IsAround (a : Addition) (before below above : List Transaction) : Type 0 where
   pub history : IsHistory (before ++ (below ++ above))
   pub some : 1 ≤ a.point
@@ -28,8 +28,7 @@ pub record IsAround (a : Addition) (before below above : List Transaction) : Typ
   pub seen : AllByRecursion (λ (t : Transaction). t.end < a.point) below
   pub unseen : AllByRecursion (λ (t : Transaction). a.point ≤ t.lsn) above
 
--- the history that the copy has: the rows' transaction stands for all that the others do to the
--- table
+-- the history that the copy has: the rows' transaction has all that the others do to the table
 abbrev pub with_rows : Addition → List Transaction → List Transaction → List Transaction → List Transaction
 with_rows a before below above =
     before ++ (map (transaction_without a.definition.oid) below ++ rows_transaction a ∷ above)
@@ -47,7 +46,8 @@ BeginsFrom from (message.Begin lsn time xid) = from ≤ lsn
 BeginsFrom from _ = Unit {0}
 
 -- A keepalive between transactions says up to where the server has read its log, and sent what is
--- committed there: whatever begins behind it has a final LSN of its end or above.
+-- committed there: whatever begins after it has a final LSN of its end or above. `Delivers` asks
+-- that of transactions that change rows alone; one without changes may come after the rows neither.
 abbrev pub KeepalivesTell : Option ℕ → List Sent → Type 0
 KeepalivesTell place [] = Unit {0}
 KeepalivesTell place (Data start end clock m ∷ sent) = KeepalivesTell (place_behind m place) sent
@@ -56,7 +56,9 @@ KeepalivesTell None (Keepalive end clock reply ∷ sent) =
 KeepalivesTell (Some lsn) (Keepalive end clock reply ∷ sent) = KeepalivesTell (Some lsn) sent
 
 -- A session of whole transactions that ends between two of them. A server sends a transaction once
--- it is committed, so that a session that is cut off is a front of such a one.
+-- it is committed, so that a session that is cut off is a front of such a one. (`Delivers` says
+-- nothing of a transaction whose commit doesn't come. That it comes in its turn tells that what is
+-- committed before it has come, and so that the rows may.)
 pub record IsWholeSession (v : Version) (history : List Transaction) (s : ℕ) (sent : List Sent) : Type 0 where
   pub delivered : Delivers v history s sent
   pub whole : AllByRecursion IsWhole (messages_in sent)
@@ -81,17 +83,19 @@ is_relation_of oid _ = false
 abbrev pub DefinedBeforeNamed : ℕ → Type 0 → List Item → Type 0
 DefinedBeforeNamed oid Later [] = Later
 DefinedBeforeNamed oid Later (i ∷ items) =
-    (is_relation_of oid i ≡ true) ⊎ ((is_among (named i) oid ≡ false) × DefinedBeforeNamed oid Later items)
+    (is_relation_of oid i ≡ true)
+    ⊎ ((is_among (named i) oid ≡ false) × DefinedBeforeNamed oid Later items)
 
 abbrev pub Agrees : RelationDef → Option RelationDef → Type 0
 Agrees def None = Unit {0}
 Agrees def (Some last) = last ≡ def
 
--- Changes behind the rows have the definition of the last Relation message of their table, and that
+-- Changes after the rows have the definition of the last Relation message of their table, and that
 -- may now be the one that came with the rows. So one of two things must hold: the server's last
 -- Relation message of the table before the rows, if there was one, is the same; or the server sends
 -- another one before the next change that names the table.
 abbrev pub KeepsDefinition : Addition → List Sent → Type 0
 KeepsDefinition a sent =
-    Agrees a.definition (last_of a.definition.oid (relations_after [] (items_in (before_rows a.point None sent))))
+    Agrees a.definition
+    (last_of a.definition.oid (relations_after [] (items_in (before_rows a.point None sent))))
     ⊎ DefinedBeforeNamed a.definition.oid (Unit {0}) (items_in (behind_rows a.point None sent))

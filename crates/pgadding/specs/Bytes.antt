@@ -12,7 +12,7 @@ use Rattle.pgadding.specs.Addition.{Addition}
 use Rattle.pgadding.specs.Passing.{passed_on}
 use Rattle.pgadding.specs.Around.{IsAround, IsWholeSession, KeepsDefinition, with_rows}
 
--- The bytes are a front of the frames of these messages, behind which CopyDone may stand. These are
+-- The bytes are a front of the frames of these messages, after which CopyDone may come. These are
 -- complete in them.
 pub record AreBytesOf (sent : List Sent) (bytes : List ℕ) (complete : List Sent) : Type 0 where
   pub done : List wire.Frame
@@ -37,7 +37,7 @@ pub record IsPassedSession (v : Version) (a : Addition) (before below above : Li
   pub keeps : s < a.point → KeepsDefinition a (sent ++ later)
   pub written : AreBytesOf (passed_on a s sent) bytes complete
 
--- or something foreign comes behind
+-- or something foreign comes after it
 abbrev pub IsPassedIncoming : Version → Addition → List Transaction → List Transaction → List Transaction
     → ℕ → List ℕ → List Sent → Type 0
 IsPassedIncoming v a before below above s bytes complete =

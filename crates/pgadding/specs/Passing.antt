@@ -20,7 +20,7 @@ place_after place [] = place
 place_after place (Data start end clock m ∷ sent) = place_after (place_behind m place) sent
 place_after place (Keepalive end clock reply ∷ sent) = place_after place sent
 
--- A message is at the point or behind it: a Begin with a final LSN of the point or above, or a
+-- A message is at the point or after it: a Begin with a final LSN of the point or above, or a
 -- keepalive between transactions with such an end.
 abbrev pub message_is_behind : ℕ → Message → Bool
 message_is_behind point (message.Begin lsn time xid) = nat_le point lsn
@@ -58,7 +58,7 @@ abbrev pub place_of : Sent → Option ℕ → Option ℕ
 place_of (Data start end clock m) place = place_behind m place
 place_of (Keepalive end clock reply) place = place
 
--- The rows' transaction stands before the first message at the point or behind it. From there on
+-- The rows' transaction comes before the first message at the point or after it. From there on
 -- all is passed on.
 abbrev pub passing : Addition → Option ℕ → List Sent → List Sent
 passing a place [] = []
@@ -71,7 +71,7 @@ passing a place (m ∷ sent) =
 abbrev pub passed_on : Addition → ℕ → List Sent → List Sent
 passed_on a s sent = if nat_le a.point s then sent else passing a None sent
 
--- what of a session comes before the rows, and what at the point or behind it
+-- what of a session comes before the rows, and what at the point or after it
 abbrev pub before_rows : ℕ → Option ℕ → List Sent → List Sent
 before_rows point place [] = []
 before_rows point place (m ∷ sent) =

@@ -26,7 +26,7 @@ pub record AreRowsOf (a : Addition) (tables : Tables) : Type 0 where
   pub same : map.get alone a.definition.oid ≡ map.get tables a.definition.oid
 
 -- Where the rows are the server's at the point, the copy has all of the server's rows at the point
--- and at every position behind it.
+-- and at every position above it.
 abbrev pub RowsAreTheServers : Type 0
 RowsAreTheServers =
     (a : Addition) (before below above : List Transaction) (p : ℕ) (tables : Tables)

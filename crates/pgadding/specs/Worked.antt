@@ -72,7 +72,7 @@ rows_of_t =
     ∷ Data 999 999 (pos 0) (message.Item None (Insert 16384 (row 49)))
     ∷ Data 999 999 (pos 0) (message.Commit 999 1000 (pos 7)) ∷ []
 
--- the rows stand before a keepalive between transactions that tells the point
+-- the rows come before a keepalive between transactions that tells the point
 abbrev pub BeforeAKeepalive : Type 0
 BeforeAKeepalive =
     passed_on adding_t 900 (keepalive 904 ∷ (seen ++ keepalive 999 ∷ keepalive 1000 ∷ unseen))
@@ -84,7 +84,7 @@ BeforeABegin =
     passed_on adding_t 900 (keepalive 904 ∷ (seen ++ unseen))
     ≡ keepalive 904 ∷ (seen_without ++ (rows_of_t ++ unseen))
 
--- a session that ends before has no rows, and one that starts at the point or behind it is passed
+-- a session that ends before has no rows, and one that starts at the point or above it is passed
 -- on as it is
 abbrev pub NotYet : Type 0
 NotYet = passed_on adding_t 900 (keepalive 904 ∷ seen) ≡ keepalive 904 ∷ seen_without

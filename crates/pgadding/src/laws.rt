@@ -7,13 +7,13 @@ ghost use Rattle.pgadding.specs.Rows.{OtherRowsAreTheServers, RowsAreTheServers}
 ghost use Rattle.pgadding.specs.Worked.{BeforeAKeepalive, BeforeABegin, NotYet, NoMore};
 
 /// Whatever is passed on of a server's sessions while a table is added, it is sessions of a history
-/// (`delivered`; `bytes` for their bytes, wherever they are cut off): the server's, in which the
+/// (`delivered`; `bytes` for their bytes, wherever they end): the server's, in which the
 /// commits before the point do nothing to the table, with the rows' transaction at the point
 /// (`history`). So each law of `pgsub_core` about sessions of a history holds over them. As many
 /// tables may be added one after the other (`whole`).
 ///
 /// Of the server it is asked, beside what `pgsub_core` says of sessions: that a transaction whose
-/// Begin it sends is committed in its turn; that what begins behind a keepalive between
+/// Begin it sends is committed in its turn; that what begins after a keepalive between
 /// transactions isn't committed before that keepalive's end; that the record that ends at the point
 /// is no commit; and that the table keeps the definition that its rows came with, or gets a
 /// Relation message before it is named again.
@@ -28,7 +28,7 @@ pub fn passed_on_is_a_session()
 
 /// Each other table has the server's rows at every position (`others`). Where the rows that came
 /// are the server's at the point, under the definition that the server's history gives there, the
-/// copy has all of the server's rows at the point and at every position behind it (`all`).
+/// copy has all of the server's rows at the point and at every position above it (`all`).
 ///
 /// PostgreSQL documentation, Logical Decoding Concepts, Exported Snapshots.
 pub fn rows_are_the_servers()
