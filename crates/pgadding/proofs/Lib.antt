@@ -1,0 +1,18 @@
+mod LeftItems
+mod LeftWork
+mod LeftDescribed
+mod Ordered
+mod Redefined
+mod Defined
+mod Places
+mod Following
+mod RowsCommit
+mod Point
+mod Passed
+mod Histories
+mod Whole
+mod Steps
+mod Kept
+mod Fronts
+mod Bytes
+pub mod Delivered

@@ -1,0 +1,93 @@
+-- Part of the statement.
+-- What is passed on of two sessions, message by message.
+use Rattle.std.specs.Prelude.{◌≡◌, ℕ, pos, negsuc, codes, List, [], ◌∷◌, ◌++◌, true, false, None}
+use Rattle.pgtuple.specs.declared.cell.Cell.{Cell}
+use Rattle.pgtuple.specs.declared.cell.Cell.TheVariants.{Text}
+use Rattle.pglogical.specs.declared.item.Column.{Column}
+use Rattle.pglogical.specs.declared.item.RelationDef.{RelationDef}
+use Rattle.pglogical.specs.declared.item.Item.{Item}
+use Rattle.pglogical.specs.declared.item.Item.TheVariants.{Relation, Insert, Truncate}
+use Rattle.pglogical.specs.declared.message.Message.{Message}
+use Rattle.pglogical.specs.declared.message.Message.TheVariants as message
+use Rattle.pgsub_core.specs.Stream.{Sent, Data, Keepalive}
+use Rattle.pgadding.specs.Addition.{Addition}
+use Rattle.pgadding.specs.Passing.{passed_on}
+
+abbrev pub id : Column
+id = record { key = true; name = codes "id"; type_oid = 23; modifier = negsuc 0 }
+
+-- public.t and public.u, each (id integer key)
+abbrev pub table : ℕ → List ℕ → RelationDef
+table oid name = record { oid = oid; namespace = codes "public"; name = name; letter = 100; columns = id ∷ [] }
+
+abbrev pub t : RelationDef
+t = table 16384 (codes "t")
+
+abbrev pub u : RelationDef
+u = table 16385 (codes "u")
+
+abbrev pub row : ℕ → List Cell
+row digit = Text (digit ∷ []) ∷ []
+
+-- t is added, with one row, by a slot whose point is 1000
+abbrev pub adding_t : Addition
+adding_t = record { point = 1000; definition = t; rows = row 49 ∷ []; clock = pos 7 }
+
+abbrev pub plain : Message → Sent
+plain m = Data 0 0 (pos 0) m
+
+abbrev pub item : Item → Sent
+item i = plain (message.Item None i)
+
+abbrev pub keepalive : ℕ → Sent
+keepalive end = Keepalive end (pos 0) false
+
+-- a transaction that the snapshot sees; within it one keepalive tells less than the point, and one
+-- tells the point
+abbrev pub seen : List Sent
+seen =
+    plain (message.Begin 912 (pos 0) 700) ∷ item (Relation t) ∷ item (Relation u)
+    ∷ item (Insert 16384 (row 49)) ∷ item (Insert 16385 (row 50)) ∷ keepalive 904
+    ∷ item (Truncate 0 (16384 ∷ 16385 ∷ [])) ∷ item (Truncate 0 (16384 ∷ []))
+    ∷ keepalive 1000 ∷ plain (message.Commit 912 928 (pos 0)) ∷ []
+
+-- the same without t
+abbrev pub seen_without : List Sent
+seen_without =
+    plain (message.Begin 912 (pos 0) 700) ∷ item (Relation t) ∷ item (Relation u)
+    ∷ item (Insert 16385 (row 50)) ∷ keepalive 904 ∷ item (Truncate 0 (16385 ∷ []))
+    ∷ plain (message.Commit 912 928 (pos 0)) ∷ []
+
+-- one that it doesn't see
+abbrev pub unseen : List Sent
+unseen =
+    plain (message.Begin 1000 (pos 0) 701) ∷ item (Insert 16384 (row 51)) ∷ keepalive 1000
+    ∷ plain (message.Commit 1000 1040 (pos 0)) ∷ []
+
+abbrev pub rows_of_t : List Sent
+rows_of_t =
+    Data 999 999 (pos 0) (message.Begin 999 (pos 7) 2)
+    ∷ Data 999 999 (pos 0) (message.Item None (Relation t))
+    ∷ Data 999 999 (pos 0) (message.Item None (Truncate 0 (16384 ∷ [])))
+    ∷ Data 999 999 (pos 0) (message.Item None (Insert 16384 (row 49)))
+    ∷ Data 999 999 (pos 0) (message.Commit 999 1000 (pos 7)) ∷ []
+
+-- the rows come before a keepalive between transactions that tells the point
+abbrev pub BeforeAKeepalive : Type 0
+BeforeAKeepalive =
+    passed_on adding_t 900 (keepalive 904 ∷ (seen ++ keepalive 999 ∷ keepalive 1000 ∷ unseen))
+    ≡ keepalive 904 ∷ (seen_without ++ keepalive 999 ∷ (rows_of_t ++ keepalive 1000 ∷ unseen))
+
+-- or before the first transaction at the point
+abbrev pub BeforeABegin : Type 0
+BeforeABegin =
+    passed_on adding_t 900 (keepalive 904 ∷ (seen ++ unseen))
+    ≡ keepalive 904 ∷ (seen_without ++ (rows_of_t ++ unseen))
+
+-- a session that ends before has no rows, and one that starts at the point or above it is passed
+-- on as it is
+abbrev pub NotYet : Type 0
+NotYet = passed_on adding_t 900 (keepalive 904 ∷ seen) ≡ keepalive 904 ∷ seen_without
+
+abbrev pub NoMore : Type 0
+NoMore = passed_on adding_t 1000 (seen ++ unseen) ≡ seen ++ unseen

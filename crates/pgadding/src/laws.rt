@@ -1,0 +1,47 @@
+//! Laws of the definitions. Each is a function with no parameters and an empty body: its contract
+//! is the law.
+
+ghost use Rattle.pgadding.specs.Laws.{WithRowsIsHistory, PassedOnIsDelivered, PassedOnIsWhole};
+ghost use Rattle.pgadding.specs.Bytes.{PassedSessionsAreSessions};
+ghost use Rattle.pgadding.specs.Rows.{OtherRowsAreTheServers, RowsAreTheServers};
+ghost use Rattle.pgadding.specs.Worked.{BeforeAKeepalive, BeforeABegin, NotYet, NoMore};
+
+/// Whatever is passed on of a server's sessions while a table is added, it is sessions of a history
+/// (`delivered`; `bytes` for their bytes, wherever they end): the server's, in which the
+/// commits before the point do nothing to the table, with the rows' transaction at the point
+/// (`history`). So each law of `pgsub_core` about sessions of a history holds over them. As many
+/// tables may be added one after the other (`whole`).
+///
+/// Of the server it is asked, beside what `pgsub_core` says of sessions: that a transaction whose
+/// Begin it sends is committed in its turn; that what begins after a keepalive between
+/// transactions isn't committed before that keepalive's end; that the record that ends at the point
+/// is no commit; and that the table keeps the definition that its rows came with, or gets a
+/// Relation message before it is named again.
+///
+/// PostgreSQL documentation, Logical Decoding Concepts, Exported Snapshots.
+pub fn passed_on_is_a_session()
+    ensures history { WithRowsIsHistory }
+    ensures delivered { PassedOnIsDelivered }
+    ensures whole { PassedOnIsWhole }
+    ensures bytes { PassedSessionsAreSessions }
+{}
+
+/// Each other table has the server's rows at every position (`others`). Where the rows that came
+/// are the server's at the point, under the definition that the server's history gives there, the
+/// copy has all of the server's rows at the point and at every position above it (`all`).
+///
+/// PostgreSQL documentation, Logical Decoding Concepts, Exported Snapshots.
+pub fn rows_are_the_servers()
+    ensures others { OtherRowsAreTheServers }
+    ensures all { RowsAreTheServers }
+{}
+
+/// What is passed on of a session with two transactions, one on each side of the point.
+///
+/// PostgreSQL documentation, Logical Replication Message Formats.
+pub fn sessions_are_passed_on()
+    ensures keepalive { BeforeAKeepalive }
+    ensures begin { BeforeABegin }
+    ensures not_yet { NotYet }
+    ensures no_more { NoMore }
+{}
