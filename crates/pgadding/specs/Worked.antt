@@ -9,7 +9,7 @@ use Rattle.pglogical.specs.declared.item.Item.{Item}
 use Rattle.pglogical.specs.declared.item.Item.TheVariants.{Relation, Insert, Truncate}
 use Rattle.pglogical.specs.declared.message.Message.{Message}
 use Rattle.pglogical.specs.declared.message.Message.TheVariants as message
-use Rattle.pgsub_core.specs.Stream.{Sent, Data, Keepalive}
+use Rattle.pgsub_core.specs.Server.Stream.{Sent, Data, Keepalive}
 use Rattle.pgadding.specs.Addition.{Addition}
 use Rattle.pgadding.specs.Passing.{passed_on}
 

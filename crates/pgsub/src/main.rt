@@ -1,25 +1,21 @@
 //! The program: follows a server, shows, applies and compares recorded sessions of one, and keeps in a file what they lead to.
 #![tactic(auto)]
 
-mod new_store;
-
 ghost use Rattle.std.specs.Prelude.{◌≡◌, ◌≢◌, ◌⊎◌};
 ghost use Rattle.clap.specs.Values.{kind_of};
 ghost use Rattle.clap.specs.declared.error.kind.ErrorKind.TheVariants as kind;
 
-use crate::new_store::make_file;
 use pgcommand::{CommandFault, DEFAULT_CACHE, Limits, Task, command_of};
 use pgfollow::{Clock, Link};
 use pgorder::Version;
+use pgruns::{apply_to_file, dump_file, follow_file};
 use pgstore::Store;
 use pgsub_cli::fault::RunFault;
-use pgsub_cli::following::tell_unfollowed;
 use pgsub_cli::reporting::Reporter;
-use pgsub_cli::storing::{Incoming, read_input, store_fault, tell_stopped, tell_unopened};
-use pgsub_cli::{MissedLines, Reported, run, run_dump, run_follow, run_opened, store_path};
+use pgsub_cli::storing::{Incoming, read_input, store_fault, tell_stopped};
+use pgsub_cli::{MissedLines, run, run_opened, store_path};
 use pgsub_core::Side;
-use sqlite::{Alter, FileStore, Unknown};
-use sqlite_disk::Disk;
+use sqlite::{Alter, Unknown};
 use std::alloc::AllocError;
 use std::cell::RefCell;
 use std::fs::File;
@@ -153,58 +149,36 @@ fn reporter_of<'r>(
     Some(RefCell::new(reporter))
 }
 
-/// Closes a store, whose log goes into its own file. Where that fails nothing is lost: the next run reads the log.
-fn close<D: Disk + Drop>(store: Store<FileStore<D>>) {
-    let _ = store.close_files();
+/// The exit status of a run. What it leaves of the files ends here: it is of any type, since a proof
+/// over the store's own asks for what holds of each of its parts.
+fn status_of<T: Drop>(run: (u8, T)) -> u8 {
+    run.0
 }
 
-/// Runs a task over a store, and tells meanwhile how far it is.
-fn run_told<S: Alter + Drop>(
-    rt: &HostRuntime,
-    task: &Task,
-    input: Option<(Version, Incoming<File>)>,
-    store: Store<S>,
-) -> (u8, Store<S>) {
+/// Applies what a task names to the store in the file at a path. That is read before the store is
+/// opened.
+///
+/// The store's files never stand for a standard stream that was closed at the start: the SQL library
+/// opens them behind those.
+fn run_over(rt: &HostRuntime, task: &Task, path: &str) -> u8 {
     let (mut out, mut err) = (rt.stdout(), rt.stderr());
+    let input = match input_of(rt, task) {
+        Ok(input) => input,
+        Err(fault) => return tell_stopped(rt.alloc(), task, fault, &mut err),
+    };
     let reporter = reporter_of(rt, task, &input);
-    run_opened(
+    status_of(apply_to_file(
         rt.alloc(),
-        store,
+        rt,
+        path,
+        cache_of(task),
+        Unknown,
         limits_of(task),
         input,
         reporter.as_ref(),
         &mut out,
         &mut err,
-    )
-}
-
-/// Runs a task over the store in the file at a path. What it applies is read before the store is opened.
-///
-/// The store's files never stand for a standard stream that was closed at the start: the SQL library opens them behind those.
-fn run_over(rt: &HostRuntime, task: &Task, path: &str) -> u8 {
-    let mut err = rt.stderr();
-    let input = match input_of(rt, task) {
-        Ok(input) => input,
-        Err(fault) => return tell_stopped(rt.alloc(), task, fault, &mut err),
-    };
-    if let Err(fault) = make_file(rt, path) {
-        return tell_unopened(rt.alloc(), fault, &mut err);
-    }
-    match Store::open_with(rt.alloc(), rt, path, cache_of(task), Unknown) {
-        Ok(store) => {
-            let (status, store) = run_told(rt, task, input, store);
-            close(store);
-            status
-        }
-        Err(fault) => tell_unopened(rt.alloc(), fault, &mut err),
-    }
-}
-
-/// Prints what a store holds.
-fn print_rows<S: Alter + Drop>(rt: &HostRuntime, store: Store<S>) -> (u8, Store<S>) {
-    let mut err = rt.stderr();
-    let (status, store, _out) = run_dump(rt.alloc(), store, rt.stdout(), &mut err);
-    (status, store)
+    ))
 }
 
 /// Prints what the store in the file at a path holds, which has to be there.
@@ -214,14 +188,9 @@ fn dump_over(rt: &HostRuntime, task: &Task, path: &str) -> u8 {
         let missing = RunFault::CannotRead(Side::Left);
         return tell_stopped(rt.alloc(), task, missing, &mut err);
     }
-    match Store::open_with(rt.alloc(), rt, path, cache_of(task), Unknown) {
-        Ok(store) => {
-            let (status, store) = print_rows(rt, store);
-            close(store);
-            status
-        }
-        Err(fault) => tell_unopened(rt.alloc(), fault, &mut err),
-    }
+    let (alloc, cache, out) = (rt.alloc(), cache_of(task), rt.stdout());
+    let (status, left, _out) = dump_file(alloc, rt, path, cache, Unknown, out, &mut err);
+    status_of((status, left))
 }
 
 /// The system's clock.
@@ -247,49 +216,47 @@ impl Clock for SystemClock<'_> {
     }
 }
 
-/// Follows a server over a store: its bytes come from standard input, and statuses go to standard output. Standard error is told of
-/// changes that found no row as soon as their commits are stored.
-fn follow_over<S: Alter + Drop>(
-    rt: &HostRuntime,
-    limits: Limits,
-    version: Version,
-    store: Store<S>,
-) -> (u8, Store<S>) {
+/// Follows a server over the store in the file at a path: its bytes come from standard input, and
+/// statuses go to standard output. Standard error is told of changes that found no row as soon as
+/// their commits are stored.
+fn run_live(rt: &HostRuntime, limits: Limits, version: Version, path: &str, cache: usize) -> u8 {
     let mut err = rt.stderr();
     let mut link = Link::new(rt.stdin(), rt.stdout());
     let mut clock = SystemClock { rt };
-    let reported = Reported::new(store, MissedLines::new(rt.alloc(), rt.stderr()));
-    let (status, reported) = run_follow(
+    status_of(follow_file(
         rt.alloc(),
-        reported,
+        rt,
+        path,
+        cache,
+        Unknown,
+        MissedLines::new(rt.alloc(), rt.stderr()),
         limits,
         version,
         &mut link,
         &mut clock,
         &mut err,
-    );
-    (status, reported.into_store())
+    ))
 }
 
-/// Follows a server over the store in the file at a path, of which so many pages are kept in memory. At the end the log goes into the
-/// store's own file.
-fn run_live(rt: &HostRuntime, limits: Limits, version: Version, path: &str, cache: usize) -> u8 {
-    let mut err = rt.stderr();
-    if let Err(fault) = make_file(rt, path) {
-        return tell_unfollowed(rt.alloc(), fault, &mut err);
-    }
-    match Store::open_with(rt.alloc(), rt, path, cache, Unknown) {
-        Ok(store) => {
-            let (status, store) = follow_over(rt, limits, version, store);
-            close(store);
-            status
-        }
-        Err(fault) => tell_unfollowed(rt.alloc(), fault, &mut err),
-    }
+/// Runs a task over a store in memory, and tells meanwhile how far it is.
+fn run_told<S: Alter + Drop>(
+    rt: &HostRuntime,
+    task: &Task,
+    input: Option<(Version, Incoming<File>)>,
+    store: Store<S>,
+) -> (u8, Store<S>) {
+    let (mut out, mut err) = (rt.stdout(), rt.stderr());
+    let reporter = reporter_of(rt, task, &input);
+    run_opened(
+        rt.alloc(),
+        store,
+        limits_of(task),
+        input,
+        reporter.as_ref(),
+        &mut out,
+        &mut err,
+    )
 }
-
-/// Ends a value. It is of any type, since a proof over the store's own asks for what holds of each of its parts.
-fn end<T: Drop>(_value: T) {}
 
 /// Applies a recording or a file to a store in memory, which ends with the program, and tells meanwhile how far it is.
 fn run_in_memory(rt: &HostRuntime, task: &Task) -> u8 {
@@ -299,11 +266,7 @@ fn run_in_memory(rt: &HostRuntime, task: &Task) -> u8 {
         Err(fault) => return tell_stopped(rt.alloc(), task, fault, &mut err),
     };
     match Store::on_memory_disks(rt.alloc()) {
-        Ok(store) => {
-            let (status, store) = run_told(rt, task, input, store);
-            end(store);
-            status
-        }
+        Ok(store) => status_of(run_told(rt, task, input, store)),
         Err(fault) => {
             let stopped = RunFault::Stream(store_fault(fault));
             tell_stopped(rt.alloc(), task, stopped, &mut err)

@@ -1,0 +1,2 @@
+mod NewPage
+mod LiveRows

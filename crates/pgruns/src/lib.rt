@@ -1,0 +1,15 @@
+//! Runs of the program over a store in the files at a path: opens it, runs, and closes it, as one
+//! call each.
+//!
+//! ```text
+//! let (status, left, out) = dump_file(alloc, rt, "copy.db", cache, Unknown, out, &mut err);
+//! ```
+#![tactic(auto)]
+
+mod closing;
+pub mod filed;
+pub mod laws;
+mod new_file;
+
+pub use closing::Closing;
+pub use filed::{Filed, apply_to_file, dump_file, follow_file};

@@ -1,0 +1,129 @@
+//! The file of a new store, an empty database with small pages.
+//!
+//! The SQL library makes a file with pages of 4,096 bytes, and writes each page that a commit changes
+//! whole to the log. A commit of one row changes three, so smaller pages halve what it costs. It keeps
+//! the size of a file that is there.
+
+ghost use Rattle.std.specs.Io.KnownBytes.{Appends};
+ghost use Rattle.std.specs.Prelude.{◌≡◌, ◌⊎◌, OnOk, IfErr};
+ghost use Rattle.pgapply.specs.Stored.{IsOwnFault};
+ghost use Rattle.pgruns.specs.NewFile.{new_page};
+
+use pgapply::StoreFault;
+use std::alloc::AllocError;
+use std::fs::{File, OpenOptions};
+use std::io::Write;
+use std::os::unix::fs::{MetadataExt, OpenOptionsExt};
+use std::path::Path;
+use std::{fs, io};
+
+/// The first bytes of an empty database with pages of 1,024 bytes and a write-ahead log: its header,
+/// and that of a page without cells.
+///
+/// SQLite documentation, Database File Format, The Database Header, B-tree Pages.
+const HEADERS: &[u8] = b"SQLite format 3\0\
+    \x04\x00\x02\x02\x00\x40\x20\x20\x00\x00\x00\x00\x00\x00\x00\x01\
+    \x00\x00\x00\x00\x00\x00\x00\x00\x00\x00\x00\x01\x00\x00\x00\x04\
+    \x00\x00\x00\x00\x00\x00\x00\x00\x00\x00\x00\x01\x00\x00\x00\x00\
+    \x00\x00\x00\x00\x00\x00\x00\x00\x00\x00\x00\x00\x00\x00\x00\x00\
+    \x00\x00\x00\x00\x00\x00\x00\x00\x00\x00\x00\x00\x00\x00\x00\x00\
+    \x00\x2e\x76\x88\x0d\x00\x00\x00\x00\x04\x00\x00";
+
+/// The rest of the page.
+const REST: &[u8] = &[0; 916];
+
+/// The mode of the file: others than its owner read the copied rows only where he lets them.
+const MODE: u32 = 0o600;
+
+/// Writes the one page of such a database, which files have that hold nothing else (law
+/// `new_files_are_empty`).
+fn write_page<W: Write>(out: &mut W) -> io::Result<()>
+    ensures { OnOk result (Appends (W.contents out.old) (W.contents out.new) new_page) }
+{
+    out.write_all(HEADERS)?;
+    out.write_all(REST)
+}
+
+/// Whether SQLite takes the path for memory or for a URI. The SQL library rejects it.
+fn is_special(path: &str) -> bool {
+    path == ":memory:" || path.starts_with("file:")
+}
+
+/// The path with something behind it.
+fn beside(rt: &HostRuntime, path: &str, end: &str) -> Result<String, AllocError> {
+    let mut name = String::from_str(rt.alloc(), path)?;
+    name.push_str(end)?;
+    Ok(name)
+}
+
+/// Writes such a database to a new file, and to the disk.
+fn write_new(file: &mut File) -> io::Result<()> {
+    write_page(file)?;
+    file.sync_all()
+}
+
+/// Writes such a database at the one path, and gives it the other path as a second name, unless
+/// another file has that. It keeps the first name only where its run is killed.
+fn link_new(rt: &HostRuntime, part: &str, path: &str) {
+    let made = OpenOptions::new()
+        .write(true)
+        .create_new(true)
+        .mode(MODE)
+        .open(rt, part);
+    let Ok(mut file) = made else {
+        // Another run has made it, and may be writing it.
+        return;
+    };
+    if write_new(&mut file).is_ok() {
+        let _ = fs::hard_link(rt, part, path);
+    }
+    let _ = fs::remove_file(rt, part);
+}
+
+/// Writes to the disk which files the folder of a path holds. Where that can't be done, a crash may
+/// lose a file that is new.
+fn sync_folder(rt: &HostRuntime, path: &str) {
+    let folder = match Path::new(path).parent() {
+        Some(folder) if !folder.as_str().is_empty() => folder,
+        _ => Path::new("."),
+    };
+    if let Ok(folder) = File::open(rt, folder) {
+        let _ = folder.sync_all();
+    }
+}
+
+/// Makes such a database at the path, if neither it nor its log is there. It comes whole or not at
+/// all, and never in the place of a file that another process makes: the run alone that made a part
+/// writes it, a part gets its second name once it is whole, and only then may another run take its
+/// first name away. Where a part is left of a run that was killed while it wrote, or no file can be
+/// made here, the SQL library makes it, or tells why it can't.
+///
+/// # Errors
+///
+/// `NotAStore` where the file has a single byte, which the library would take for an empty one, as
+/// SQLite does; `Memory`.
+pub(crate) fn make_file(rt: &HostRuntime, path: &str) -> Result<(), StoreFault>
+    ensures { IfErr result (λ fault. IsOwnFault fault ⊎ (fault ≡ StoreFault.NotAStore)) }
+{
+    if is_special(path) {
+        return Ok(());
+    }
+    let part = beside(rt, path, ".pgsub-new")?;
+    if fs::metadata(rt, part.as_str()).is_ok_and(|about| about.nlink() > 1) {
+        // Its run was killed before it took the first name away; the library opens no file with two.
+        let _ = fs::remove_file(rt, part.as_str());
+    }
+    if let Ok(about) = fs::metadata(rt, path) {
+        return if about.len() == 1 {
+            Err(StoreFault::NotAStore)
+        } else {
+            Ok(())
+        };
+    }
+    let log = beside(rt, path, "-wal")?;
+    if fs::metadata(rt, log.as_str()).is_err() {
+        link_new(rt, part.as_str(), path);
+    }
+    sync_folder(rt, path);
+    Ok(())
+}
