@@ -50,21 +50,20 @@ seen_by point p (t ∷ ts) h =
       | false ↦ seen_by point p ts h.1
     ]
 
-three : (p : ℕ) (xs ys zs : List Transaction) → all_changes (ended_by p (xs ++ (ys ++ zs))) ≡ all_changes (ended_by p xs) ++ (all_changes (ended_by p ys) ++ all_changes (ended_by p zs))
+pub three : (p : ℕ) (xs ys zs : List Transaction) → all_changes (ended_by p (xs ++ (ys ++ zs))) ≡ all_changes (ended_by p xs) ++ (all_changes (ended_by p ys) ++ all_changes (ended_by p zs))
 three p xs ys zs =
     ap all_changes (ended-append p xs (ys ++ zs)) ∙ changes-append (ended_by p xs) (ended_by p (ys ++ zs))
     ∙ ap (λ cs. all_changes (ended_by p xs) ++ cs) (ap all_changes (ended-append p ys zs) ∙ changes-append (ended_by p ys) (ended_by p zs))
 
 -- those of the rows' transaction, where it ends by p
-rows_changes : Addition → ℕ → List Change
+abbrev pub rows_changes : Addition → ℕ → List Change
 rows_changes a p = cond (nat_le a.point p) (surviving_changes (rows_work a)) []
 
 behind-rows : (a : Addition) (p : ℕ) (above : List Transaction) → all_changes (ended_by p (rows_transaction a ∷ above)) ≡ rows_changes a p ++ all_changes (ended_by p above)
-unfolding rows_changes
 behind-rows a p above =
     elim (nat_le a.point p) as (λ b. all_changes (cond b (rows_transaction a ∷ ended_by p above) (ended_by p above)) ≡ cond b (surviving_changes (rows_work a)) [] ++ all_changes (ended_by p above)) [ true ↦ refl | false ↦ refl ]
 
-copy-changes : (a : Addition) (p : ℕ) (before below above : List Transaction) → AreSeen a.point below
+pub copy-changes : (a : Addition) (p : ℕ) (before below above : List Transaction) → AreSeen a.point below
     → all_changes (ended_by p (with_rows a before below above))
     ≡ all_changes (ended_by p before) ++ (other_changes a.definition.oid (all_changes (ended_by p below)) ++ (rows_changes a p ++ all_changes (ended_by p above)))
 copy-changes a p before below above seen =
@@ -85,7 +84,6 @@ rows_own : (a : Addition) → AllOwn a.definition.oid (surviving_changes (rows_w
 rows_own a = (self a.definition.oid, inserted_own a.definition a.rows)
 
 rows_changes_own : (a : Addition) (p : ℕ) → AllOwn a.definition.oid (rows_changes a p)
-unfolding rows_changes
 rows_changes_own a p = elim (nat_le a.point p) as (λ b. AllOwn a.definition.oid (cond b (surviving_changes (rows_work a)) [])) [ true ↦ rows_own a | false ↦ tt ]
 
 -- ---- the other tables
@@ -208,7 +206,6 @@ point-changes a before below above is =
 copy-behind : (a : Addition) (p : ℕ) (before below above : List Transaction) → IsAround a before below above → a.point ≤ p
     → all_changes (ended_by p (with_rows a before below above))
     ≡ all_changes before ++ (other_changes a.definition.oid (all_changes below) ++ (surviving_changes (rows_work a) ++ all_changes (ended_by p above)))
-unfolding rows_changes
 copy-behind a p before below above is le =
     let oid = a.definition.oid in
     let last = all_changes (ended_by p above) in

@@ -15,4 +15,5 @@ mod Steps
 mod Kept
 mod Fronts
 mod Bytes
+mod Copies
 pub mod Delivered
