@@ -16,4 +16,5 @@ mod Kept
 mod Fronts
 mod Bytes
 mod Copies
+mod Worked
 pub mod Delivered

@@ -5,7 +5,7 @@ ghost use Rattle.pgadding.specs.Laws.{WithRowsIsHistory, PassedOnIsDelivered, Pa
 ghost use Rattle.pgadding.specs.Bytes.{PassedSessionsAreSessions};
 ghost use Rattle.pgadding.specs.Rows.{OtherRowsAreTheServers, RowsAreTheServers};
 ghost use Rattle.pgadding.specs.Copies.{StartsSafe, EndsSafe, CopyIsTheServers};
-ghost use Rattle.pgadding.specs.Worked.{BeforeAKeepalive, BeforeABegin, NotYet, NoMore};
+ghost use Rattle.pgadding.specs.Worked.{BeforeAKeepalive, BeforeABegin, NotYet, NoMore, IsExample};
 
 /// Whatever is passed on of a server's sessions while a table is added, it is sessions of a history
 /// (`delivered`; `bytes` for their bytes, wherever they end): the server's, in which the
@@ -49,7 +49,8 @@ pub fn copy_is_the_servers()
     ensures copy { CopyIsTheServers }
 {}
 
-/// What is passed on of a session with two transactions, one on each side of the point.
+/// What is passed on of a session with two transactions, one on each side of the point. Such a
+/// session of a history is as the laws ask (`example`).
 ///
 /// PostgreSQL documentation, Logical Replication Message Formats.
 pub fn sessions_are_passed_on()
@@ -57,4 +58,5 @@ pub fn sessions_are_passed_on()
     ensures begin { BeforeABegin }
     ensures not_yet { NotYet }
     ensures no_more { NoMore }
+    ensures example { IsExample }
 {}
