@@ -25,7 +25,7 @@ use Rattle.pgadding.proofs.Bytes.{each_starts, one_session}
 -- ---- nothing between
 
 -- the transactions of a history that end by what is confirmed end by the position
-abbrev EachStored : ℕ → ℕ → Transaction → Type 0
+abbrev pub EachStored : ℕ → ℕ → Transaction → Type 0
 EachStored position confirmed t = ChangesRows t → t.end ≤ confirmed → t.end ≤ position
 
 stored_without : (point oid position confirmed : ℕ) (ts : List Transaction) → AreSeen point ts → AllByRecursion (EachStored position confirmed) ts
@@ -45,11 +45,11 @@ nothing_with_rows a before below above position confirmed is lt h =
     (stored_without a.point oid position confirmed below (all_seen a before below above is) (all_left (EachStored position confirmed) below above rest))
     ((λ changes by. let late : a.point ≤ confirmed = by in absurd (omega arith)), all_right (EachStored position confirmed) below above rest))
 
-seen_stored : (point position confirmed : ℕ) (ts : List Transaction) → point ≤ position → AreSeen point ts → AllByRecursion (EachStored position confirmed) ts
+pub seen_stored : (point position confirmed : ℕ) (ts : List Transaction) → point ≤ position → AreSeen point ts → AllByRecursion (EachStored position confirmed) ts
 seen_stored point position confirmed [] le seen = tt
 seen_stored point position confirmed (t ∷ ts) le seen = ((λ changes by. let early : t.end < point = seen.0.ends in omega arith), seen_stored point position confirmed ts le seen.1)
 
-nothing_of_server : (a : Addition) (before below above : List Transaction) (position confirmed : ℕ) → IsAround a before below above → a.point ≤ position
+pub nothing_of_server : (a : Addition) (before below above : List Transaction) (position confirmed : ℕ) → IsAround a before below above → a.point ≤ position
     → NothingBetween (with_rows a before below above) position confirmed → NothingBetween (before ++ (below ++ above)) position confirmed
 nothing_of_server a before below above position confirmed is le h =
     let oid = a.definition.oid in

@@ -16,5 +16,6 @@ mod Kept
 mod Fronts
 mod Bytes
 mod Copies
+mod NewTables
 mod Worked
 pub mod Delivered

@@ -11,6 +11,7 @@ use Rattle.pgsub_core.specs.Sessions.{EachStarts}
 use Rattle.pgsub_core.specs.Safe.{IsSafe}
 use Rattle.pgsub_core.specs.Replica.{Replica, Running}
 use Rattle.pgsub_core.specs.ApplyState.{follow_all}
+use Rattle.pgadding.specs.LeftOut.{transactions_without}
 use Rattle.pgadding.specs.Addition.{Addition}
 use Rattle.pgadding.specs.Around.{IsAround, with_rows}
 use Rattle.pgadding.specs.Bytes.{IsPassedSession}
@@ -55,6 +56,24 @@ CopyIsTheServers =
     → tables_as_of (before ++ (below ++ above)) a.point ≡ Ok at_point
     → AreRowsOf a at_point
     → IsSafe (before ++ (below ++ above)) old.tables old.position old.confirmed
+    → p.position ≡ old.position
+    → p.confirmed ≡ old.confirmed
+    → EachStarts (IsPassedSession v a before below above) p sessions all_complete
+    → follow_all v old all_complete ≡ Running new
+    → a.point ≤ new.position
+    → IsSafe (before ++ (below ++ above)) new.tables new.position new.confirmed
+
+-- So has whoever follows from a copy of all but the table, as where it was published only now: of
+-- the history whose transactions up to the position do nothing to it.
+abbrev pub NewTableIsTheServers : Type 0
+NewTableIsTheServers =
+    (v : Version) (a : Addition) (before below above : List Transaction) (at_point : Tables)
+    (p : Progress) (old new : Replica) (sessions : List (List ℕ)) (all_complete : List (List Sent))
+    → IsAround a before below above
+    → IsBefore a before below old.position old.confirmed
+    → tables_as_of (before ++ (below ++ above)) a.point ≡ Ok at_point
+    → AreRowsOf a at_point
+    → IsSafe (transactions_without a.definition.oid before ++ (below ++ above)) old.tables old.position old.confirmed
     → p.position ≡ old.position
     → p.confirmed ≡ old.confirmed
     → EachStarts (IsPassedSession v a before below above) p sessions all_complete

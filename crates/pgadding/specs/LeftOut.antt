@@ -1,6 +1,6 @@
 -- Part of the statement.
 -- Items and work without the changes of one table.
-use Rattle.std.specs.Prelude.{ℕ, List, [], ◌∷◌, not, ◌==◌, if◌then◌else◌}
+use Rattle.std.specs.Prelude.{ℕ, List, [], ◌∷◌, not, ◌==◌, if◌then◌else◌, map}
 use Rattle.std.specs.List.{filter}
 use Rattle.pglogical.specs.declared.item.RelationDef.{RelationDef}
 use Rattle.pglogical.specs.declared.item.Item.{Item}
@@ -43,3 +43,6 @@ work_without oid (RolledBack xid inside rest) = RolledBack xid inside (work_with
 
 abbrev pub transaction_without : ℕ → Transaction → Transaction
 transaction_without oid t = record { xid = t.xid; work = work_without oid t.work; lsn = t.lsn; end = t.end }
+
+abbrev pub transactions_without : ℕ → List Transaction → List Transaction
+transactions_without oid ts = map (transaction_without oid) ts
