@@ -28,7 +28,8 @@ pub record IsBefore (a : Addition) (before below : List Transaction) (position c
 -- A copy of the server's history is one of the history with the rows.
 abbrev pub StartsSafe : Type 0
 StartsSafe =
-    (a : Addition) (before below above : List Transaction) (tables : Tables) (position confirmed : ℕ)
+    (a : Addition) (before below above : List Transaction)
+    (tables : Tables) (position confirmed : ℕ)
     → IsAround a before below above
     → IsBefore a before below position confirmed
     → IsSafe (before ++ (below ++ above)) tables position confirmed
@@ -38,7 +39,8 @@ StartsSafe =
 -- server's rows at the point.
 abbrev pub EndsSafe : Type 0
 EndsSafe =
-    (a : Addition) (before below above : List Transaction) (at_point tables : Tables) (position confirmed : ℕ)
+    (a : Addition) (before below above : List Transaction)
+    (at_point tables : Tables) (position confirmed : ℕ)
     → IsAround a before below above
     → tables_as_of (before ++ (below ++ above)) a.point ≡ Ok at_point
     → AreRowsOf a at_point
@@ -73,7 +75,8 @@ NewTableIsTheServers =
     → IsBefore a before below old.position old.confirmed
     → tables_as_of (before ++ (below ++ above)) a.point ≡ Ok at_point
     → AreRowsOf a at_point
-    → IsSafe (transactions_without a.definition.oid before ++ (below ++ above)) old.tables old.position old.confirmed
+    → IsSafe (transactions_without a.definition.oid before ++ (below ++ above))
+    old.tables old.position old.confirmed
     → p.position ≡ old.position
     → p.confirmed ≡ old.confirmed
     → EachStarts (IsPassedSession v a before below above) p sessions all_complete

@@ -20,7 +20,8 @@ WithRowsIsHistory =
 -- Of a session of the server's, cut off anywhere, a session of the copy's history is passed on.
 abbrev pub PassedOnIsDelivered : Type 0
 PassedOnIsDelivered =
-    (v : Version) (a : Addition) (before below above : List Transaction) (s : ℕ) (sent later : List Sent)
+    (v : Version) (a : Addition) (before below above : List Transaction)
+    (s : ℕ) (sent later : List Sent)
     → IsAround a before below above
     → AllByRecursion (λ (t : Transaction). t.end ≤ s) before
     → IsWholeSession v (before ++ (below ++ above)) s (sent ++ later)

@@ -49,7 +49,8 @@ messages_without oid (message.StreamAbort xid label) = message.StreamAbort xid l
 -- What is passed on of a message that comes before the point: not the table's changes, and no
 -- keepalive that tells of the point or more from within a transaction.
 abbrev pub passed : ℕ → ℕ → Option ℕ → Sent → List Sent
-passed point oid place (Data start end clock m) = map (Data start end clock) (messages_without oid m)
+passed point oid place (Data start end clock m) =
+    map (Data start end clock) (messages_without oid m)
 passed point oid None (Keepalive end clock reply) = Keepalive end clock reply ∷ []
 passed point oid (Some lsn) (Keepalive end clock reply) =
     if nat_le point end then [] else Keepalive end clock reply ∷ []

@@ -22,7 +22,8 @@ id = record { key = true; name = codes "id"; type_oid = 23; modifier = negsuc 0 
 
 -- public.t and public.u, each (id integer key)
 abbrev pub table : ℕ → List ℕ → RelationDef
-table oid name = record { oid = oid; namespace = codes "public"; name = name; letter = 100; columns = id ∷ [] }
+table oid name =
+    record { oid = oid; namespace = codes "public"; name = name; letter = 100; columns = id ∷ [] }
 
 abbrev pub t : RelationDef
 t = table 16384 (codes "t")
@@ -105,14 +106,17 @@ NoMore = passed_on adding_t 1000 (seen ++ unseen) ≡ seen ++ unseen
 abbrev pub work_seen : Work
 work_seen =
     Changed (Insert 16384 (row 49)) (t ∷ []) (Changed (Insert 16385 (row 50)) (u ∷ [])
-    (Changed (Truncate 0 (16384 ∷ 16385 ∷ [])) (t ∷ u ∷ []) (Changed (Truncate 0 (16384 ∷ [])) (t ∷ []) Nothing)))
+    (Changed (Truncate 0 (16384 ∷ 16385 ∷ [])) (t ∷ u ∷ [])
+    (Changed (Truncate 0 (16384 ∷ [])) (t ∷ []) Nothing)))
+
+abbrev pub work_unseen : Work
+work_unseen = Changed (Insert 16384 (row 51)) (t ∷ []) Nothing
 
 abbrev pub below : List Transaction
 below = record { xid = 700; work = work_seen; lsn = 912; end = 928 } ∷ []
 
 abbrev pub above : List Transaction
-above =
-    record { xid = 701; work = Changed (Insert 16384 (row 51)) (t ∷ []) Nothing; lsn = 1000; end = 1040 } ∷ []
+above = record { xid = 701; work = work_unseen; lsn = 1000; end = 1040 } ∷ []
 
 abbrev pub session : List Sent
 session = keepalive 904 ∷ (seen_with [] ++ keepalive 999 ∷ keepalive 1000 ∷ unseen)

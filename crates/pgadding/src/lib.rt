@@ -3,8 +3,9 @@
 //! result is sessions of a history.
 //!
 //! ```text
-//! what comes          Begin 912  Insert t  Insert u  Commit 912   Begin 1000  Insert t  Commit 1000
-//! what is passed on   Begin 912            Insert u  Commit 912
+//! what comes          Begin 912  Insert t  Insert u  Commit 912
+//!                     Begin 1000  Insert t  Commit 1000
+//! what is passed on   Begin 912  Insert u  Commit 912
 //!                     Begin 999  Relation t  Truncate t  Insert t ..  Commit 999
 //!                     Begin 1000  Insert t  Commit 1000
 //! ```
