@@ -6,8 +6,8 @@ use Rattle.std.proofs.lemmas.List.Elements.{filter-append}
 use Rattle.std.proofs.lemmas.Bool.Decides.{nat_tests}
 use Rattle.pgtuple.specs.declared.cell.Cell.{Cell}
 use Rattle.pglogical.specs.declared.item.RelationDef.{RelationDef}
-use Rattle.pgsub_core.specs.Server.Work.{IsWork, xids_of, AllDiffer}
-use Rattle.pgsub_core.specs.Server.History.{Transaction, IsHistory, IsHistoryFrom, ended_after}
+use Rattle.pgsub_core.specs.Work.{IsWork, xids_of, AllDiffer}
+use Rattle.pgsub_core.specs.History.{Transaction, IsHistory, IsHistoryFrom, ended_after}
 use Rattle.pgadding.specs.LeftOut.{transaction_without}
 use Rattle.pgadding.specs.Addition.{Addition, inserted, rows_transaction, rows_xid}
 use Rattle.pgadding.specs.Around.{IsAround, with_rows}
@@ -61,7 +61,7 @@ with_rows_history a before below above is = stored_history a 0 before below abov
 
 -- ---- what is known of its transactions
 
-seen_from : (point from : ℕ) (below above : List Transaction) → EndBelow point below → IsHistoryFrom from (below ++ above) → AreSeen point below
+pub seen_from : (point from : ℕ) (below above : List Transaction) → EndBelow point below → IsHistoryFrom from (below ++ above) → AreSeen point below
 seen_from point from [] above ends h = tt
 seen_from point from (t ∷ below) above ends h =
     (record { begins = (let last : t.end < point = ends.0 in let long : t.lsn < t.end = h.1 in omega arith); ends = ends.0; work = h.2 }, seen_from point t.end below above ends.1 h.4)
@@ -87,10 +87,10 @@ ends_above point from (t ∷ before) below above unseen h = ends_above point t.e
 
 -- ---- what comes behind a start
 
-after-append : (s : ℕ) (xs ys : List Transaction) → ended_after s (xs ++ ys) ≡ ended_after s xs ++ ended_after s ys
+pub after-append : (s : ℕ) (xs ys : List Transaction) → ended_after s (xs ++ ys) ≡ ended_after s xs ++ ended_after s ys
 after-append s xs ys = filter-append (λ (t : Transaction). nat_lt s t.end) xs ys
 
-after-none : (s : ℕ) (ts : List Transaction) → AllByRecursion (λ (t : Transaction). t.end ≤ s) ts → ended_after s ts ≡ []
+pub after-none : (s : ℕ) (ts : List Transaction) → AllByRecursion (λ (t : Transaction). t.end ≤ s) ts → ended_after s ts ≡ []
 after-none s [] h = refl
 after-none s (t ∷ ts) h =
     let by : t.end ≤ s = h.0 in

@@ -12,8 +12,8 @@ use Rattle.pgapply.specs.declared.op.Op.TheVariants as op
 use Rattle.pgapply.specs.declared.rows.StoreFault.{StoreFault}
 use Rattle.pgapply.specs.Value.{Table, Tables, Rows}
 use Rattle.pgapply.specs.Apply.{Change, apply, fold_changes, found_rows, rows_after, ◌>>=◌}
-use Rattle.pgsub_core.specs.Server.Work.{surviving_changes}
-use Rattle.pgsub_core.specs.Server.History.{Transaction, all_changes, ended_by, tables_as_of}
+use Rattle.pgsub_core.specs.Work.{surviving_changes}
+use Rattle.pgsub_core.specs.History.{Transaction, all_changes, ended_by, tables_as_of}
 use Rattle.pgsub_core.proofs.Changes.{fold-append, changes-append, ended-append, ended-none}
 use Rattle.pgadding.specs.LeftOut.{transaction_without}
 use Rattle.pgadding.specs.Addition.{Addition, inserted, rows_work, rows_transaction}
@@ -27,7 +27,7 @@ use Rattle.pgadding.proofs.Steps.{AlikeTables, bound, Bound, fold_without, fold_
 
 -- ---- the changes
 
-changes-without : (point oid : ℕ) (ts : List Transaction) → AreSeen point ts → all_changes (all_without oid ts) ≡ other_changes oid (all_changes ts)
+pub changes-without : (point oid : ℕ) (ts : List Transaction) → AreSeen point ts → all_changes (all_without oid ts) ≡ other_changes oid (all_changes ts)
 changes-without point oid [] h = refl
 changes-without point oid (t ∷ ts) h =
     ap (λ cs. cs ++ all_changes (all_without oid ts)) (surviving-without oid t.work h.0.work)
@@ -50,21 +50,20 @@ seen_by point p (t ∷ ts) h =
       | false ↦ seen_by point p ts h.1
     ]
 
-three : (p : ℕ) (xs ys zs : List Transaction) → all_changes (ended_by p (xs ++ (ys ++ zs))) ≡ all_changes (ended_by p xs) ++ (all_changes (ended_by p ys) ++ all_changes (ended_by p zs))
+pub three : (p : ℕ) (xs ys zs : List Transaction) → all_changes (ended_by p (xs ++ (ys ++ zs))) ≡ all_changes (ended_by p xs) ++ (all_changes (ended_by p ys) ++ all_changes (ended_by p zs))
 three p xs ys zs =
     ap all_changes (ended-append p xs (ys ++ zs)) ∙ changes-append (ended_by p xs) (ended_by p (ys ++ zs))
     ∙ ap (λ cs. all_changes (ended_by p xs) ++ cs) (ap all_changes (ended-append p ys zs) ∙ changes-append (ended_by p ys) (ended_by p zs))
 
 -- those of the rows' transaction, where it ends by p
-rows_changes : Addition → ℕ → List Change
+abbrev pub rows_changes : Addition → ℕ → List Change
 rows_changes a p = cond (nat_le a.point p) (surviving_changes (rows_work a)) []
 
 behind-rows : (a : Addition) (p : ℕ) (above : List Transaction) → all_changes (ended_by p (rows_transaction a ∷ above)) ≡ rows_changes a p ++ all_changes (ended_by p above)
-unfolding rows_changes
 behind-rows a p above =
     elim (nat_le a.point p) as (λ b. all_changes (cond b (rows_transaction a ∷ ended_by p above) (ended_by p above)) ≡ cond b (surviving_changes (rows_work a)) [] ++ all_changes (ended_by p above)) [ true ↦ refl | false ↦ refl ]
 
-copy-changes : (a : Addition) (p : ℕ) (before below above : List Transaction) → AreSeen a.point below
+pub copy-changes : (a : Addition) (p : ℕ) (before below above : List Transaction) → AreSeen a.point below
     → all_changes (ended_by p (with_rows a before below above))
     ≡ all_changes (ended_by p before) ++ (other_changes a.definition.oid (all_changes (ended_by p below)) ++ (rows_changes a p ++ all_changes (ended_by p above)))
 copy-changes a p before below above seen =
@@ -85,7 +84,6 @@ rows_own : (a : Addition) → AllOwn a.definition.oid (surviving_changes (rows_w
 rows_own a = (self a.definition.oid, inserted_own a.definition a.rows)
 
 rows_changes_own : (a : Addition) (p : ℕ) → AllOwn a.definition.oid (rows_changes a p)
-unfolding rows_changes
 rows_changes_own a p = elim (nat_le a.point p) as (λ b. AllOwn a.definition.oid (cond b (surviving_changes (rows_work a)) [])) [ true ↦ rows_own a | false ↦ tt ]
 
 -- ---- the other tables
@@ -164,7 +162,7 @@ rows_too a alone tables e =
     }
 
 -- the server's rows at the point, from what is passed on
-rows_made : (a : Addition) (first both : List Change) (tables : Tables) → fold_changes map.empty (first ++ both) ≡ Ok tables → AreRowsOf a tables
+pub rows_made : (a : Addition) (first both : List Change) (tables : Tables) → fold_changes map.empty (first ++ both) ≡ Ok tables → AreRowsOf a tables
     → fold_changes map.empty (first ++ (other_changes a.definition.oid both ++ surviving_changes (rows_work a))) ≡ Ok tables
 rows_made a first both tables e is =
     let oid = a.definition.oid in
@@ -192,23 +190,22 @@ ended_whole point p (t ∷ ts) le h =
     let yes : nat_le t.end p ≡ true = grind (arith, nat_tests) in
     ap (λ b. cond b (t ∷ ended_by p ts) (ended_by p ts)) yes ∙ ap (λ rest. t ∷ rest) (ended_whole point p ts le h.1)
 
-server-changes : (a : Addition) (p : ℕ) (before below above : List Transaction) → IsAround a before below above → a.point ≤ p
+pub server-changes : (a : Addition) (p : ℕ) (before below above : List Transaction) → IsAround a before below above → a.point ≤ p
     → all_changes (ended_by p (before ++ (below ++ above))) ≡ all_changes before ++ (all_changes below ++ all_changes (ended_by p above))
 server-changes a p before below above is le =
     three p before below above
     ∙ ap (λ ts. all_changes ts ++ (all_changes (ended_by p below) ++ all_changes (ended_by p above))) (ended_whole a.point p before le is.stored)
     ∙ ap (λ ts. all_changes before ++ (all_changes ts ++ all_changes (ended_by p above))) (ended_whole a.point p below le is.seen)
 
-point-changes : (a : Addition) (before below above : List Transaction) → IsAround a before below above → all_changes (ended_by a.point (before ++ (below ++ above))) ≡ all_changes before ++ all_changes below
+pub point-changes : (a : Addition) (before below above : List Transaction) → IsAround a before below above → all_changes (ended_by a.point (before ++ (below ++ above))) ≡ all_changes before ++ all_changes below
 point-changes a before below above is =
     server-changes a a.point before below above is (omega arith)
     ∙ ap (λ ts. all_changes before ++ (all_changes below ++ all_changes ts)) (ended-none a.point above (ends_above a.point 0 before below above is.unseen is.history))
     ∙ ap (λ cs. all_changes before ++ cs) (append-nil (all_changes below))
 
-copy-behind : (a : Addition) (p : ℕ) (before below above : List Transaction) → IsAround a before below above → a.point ≤ p
+pub copy-behind : (a : Addition) (p : ℕ) (before below above : List Transaction) → IsAround a before below above → a.point ≤ p
     → all_changes (ended_by p (with_rows a before below above))
     ≡ all_changes before ++ (other_changes a.definition.oid (all_changes below) ++ (surviving_changes (rows_work a) ++ all_changes (ended_by p above)))
-unfolding rows_changes
 copy-behind a p before below above is le =
     let oid = a.definition.oid in
     let last = all_changes (ended_by p above) in
@@ -219,7 +216,7 @@ copy-behind a p before below above is le =
     ∙ ap (λ b. all_changes before ++ (other_changes oid (all_changes below) ++ (cond b (surviving_changes (rows_work a)) [] ++ last))) there
 
 -- behind changes that make these tables
-then_last : (all last : List Change) (tables : Tables) → fold_changes map.empty all ≡ Ok tables → fold_changes map.empty (all ++ last) ≡ fold_changes tables last
+pub then_last : (all last : List Change) (tables : Tables) → fold_changes map.empty all ≡ Ok tables → fold_changes map.empty (all ++ last) ≡ fold_changes tables last
 then_last all last tables e = fold-append all last map.empty ∙ ap (λ r. r >>= λ n. fold_changes n last) e
 
 pub rows_kept : RowsAreTheServers

@@ -15,4 +15,7 @@ mod Steps
 mod Kept
 mod Fronts
 mod Bytes
+mod Copies
+mod NewTables
+mod Worked
 pub mod Delivered

@@ -7,9 +7,9 @@ use Rattle.pglogical.specs.declared.item.Item.{Item}
 use Rattle.pglogical.specs.declared.item.Item.TheVariants.{Relation, Insert, Truncate}
 use Rattle.pglogical.specs.declared.message.Message.{Message}
 use Rattle.pglogical.specs.declared.message.Message.TheVariants as message
-use Rattle.pgsub_core.specs.Server.Work.{Work, Nothing, Changed}
-use Rattle.pgsub_core.specs.Server.History.{Transaction}
-use Rattle.pgsub_core.specs.Server.Stream.{Sent, Data}
+use Rattle.pgsub_core.specs.Work.{Work, Nothing, Changed}
+use Rattle.pgsub_core.specs.History.{Transaction}
+use Rattle.pgsub_core.specs.Stream.{Sent, Data}
 
 -- A table's rows as the snapshot of a slot shows them, whose consistent point is `point`: the end
 -- of a record that is no commit. `clock` is when the transaction is made, in microseconds since
@@ -52,7 +52,8 @@ items_at lsn items = map (λ i. sent_at lsn (message.Item None i)) items
 abbrev pub rows_sent : Addition → List Sent
 rows_sent a =
     sent_at (rows_lsn a) (message.Begin (rows_lsn a) a.clock rows_xid)
-    ∷ (items_at (rows_lsn a) (rows_items a) ++ sent_at (rows_lsn a) (message.Commit (rows_lsn a) (rows_end a) a.clock) ∷ [])
+    ∷ (items_at (rows_lsn a) (rows_items a)
+    ++ sent_at (rows_lsn a) (message.Commit (rows_lsn a) (rows_end a) a.clock) ∷ [])
 
 abbrev pub inserted : RelationDef → List (List Cell) → Work
 inserted def [] = Nothing
@@ -63,4 +64,5 @@ rows_work a = Changed (emptied a) (a.definition ∷ []) (inserted a.definition a
 
 -- the transaction in the history
 abbrev pub rows_transaction : Addition → Transaction
-rows_transaction a = record { xid = rows_xid; work = rows_work a; lsn = rows_lsn a; end = rows_end a }
+rows_transaction a =
+    record { xid = rows_xid; work = rows_work a; lsn = rows_lsn a; end = rows_end a }

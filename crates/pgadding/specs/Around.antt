@@ -1,6 +1,6 @@
 -- Part of the statement.
 -- Of which histories and sessions a table may be added, and the history that the copy then has.
-use Rattle.std.specs.Prelude.{◌≡◌, ◌<◌, ◌≤◌, ◌⊎◌, ℕ, List, [], ◌∷◌, ◌++◌, Bool, true, false, ◌==◌, Option, Some, None, map}
+use Rattle.std.specs.Prelude.{◌≡◌, ◌<◌, ◌≤◌, ◌⊎◌, ℕ, List, [], ◌∷◌, ◌++◌, Bool, true, false, ◌==◌, Option, Some, None}
 use Rattle.std.specs.List.{AllByRecursion}
 use Rattle.pglogical.specs.Named.{named}
 use Rattle.pglogical.specs.declared.item.RelationDef.{RelationDef}
@@ -9,12 +9,12 @@ use Rattle.pglogical.specs.declared.item.Item.TheVariants.{Relation}
 use Rattle.pglogical.specs.declared.message.Message.{Message}
 use Rattle.pglogical.specs.declared.message.Message.TheVariants as message
 use Rattle.pgorder.specs.declared.Version.{Version}
-use Rattle.pgsub_core.specs.Server.Work.{is_among}
-use Rattle.pgsub_core.specs.Server.History.{Transaction, IsHistory}
-use Rattle.pgsub_core.specs.Server.Described.{last_of, relations_after}
-use Rattle.pgsub_core.specs.Server.Stream.{Sent, Data, Keepalive, messages_in}
-use Rattle.pgsub_core.specs.Server.Delivers.{Delivers}
-use Rattle.pgadding.specs.LeftOut.{transaction_without}
+use Rattle.pgsub_core.specs.Work.{is_among}
+use Rattle.pgsub_core.specs.History.{Transaction, IsHistory}
+use Rattle.pgsub_core.specs.Described.{last_of, relations_after}
+use Rattle.pgsub_core.specs.Stream.{Sent, Data, Keepalive, messages_in}
+use Rattle.pgsub_core.specs.Delivers.{Delivers}
+use Rattle.pgadding.specs.LeftOut.{transactions_without}
 use Rattle.pgadding.specs.Addition.{Addition, rows_transaction}
 use Rattle.pgadding.specs.Passing.{place_behind, place_after, before_rows, behind_rows}
 
@@ -31,7 +31,7 @@ pub record IsAround (a : Addition) (before below above : List Transaction) : Typ
 -- the history that the copy has: the rows' transaction has all that the others do to the table
 abbrev pub with_rows : Addition → List Transaction → List Transaction → List Transaction → List Transaction
 with_rows a before below above =
-    before ++ (map (transaction_without a.definition.oid) below ++ rows_transaction a ∷ above)
+    before ++ (transactions_without a.definition.oid below ++ rows_transaction a ∷ above)
 
 -- no message of a stream block
 abbrev pub IsWhole : Message → Type 0

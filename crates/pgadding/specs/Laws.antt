@@ -3,9 +3,9 @@
 use Rattle.std.specs.Prelude.{◌<◌, ◌≤◌, ℕ, List, ◌++◌}
 use Rattle.std.specs.List.{AllByRecursion}
 use Rattle.pgorder.specs.declared.Version.{Version}
-use Rattle.pgsub_core.specs.Server.History.{Transaction, IsHistory}
-use Rattle.pgsub_core.specs.Server.Stream.{Sent}
-use Rattle.pgsub_core.specs.Server.Delivers.{Delivers}
+use Rattle.pgsub_core.specs.History.{Transaction, IsHistory}
+use Rattle.pgsub_core.specs.Stream.{Sent}
+use Rattle.pgsub_core.specs.Delivers.{Delivers}
 use Rattle.pgadding.specs.Addition.{Addition}
 use Rattle.pgadding.specs.Passing.{passed_on}
 use Rattle.pgadding.specs.Around.{IsAround, IsWholeSession, KeepsDefinition, with_rows}
@@ -20,7 +20,8 @@ WithRowsIsHistory =
 -- Of a session of the server's, cut off anywhere, a session of the copy's history is passed on.
 abbrev pub PassedOnIsDelivered : Type 0
 PassedOnIsDelivered =
-    (v : Version) (a : Addition) (before below above : List Transaction) (s : ℕ) (sent later : List Sent)
+    (v : Version) (a : Addition) (before below above : List Transaction)
+    (s : ℕ) (sent later : List Sent)
     → IsAround a before below above
     → AllByRecursion (λ (t : Transaction). t.end ≤ s) before
     → IsWholeSession v (before ++ (below ++ above)) s (sent ++ later)

@@ -1,12 +1,12 @@
 -- Part of the statement.
 -- Items and work without the changes of one table.
-use Rattle.std.specs.Prelude.{ℕ, List, [], ◌∷◌, not, ◌==◌, if◌then◌else◌}
+use Rattle.std.specs.Prelude.{ℕ, List, [], ◌∷◌, not, ◌==◌, if◌then◌else◌, map}
 use Rattle.std.specs.List.{filter}
 use Rattle.pglogical.specs.declared.item.RelationDef.{RelationDef}
 use Rattle.pglogical.specs.declared.item.Item.{Item}
 use Rattle.pglogical.specs.declared.item.Item.TheVariants.{Relation, Insert, Update, Delete, Truncate}
-use Rattle.pgsub_core.specs.Server.Work.{Work, Nothing, Changed, Subtransaction, RolledBack, is_among}
-use Rattle.pgsub_core.specs.Server.History.{Transaction}
+use Rattle.pgsub_core.specs.Work.{Work, Nothing, Changed, Subtransaction, RolledBack, is_among}
+use Rattle.pgsub_core.specs.History.{Transaction}
 
 abbrev pub other_oids : ℕ → List ℕ → List ℕ
 other_oids oid oids = filter (λ x. not (x == oid)) oids
@@ -27,7 +27,9 @@ item_without oid (Insert o row) = if o == oid then [] else Insert o row ∷ []
 item_without oid (Update o prior row) = if o == oid then [] else Update o prior row ∷ []
 item_without oid (Delete o kind row) = if o == oid then [] else Delete o kind row ∷ []
 item_without oid (Truncate options oids) =
-    if is_among oids oid then truncation options (other_oids oid oids) else Truncate options oids ∷ []
+    if is_among oids oid
+    then truncation options (other_oids oid oids)
+    else Truncate options oids ∷ []
 
 abbrev pub with_change : List Item → List RelationDef → Work → Work
 with_change [] definitions rest = rest
@@ -37,9 +39,15 @@ with_change (change ∷ none) definitions rest = Changed change definitions rest
 abbrev pub work_without : ℕ → Work → Work
 work_without oid Nothing = Nothing
 work_without oid (Changed change definitions rest) =
-    with_change (item_without oid change) (other_definitions oid definitions) (work_without oid rest)
-work_without oid (Subtransaction xid inner rest) = Subtransaction xid (work_without oid inner) (work_without oid rest)
+    with_change (item_without oid change) (other_definitions oid definitions)
+    (work_without oid rest)
+work_without oid (Subtransaction xid inner rest) =
+    Subtransaction xid (work_without oid inner) (work_without oid rest)
 work_without oid (RolledBack xid inside rest) = RolledBack xid inside (work_without oid rest)
 
 abbrev pub transaction_without : ℕ → Transaction → Transaction
-transaction_without oid t = record { xid = t.xid; work = work_without oid t.work; lsn = t.lsn; end = t.end }
+transaction_without oid t =
+    record { xid = t.xid; work = work_without oid t.work; lsn = t.lsn; end = t.end }
+
+abbrev pub transactions_without : ℕ → List Transaction → List Transaction
+transactions_without oid ts = map (transaction_without oid) ts

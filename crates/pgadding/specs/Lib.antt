@@ -4,5 +4,6 @@ pub mod Passing
 pub mod Around
 pub mod Rows
 pub mod Bytes
+pub mod Copies
 pub mod Worked
 pub mod Laws

@@ -4,7 +4,7 @@
 use Rattle.std.specs.Prelude.{ℕ, List, [], ◌∷◌, ◌++◌, Bool, false, Option, Some, None, nat_le, map, if◌then◌else◌}
 use Rattle.pglogical.specs.declared.message.Message.{Message}
 use Rattle.pglogical.specs.declared.message.Message.TheVariants as message
-use Rattle.pgsub_core.specs.Server.Stream.{Sent, Data, Keepalive}
+use Rattle.pgsub_core.specs.Stream.{Sent, Data, Keepalive}
 use Rattle.pgadding.specs.LeftOut.{item_without}
 use Rattle.pgadding.specs.Addition.{Addition, rows_sent}
 
@@ -49,7 +49,8 @@ messages_without oid (message.StreamAbort xid label) = message.StreamAbort xid l
 -- What is passed on of a message that comes before the point: not the table's changes, and no
 -- keepalive that tells of the point or more from within a transaction.
 abbrev pub passed : ℕ → ℕ → Option ℕ → Sent → List Sent
-passed point oid place (Data start end clock m) = map (Data start end clock) (messages_without oid m)
+passed point oid place (Data start end clock m) =
+    map (Data start end clock) (messages_without oid m)
 passed point oid None (Keepalive end clock reply) = Keepalive end clock reply ∷ []
 passed point oid (Some lsn) (Keepalive end clock reply) =
     if nat_le point end then [] else Keepalive end clock reply ∷ []

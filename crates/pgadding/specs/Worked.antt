@@ -9,16 +9,21 @@ use Rattle.pglogical.specs.declared.item.Item.{Item}
 use Rattle.pglogical.specs.declared.item.Item.TheVariants.{Relation, Insert, Truncate}
 use Rattle.pglogical.specs.declared.message.Message.{Message}
 use Rattle.pglogical.specs.declared.message.Message.TheVariants as message
-use Rattle.pgsub_core.specs.Server.Stream.{Sent, Data, Keepalive}
+use Rattle.pgorder.specs.declared.Version.TheVariants.{Two}
+use Rattle.pgsub_core.specs.Work.{Work, Nothing, Changed}
+use Rattle.pgsub_core.specs.History.{Transaction}
+use Rattle.pgsub_core.specs.Stream.{Sent, Data, Keepalive}
 use Rattle.pgadding.specs.Addition.{Addition}
 use Rattle.pgadding.specs.Passing.{passed_on}
+use Rattle.pgadding.specs.Around.{IsAround, IsWholeSession, KeepsDefinition}
 
 abbrev pub id : Column
 id = record { key = true; name = codes "id"; type_oid = 23; modifier = negsuc 0 }
 
 -- public.t and public.u, each (id integer key)
 abbrev pub table : ℕ → List ℕ → RelationDef
-table oid name = record { oid = oid; namespace = codes "public"; name = name; letter = 100; columns = id ∷ [] }
+table oid name =
+    record { oid = oid; namespace = codes "public"; name = name; letter = 100; columns = id ∷ [] }
 
 abbrev pub t : RelationDef
 t = table 16384 (codes "t")
@@ -42,14 +47,18 @@ item i = plain (message.Item None i)
 abbrev pub keepalive : ℕ → Sent
 keepalive end = Keepalive end (pos 0) false
 
--- a transaction that the snapshot sees; within it one keepalive tells less than the point, and one
--- tells the point
-abbrev pub seen : List Sent
-seen =
+-- A transaction that the snapshot sees. Within it a keepalive tells less than the point; `told`
+-- comes before its Commit.
+abbrev pub seen_with : List Sent → List Sent
+seen_with told =
     plain (message.Begin 912 (pos 0) 700) ∷ item (Relation t) ∷ item (Relation u)
     ∷ item (Insert 16384 (row 49)) ∷ item (Insert 16385 (row 50)) ∷ keepalive 904
     ∷ item (Truncate 0 (16384 ∷ 16385 ∷ [])) ∷ item (Truncate 0 (16384 ∷ []))
-    ∷ keepalive 1000 ∷ plain (message.Commit 912 928 (pos 0)) ∷ []
+    ∷ (told ++ plain (message.Commit 912 928 (pos 0)) ∷ [])
+
+-- within it a keepalive tells the point, as no server's does
+abbrev pub seen : List Sent
+seen = seen_with (keepalive 1000 ∷ [])
 
 -- the same without t
 abbrev pub seen_without : List Sent
@@ -91,3 +100,29 @@ NotYet = passed_on adding_t 900 (keepalive 904 ∷ seen) ≡ keepalive 904 ∷ s
 
 abbrev pub NoMore : Type 0
 NoMore = passed_on adding_t 1000 (seen ++ unseen) ≡ seen ++ unseen
+
+-- ---- a history and a session of it, of which the laws speak
+
+abbrev pub work_seen : Work
+work_seen =
+    Changed (Insert 16384 (row 49)) (t ∷ []) (Changed (Insert 16385 (row 50)) (u ∷ [])
+    (Changed (Truncate 0 (16384 ∷ 16385 ∷ [])) (t ∷ u ∷ [])
+    (Changed (Truncate 0 (16384 ∷ [])) (t ∷ []) Nothing)))
+
+abbrev pub work_unseen : Work
+work_unseen = Changed (Insert 16384 (row 51)) (t ∷ []) Nothing
+
+abbrev pub below : List Transaction
+below = record { xid = 700; work = work_seen; lsn = 912; end = 928 } ∷ []
+
+abbrev pub above : List Transaction
+above = record { xid = 701; work = work_unseen; lsn = 1000; end = 1040 } ∷ []
+
+abbrev pub session : List Sent
+session = keepalive 904 ∷ (seen_with [] ++ keepalive 999 ∷ keepalive 1000 ∷ unseen)
+
+-- they are as the laws ask
+pub record IsExample : Type 0 where
+  pub around : IsAround adding_t [] below above
+  pub whole : IsWholeSession Two (below ++ above) 900 session
+  pub keeps : KeepsDefinition adding_t session

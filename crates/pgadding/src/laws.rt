@@ -4,7 +4,13 @@
 ghost use Rattle.pgadding.specs.Laws.{WithRowsIsHistory, PassedOnIsDelivered, PassedOnIsWhole};
 ghost use Rattle.pgadding.specs.Bytes.{PassedSessionsAreSessions};
 ghost use Rattle.pgadding.specs.Rows.{OtherRowsAreTheServers, RowsAreTheServers};
-ghost use Rattle.pgadding.specs.Worked.{BeforeAKeepalive, BeforeABegin, NotYet, NoMore};
+ghost use Rattle.pgadding.specs.Copies.{
+  StartsSafe,
+  EndsSafe,
+  CopyIsTheServers,
+  NewTableIsTheServers,
+};
+ghost use Rattle.pgadding.specs.Worked.{BeforeAKeepalive, BeforeABegin, NotYet, NoMore, IsExample};
 
 /// Whatever is passed on of a server's sessions while a table is added, it is sessions of a history
 /// (`delivered`; `bytes` for their bytes, wherever they end): the server's, in which the
@@ -36,7 +42,22 @@ pub fn rows_are_the_servers()
     ensures all { RowsAreTheServers }
 {}
 
-/// What is passed on of a session with two transactions, one on each side of the point.
+/// A copy of the server's history is one of the history with the rows (`start`), and from the point
+/// on it is one of the server's again, where the rows are the server's at the point (`end`). So
+/// whoever follows what is passed on, from a copy of the server's history below the point, has one
+/// at each position from the point on (`copy`). The copy may also begin without any of the table's
+/// rows, as where the table was published only now (`fresh`).
+///
+/// PostgreSQL documentation, Logical Decoding Concepts, Exported Snapshots.
+pub fn copy_is_the_servers()
+    ensures start { StartsSafe }
+    ensures end { EndsSafe }
+    ensures copy { CopyIsTheServers }
+    ensures fresh { NewTableIsTheServers }
+{}
+
+/// What is passed on of a session with two transactions, one on each side of the point. Such a
+/// session of a history is as the laws ask (`example`).
 ///
 /// PostgreSQL documentation, Logical Replication Message Formats.
 pub fn sessions_are_passed_on()
@@ -44,4 +65,5 @@ pub fn sessions_are_passed_on()
     ensures begin { BeforeABegin }
     ensures not_yet { NotYet }
     ensures no_more { NoMore }
+    ensures example { IsExample }
 {}

@@ -2,9 +2,20 @@
 //! sessions and puts into them (`docs/PROTOCOL.md`, "What the connector changes"), and that the
 //! result is sessions of a history.
 //!
-//! No code here runs: `connect/pgsub_connect/replacing.py` does what `specs/Passing.antt` defines.
+//! ```text
+//! what comes          Begin 912  Insert t  Insert u  Commit 912
+//!                     Begin 1000  Insert t  Commit 1000
+//! what is passed on   Begin 912  Insert u  Commit 912
+//!                     Begin 999  Relation t  Truncate t  Insert t ..  Commit 999
+//!                     Begin 1000  Insert t  Commit 1000
+//! ```
+//!
+//! Here the table t is added by a slot whose consistent point is 1000. No code here runs:
+//! `connect/pgsub_connect/replacing.py` does what `specs/Passing.antt` defines.
 #![tactic(auto)]
 
 pub mod laws;
 
-pub use laws::{passed_on_is_a_session, rows_are_the_servers, sessions_are_passed_on};
+pub use laws::{
+    copy_is_the_servers, passed_on_is_a_session, rows_are_the_servers, sessions_are_passed_on,
+};

@@ -1,4 +1,5 @@
 use Rattle.std.proofs.Common.{refl}
+use Rattle.pgadding.proofs.Worked as worked
 use Rattle.pgadding.proofs.laws.sessions_are_passed_on.Goals as goal
 
 pub returns : goal.returns
@@ -7,4 +8,5 @@ returns c = record {
   begin = refl;
   not_yet = refl;
   no_more = refl;
+  example = worked.is_example;
 }
