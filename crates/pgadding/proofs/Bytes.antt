@@ -1,10 +1,10 @@
 -- What is passed on of sessions is sessions.
 use Rattle.std.proofs.Common.{inl, inr, ℕ, List, [], ◌∷◌}
 use Rattle.pgorder.specs.declared.Version.{Version}
-use Rattle.pgsub_core.specs.History.{Transaction}
-use Rattle.pgsub_core.specs.Stream.{Sent}
-use Rattle.pgsub_core.specs.Reached.{Progress, reached, disconnected}
-use Rattle.pgsub_core.specs.Sessions.{EachStarts, IsSession, IsIncoming}
+use Rattle.pgsub_core.specs.Server.History.{Transaction}
+use Rattle.pgsub_core.specs.Server.Stream.{Sent}
+use Rattle.pgsub_core.specs.Server.Reached.{Progress, reached, disconnected}
+use Rattle.pgsub_core.specs.Server.Sessions.{EachStarts, IsSession, IsIncoming}
 use Rattle.pgadding.specs.Addition.{Addition}
 use Rattle.pgadding.specs.Passing.{passed_on}
 use Rattle.pgadding.specs.Around.{IsAround, with_rows}

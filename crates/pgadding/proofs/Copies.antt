@@ -4,12 +4,12 @@ use Rattle.std.specs.FinMap as map
 use Rattle.std.specs.List.{AllByRecursion}
 use Rattle.std.proofs.lemmas.Bool.Decides.{nat_tests}
 use Rattle.pgapply.specs.Apply.{fold_changes}
-use Rattle.pgsub_core.specs.Work.{surviving_changes}
-use Rattle.pgsub_core.specs.History.{Transaction, ChangesRows, all_changes, ended_by, tables_as_of}
-use Rattle.pgsub_core.specs.Sessions.{EachStarts, IsSession}
-use Rattle.pgsub_core.specs.Safe.{IsSafe, NothingBetween}
-use Rattle.pgsub_core.specs.Outcomes.{IsAllowedOutcome}
-use Rattle.pgsub_core.specs.ApplyState.{follow_all}
+use Rattle.pgsub_core.specs.Server.Work.{surviving_changes}
+use Rattle.pgsub_core.specs.Server.History.{Transaction, ChangesRows, all_changes, ended_by, tables_as_of}
+use Rattle.pgsub_core.specs.Server.Sessions.{EachStarts, IsSession}
+use Rattle.pgsub_core.specs.Subscriber.Safe.{IsSafe, NothingBetween}
+use Rattle.pgsub_core.specs.Subscriber.Outcomes.{IsAllowedOutcome}
+use Rattle.pgsub_core.specs.Machine.ApplyState.{follow_all}
 use Rattle.pgsub_core.proofs.Changes.{ended-none}
 use Rattle.pgsub_core.proofs.AllSessions.{all_sessions_allowed}
 use Rattle.pgadding.specs.Addition.{Addition, rows_transaction, rows_work}

@@ -6,11 +6,11 @@ use Rattle.pglogical.specs.declared.item.RelationDef.{RelationDef}
 use Rattle.pglogical.specs.declared.item.Item.{Item}
 use Rattle.pglogical.specs.declared.message.Message.{Message}
 use Rattle.pglogical.specs.declared.message.Message.TheVariants as message
-use Rattle.pgsub_core.specs.History.{Transaction}
-use Rattle.pgsub_core.specs.Work.{surviving_changes}
-use Rattle.pgsub_core.specs.Described.{last_of, relations_after}
-use Rattle.pgsub_core.specs.Stream.{Sent, Data, Keepalive, CommitOrKeepalive, Committed, KeepaliveEnd, WholeCommit, StreamedCommit, messages_in, commits_and_keepalives, pair_of, pair_items, pair_commit}
-use Rattle.pgsub_core.specs.Delivers.{CommitsFollow}
+use Rattle.pgsub_core.specs.Server.History.{Transaction}
+use Rattle.pgsub_core.specs.Server.Work.{surviving_changes}
+use Rattle.pgsub_core.specs.Server.Described.{last_of, relations_after}
+use Rattle.pgsub_core.specs.Server.Stream.{Sent, Data, Keepalive, CommitOrKeepalive, Committed, KeepaliveEnd, WholeCommit, StreamedCommit, messages_in, commits_and_keepalives, pair_of, pair_items, pair_commit}
+use Rattle.pgsub_core.specs.Server.Delivers.{CommitsFollow}
 use Rattle.pgadding.specs.Around.{DefinedBeforeNamed}
 use Rattle.pgadding.proofs.Ordered.{AreWhole}
 use Rattle.pgadding.proofs.Redefined.{Alike, AlikeBut, alike_described, alike_after, same, defined_first}

@@ -3,9 +3,9 @@ use Rattle.std.proofs.Common.{◌≡◌, ◌<◌, ◌≤◌, ◌++◌, ℕ, List
 use Rattle.std.proofs.lemmas.Bool.Decides.{leb_tells}
 use Rattle.std.specs.List.{AllByRecursion}
 use Rattle.pgorder.specs.declared.Version.{Version}
-use Rattle.pgsub_core.specs.History.{Transaction, ended_after}
-use Rattle.pgsub_core.specs.Stream.{Sent, messages_in, commits_and_keepalives}
-use Rattle.pgsub_core.specs.Delivers.{Delivers, CommitsFollow}
+use Rattle.pgsub_core.specs.Server.History.{Transaction, ended_after}
+use Rattle.pgsub_core.specs.Server.Stream.{Sent, messages_in, commits_and_keepalives}
+use Rattle.pgsub_core.specs.Server.Delivers.{Delivers, CommitsFollow}
 use Rattle.pgsub_core.proofs.Fronts.{delivers_front}
 use Rattle.pgadding.specs.Addition.{Addition}
 use Rattle.pgadding.specs.Passing.{passing}

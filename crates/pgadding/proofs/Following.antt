@@ -3,10 +3,10 @@ use Rattle.std.proofs.Common.{◌≡◌, ◌≤◌, ◌<◌, ◌++◌, ℕ, List
 use Rattle.std.specs.List.{AllByRecursion}
 use Rattle.pglogical.specs.declared.item.RelationDef.{RelationDef}
 use Rattle.pglogical.specs.declared.item.Item.{Item}
-use Rattle.pgsub_core.specs.Work.{IsWork, surviving_changes}
-use Rattle.pgsub_core.specs.History.{Transaction, ChangesRows}
-use Rattle.pgsub_core.specs.Stream.{CommitOrKeepalive, Committed, KeepaliveEnd, Completed, WholeCommit, StreamedCommit}
-use Rattle.pgsub_core.specs.Delivers.{CommitsFollow, ChangeNothing, IsCommitOf}
+use Rattle.pgsub_core.specs.Server.Work.{IsWork, surviving_changes}
+use Rattle.pgsub_core.specs.Server.History.{Transaction, ChangesRows}
+use Rattle.pgsub_core.specs.Server.Stream.{CommitOrKeepalive, Committed, KeepaliveEnd, Completed, WholeCommit, StreamedCommit}
+use Rattle.pgsub_core.specs.Server.Delivers.{CommitsFollow, ChangeNothing, IsCommitOf}
 use Rattle.pgsub_core.proofs.Changes.{none_changed}
 use Rattle.pgadding.specs.LeftOut.{transaction_without}
 use Rattle.pgadding.proofs.LeftItems.{other_changes}

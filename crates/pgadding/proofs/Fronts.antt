@@ -2,7 +2,7 @@
 use Rattle.std.proofs.Common.{◌≡◌, ◌++◌, ℕ, ℤ, List, [], ◌∷◌, true, false, cond, nat_le, map, Option, Some, None, refl, sym, ap, subst, ◌∙◌, append_assoc}
 use Rattle.pglogical.specs.declared.item.Item.{Item}
 use Rattle.pglogical.specs.declared.message.Message.TheVariants as message
-use Rattle.pgsub_core.specs.Stream.{Sent, Data, Keepalive, messages_in}
+use Rattle.pgsub_core.specs.Server.Stream.{Sent, Data, Keepalive, messages_in}
 use Rattle.pgadding.specs.LeftOut.{item_without}
 use Rattle.pgadding.specs.Addition.{Addition, rows_lsn, rows_end, rows_items, rows_sent, sent_at, items_at}
 use Rattle.pgadding.specs.Passing.{is_behind, passed, passing, place_of}

@@ -6,8 +6,8 @@ use Rattle.std.proofs.lemmas.List.Elements.{filter-append}
 use Rattle.std.proofs.lemmas.Bool.Decides.{nat_tests}
 use Rattle.pgtuple.specs.declared.cell.Cell.{Cell}
 use Rattle.pglogical.specs.declared.item.RelationDef.{RelationDef}
-use Rattle.pgsub_core.specs.Work.{IsWork, xids_of, AllDiffer}
-use Rattle.pgsub_core.specs.History.{Transaction, IsHistory, IsHistoryFrom, ended_after}
+use Rattle.pgsub_core.specs.Server.Work.{IsWork, xids_of, AllDiffer}
+use Rattle.pgsub_core.specs.Server.History.{Transaction, IsHistory, IsHistoryFrom, ended_after}
 use Rattle.pgadding.specs.LeftOut.{transaction_without}
 use Rattle.pgadding.specs.Addition.{Addition, inserted, rows_transaction, rows_xid}
 use Rattle.pgadding.specs.Around.{IsAround, with_rows}

@@ -12,8 +12,8 @@ use Rattle.pgapply.specs.declared.op.Op.TheVariants as op
 use Rattle.pgapply.specs.declared.rows.StoreFault.{StoreFault}
 use Rattle.pgapply.specs.Value.{Table, Tables, Rows}
 use Rattle.pgapply.specs.Apply.{Change, apply, fold_changes, found_rows, rows_after, ◌>>=◌}
-use Rattle.pgsub_core.specs.Work.{surviving_changes}
-use Rattle.pgsub_core.specs.History.{Transaction, all_changes, ended_by, tables_as_of}
+use Rattle.pgsub_core.specs.Server.Work.{surviving_changes}
+use Rattle.pgsub_core.specs.Server.History.{Transaction, all_changes, ended_by, tables_as_of}
 use Rattle.pgsub_core.proofs.Changes.{fold-append, changes-append, ended-append, ended-none}
 use Rattle.pgadding.specs.LeftOut.{transaction_without}
 use Rattle.pgadding.specs.Addition.{Addition, inserted, rows_work, rows_transaction}

@@ -6,8 +6,8 @@ use Rattle.pglogical.specs.declared.item.Item.{Item}
 use Rattle.pglogical.specs.declared.item.Item.TheVariants.{Relation, Insert, Update, Delete, Truncate}
 use Rattle.pgapply.specs.declared.op.Op.{Op}
 use Rattle.pgapply.specs.Apply.{Change}
-use Rattle.pgsub_core.specs.Work.{changes_of, IsChange, is_among}
-use Rattle.pgsub_core.specs.Described.{found_behind, relation_of}
+use Rattle.pgsub_core.specs.Server.Work.{changes_of, IsChange, is_among}
+use Rattle.pgsub_core.specs.Server.Described.{found_behind, relation_of}
 use Rattle.pgadding.specs.LeftOut.{other_oids, other_definitions, truncation, item_without}
 
 abbrev pub other_changes : ℕ → List Change → List Change

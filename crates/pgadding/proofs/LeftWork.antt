@@ -5,7 +5,7 @@ use Rattle.pglogical.specs.Named.{named}
 use Rattle.pglogical.specs.declared.item.RelationDef.{RelationDef}
 use Rattle.pglogical.specs.declared.item.Item.{Item}
 use Rattle.pgapply.specs.Apply.{Change}
-use Rattle.pgsub_core.specs.Work.{Work, Nothing, Changed, Subtransaction, RolledBack, IsWork, IsChange, changes_of, surviving_changes, xids_of}
+use Rattle.pgsub_core.specs.Server.Work.{Work, Nothing, Changed, Subtransaction, RolledBack, IsWork, IsChange, changes_of, surviving_changes, xids_of}
 use Rattle.pgadding.specs.LeftOut.{other_oids, other_definitions, item_without, with_change, work_without}
 use Rattle.pgadding.proofs.LeftItems.{other_changes, other-changes_of, other-oids, IsLeft, left, no_changes}
 

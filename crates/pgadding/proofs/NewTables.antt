@@ -5,14 +5,14 @@ use Rattle.std.specs.List.{AllByRecursion}
 use Rattle.pgorder.specs.declared.Version.{Version}
 use Rattle.pgapply.specs.Value.{Tables}
 use Rattle.pgapply.specs.Apply.{fold_changes}
-use Rattle.pgsub_core.specs.Work.{AllDiffer, surviving_changes}
-use Rattle.pgsub_core.specs.History.{Transaction, IsHistoryFrom, all_changes, ended_after, ended_by, tables_as_of}
-use Rattle.pgsub_core.specs.Stream.{Sent, commits_and_keepalives}
-use Rattle.pgsub_core.specs.Sessions.{EachStarts, IsSession}
-use Rattle.pgsub_core.specs.Safe.{IsSafe, NothingBetween}
-use Rattle.pgsub_core.specs.Outcomes.{IsAllowedOutcome}
-use Rattle.pgsub_core.specs.ApplyState.{follow_all}
-use Rattle.pgsub_core.specs.Delivers.{CommitsFollow}
+use Rattle.pgsub_core.specs.Server.Work.{AllDiffer, surviving_changes}
+use Rattle.pgsub_core.specs.Server.History.{Transaction, IsHistoryFrom, all_changes, ended_after, ended_by, tables_as_of}
+use Rattle.pgsub_core.specs.Server.Stream.{Sent, commits_and_keepalives}
+use Rattle.pgsub_core.specs.Server.Sessions.{EachStarts, IsSession}
+use Rattle.pgsub_core.specs.Subscriber.Safe.{IsSafe, NothingBetween}
+use Rattle.pgsub_core.specs.Subscriber.Outcomes.{IsAllowedOutcome}
+use Rattle.pgsub_core.specs.Machine.ApplyState.{follow_all}
+use Rattle.pgsub_core.specs.Server.Delivers.{CommitsFollow}
 use Rattle.pgsub_core.proofs.AllSessions.{all_sessions_allowed}
 use Rattle.pgadding.specs.Addition.{Addition, rows_work}
 use Rattle.pgadding.specs.Around.{IsAround, IsWholeSession, with_rows}

@@ -7,11 +7,11 @@ use Rattle.pglogical.specs.declared.item.RelationDef.{RelationDef}
 use Rattle.pglogical.specs.declared.item.Item.{Item}
 use Rattle.pglogical.specs.declared.message.Message.{Message}
 use Rattle.pglogical.specs.declared.message.Message.TheVariants as message
-use Rattle.pgsub_core.specs.Work.{surviving_changes}
-use Rattle.pgsub_core.specs.History.{Transaction, ChangesRows}
-use Rattle.pgsub_core.specs.Described.{relations_after, described}
-use Rattle.pgsub_core.specs.Stream.{Sent, Data, Keepalive, CommitOrKeepalive, Committed, WholeCommit, messages_in, commits_and_keepalives, pair_of, pair_items, pair_commit, block_of}
-use Rattle.pgsub_core.specs.Delivers.{CommitsFollow}
+use Rattle.pgsub_core.specs.Server.Work.{surviving_changes}
+use Rattle.pgsub_core.specs.Server.History.{Transaction, ChangesRows}
+use Rattle.pgsub_core.specs.Server.Described.{relations_after, described}
+use Rattle.pgsub_core.specs.Server.Stream.{Sent, Data, Keepalive, CommitOrKeepalive, Committed, WholeCommit, messages_in, commits_and_keepalives, pair_of, pair_items, pair_commit, block_of}
+use Rattle.pgsub_core.specs.Server.Delivers.{CommitsFollow}
 use Rattle.pgadding.specs.LeftOut.{item_without, transaction_without}
 use Rattle.pgadding.specs.Addition.{Addition, rows_sent, rows_transaction}
 use Rattle.pgadding.specs.Passing.{place_after, passing, before_rows, behind_rows}

@@ -4,7 +4,7 @@ use Rattle.std.specs.List.{AllByRecursion}
 use Rattle.pglogical.specs.declared.item.Item.{Item}
 use Rattle.pglogical.specs.declared.message.Message.{Message}
 use Rattle.pglogical.specs.declared.message.Message.TheVariants as message
-use Rattle.pgsub_core.specs.Stream.{Sent, Data, Keepalive, CommitOrKeepalive, Committed, KeepaliveEnd, Completed, WholeCommit, StreamedCommit, messages_in, commits_and_keepalives, pair_of, pair_items, pair_commit}
+use Rattle.pgsub_core.specs.Server.Stream.{Sent, Data, Keepalive, CommitOrKeepalive, Committed, KeepaliveEnd, Completed, WholeCommit, StreamedCommit, messages_in, commits_and_keepalives, pair_of, pair_items, pair_commit}
 use Rattle.pgadding.specs.Passing.{place_after}
 use Rattle.pgadding.specs.Around.{DefinedBeforeNamed, BeginsFrom, items_in}
 use Rattle.pgadding.proofs.Ordered.{InOrder}

@@ -6,10 +6,10 @@ use Rattle.pglogical.specs.declared.item.RelationDef.{RelationDef}
 use Rattle.pglogical.specs.declared.item.Item.{Item}
 use Rattle.pglogical.specs.declared.message.Message.{Message}
 use Rattle.pglogical.specs.declared.message.Message.TheVariants as message
-use Rattle.pgsub_core.specs.History.{Transaction}
-use Rattle.pgsub_core.specs.Described.{last_of, relations_after}
-use Rattle.pgsub_core.specs.Stream.{Sent, Data, Keepalive, CommitOrKeepalive, KeepaliveEnd, messages_in, commits_and_keepalives, pair_of, pair_items, pair_commit, block_of, is_absent}
-use Rattle.pgsub_core.specs.Delivers.{CommitsFollow, ChangeNothing}
+use Rattle.pgsub_core.specs.Server.History.{Transaction}
+use Rattle.pgsub_core.specs.Server.Described.{last_of, relations_after}
+use Rattle.pgsub_core.specs.Server.Stream.{Sent, Data, Keepalive, CommitOrKeepalive, KeepaliveEnd, messages_in, commits_and_keepalives, pair_of, pair_items, pair_commit, block_of, is_absent}
+use Rattle.pgsub_core.specs.Server.Delivers.{CommitsFollow, ChangeNothing}
 use Rattle.pgadding.specs.Addition.{Addition, rows_items, rows_sent, rows_transaction}
 use Rattle.pgadding.specs.Around.{Agrees, DefinedBeforeNamed, items_in}
 use Rattle.pgadding.proofs.Ordered.{InOrder, AreWhole}

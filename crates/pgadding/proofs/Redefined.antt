@@ -7,8 +7,8 @@ use Rattle.pglogical.specs.declared.item.RelationDef.{RelationDef}
 use Rattle.pglogical.specs.declared.item.Item.{Item}
 use Rattle.pglogical.specs.declared.item.Item.TheVariants.{Relation, Insert, Update, Delete, Truncate}
 use Rattle.pgapply.specs.Apply.{Change}
-use Rattle.pgsub_core.specs.Work.{is_among}
-use Rattle.pgsub_core.specs.Described.{last_of, relation_of, relations_after, with_definition, definitions_of, found_behind, with_changes, described_from, described}
+use Rattle.pgsub_core.specs.Server.Work.{is_among}
+use Rattle.pgsub_core.specs.Server.Described.{last_of, relation_of, relations_after, with_definition, definitions_of, found_behind, with_changes, described_from, described}
 use Rattle.pgadding.specs.Around.{is_relation_of, DefinedBeforeNamed}
 use Rattle.pgadding.proofs.LeftDescribed.{found, described_parts}
 

@@ -7,9 +7,9 @@ use Rattle.pglogical.specs.declared.item.Item.{Item}
 use Rattle.pglogical.specs.declared.item.Item.TheVariants.{Relation, Insert}
 use Rattle.pglogical.specs.declared.message.Message.{Message}
 use Rattle.pglogical.specs.declared.message.Message.TheVariants as message
-use Rattle.pgsub_core.specs.Work.{surviving_changes}
-use Rattle.pgsub_core.specs.Described.{last_of, relations_after, described_from, described, with_definition, with_changes}
-use Rattle.pgsub_core.specs.Stream.{Sent, Data, CommitOrKeepalive, Committed, WholeCommit, commits_and_keepalives, pair_of, pair_items, block_of, pair_commit}
+use Rattle.pgsub_core.specs.Server.Work.{surviving_changes}
+use Rattle.pgsub_core.specs.Server.Described.{last_of, relations_after, described_from, described, with_definition, with_changes}
+use Rattle.pgsub_core.specs.Server.Stream.{Sent, Data, CommitOrKeepalive, Committed, WholeCommit, commits_and_keepalives, pair_of, pair_items, block_of, pair_commit}
 use Rattle.pgadding.specs.Addition.{Addition, rows_xid, rows_lsn, rows_end, rows_items, rows_sent, inserts_of, inserted, rows_work, sent_at, items_at, emptied}
 
 -- the messages before, with these items behind them

@@ -6,7 +6,7 @@ use Rattle.std.specs.List.{AllByRecursion}
 use Rattle.pglogical.specs.declared.item.Item.{Item}
 use Rattle.pglogical.specs.declared.message.Message.{Message}
 use Rattle.pglogical.specs.declared.message.Message.TheVariants as message
-use Rattle.pgsub_core.specs.Stream.{Sent, Data, Keepalive, messages_in}
+use Rattle.pgsub_core.specs.Server.Stream.{Sent, Data, Keepalive, messages_in}
 use Rattle.pgadding.specs.LeftOut.{item_without}
 use Rattle.pgadding.specs.Addition.{Addition, rows_lsn, rows_end, rows_items, rows_sent, sent_at, items_at}
 use Rattle.pgadding.specs.Passing.{place_after, is_behind, passed, passing, place_of}

@@ -3,8 +3,8 @@ use Rattle.std.proofs.Common.{◌++◌, List, [], ◌∷◌, None, inl, refl, ar
 use Rattle.pglogical.specs.declared.item.Item.{Item}
 use Rattle.pglogical.specs.declared.item.Item.TheVariants.{Relation, Insert, Truncate}
 use Rattle.pgorder.specs.declared.Version.TheVariants.{Two}
-use Rattle.pgsub_core.specs.Stream.{messages_in}
-use Rattle.pgsub_core.specs.Delivers.{Delivers}
+use Rattle.pgsub_core.specs.Server.Stream.{messages_in}
+use Rattle.pgsub_core.specs.Server.Delivers.{Delivers}
 use Rattle.pgadding.specs.Around.{IsAround}
 use Rattle.pgadding.specs.Worked.{t, u, row, adding_t, below, above, session, IsExample}
 use Rattle.pgadding.proofs.Ordered.{InOrder, shaped}

@@ -7,9 +7,9 @@ use Rattle.pglogical.specs.declared.item.Item.{Item}
 use Rattle.pglogical.specs.declared.item.Item.TheVariants.{Relation, Insert, Truncate}
 use Rattle.pglogical.specs.declared.message.Message.{Message}
 use Rattle.pglogical.specs.declared.message.Message.TheVariants as message
-use Rattle.pgsub_core.specs.Work.{Work, Nothing, Changed}
-use Rattle.pgsub_core.specs.History.{Transaction}
-use Rattle.pgsub_core.specs.Stream.{Sent, Data}
+use Rattle.pgsub_core.specs.Server.Work.{Work, Nothing, Changed}
+use Rattle.pgsub_core.specs.Server.History.{Transaction}
+use Rattle.pgsub_core.specs.Server.Stream.{Sent, Data}
 
 -- A table's rows as the snapshot of a slot shows them, whose consistent point is `point`: the end
 -- of a record that is no commit. `clock` is when the transaction is made, in microseconds since

@@ -9,11 +9,11 @@ use Rattle.pglogical.specs.declared.item.Item.TheVariants.{Relation}
 use Rattle.pglogical.specs.declared.message.Message.{Message}
 use Rattle.pglogical.specs.declared.message.Message.TheVariants as message
 use Rattle.pgorder.specs.declared.Version.{Version}
-use Rattle.pgsub_core.specs.Work.{is_among}
-use Rattle.pgsub_core.specs.History.{Transaction, IsHistory}
-use Rattle.pgsub_core.specs.Described.{last_of, relations_after}
-use Rattle.pgsub_core.specs.Stream.{Sent, Data, Keepalive, messages_in}
-use Rattle.pgsub_core.specs.Delivers.{Delivers}
+use Rattle.pgsub_core.specs.Server.Work.{is_among}
+use Rattle.pgsub_core.specs.Server.History.{Transaction, IsHistory}
+use Rattle.pgsub_core.specs.Server.Described.{last_of, relations_after}
+use Rattle.pgsub_core.specs.Server.Stream.{Sent, Data, Keepalive, messages_in}
+use Rattle.pgsub_core.specs.Server.Delivers.{Delivers}
 use Rattle.pgadding.specs.LeftOut.{transactions_without}
 use Rattle.pgadding.specs.Addition.{Addition, rows_transaction}
 use Rattle.pgadding.specs.Passing.{place_behind, place_after, before_rows, behind_rows}

@@ -4,13 +4,13 @@ use Rattle.std.specs.Prelude.{◌≡◌, ◌<◌, ◌≤◌, ℕ, List, ◌++◌
 use Rattle.std.specs.List.{AllByRecursion}
 use Rattle.pgorder.specs.declared.Version.{Version}
 use Rattle.pgapply.specs.Value.{Tables}
-use Rattle.pgsub_core.specs.History.{Transaction, tables_as_of}
-use Rattle.pgsub_core.specs.Stream.{Sent}
-use Rattle.pgsub_core.specs.Reached.{Progress}
-use Rattle.pgsub_core.specs.Sessions.{EachStarts}
-use Rattle.pgsub_core.specs.Safe.{IsSafe}
-use Rattle.pgsub_core.specs.Replica.{Replica, Running}
-use Rattle.pgsub_core.specs.ApplyState.{follow_all}
+use Rattle.pgsub_core.specs.Server.History.{Transaction, tables_as_of}
+use Rattle.pgsub_core.specs.Server.Stream.{Sent}
+use Rattle.pgsub_core.specs.Server.Reached.{Progress}
+use Rattle.pgsub_core.specs.Server.Sessions.{EachStarts}
+use Rattle.pgsub_core.specs.Subscriber.Safe.{IsSafe}
+use Rattle.pgsub_core.specs.Machine.Replica.{Replica, Running}
+use Rattle.pgsub_core.specs.Machine.ApplyState.{follow_all}
 use Rattle.pgadding.specs.LeftOut.{transactions_without}
 use Rattle.pgadding.specs.Addition.{Addition}
 use Rattle.pgadding.specs.Around.{IsAround, with_rows}

@@ -3,9 +3,9 @@
 use Rattle.std.specs.Prelude.{◌<◌, ◌≤◌, ℕ, List, ◌++◌}
 use Rattle.std.specs.List.{AllByRecursion}
 use Rattle.pgorder.specs.declared.Version.{Version}
-use Rattle.pgsub_core.specs.History.{Transaction, IsHistory}
-use Rattle.pgsub_core.specs.Stream.{Sent}
-use Rattle.pgsub_core.specs.Delivers.{Delivers}
+use Rattle.pgsub_core.specs.Server.History.{Transaction, IsHistory}
+use Rattle.pgsub_core.specs.Server.Stream.{Sent}
+use Rattle.pgsub_core.specs.Server.Delivers.{Delivers}
 use Rattle.pgadding.specs.Addition.{Addition}
 use Rattle.pgadding.specs.Passing.{passed_on}
 use Rattle.pgadding.specs.Around.{IsAround, IsWholeSession, KeepsDefinition, with_rows}

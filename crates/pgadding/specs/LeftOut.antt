@@ -5,8 +5,8 @@ use Rattle.std.specs.List.{filter}
 use Rattle.pglogical.specs.declared.item.RelationDef.{RelationDef}
 use Rattle.pglogical.specs.declared.item.Item.{Item}
 use Rattle.pglogical.specs.declared.item.Item.TheVariants.{Relation, Insert, Update, Delete, Truncate}
-use Rattle.pgsub_core.specs.Work.{Work, Nothing, Changed, Subtransaction, RolledBack, is_among}
-use Rattle.pgsub_core.specs.History.{Transaction}
+use Rattle.pgsub_core.specs.Server.Work.{Work, Nothing, Changed, Subtransaction, RolledBack, is_among}
+use Rattle.pgsub_core.specs.Server.History.{Transaction}
 
 abbrev pub other_oids : ℕ → List ℕ → List ℕ
 other_oids oid oids = filter (λ x. not (x == oid)) oids

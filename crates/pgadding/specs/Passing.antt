@@ -4,7 +4,7 @@
 use Rattle.std.specs.Prelude.{ℕ, List, [], ◌∷◌, ◌++◌, Bool, false, Option, Some, None, nat_le, map, if◌then◌else◌}
 use Rattle.pglogical.specs.declared.message.Message.{Message}
 use Rattle.pglogical.specs.declared.message.Message.TheVariants as message
-use Rattle.pgsub_core.specs.Stream.{Sent, Data, Keepalive}
+use Rattle.pgsub_core.specs.Server.Stream.{Sent, Data, Keepalive}
 use Rattle.pgadding.specs.LeftOut.{item_without}
 use Rattle.pgadding.specs.Addition.{Addition, rows_sent}
 

@@ -4,8 +4,8 @@ use Rattle.std.specs.Prelude.{◌≡◌, ◌≤◌, ℕ, List, ◌++◌, false, 
 use Rattle.std.specs.FinMap as map
 use Rattle.pgapply.specs.Value.{Tables}
 use Rattle.pgapply.specs.Apply.{fold_changes}
-use Rattle.pgsub_core.specs.Work.{surviving_changes}
-use Rattle.pgsub_core.specs.History.{Transaction, tables_as_of}
+use Rattle.pgsub_core.specs.Server.Work.{surviving_changes}
+use Rattle.pgsub_core.specs.Server.History.{Transaction, tables_as_of}
 use Rattle.pgadding.specs.Addition.{Addition, rows_work}
 use Rattle.pgadding.specs.Around.{IsAround, with_rows}
 

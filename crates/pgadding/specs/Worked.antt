@@ -10,9 +10,9 @@ use Rattle.pglogical.specs.declared.item.Item.TheVariants.{Relation, Insert, Tru
 use Rattle.pglogical.specs.declared.message.Message.{Message}
 use Rattle.pglogical.specs.declared.message.Message.TheVariants as message
 use Rattle.pgorder.specs.declared.Version.TheVariants.{Two}
-use Rattle.pgsub_core.specs.Work.{Work, Nothing, Changed}
-use Rattle.pgsub_core.specs.History.{Transaction}
-use Rattle.pgsub_core.specs.Stream.{Sent, Data, Keepalive}
+use Rattle.pgsub_core.specs.Server.Work.{Work, Nothing, Changed}
+use Rattle.pgsub_core.specs.Server.History.{Transaction}
+use Rattle.pgsub_core.specs.Server.Stream.{Sent, Data, Keepalive}
 use Rattle.pgadding.specs.Addition.{Addition}
 use Rattle.pgadding.specs.Passing.{passed_on}
 use Rattle.pgadding.specs.Around.{IsAround, IsWholeSession, KeepsDefinition}
