@@ -93,6 +93,11 @@ def without_received(payload: bytes) -> bytes:
     return payload[:1] + payload[9:17] + payload[9:]
 
 
+def confirming(payload: bytes, lsn: int) -> bytes:
+    """A status that confirms less than another one: up to this LSN."""
+    return payload[:9] + 2 * lsn.to_bytes(8, "big") + payload[25:]
+
+
 def asking(payload: bytes) -> bytes:
     """A status that asks the server for an answer."""
     return payload[:-1] + b"\x01"
@@ -129,7 +134,7 @@ class Filter:
         self.proto = proto
         self.kept_open = kept_open
         self.mode = mode
-        self.runs = False
+        self.runs = self.takes = False
         self.status = b""
         # what it has said of changes that found no row since it began
         self.missing = Missing()
@@ -238,15 +243,15 @@ class Filter:
         if self.takes and self.down in writable:
             self.write()
         statuses = self.read_statuses() if self.up in readable else []
-        if statuses or self.err in readable:
+        if self.err in readable or statuses and self.has_said():
             self.read_err()
         return readable, writable, statuses
 
     def write(self) -> None:
-        """Writes what waits, as far as the pipe takes it."""
+        """Writes what waits, as far as the pipe takes it. Of one that has ended, its end tells why nothing is written."""
         pending = self.pending
         try:
-            while pending:
+            while pending and self.takes:
                 with memoryview(pending[0]) as first:
                     done = os.write(self.down, first[self.written :])
                 self.waiting -= done
@@ -258,6 +263,10 @@ class Filter:
             pass
         except BrokenPipeError:
             self.finish()
+
+    def has_said(self) -> bool:
+        """Whether there is something on standard error, or its end."""
+        return self.speaks and bool(select.select([self.err], [], [], 0)[0])
 
     def read_err(self) -> None:
         """Takes all that the filter has said: notes how many changes found no row, passes on the rest, and keeps its last line."""
@@ -303,7 +312,7 @@ class Filter:
         """Waits for the end, and makes the exception that says how it ended."""
         self.finish()
         status = self.child.wait()
-        while self.speaks and select.select([self.err], [], [], 0)[0]:
+        while self.has_said():
             self.read_err()
         self.close()
         return FilterEnded(status, self.said)

@@ -14,7 +14,7 @@ from . import log, sizes
 from .adding import Adder
 from .checkpoint import Checkpoint, check_gap
 from .errors import FileError, FilterFault, Passing, ServerError, Stopped, Unfit
-from .filtering import MISSED, PIECE, Filter, FilterEnded, asking, flushed
+from .filtering import MISSED, PIECE, Filter, FilterEnded, asking, confirming, flushed
 from .missing import Misses
 from .noting import Noting, final_lsn
 from .postgres import COPY_BOTH, Connection
@@ -404,47 +404,36 @@ class Follower:
         return f"START_REPLICATION SLOT {identifier(options.slot)} LOGICAL {lsn_text(at)} ({', '.join(words)})"
 
     def session(self) -> None:
-        """One session, from its start to its end on either side."""
+        """One session, from its start to its end on either side.
+
+        What comes is passed on first: all else is done while the filter stores it, since a commit at the server may wait for that.
+        """
         connection = self.connect()
         self.progress.state = "following"
-        self.last_sent = 0.0
-        self.held = None
+        self.last_sent, self.held = 0.0, None
         began = heard = time.monotonic()
         more: bool | None = True
         socket, is_wrapped = connection.socket(), connection.is_wrapped()
         while not self.is_over():
-            self.progress.beat()
-            if self.progress.was_promoted:
-                raise ServerError("the standby was promoted: a session with the new primary is begun")
-            if self.adder.wants_session():
-                self.renew(connection)
+            if self.ends_for_another(connection):
                 return
-            self.adder.step()
             room = not self.holds_for_snapshot() and self.filter.has_room()
-            if more and room:
+            readable, writable, statuses = self.serve(
+                self.longest_wait(bool(more) and room), [socket] if room else [], [socket] if connection.unsent else []
+            )
+            self.forward(statuses)
+            # (what was read already of an encrypted connection doesn't wake select, nor what is read where a flush would block)
+            if room and not more and (socket in readable or socket in writable or is_wrapped or not (readable or writable)):
+                connection.consume()
+                more = True
+            if room and more:
                 more = self.take_payloads(connection)
-                # (at once, since most often the pipe takes all of it)
-                self.filter.write()
-                room = self.filter.has_room()
+            self.tend_misses()
             self.noting.show()
             self.noting.wants_look = self.watch.tend(self.noting.wants_look, self.serve_server, self.position)
             if more is None:
                 log.warning("the server ended the session")
                 return
-            wait = 0.0 if more and room else self.heartbeat - (time.monotonic() - self.last_sent)
-            if self.held:
-                wait = min(wait, QUIET)
-            if self.snapshots.hold.into:
-                wait = min(wait, SOON)
-            readable, writable, statuses = self.serve(
-                max(0.0, min(wait, STEP)), [socket] if room else [], [socket] if connection.unsent else []
-            )
-            self.forward(statuses)
-            self.tend_misses()
-            # (what was read already of an encrypted connection doesn't wake select, nor what is read where a flush would block)
-            if room and not more and (socket in readable or socket in writable or is_wrapped or not (readable or writable)):
-                connection.consume()
-                more = True
             if socket in writable:
                 connection.flush()
             now = time.monotonic()
@@ -453,6 +442,26 @@ class Follower:
             if self.delay and now - began > 2 * self.heartbeat:
                 self.delay = 0.0
         self.end_session_by_ourselves()
+
+    def ends_for_another(self, connection: Connection) -> bool:
+        """Goes on with tables that are added. Returns whether another session is to begin for them."""
+        self.progress.beat()
+        if self.progress.was_promoted:
+            raise ServerError("the standby was promoted: a session with the new primary is begun")
+        if self.adder.wants_session():
+            self.renew(connection)
+            return True
+        self.adder.step()
+        return False
+
+    def longest_wait(self, has_more: bool) -> float:
+        """For how many seconds a session waits at most until something comes. `has_more`: something has come already."""
+        wait = 0.0 if has_more else self.heartbeat - (time.monotonic() - self.last_sent)
+        if self.held:
+            wait = min(wait, QUIET)
+        if self.snapshots.hold.into:
+            wait = min(wait, SOON)
+        return max(0.0, min(wait, STEP))
 
     def is_over(self) -> bool:
         """Whether the end was asked for, or what was asked for is stored."""
@@ -525,6 +534,8 @@ class Follower:
         if payloads and len(payloads[-1]) >= PIECE:
             self.noting.longest = max(self.noting.longest, len(payloads[-1]))
         self.filter.push_payloads(payloads)
+        # (at once, since most often the pipe takes all of it)
+        self.filter.write()
         self.noting.note_all(payloads)
         return True if hold.kept and more is not None else more
 
@@ -569,17 +580,19 @@ class Follower:
     def forward(self, statuses: list[bytes]) -> None:
         """Passes on the last of new statuses, which confirms what those before it do.
 
-        One that only a keepalive has moved may wait for a second, since noting it costs a sync.
+        What is above the last commit was moved by a keepalive alone, and may wait for a second, since noting it costs a sync. A commit
+        at the server may wait for the rest.
         """
-        now = time.monotonic()
         for status in statuses[-1:]:
             lsn = flushed(status)
-            has_commit = bool(self.noting.ends) and self.noting.ends[0] <= lsn
-            if lsn <= self.checkpoint.known.confirmed or has_commit or self.noting.asked or now - self.last_moved >= QUIET:
+            self.forget_confirmed(lsn)
+            if self.checkpoint.known.confirmed < self.position < lsn:
+                self.pass_on(confirming(status, self.position))
+            if lsn <= max(self.position, self.checkpoint.known.confirmed) or self.noting.asked:
                 self.pass_on(status)
             else:
                 self.held = status
-        if self.held and now - self.last_moved >= QUIET:
+        if self.held and time.monotonic() - self.last_moved >= QUIET:
             self.release()
 
     def pass_on(self, status: bytes) -> None:

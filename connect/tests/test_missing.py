@@ -127,6 +127,40 @@ class Order(FollowCase):
         self.assertEqual(happened[sent - 1][0], "synced")
         self.assertEqual((self.checkpoint.read().confirmed, self.counted()), (0x200, Counted(0, 0x108)))
 
+    def test_what_a_keepalive_confirms_beside_a_commit_waits(self) -> None:
+        """The commit is confirmed at once, without a sync; the rest a second later, or at once where the server asks."""
+        for asked in (None, 0x200):
+            with self.subTest(asked=asked):
+                follower, happened = self.follower(), list[int | str]()
+                follower.noting.note_all(ONE)
+                self.checkpoint.begin_counting(0, False)
+                self.patch(follower, "connection", mock.Mock(send=lambda it: happened.append(flushed(it))))
+                self.patch(os, "fdatasync", lambda _: happened.append("synced"))
+                follower.last_moved, follower.noting.asked = float("inf"), asked
+                happened.clear()
+                follower.forward([status(0x200)])
+                rest: list[int | str] = ["synced", 0x200]
+                self.assertEqual(happened, [0x108, *(rest if asked else [])])
+                self.assertEqual(follower.position, 0x108)
+                follower.last_moved = 0.0
+                follower.forward([])
+                follower.forward([])
+                self.assertEqual(happened, [0x108, *rest])
+                os.unlink(self.store + ".connector")
+
+    def test_what_is_confirmed_already_isnt_confirmed_in_parts(self) -> None:
+        """Commits that come again, below what a keepalive had confirmed."""
+        follower, sent = self.follower(), list[int]()
+        follower.noting.note_all(ONE)
+        self.checkpoint.write(False, confirmed=0x180)
+        self.checkpoint.begin_counting(0, False)
+        self.patch(follower, "connection", mock.Mock(send=lambda it: sent.append(flushed(it))))
+        follower.last_moved = float("inf")
+        follower.forward([status(0x108)])
+        follower.noting.note_all([begin(0x110, 7), commit(0x110, 0x118)])
+        follower.forward([status(0x200)])
+        self.assertEqual((sent, follower.held), ([0x108], status(0x200)))
+
     def test_a_status_isnt_repeated_that_couldnt_be_noted(self) -> None:
         """Not by a heartbeat either."""
         follower, sent = self.follower(), list[int]()
@@ -200,6 +234,32 @@ class Calls(FollowCase):
         waiting, told = self.calls(is_wrapped=False)
         self.assertEqual(set(waiting), {0})
         self.assertNotIn(False, told)
+
+    def test_what_has_come_is_passed_on_first(self) -> None:
+        """And what is confirmed: nothing else is done between the system's calls."""
+        follower, happened = self.follower(), list[str]()
+
+        def noted(where: object, name: str) -> None:
+            real = getattr(where, name)
+
+            def call(*words: object, **more: object) -> object:
+                happened.append(name)
+                return real(*words, **more)
+
+            self.patch(where, name, call)
+
+        for where, names in (
+            (Connection, ("consume", "send")), (follower.filter, ("serve", "write")), (follower.noting, ("note_all", "show")),
+            (follower.watch, ("tend",)), (follower.adder, ("wants_session", "step")), (follower.misses, ("tell",)),
+            (follower.checkpoint, ("note",)), (follower.snapshots, ("is_due",)),
+        ):
+            for name in names:
+                noted(where, name)
+        self.server.to_send = list(ONE)
+        self.run_until(follower, lambda: self.confirmed() == 0x108)
+        text = " ".join(happened)
+        self.assertIn("serve consume write note_all", text)
+        self.assertIn("serve send note", text)
 
     def test_what_an_encrypted_connection_has_read_already(self) -> None:
         """Nothing tells of it."""
