@@ -56,6 +56,10 @@ class FilterEnded(Exception):
         """Whether the same would come of another try. A disk that is full, or too little memory, may pass."""
         return self.status > 0 and self.status not in (*PASSING, MISSED)
 
+    def is_of_stream(self) -> bool:
+        """Whether what was rejected is something that came, and not the words or the store."""
+        return self.status in (REJECTED, SPOOL_FULL, FRAME_TOO_LARGE)
+
     def is_of_commit(self) -> bool:
         """Whether what was rejected is a commit, and not a single message."""
         return self.status == REJECTED and self.said.startswith(("pgsub: store ", "pgsub: relation "))
@@ -63,6 +67,11 @@ class FilterEnded(Exception):
     def is_full(self) -> bool:
         """Whether too much of open transactions was buffered."""
         return self.status == SPOOL_FULL
+
+    def has_told_all(self) -> bool:
+        """Whether it has said of all commits that it stored which of their changes found no row: also of those that came right before
+        one that it rejected, which it doesn't confirm. One that was killed hasn't, nor one whose store, memory or output failed."""
+        return self.status >= 0 and self.status not in PASSING
 
     def is_unopened(self) -> bool:
         """Whether the store couldn't be opened, as where another process has it open."""
@@ -138,6 +147,8 @@ class Filter:
         self.status = b""
         # what it has said of changes that found no row since it began
         self.missing = Missing()
+        # whether the last one that had opened its store has said it of all that it stored
+        self.has_told_all = False
 
     def is_running(self) -> bool:
         return self.runs
@@ -314,16 +325,19 @@ class Filter:
         status = self.child.wait()
         while self.has_said():
             self.read_err()
-        self.close()
-        return FilterEnded(status, self.said)
+        ended = FilterEnded(status, self.said)
+        self.close(ended.has_told_all())
+        return ended
 
     def kill(self) -> None:
         if self.runs:
             self.child.send_signal(signal.SIGKILL)
             self.child.wait()
-            self.close()
+            self.close(False)
 
-    def close(self) -> None:
+    def close(self, has_told_all: bool) -> None:
+        if self.status:
+            self.has_told_all = has_told_all
         for it in (self.child.stdin, self.child.stdout, self.child.stderr):
             if it:
                 it.close()

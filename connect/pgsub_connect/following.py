@@ -150,13 +150,14 @@ class Follower:
         self.progress.restarts += 1
 
     def tell_rejected(self, ended: FilterEnded) -> None:
-        """Tells which commit the filter has rejected: the first one above its store's position."""
-        if not ended.is_of_commit():
+        """Tells which commit the filter has rejected: the first one above its store's position. All up to there is counted."""
+        if not ended.is_of_stream():
             return
         with contextlib.suppress(FilterEnded, Stopped):
             position = self.filter.start(self.check_stop)
+            self.misses.begin_filter(position, ended.has_told_all())
             self.filter.finish()
-            if text := self.noting.rejected_text(position):
+            if ended.is_of_commit() and (text := self.noting.rejected_text(position)):
                 log.error(text)
             while True:
                 self.filter.serve(STEP)
@@ -200,7 +201,7 @@ class Follower:
             return
         self.progress.state = "opening the store"
         self.position = self.open_store()
-        if self.misses.begin_filter(self.position):
+        if self.misses.begin_filter(self.position, self.filter.has_told_all):
             self.watch.show()
         self.noting.begin_store()
         self.held = None
