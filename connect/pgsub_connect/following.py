@@ -23,7 +23,7 @@ from .recording import Aside
 from .remembered import Remembered
 from .server import (
     ABORTS_IN_VERSION_1, STREAMS, Server, identify, is_lost, left_at, log_end, sender_timeout, settle, slot_position, tell_plain_text,
-    tell_version_1,
+    tell_version_1, waits_for,
 )
 from .skipping import Skipping
 from .snapshots import SOON, Snapshots
@@ -42,8 +42,9 @@ OPENED_AFTER = (1, 2, 4, 8, 15, 30)
 # An error that the server doesn't expect of itself. PostgreSQL 15 has one (`could not map filenode .. to relation OID`) where it
 # streams a transaction beside a TRUNCATE, at each try. The same transaction comes well once it is whole, or not at all.
 INTERNAL = "XX000"
-# How often a position that a keepalive alone has moved is passed on, in seconds. Each time costs a sync of the checkpoint.
-QUIET = 1.0
+# How often a position that a keepalive alone has moved is passed on, in seconds. Each time costs a sync of the checkpoint. Where commits
+# at the server wait for that, as those of tables that aren't published do: so often that at most a part in so many of the time is spent.
+QUIET, PART = 1.0, 5
 # How often the server is asked how far it has read its log, where the copy is to be taken at an LSN, in seconds.
 ASK = 0.3
 # What a standby says that can't be followed: it has no such feature, or the slot is one that it only keeps for its promotion.
@@ -78,6 +79,8 @@ class Follower:
         # the greatest end of a commit that was passed on and is confirmed
         self.position = 0
         self.last_sent = self.last_moved = 0.0
+        # how long a position that a keepalive alone has moved took to be noted
+        self.noted_in = 0.0
         # the last status that was passed on, and one that moves a position by a keepalive alone and waits for its time
         self.told = b""
         self.held: bytes | None = None
@@ -277,6 +280,8 @@ class Follower:
             self.until = log_end(connection)
         timeout = sender_timeout(connection)
         self.heartbeat = min(options.heartbeat, timeout / 3) if timeout else options.heartbeat
+        self.progress.name = connection.parameter("application_name")
+        self.progress.is_waited_for = waits_for(connection.text("SHOW synchronous_standby_names"), self.progress.name)
         self.start_replication(connection, server)
         self.check_slot()
         # (what comes later isn't what was accepted)
@@ -459,7 +464,7 @@ class Follower:
         """For how many seconds a session waits at most until something comes. `has_more`: something has come already."""
         wait = 0.0 if has_more else self.heartbeat - (time.monotonic() - self.last_sent)
         if self.held:
-            wait = min(wait, QUIET)
+            wait = min(wait, self.quiet() - (time.monotonic() - self.last_moved))
         if self.snapshots.hold.into:
             wait = min(wait, SOON)
         return max(0.0, min(wait, STEP))
@@ -581,8 +586,8 @@ class Follower:
     def forward(self, statuses: list[bytes]) -> None:
         """Passes on the last of new statuses, which confirms what those before it do.
 
-        What is above the last commit was moved by a keepalive alone, and may wait for a second, since noting it costs a sync. A commit
-        at the server may wait for the rest.
+        What is above the last commit was moved by a keepalive alone, and may wait, since noting it costs a sync. A commit at the
+        server may wait for the rest.
         """
         for status in statuses[-1:]:
             lsn = flushed(status)
@@ -593,20 +598,25 @@ class Follower:
                 self.pass_on(status)
             else:
                 self.held = status
-        if self.held and time.monotonic() - self.last_moved >= QUIET:
+        if self.held and time.monotonic() - self.last_moved >= self.quiet():
             self.release()
+
+    def quiet(self) -> float:
+        """After how many seconds a position that a keepalive alone has moved is passed on again."""
+        return min(QUIET, PART * self.noted_in) if self.progress.is_waited_for else QUIET
 
     def pass_on(self, status: bytes) -> None:
         """Sends a status, and notes it: first where only this tells the next start of it, and else afterwards."""
-        lsn = flushed(status)
+        lsn, began = flushed(status), time.monotonic()
         if lsn > self.checkpoint.known.confirmed:
-            self.last_moved = time.monotonic()
+            self.last_moved = began
         if self.noting.asked is not None and lsn >= self.noting.asked:
             self.noting.asked = None
         self.forget_confirmed(lsn)
         self.held = None
         if lsn > self.position:
             self.note_statuses([status])
+            self.noted_in = time.monotonic() - began
         self.told = status
         try:
             self.send(status)
