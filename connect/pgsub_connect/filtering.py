@@ -199,14 +199,21 @@ class Filter:
         return flushed(self.status)
 
     def push(self, piece: bytes) -> None:
-        """Gives the filter bytes of the session. A frame may come in several pieces, one right after the other."""
+        """Gives the filter bytes of the session, at once as far as the pipe takes them. A frame may come in several pieces, one right
+        after the other."""
+        self.in_session = True
+        done = self.written_of(piece) if self.takes and not self.waiting else 0
+        if done < len(piece):
+            self.keep(memoryview(piece)[done:])
+
+    def keep(self, rest: memoryview) -> None:
+        """Keeps what waits until the pipe takes it, and small pieces together."""
         pending = self.pending
         if pending and len(pending[-1]) < PIECE:
-            pending[-1] += piece
+            pending[-1] += rest
         else:
-            pending.append(bytearray(piece))
-        self.waiting += len(piece)
-        self.in_session = True
+            pending.append(bytearray(rest))
+        self.waiting += len(rest)
 
     def push_payloads(self, payloads: list[bytes]) -> None:
         """Gives the filter CopyData with these payloads. A long one isn't copied together with others: it may be the last only."""
@@ -259,21 +266,26 @@ class Filter:
         return readable, writable, statuses
 
     def write(self) -> None:
-        """Writes what waits, as far as the pipe takes it. Of one that has ended, its end tells why nothing is written."""
-        pending = self.pending
+        """Writes what waits, as far as the pipe takes it."""
+        pending, done = self.pending, 1
+        while pending and done and self.takes:
+            with memoryview(pending[0]) as first:
+                done = self.written_of(first[self.written :])
+            self.waiting -= done
+            self.written += done
+            if pending and self.written == len(pending[0]):
+                pending.popleft()
+                self.written = 0
+
+    def written_of(self, piece: bytes | memoryview) -> int:
+        """Writes as much as the pipe takes. Of one that has ended, its end tells why nothing is written."""
         try:
-            while pending and self.takes:
-                with memoryview(pending[0]) as first:
-                    done = os.write(self.down, first[self.written :])
-                self.waiting -= done
-                self.written += done
-                if self.written == len(pending[0]):
-                    pending.popleft()
-                    self.written = 0
+            return os.write(self.down, piece)
         except BlockingIOError:
-            pass
+            return 0
         except BrokenPipeError:
             self.finish()
+            return 0
 
     def has_said(self) -> bool:
         """Whether there is something on standard error, or its end."""

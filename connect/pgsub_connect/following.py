@@ -427,7 +427,8 @@ class Follower:
             readable, writable, statuses = self.serve(
                 self.longest_wait(bool(more) and room), [socket] if room else [], [socket] if connection.unsent else []
             )
-            self.forward(statuses)
+            if statuses or self.held:
+                self.forward(statuses)
             # (what was read already of an encrypted connection doesn't wake select, nor what is read where a flush would block)
             if room and not more and (socket in readable or socket in writable or is_wrapped or not (readable or writable)):
                 connection.consume()
@@ -540,8 +541,6 @@ class Follower:
         if payloads and len(payloads[-1]) >= PIECE:
             self.noting.longest = max(self.noting.longest, len(payloads[-1]))
         self.filter.push_payloads(payloads)
-        # (at once, since most often the pipe takes all of it)
-        self.filter.write()
         self.noting.note_all(payloads)
         return True if hold.kept and more is not None else more
 

@@ -249,7 +249,7 @@ class Calls(FollowCase):
             self.patch(where, name, call)
 
         for where, names in (
-            (Connection, ("consume", "send")), (follower.filter, ("serve", "write")), (follower.noting, ("note_all", "show")),
+            (Connection, ("consume", "send")), (follower.filter, ("serve", "written_of")), (follower.noting, ("note_all", "show")),
             (follower.watch, ("tend",)), (follower.adder, ("wants_session", "step")), (follower.misses, ("tell",)),
             (follower.checkpoint, ("note",)), (follower.snapshots, ("is_due",)),
         ):
@@ -258,7 +258,7 @@ class Calls(FollowCase):
         self.server.to_send = list(ONE)
         self.run_until(follower, lambda: self.confirmed() == 0x108)
         text = " ".join(happened)
-        self.assertIn("serve consume write note_all", text)
+        self.assertIn("serve consume written_of note_all", text)
         self.assertIn("serve send note", text)
 
     def test_what_an_encrypted_connection_has_read_already(self) -> None:
@@ -374,7 +374,6 @@ class Rejected(FollowCase):
             with self.assertRaises(FilterEnded):
                 child.start()
                 child.push_payloads(ONE)
-                child.write()
                 child.finish()
                 while True:
                     child.serve(0.1)
