@@ -605,7 +605,11 @@ class Follower:
         return min(QUIET, PART * self.noted_in) if self.progress.is_waited_for else QUIET
 
     def pass_on(self, status: bytes) -> None:
-        """Sends a status, and notes it: first where only this tells the next start of it, and else afterwards."""
+        """Sends a status, and notes it: first where only this tells the next start of it, and else afterwards.
+
+        What else the checkpoint has of a commit is on the disk before: which of its changes found no row since the status was read, that
+        it was skipped since its end was passed on, and what was found by its Relation messages since these were passed on.
+        """
         lsn, began = flushed(status), time.monotonic()
         if lsn > self.checkpoint.known.confirmed:
             self.last_moved = began
