@@ -23,6 +23,7 @@ from .catalog import Column, Shape
 from .copying import PASSING
 from .differences import PUBLICATION
 from .errors import NoSlot, Passing, ServerError, Stopped, Unfit
+from .found import About
 from .meeting import Source
 from .publishing import Column as TableColumn
 from .publishing import Table, sizes_of
@@ -356,7 +357,8 @@ class Adder:
             # (its changes are left out without that, and others need the room)
             self.checkpoint.write_adding({it: lsn for it, lsn in self.checkpoint.adding().items() if it != oid})
         self.remembered.refuse(oid, why)
-        self.remembered.find(PUBLICATION, self.stream.position, f"table {self.remembered.text_of(oid)} can't be added: {why}")
+        text = f"table {self.remembered.text_of(oid)} can't be added: {why}"
+        self.remembered.find(PUBLICATION, self.stream.position, text, About((oid,)))
         self.progress.state = "following"
         self.show()
         self.watch.keep()

@@ -1,4 +1,5 @@
-"""Asks the server beside the session: where its log ends, how long the slot is safe, and whether a standby was promoted."""
+"""Asks the server beside the session: where its log ends, how long the slot is safe, whether commits wait for the follower, and whether a
+standby was promoted."""
 
 from __future__ import annotations
 
@@ -10,7 +11,7 @@ from . import log
 from .errors import ServerError, Stopped
 from .postgres import QUICK, Connection
 from .progress import Progress
-from .server import END, exact_end, postmaster_start
+from .server import END, exact_end, postmaster_start, waits_for
 from .texts import counted, literal, parse_lsn
 
 if TYPE_CHECKING:
@@ -111,13 +112,14 @@ class Asker(threading.Thread):
         """Asks, and notes what the server says."""
         progress, asked = self.progress, time.time()
         columns = "s.wal_status, s.safe_wal_size" if connection.version() >= SAFETY else "NULL, NULL"
-        standby, end, flushed, segment, clock, there, status, safe = connection.rows(
+        standby, end, flushed, segment, clock, standbys, there, status, safe = connection.rows(
             f"SELECT pg_catalog.pg_is_in_recovery(), {END}, pg_catalog.date_part('epoch', pg_catalog.clock_timestamp()),"
-            f" s.slot_name, {columns} FROM (SELECT 1) one"
+            f" pg_catalog.current_setting('synchronous_standby_names'), s.slot_name, {columns} FROM (SELECT 1) one"
             f" LEFT JOIN pg_catalog.pg_replication_slots s ON s.slot_name = {literal(self.options.slot)}",
             QUICK,
         )[0]
         at = exact_end(parse_lsn(end or "0/0"), parse_lsn(flushed or "0/0"), int(segment or 0))
+        progress.is_waited_for = waits_for(standbys or "", progress.name)
         progress.lag.note_answer(asked, time.time(), float(clock) if clock else None, at)
         if there:
             progress.slot.wal_status = status or ""

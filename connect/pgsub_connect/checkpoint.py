@@ -47,6 +47,8 @@ from .texts import lsn_text
 SIZE = 512
 PATIENCE = 60
 TEXT = json.JSONEncoder(separators=(",", ":"))
+# What stands before the two positions in the first line, and between them. (In a text of it each of its quotes has a backslash.)
+BEFORE, BETWEEN = '"confirmed":', ',"position":'
 NEW, COPYING, SLOT, COPIED, FOLLOWING = "new", "copying", "slot", "copied", "following"
 # The kind of what is found by changes that found no row.
 MISSING = "missing"
@@ -86,6 +88,8 @@ class Checkpoint:
 
     def __init__(self, store: str, mode: int = 0o600, check: Check = never) -> None:
         self.path = store + ".connector"
+        # what stands around the two positions in the first line, as long as nothing else of it changes
+        self.around: tuple[str, str] | None = None
         try:
             self.file = os.open(self.path, os.O_RDWR | os.O_CREAT | os.O_CLOEXEC, mode)
         except OSError as error:
@@ -137,7 +141,17 @@ class Checkpoint:
 
     def put(self, durably: bool, known: Known, counted: Counted | None) -> None:
         """Writes both lines. They are known once they are written."""
-        lines = [encoded(known), TEXT.encode(vars(counted)).encode() if counted else b""]
+        self.put_lines(durably, encoded(known), counted)
+        self.known, self.around = known, None
+
+    def put_positions(self, durably: bool, confirmed: int, position: int, counted: Counted | None) -> None:
+        """Writes the positions. It is done for most of the statuses, so what stands around them isn't made anew each time."""
+        head, tail = self.around = self.around or around_positions(self.known)
+        self.put_lines(durably, f"{head}{confirmed}{BETWEEN}{position}{tail}".encode(), counted)
+        self.known.confirmed, self.known.position = confirmed, position
+
+    def put_lines(self, durably: bool, line: bytes, counted: Counted | None) -> None:
+        lines = (line, TEXT.encode(vars(counted)).encode() if counted else b"")
         if len(max(lines, key=len)) >= SIZE:
             raise FileError(f"{self.path}: names too long for a checkpoint")
         try:
@@ -146,7 +160,7 @@ class Checkpoint:
                 os.fdatasync(self.file)
         except OSError as error:
             raise Passing(f"{self.path}: {error.strerror}") from None
-        self.known, self.counted = known, counted
+        self.counted = counted
 
     def begin_anew(self) -> None:
         """Forgets what is known, as where the store is made anew."""
@@ -168,7 +182,7 @@ class Checkpoint:
         confirmed, position = max(confirmed, known.confirmed), max(position, known.position)
         if (confirmed, position, counted) != (known.confirmed, known.position, self.counted):
             durably = confirmed > position and confirmed > known.confirmed
-            self.put(durably, dataclasses.replace(known, confirmed=confirmed, position=position), counted)
+            self.put_positions(durably, confirmed, position, counted)
 
     def begin_counting(self, position: int, accepts: bool) -> bool:
         """Notes durably that a filter counts from this position of its store on.
@@ -242,6 +256,13 @@ def encoded(known: Known) -> bytes:
     """The line of the file. What came later is left out where there is nothing to say, so that an earlier version reads it too."""
     fields = vars(known)
     return TEXT.encode(fields if known.adding else {name: it for name, it in fields.items() if name != "adding"}).encode()
+
+
+def around_positions(known: Known) -> tuple[str, str]:
+    """What stands in the line before and behind the two positions, but for what is between them."""
+    text, positions = encoded(known).decode(), f"{known.confirmed}{BETWEEN}{known.position}"
+    at = text.index(BEFORE + positions) + len(BEFORE)
+    return text[:at], text[at + len(positions) :]
 
 
 def counted_of(said: Any) -> Counted:

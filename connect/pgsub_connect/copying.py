@@ -34,6 +34,7 @@ from .checking import require, require_reading
 from .differences import PUBLICATION, root_of
 from .errors import FileError, Passing, ServerError, Stopped, Unfit
 from .filtering import Filter, FilterEnded
+from .found import About
 from .making import REFUSED, Look, Maker, Wanted, has_publication
 from .messages import begin, commit, frame
 from .postgres import QUICK, Check, Connection, never
@@ -388,7 +389,8 @@ class Copier:
         """Brings the store to the slot's consistent point, from where all tables follow; the others are noted before, to be added."""
         for oid, why in self.later.items():
             log.warning(f"{self.remembered.text_of(oid)}: {why}: it is added by itself")
-            self.remembered.find(PUBLICATION, point, f"table {self.remembered.text_of(oid)} isn't copied yet: {why}")
+            text = f"table {self.remembered.text_of(oid)} isn't copied yet: {why}"
+            self.remembered.find(PUBLICATION, point, text, About((oid,)))
         self.remembered.take_news()
         self.remembered.want_later(self.later)
         self.progress.copying = None

@@ -15,11 +15,10 @@ from collections.abc import Iterator
 from typing import NamedTuple
 
 from .catalog import Catalog, Part, Partition, Publication, Shape, Table
+from .found import NOTHING, About
 
 NAMES, PUBLICATION, VALUES = "names", "publication", "values"
 KINDS = (NAMES, PUBLICATION, VALUES)
-# What is said of a table that isn't published any more, and of a partition that isn't by its own name.
-GONE, RENAMED = "was dropped, or left the publication: the rows that it had stay", "is sent under another name now: the rows that it had don't change"
 # How many columns, labels and the like a text names.
 NAMED = 20
 
@@ -29,6 +28,7 @@ class Difference(NamedTuple):
 
     kind: str
     text: str
+    about: About = NOTHING
 
 
 def differences(before: Catalog, now: Catalog) -> Iterator[Difference]:
@@ -37,9 +37,11 @@ def differences(before: Catalog, now: Catalog) -> Iterator[Difference]:
         old, new = before.publications.get(name), now.publications.get(name)
         if old is None:
             since = "was gone, and is there again" if name in before.names else "is followed"
-            yield Difference(PUBLICATION, f"publication {name} {since}: changes from before aren't sent")
+            text = f"publication {name} {since}: changes from before aren't sent"
+            yield Difference(PUBLICATION, text, About(publication=name, is_missing=True))
         elif new is None:
-            yield Difference(PUBLICATION, f"publication {name} {'is gone' if name in now.names else 'is not followed any more'}")
+            text = f"publication {name} {'is gone' if name in now.names else 'is not followed any more'}"
+            yield Difference(PUBLICATION, text, About(publication=name))
         else:
             yield from publication_differences(name, old, new)
     for oid in sorted(before.tables.keys() | now.tables.keys()):
@@ -50,42 +52,49 @@ def differences(before: Catalog, now: Catalog) -> Iterator[Difference]:
 
 
 def publication_differences(name: str, before: Publication, now: Publication) -> Iterator[Difference]:
+    about = About(publication=name)
     if before.oid != now.oid:
-        yield Difference(PUBLICATION, f"publication {name} was dropped and made anew: changes in between aren't sent")
+        text = f"publication {name} was dropped and made anew: changes in between aren't sent"
+        yield Difference(PUBLICATION, text, about._replace(is_missing=True))
     for word in before.actions:
         if word not in now.actions:
-            yield Difference(PUBLICATION, f"publication {name} has no {word}s any more")
+            yield Difference(PUBLICATION, f"publication {name} has no {word}s any more", about._replace(lacks=word))
     for word in now.actions:
         if word not in before.actions:
-            yield Difference(PUBLICATION, f"publication {name} has {word}s only from now on")
+            yield Difference(PUBLICATION, f"publication {name} has {word}s only from now on", about)
     if before.via_root != now.via_root:
         names = "the root's name" if now.via_root else "their own names"
-        yield Difference(PUBLICATION, f"publication {name} has rows of partitions under {names} now: the older rows stay as they were")
+        text = f"publication {name} has rows of partitions under {names} now: the older rows stay as they were"
+        yield Difference(PUBLICATION, text, about)
     if before.generated != now.generated:
-        yield Difference(PUBLICATION, f"publication {name} has generated columns {'only from now on' if now.generated else 'no more'}")
+        generated = "only from now on" if now.generated else "no more"
+        yield Difference(PUBLICATION, f"publication {name} has generated columns {generated}", about)
 
 
 def table_differences(oid: int, before: Catalog, now: Catalog) -> Iterator[Difference]:
     old, new = before.tables.get(oid), now.tables.get(oid)
     if old is None and new is not None:
         if oid in before.partitions:
-            yield Difference(PUBLICATION, f"partition {new.text()} is sent under its own name now: the rows that it had don't change")
+            text = f"partition {new.text()} is sent under its own name now: the rows that it had don't change"
+            yield Difference(PUBLICATION, text, About((oid,)))
         elif is_complete(new, before, now):
             yield Difference("", f"table {new.text()} is new, and followed from its first row on")
         else:
-            yield Difference(PUBLICATION, f"table {new.text()} joined: the rows that it had before are missing")
+            text = f"table {new.text()} joined: the rows that it had before are missing"
+            yield Difference(PUBLICATION, text, About((oid,), is_missing=True))
     elif new is None and old is not None:
         if oid in now.partitions and root_of(oid, now):
-            yield Difference(PUBLICATION, f"partition {old.text()} {RENAMED}")
+            text = f"partition {old.text()} is sent under another name now: the rows that it had don't change"
+            yield Difference(PUBLICATION, text, About((oid,), gone=f"{old.namespace}.{old.name}"))
         else:
-            yield Difference(PUBLICATION, gone_text(old.text()))
+            yield gone(oid, f"{old.namespace}.{old.name}")
     elif old is not None and new is not None:
         for name in sorted(old.parts.keys() & new.parts.keys()):
-            yield from part_differences(f"table {new.text()}", old.parts[name], new.parts[name])
-        shapes = list(shape_differences(new.text(), old.shape, new.shape))
+            yield from part_differences(new, old.parts[name], new.parts[name])
+        shapes = list(shape_differences(oid, new.text(), old.shape, new.shape))
         if not shapes and is_computed_anew(oid, before, now):
             text = f"table {new.text()} was written anew, and columns of it were altered: values that were there may be others now"
-            shapes.append(Difference(VALUES, text))
+            shapes.append(Difference(VALUES, text, About((oid,))))
         yield from shapes
 
 
@@ -100,8 +109,10 @@ def is_computed_anew(oid: int, before: Catalog, now: Catalog) -> bool:
     return any(before.partitions[it].node not in (0, now.partitions[it].node) for it in parts)
 
 
-def gone_text(table: str) -> str:
-    return f"table {table} {GONE}"
+def gone(oid: int, name: str) -> Difference:
+    """A table, with this name and OID, isn't published any more."""
+    text = f"table {name} ({oid}) was dropped, or left the publication: the rows that it had stay"
+    return Difference(PUBLICATION, text, About((oid,), gone=name))
 
 
 def is_complete(table: Table, before: Catalog, now: Catalog) -> bool:
@@ -133,30 +144,37 @@ def is_made_in(oid: int, before: Catalog, now: Catalog) -> bool:
     return False
 
 
-def part_differences(table: str, old: Part, new: Part) -> Iterator[Difference]:
+def part_differences(table: Table, old: Part, new: Part) -> Iterator[Difference]:
     if old.row_filter != new.row_filter:
-        yield Difference(PUBLICATION, f"{table} has the row filter {new.row_filter or 'none'} now, and before {old.row_filter or 'none'}")
+        text = f"table {table.text()} has the row filter {new.row_filter or 'none'} now, and before {old.row_filter or 'none'}"
+        yield Difference(PUBLICATION, text, About((table.oid,)))
     if old.listed != new.listed:
-        yield Difference(PUBLICATION, f"{table} has another column list: rows that were there have nulls in the columns that joined")
+        text = f"table {table.text()} has another column list: rows that were there have nulls in the columns that joined"
+        yield Difference(PUBLICATION, text, About((table.oid,)))
 
 
-def shape_differences(table: str, old: Shape, new: Shape) -> Iterator[Difference]:
+def shape_differences(oid: int, table: str, old: Shape, new: Shape) -> Iterator[Difference]:
     """What of another definition may have changed values in rows that were there. Columns that only went have not."""
+    about = About((oid,))
+    return (Difference(VALUES, text, about) for text in shape_texts(table, old, new))
+
+
+def shape_texts(table: str, old: Shape, new: Shape) -> Iterator[str]:
     was = {it.name: it for it in old.columns}
     for column in new.columns:
         same = was.get(column.name)
         if same is not None and column.number and same.number and column.number != same.number:
-            yield Difference(VALUES, f"column {column.name} of {table} was dropped and made anew: its values may be the old ones")
+            yield f"column {column.name} of {table} was dropped and made anew: its values may be the old ones"
         elif same is not None and (same.type_oid, same.modifier) != (column.type_oid, column.modifier):
-            yield Difference(VALUES, f"column {column.name} of {table} has another type: its values may be written in another way")
+            yield f"column {column.name} of {table} has another type: its values may be written in another way"
         elif same is None:
-            yield Difference(VALUES, f"column {column.name} of {table} was added or renamed: rows that were there have nulls in it")
+            yield f"column {column.name} of {table} was added or renamed: rows that were there have nulls in it"
     kept = {it.name for it in new.columns}
     if [it.name for it in old.columns if it.name in kept] != [it.name for it in new.columns if it.name in was]:
-        yield Difference(VALUES, f"columns of {table} have changed their names among each other, or were made anew")
+        yield f"columns of {table} have changed their names among each other, or were made anew"
     if (old.identity, keys_of(old)) != (new.identity, keys_of(new)):
         key = "all columns" if new.identity == "f" else ", ".join(keys_of(new)[:NAMED]) or "no column"
-        yield Difference(VALUES, f"table {table} has another replica identity: {key}")
+        yield f"table {table} has another replica identity: {key}"
 
 
 def keys_of(shape: Shape) -> list[str]:
@@ -169,13 +187,14 @@ def partition_differences(before: Catalog, now: Catalog) -> Iterator[Difference]
         was, root = root_of(oid, before), root_of(oid, now)
         if was != root and was in now.tables:
             partition = f"partition {before.partitions[oid].name} ({oid}) of {now.tables[was].text()}"
-            yield Difference(PUBLICATION, f"{partition} was detached or dropped: its rows stay")
+            yield Difference(PUBLICATION, f"{partition} was detached or dropped: its rows stay", About((was,)))
         if was != root and root in before.tables:
             partition = f"partition {now.partitions[oid].name} ({oid}) of {now.tables[root].text()}"
             if is_made_in(oid, before, now):
                 yield Difference("", f"{partition} is new, and followed from its first row on")
             else:
-                yield Difference(PUBLICATION, f"{partition} was attached: the rows that it had before are missing")
+                text = f"{partition} was attached: the rows that it had before are missing"
+                yield Difference(PUBLICATION, text, About((root,), is_missing=True))
     yield from truncations(before, now)
 
 
@@ -193,7 +212,8 @@ def truncations(before: Catalog, now: Catalog) -> Iterator[Difference]:
         anew = [it for it in partitions if before.partitions[it.oid].node not in (0, it.node)]
         for it in anew if len(anew) < len(partitions) or len(anew) == 1 else ():
             partition = f"partition {it.name} ({it.oid}) of {now.tables[root].text()}"
-            yield Difference(PUBLICATION, f"{partition} was truncated or written anew: if it was truncated, its rows stay")
+            text = f"{partition} was truncated or written anew: if it was truncated, its rows stay"
+            yield Difference(PUBLICATION, text, About((root,)))
 
 
 def root_of(oid: int, catalog: Catalog) -> int:
@@ -210,9 +230,9 @@ def root_of(oid: int, catalog: Catalog) -> int:
 
 def type_differences(oid: int, old: dict[str, str], new: dict[str, str]) -> Iterator[Difference]:
     """Labels that were renamed, and parts of composite types. A label that was added changes no value."""
-    name = f"type {new.get('name', '')} ({oid})"
+    name, about = f"type {new.get('name', '')} ({oid})", About(type_oid=oid)
     renamed = sorted(f"{old[it]} became {new[it]}" for it in old.keys() & new.keys() if it.isdigit() and old[it] != new[it])
     if renamed:
-        yield Difference(VALUES, f"{name}: {', '.join(renamed[:NAMED])}: values that were there have the old labels")
+        yield Difference(VALUES, f"{name}: {', '.join(renamed[:NAMED])}: values that were there have the old labels", about)
     if {it: old[it] for it in old if it[0] == "#"} != {it: new[it] for it in new if it[0] == "#"}:
-        yield Difference(VALUES, f"{name} consists of other parts: values that were there have the old ones")
+        yield Difference(VALUES, f"{name} consists of other parts: values that were there have the old ones", about)

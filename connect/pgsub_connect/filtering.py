@@ -56,6 +56,10 @@ class FilterEnded(Exception):
         """Whether the same would come of another try. A disk that is full, or too little memory, may pass."""
         return self.status > 0 and self.status not in (*PASSING, MISSED)
 
+    def is_of_stream(self) -> bool:
+        """Whether what was rejected is something that came, and not the words or the store."""
+        return self.status in (REJECTED, SPOOL_FULL, FRAME_TOO_LARGE)
+
     def is_of_commit(self) -> bool:
         """Whether what was rejected is a commit, and not a single message."""
         return self.status == REJECTED and self.said.startswith(("pgsub: store ", "pgsub: relation "))
@@ -63,6 +67,11 @@ class FilterEnded(Exception):
     def is_full(self) -> bool:
         """Whether too much of open transactions was buffered."""
         return self.status == SPOOL_FULL
+
+    def has_told_all(self) -> bool:
+        """Whether it has said of all commits that it stored which of their changes found no row: also of those that came right before
+        one that it rejected, which it doesn't confirm. One that was killed hasn't, nor one whose store, memory or output failed."""
+        return self.status >= 0 and self.status not in PASSING
 
     def is_unopened(self) -> bool:
         """Whether the store couldn't be opened, as where another process has it open."""
@@ -91,6 +100,11 @@ def flushed(payload: bytes) -> int:
 def without_received(payload: bytes) -> bytes:
     """A status that claims no more to be received than is confirmed: what holds after a disconnection."""
     return payload[:1] + payload[9:17] + payload[9:]
+
+
+def confirming(payload: bytes, lsn: int) -> bytes:
+    """A status that confirms less than another one: up to this LSN."""
+    return payload[:9] + 2 * lsn.to_bytes(8, "big") + payload[25:]
 
 
 def asking(payload: bytes) -> bytes:
@@ -129,10 +143,12 @@ class Filter:
         self.proto = proto
         self.kept_open = kept_open
         self.mode = mode
-        self.runs = False
+        self.runs = self.takes = False
         self.status = b""
         # what it has said of changes that found no row since it began
         self.missing = Missing()
+        # whether the last one that had opened its store has said it of all that it stored
+        self.has_told_all = False
 
     def is_running(self) -> bool:
         return self.runs
@@ -183,14 +199,21 @@ class Filter:
         return flushed(self.status)
 
     def push(self, piece: bytes) -> None:
-        """Gives the filter bytes of the session. A frame may come in several pieces, one right after the other."""
+        """Gives the filter bytes of the session, at once as far as the pipe takes them. A frame may come in several pieces, one right
+        after the other."""
+        self.in_session = True
+        done = self.written_of(piece) if self.takes and not self.waiting else 0
+        if done < len(piece):
+            self.keep(memoryview(piece)[done:])
+
+    def keep(self, rest: memoryview) -> None:
+        """Keeps what waits until the pipe takes it, and small pieces together."""
         pending = self.pending
         if pending and len(pending[-1]) < PIECE:
-            pending[-1] += piece
+            pending[-1] += rest
         else:
-            pending.append(bytearray(piece))
-        self.waiting += len(piece)
-        self.in_session = True
+            pending.append(bytearray(rest))
+        self.waiting += len(rest)
 
     def push_payloads(self, payloads: list[bytes]) -> None:
         """Gives the filter CopyData with these payloads. A long one isn't copied together with others: it may be the last only."""
@@ -238,26 +261,35 @@ class Filter:
         if self.takes and self.down in writable:
             self.write()
         statuses = self.read_statuses() if self.up in readable else []
-        if statuses or self.err in readable:
+        if self.err in readable or statuses and self.has_said():
             self.read_err()
         return readable, writable, statuses
 
     def write(self) -> None:
         """Writes what waits, as far as the pipe takes it."""
-        pending = self.pending
+        pending, done = self.pending, 1
+        while pending and done and self.takes:
+            with memoryview(pending[0]) as first:
+                done = self.written_of(first[self.written :])
+            self.waiting -= done
+            self.written += done
+            if pending and self.written == len(pending[0]):
+                pending.popleft()
+                self.written = 0
+
+    def written_of(self, piece: bytes | memoryview) -> int:
+        """Writes as much as the pipe takes. Of one that has ended, its end tells why nothing is written."""
         try:
-            while pending:
-                with memoryview(pending[0]) as first:
-                    done = os.write(self.down, first[self.written :])
-                self.waiting -= done
-                self.written += done
-                if self.written == len(pending[0]):
-                    pending.popleft()
-                    self.written = 0
+            return os.write(self.down, piece)
         except BlockingIOError:
-            pass
+            return 0
         except BrokenPipeError:
             self.finish()
+            return 0
+
+    def has_said(self) -> bool:
+        """Whether there is something on standard error, or its end."""
+        return self.speaks and bool(select.select([self.err], [], [], 0)[0])
 
     def read_err(self) -> None:
         """Takes all that the filter has said: notes how many changes found no row, passes on the rest, and keeps its last line."""
@@ -303,18 +335,21 @@ class Filter:
         """Waits for the end, and makes the exception that says how it ended."""
         self.finish()
         status = self.child.wait()
-        while self.speaks and select.select([self.err], [], [], 0)[0]:
+        while self.has_said():
             self.read_err()
-        self.close()
-        return FilterEnded(status, self.said)
+        ended = FilterEnded(status, self.said)
+        self.close(ended.has_told_all())
+        return ended
 
     def kill(self) -> None:
         if self.runs:
             self.child.send_signal(signal.SIGKILL)
             self.child.wait()
-            self.close()
+            self.close(False)
 
-    def close(self) -> None:
+    def close(self, has_told_all: bool) -> None:
+        if self.status:
+            self.has_told_all = has_told_all
         for it in (self.child.stdin, self.child.stdout, self.child.stderr):
             if it:
                 it.close()

@@ -14,7 +14,7 @@ from . import log, sizes
 from .adding import Adder
 from .checkpoint import Checkpoint, check_gap
 from .errors import FileError, FilterFault, Passing, ServerError, Stopped, Unfit
-from .filtering import MISSED, PIECE, Filter, FilterEnded, asking, flushed
+from .filtering import MISSED, PIECE, Filter, FilterEnded, asking, confirming, flushed
 from .missing import Misses
 from .noting import Noting, final_lsn
 from .postgres import COPY_BOTH, Connection
@@ -23,7 +23,7 @@ from .recording import Aside
 from .remembered import Remembered
 from .server import (
     ABORTS_IN_VERSION_1, STREAMS, Server, identify, is_lost, left_at, log_end, sender_timeout, settle, slot_position, tell_plain_text,
-    tell_version_1,
+    tell_version_1, waits_for,
 )
 from .skipping import Skipping
 from .snapshots import SOON, Snapshots
@@ -42,8 +42,9 @@ OPENED_AFTER = (1, 2, 4, 8, 15, 30)
 # An error that the server doesn't expect of itself. PostgreSQL 15 has one (`could not map filenode .. to relation OID`) where it
 # streams a transaction beside a TRUNCATE, at each try. The same transaction comes well once it is whole, or not at all.
 INTERNAL = "XX000"
-# How often a position that a keepalive alone has moved is passed on, in seconds. Each time costs a sync of the checkpoint.
-QUIET = 1.0
+# How often a position that a keepalive alone has moved is passed on, in seconds. Each time costs a sync of the checkpoint. Where commits
+# at the server wait for that, as those of tables that aren't published do: so often that at most a part in so many of the time is spent.
+QUIET, PART = 1.0, 5
 # How often the server is asked how far it has read its log, where the copy is to be taken at an LSN, in seconds.
 ASK = 0.3
 # What a standby says that can't be followed: it has no such feature, or the slot is one that it only keeps for its promotion.
@@ -78,6 +79,8 @@ class Follower:
         # the greatest end of a commit that was passed on and is confirmed
         self.position = 0
         self.last_sent = self.last_moved = 0.0
+        # how long a position that a keepalive alone has moved took to be noted
+        self.noted_in = 0.0
         # the last status that was passed on, and one that moves a position by a keepalive alone and waits for its time
         self.told = b""
         self.held: bytes | None = None
@@ -150,13 +153,14 @@ class Follower:
         self.progress.restarts += 1
 
     def tell_rejected(self, ended: FilterEnded) -> None:
-        """Tells which commit the filter has rejected: the first one above its store's position."""
-        if not ended.is_of_commit():
+        """Tells which commit the filter has rejected: the first one above its store's position. All up to there is counted."""
+        if not ended.is_of_stream():
             return
         with contextlib.suppress(FilterEnded, Stopped):
             position = self.filter.start(self.check_stop)
+            self.misses.begin_filter(position, ended.has_told_all())
             self.filter.finish()
-            if text := self.noting.rejected_text(position):
+            if ended.is_of_commit() and (text := self.noting.rejected_text(position)):
                 log.error(text)
             while True:
                 self.filter.serve(STEP)
@@ -200,7 +204,7 @@ class Follower:
             return
         self.progress.state = "opening the store"
         self.position = self.open_store()
-        if self.misses.begin_filter(self.position):
+        if self.misses.begin_filter(self.position, self.filter.has_told_all):
             self.watch.show()
         self.noting.begin_store()
         self.held = None
@@ -276,6 +280,8 @@ class Follower:
             self.until = log_end(connection)
         timeout = sender_timeout(connection)
         self.heartbeat = min(options.heartbeat, timeout / 3) if timeout else options.heartbeat
+        self.progress.name = connection.parameter("application_name")
+        self.progress.is_waited_for = waits_for(connection.text("SHOW synchronous_standby_names"), self.progress.name)
         self.start_replication(connection, server)
         self.check_slot()
         # (what comes later isn't what was accepted)
@@ -404,47 +410,37 @@ class Follower:
         return f"START_REPLICATION SLOT {identifier(options.slot)} LOGICAL {lsn_text(at)} ({', '.join(words)})"
 
     def session(self) -> None:
-        """One session, from its start to its end on either side."""
+        """One session, from its start to its end on either side.
+
+        What comes is passed on first: all else is done while the filter stores it, since a commit at the server may wait for that.
+        """
         connection = self.connect()
         self.progress.state = "following"
-        self.last_sent = 0.0
-        self.held = None
+        self.last_sent, self.held = 0.0, None
         began = heard = time.monotonic()
         more: bool | None = True
         socket, is_wrapped = connection.socket(), connection.is_wrapped()
         while not self.is_over():
-            self.progress.beat()
-            if self.progress.was_promoted:
-                raise ServerError("the standby was promoted: a session with the new primary is begun")
-            if self.adder.wants_session():
-                self.renew(connection)
+            if self.ends_for_another(connection):
                 return
-            self.adder.step()
             room = not self.holds_for_snapshot() and self.filter.has_room()
-            if more and room:
+            readable, writable, statuses = self.serve(
+                self.longest_wait(bool(more) and room), [socket] if room else [], [socket] if connection.unsent else []
+            )
+            if statuses or self.held:
+                self.forward(statuses)
+            # (what was read already of an encrypted connection doesn't wake select, nor what is read where a flush would block)
+            if room and not more and (socket in readable or socket in writable or is_wrapped or not (readable or writable)):
+                connection.consume()
+                more = True
+            if room and more:
                 more = self.take_payloads(connection)
-                # (at once, since most often the pipe takes all of it)
-                self.filter.write()
-                room = self.filter.has_room()
+            self.tend_misses()
             self.noting.show()
             self.noting.wants_look = self.watch.tend(self.noting.wants_look, self.serve_server, self.position)
             if more is None:
                 log.warning("the server ended the session")
                 return
-            wait = 0.0 if more and room else self.heartbeat - (time.monotonic() - self.last_sent)
-            if self.held:
-                wait = min(wait, QUIET)
-            if self.snapshots.hold.into:
-                wait = min(wait, SOON)
-            readable, writable, statuses = self.serve(
-                max(0.0, min(wait, STEP)), [socket] if room else [], [socket] if connection.unsent else []
-            )
-            self.forward(statuses)
-            self.tend_misses()
-            # (what was read already of an encrypted connection doesn't wake select, nor what is read where a flush would block)
-            if room and not more and (socket in readable or socket in writable or is_wrapped or not (readable or writable)):
-                connection.consume()
-                more = True
             if socket in writable:
                 connection.flush()
             now = time.monotonic()
@@ -453,6 +449,26 @@ class Follower:
             if self.delay and now - began > 2 * self.heartbeat:
                 self.delay = 0.0
         self.end_session_by_ourselves()
+
+    def ends_for_another(self, connection: Connection) -> bool:
+        """Goes on with tables that are added. Returns whether another session is to begin for them."""
+        self.progress.beat()
+        if self.progress.was_promoted:
+            raise ServerError("the standby was promoted: a session with the new primary is begun")
+        if self.adder.wants_session():
+            self.renew(connection)
+            return True
+        self.adder.step()
+        return False
+
+    def longest_wait(self, has_more: bool) -> float:
+        """For how many seconds a session waits at most until something comes. `has_more`: something has come already."""
+        wait = 0.0 if has_more else self.heartbeat - (time.monotonic() - self.last_sent)
+        if self.held:
+            wait = min(wait, self.quiet() - (time.monotonic() - self.last_moved))
+        if self.snapshots.hold.into:
+            wait = min(wait, SOON)
+        return max(0.0, min(wait, STEP))
 
     def is_over(self) -> bool:
         """Whether the end was asked for, or what was asked for is stored."""
@@ -569,30 +585,41 @@ class Follower:
     def forward(self, statuses: list[bytes]) -> None:
         """Passes on the last of new statuses, which confirms what those before it do.
 
-        One that only a keepalive has moved may wait for a second, since noting it costs a sync.
+        What is above the last commit was moved by a keepalive alone, and may wait, since noting it costs a sync. A commit at the
+        server may wait for the rest.
         """
-        now = time.monotonic()
         for status in statuses[-1:]:
             lsn = flushed(status)
-            has_commit = bool(self.noting.ends) and self.noting.ends[0] <= lsn
-            if lsn <= self.checkpoint.known.confirmed or has_commit or self.noting.asked or now - self.last_moved >= QUIET:
+            self.forget_confirmed(lsn)
+            if self.checkpoint.known.confirmed < self.position < lsn:
+                self.pass_on(confirming(status, self.position))
+            if lsn <= max(self.position, self.checkpoint.known.confirmed) or self.noting.asked:
                 self.pass_on(status)
             else:
                 self.held = status
-        if self.held and now - self.last_moved >= QUIET:
+        if self.held and time.monotonic() - self.last_moved >= self.quiet():
             self.release()
 
+    def quiet(self) -> float:
+        """After how many seconds a position that a keepalive alone has moved is passed on again."""
+        return min(QUIET, PART * self.noted_in) if self.progress.is_waited_for else QUIET
+
     def pass_on(self, status: bytes) -> None:
-        """Sends a status, and notes it: first where only this tells the next start of it, and else afterwards."""
-        lsn = flushed(status)
+        """Sends a status, and notes it: first where only this tells the next start of it, and else afterwards.
+
+        What else the checkpoint has of a commit is on the disk before: which of its changes found no row since the status was read, that
+        it was skipped since its end was passed on, and what was found by its Relation messages since these were passed on.
+        """
+        lsn, began = flushed(status), time.monotonic()
         if lsn > self.checkpoint.known.confirmed:
-            self.last_moved = time.monotonic()
+            self.last_moved = began
         if self.noting.asked is not None and lsn >= self.noting.asked:
             self.noting.asked = None
         self.forget_confirmed(lsn)
         self.held = None
         if lsn > self.position:
             self.note_statuses([status])
+            self.noted_in = time.monotonic() - began
         self.told = status
         try:
             self.send(status)

@@ -1,4 +1,4 @@
-"""What was found of one kind: which texts of it are kept, and which tables a text names.
+"""What was found of one kind: its texts, and what each of them is about.
 
 Tables whose rows are missing or wrong are copied anew by what is kept of them, so at least one text of each table is.
 """
@@ -6,30 +6,40 @@ Tables whose rows are missing or wrong are copied anew by what is kept of them, 
 from __future__ import annotations
 
 import dataclasses
-import re
-from collections.abc import Iterable, Iterator
+from collections.abc import Iterable
+from typing import Any, NamedTuple
 
 # How many texts of one kind are kept, but for the first one of each table.
 MOST = 100
-# How a table's OID stands behind its name, and how a text of several tables begins.
-NUMBER = re.compile(r" \((\d+)\)")
-TYPE, PUBLICATION = re.compile(r"type .* \((\d+)\)"), "publication "
-# What no copy mends as long as it is so.
-LACKS = re.compile(r"publication (.*) has no (\w+)s any more")
 
 
-def numbers_in(text: str) -> set[int]:
-    """The OIDs that a text has, if it is about tables."""
-    return set() if text.startswith("type ") else {int(it) for it in NUMBER.findall(text)}
+class About(NamedTuple):
+    """What a text is about: tables, or those of a publication, or those that have a column of a type."""
+
+    tables: tuple[int, ...] = ()
+    publication: str = ""
+    type_oid: int = 0
+    # the changes that the publication doesn't send: as long as it is so, no copy mends it
+    lacks: str = ""
+    # whether rows are missing that were there before
+    is_missing: bool = False
+    # the name by which no rows are sent any more, so that those that the table had stay
+    gone: str = ""
+
+    def written(self) -> dict[str, Any]:
+        """What is kept of it in a file."""
+        return {name: value for name, value in self._asdict().items() if value}
 
 
-def names_in(text: str) -> Iterator[tuple[tuple[str, str], int]]:
-    """What may be a schema and the name of a table in it before each OID in a text, since names may have blanks and dots."""
-    for found in NUMBER.finditer(text):
-        head = text[: found.start()]
-        for start in (0, *(it.end() for it in re.finditer(" ", head))):
-            for dot in re.finditer(r"\.", head[start:]):
-                yield (head[start : start + dot.start()], head[start + dot.end() :]), int(found[1])
+NOTHING = About()
+
+
+def about_of(said: dict[str, Any]) -> About:
+    """What a file has kept of one."""
+    return About(
+        tuple(int(it) for it in said.get("tables", ())), str(said.get("publication", "")), int(said.get("type_oid", 0)),
+        str(said.get("lacks", "")), bool(said.get("is_missing", False)), str(said.get("gone", "")),
+    )
 
 
 @dataclasses.dataclass
@@ -37,25 +47,24 @@ class Found:
     """What was found since an LSN. `more`: how many texts aren't kept that are of no one table."""
 
     lsn: int
-    texts: list[str]
+    texts: dict[str, About]
     more: int = 0
 
     def __post_init__(self) -> None:
-        # the OIDs in the texts
-        self.numbers = {oid for it in self.texts for oid in numbers_in(it)}
+        # the tables that the texts are about
+        self.tables = {oid for it in self.texts.values() for oid in it.tables}
 
-    def add(self, text: str) -> None:
+    def add(self, text: str, about: About) -> None:
         """Notes a text. Of a table that has one already, another one may not be kept: the log has it."""
-        numbers = numbers_in(text)
-        if len(self.texts) < MOST or not numbers <= self.numbers:
-            self.texts.append(text)
-            self.numbers |= numbers
-        elif not numbers:
+        if len(self.texts) < MOST or not self.tables.issuperset(about.tables):
+            self.texts[text] = about
+            self.tables.update(about.tables)
+        elif not about.tables:
             self.more += 1
 
     def drop(self, texts: Iterable[str]) -> None:
         gone = set(texts)
-        self.texts = [it for it in self.texts if it not in gone]
+        self.texts = {text: about for text, about in self.texts.items() if text not in gone}
         self.__post_init__()
 
     def is_empty(self) -> bool:

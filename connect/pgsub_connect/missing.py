@@ -2,8 +2,10 @@
 
 Such a change does nothing, and tells that the copy differed before. The filter counts them from its beginning on, and says on standard
 error how many there were before it writes the status that confirms their commits. They are put on the disk before that status goes on
-to the server, so what is confirmed is counted, unless a filter was killed, or failed, after it had stored a commit and before its status was noted.
-Then the store is found further than the checkpoint says, and what lies between is told as not counted.
+to the server, so what is confirmed is counted. One that rejects a commit has said it of those before, which are stored and not confirmed.
+
+Where a filter was killed, or its store failed, after it had stored a commit and before its status was noted, the store is found further
+than the checkpoint says, and what lies between is told as not counted.
 """
 
 from __future__ import annotations
@@ -48,10 +50,13 @@ class Misses:
         self.is_new = self.is_untold = False
         self.next_telling = 0.0
 
-    def begin_filter(self, position: int) -> bool:
-        """A filter begins at a store's position. Returns whether commits were stored before that weren't counted."""
+    def begin_filter(self, position: int, has_told_all: bool) -> bool:
+        """A filter begins at a store's position. Returns whether commits were stored before that weren't counted.
+
+        `has_told_all`: the one before has begun in this run, and has said of all that it stored what found no row.
+        """
         self.noted = 0
-        is_found = self.checkpoint.begin_counting(position, self.options.accepts(MISSING))
+        is_found = self.checkpoint.begin_counting(position, has_told_all or self.options.accepts(MISSING))
         self.show()
         if is_found and self.checkpoint.counted:
             self.warn(texts_of(self.checkpoint.counted, self.remembered)[-1])

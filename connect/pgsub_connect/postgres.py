@@ -4,6 +4,7 @@ from __future__ import annotations
 
 import contextlib
 import ctypes
+import functools
 import ipaddress
 import os
 import re
@@ -42,9 +43,19 @@ DEFAULTS = {"keepalives_idle": "30", "keepalives_interval": "10", "keepalives_co
 
 # What PQgetCopyData returns after the last message, and for an error.
 ENDED, FAILED = -1, -2
-# libpq's own calls, where psycopg makes them by ctypes too.
-GET_COPY_DATA: Any = LIBPQ.PQgetCopyData if LIBPQ else None
-FREE: Any = LIBPQ.PQfreemem if LIBPQ else None
+
+
+def typed(call: Any, gives: Any, *takes: Any) -> Any:
+    """A call by ctypes with its types. Without these it takes twice as long."""
+    if call:
+        call.restype, call.argtypes = gives, takes
+    return call
+
+
+# libpq's own calls, where psycopg makes them by ctypes too, and Python's own to make bytes of a place in memory.
+GET_COPY_DATA = typed(LIBPQ and LIBPQ.PQgetCopyData, ctypes.c_int, ctypes.c_void_p, ctypes.c_void_p, ctypes.c_int)
+FREE = typed(LIBPQ and LIBPQ.PQfreemem, None, ctypes.c_void_p)
+BYTES_AT = typed(ctypes.pythonapi["PyBytes_FromStringAndSize"], ctypes.py_object, ctypes.c_void_p, ctypes.c_ssize_t)
 # A call of libpq that psycopg lacks.
 GSS_IN_USE: Any = getattr(LIBPQ, "PQgssEncInUse", None)
 
@@ -148,6 +159,7 @@ class Connection:
         self.unsent = False
         # what broke the stream of CopyData off, and is to be raised after those that came before it
         self.broken: ServerError | None = None
+        self.take: Take | None = None
         settings = {**DEFAULTS, "application_name": name, **parameters(dsn), "client_encoding": "UTF8"}
         if replication:
             settings["replication"] = "database"
@@ -374,7 +386,8 @@ class Connection:
         """
         if self.broken:
             raise self.broken
-        found, last = taken(self.raw, room, long)
+        self.take = self.take or take_of(self.raw)
+        found, last = self.take(room, long)
         try:
             if last == ENDED:
                 self.end_copies()
@@ -417,27 +430,44 @@ class Connection:
                 self.flush()
 
     def close(self) -> None:
+        self.take = functools.partial(taken_by_psycopg, self.raw)
         self.raw.finish()
 
 
-def taken(raw: pq.abc.PGconn, room: int, long: int) -> tuple[list[bytes], int]:
-    """Payloads of CopyData, as far as there is room or to the first long one, and what PQgetCopyData returned last.
+# Takes payloads of CopyData, as far as there is room for so many bytes, or to the first one that is at least so long. Returns beside them
+# what PQgetCopyData returned last.
+Take = Callable[[int, int], tuple[list[bytes], int]]
 
-    It is called for each message of a session, so psycopg's way by ctypes, which costs as much again, is passed by.
-    """
+
+class Quick:
+    """Does so by libpq's own calls. They are made for each message of a session, so psycopg's way by ctypes, which costs as much again, is
+    passed by, and what is the same for all is made once."""
+
+    def __init__(self, pointer: int) -> None:
+        self.pointer, self.buffer = pointer, ctypes.c_void_p()
+        self.place = ctypes.addressof(self.buffer)
+
+    def take(self, room: int, long: int) -> tuple[list[bytes], int]:
+        get, pointer, buffer, place = GET_COPY_DATA, self.pointer, self.buffer, self.place
+        found: list[bytes] = []
+        length = 1
+        while room > 0:
+            length = get(pointer, place, 1)
+            if length <= 0:
+                break
+            payload = buffer.value
+            found.append(BYTES_AT(payload, length))
+            FREE(payload)
+            room -= length if length < long else room
+        return found, length
+
+
+def take_of(raw: pq.abc.PGconn) -> Take:
+    """How payloads are taken of an open connection."""
     pointer = getattr(raw, "pgconn_ptr", None) if GET_COPY_DATA else None
     if pointer is None:
-        return taken_by_psycopg(raw, room, long)
-    connection, buffer, found, length = ctypes.c_void_p(pointer), ctypes.c_void_p(), list[bytes](), 1
-    place, string_at = ctypes.byref(buffer), ctypes.string_at
-    while room > 0:
-        length = GET_COPY_DATA(connection, place, 1)
-        if length <= 0:
-            break
-        found.append(string_at(buffer, length))
-        FREE(buffer)
-        room -= length if length < long else room
-    return found, length
+        return functools.partial(taken_by_psycopg, raw)
+    return Quick(pointer).take
 
 
 def taken_by_psycopg(raw: pq.abc.PGconn, room: int, long: int) -> tuple[list[bytes], int]:

@@ -52,6 +52,8 @@ class Progress:
         # of the session's server: when it was started, whether it was a standby then, and whether it was promoted since
         self.server_started = 0
         self.is_standby = self.was_promoted = False
+        # the session's name at the server, and whether commits there may wait for it
+        self.name, self.is_waited_for = "", False
         # what `pgsub --version` says
         self.program = ""
         self.heartbeat = time.time()

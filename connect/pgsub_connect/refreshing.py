@@ -17,8 +17,8 @@ import json
 from typing import TYPE_CHECKING, NamedTuple
 
 from . import log, requesting
-from .catalog import Catalog, Table, read_catalog
-from .differences import GONE, PUBLICATION, RENAMED, VALUES
+from .catalog import Catalog, read_catalog
+from .differences import PUBLICATION, VALUES
 from .dropping import ask_terminal, read_known
 from .errors import FileError
 from .making import names_of
@@ -64,10 +64,14 @@ def compared(remembered: Remembered, now: Catalog) -> list[Told]:
                     found.setdefault(oid, []).append(text)
             if not oids:
                 others.append(text)
-    told = [Told(what_is(it, known, found[oid]), oid, name(it), found[oid]) for oid, it in sorted(now.tables.items()) if oid in found]
+    told = []
+    for oid in sorted(found.keys() & now.tables.keys()):
+        is_missing = oid not in known or any(remembered.about(it).is_missing for it in found[oid])
+        told.append(Told(MISSING if is_missing else CHANGED, oid, remembered.name_of(oid), found[oid]))
     for text in others:
-        oid = left_of(text, remembered)
-        told.append(Told(EXTRA if oid else OTHER, oid, text[text.index(" ") + 1 : text.rindex(f" ({oid}) ")] if oid else "", [text]))
+        about = remembered.about(text)
+        is_left = bool(about.gone) and not remembered.left.isdisjoint(about.tables)
+        told.append(Told(EXTRA, about.tables[0], about.gone, [text]) if is_left else Told(OTHER, 0, "", [text]))
     return told
 
 
@@ -76,19 +80,6 @@ def texts_of(remembered: Remembered, kind: str) -> list[str]:
     if found is None:
         return []
     return [*found.texts, *([f"{kind}: and {found.more} more, see the log"] if found.more else [])]
-
-
-def name(table: Table) -> str:
-    return f"{table.namespace}.{table.name}"
-
-
-def left_of(text: str, remembered: Remembered) -> int:
-    """The table whose rows stay although none are sent by its name, as a text says; 0 where it says no such thing."""
-    return next((oid for oid in remembered.tables_in(text) if oid in remembered.left), 0) if text.endswith((GONE, RENAMED)) else 0
-
-
-def what_is(table: Table, known: set[int], texts: list[str]) -> str:
-    return MISSING if table.oid not in known or any("missing" in it or "aren't sent" in it for it in texts) else CHANGED
 
 
 def run(options: Options, check: Check) -> int:

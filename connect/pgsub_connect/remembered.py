@@ -14,7 +14,7 @@ As long as nothing was copied it has the first two fields alone.
 | `tables`, `partitions`, `types` | what the server had then, changed by what Relation messages said since |
 | `sent` | by OID: the last Relation message of a change, and the LSN of its commit |
 | `names` | which OID each name has, since when, and which OIDs had it before |
-| `found` | by kind: the LSN at which the first was found, the texts, and how many more there were |
+| `found` | by kind: the LSN at which the first was found, the texts with what each is about, and how many more there were |
 | `copied` | while rows are copied first: the OIDs of tables that are stored whole, each with the position from which they are |
 | `wanted` | OIDs of tables whose rows are to be added, and why one was refused, "" where none was |
 | `unwanted` | OIDs of tables that aren't published any more, whose rows are to go |
@@ -32,10 +32,9 @@ from collections.abc import Iterable
 from typing import Any
 
 from .catalog import Catalog, Column, Part, Partition, Publication, Shape, Table
-from .differences import NAMES, PUBLICATION, differences, gone_text, shape_differences
+from .differences import NAMES, differences, gone, shape_differences
 from .errors import FileError, Passing
-from .found import PUBLICATION as OF_PUBLICATION
-from .found import LACKS, TYPE, Found, names_in
+from .found import NOTHING, About, Found, about_of
 from .texts import lsn_text, parse_lsn
 
 FORMAT = 1
@@ -120,10 +119,17 @@ class Remembered:
 
     def text_of(self, oid: int) -> str:
         """A table's name and OID."""
-        if self.catalog and oid in self.catalog.tables:
-            return self.catalog.tables[oid].text()
-        key = self.held.get(oid) or next((key for key, name in self.names.items() if oid in name.before), None)
-        return f"{'.'.join(key)} ({oid})" if key else f"table {oid}"
+        name = self.name_of(oid)
+        return f"{name} ({oid})" if name else f"table {oid}"
+
+    def name_of(self, oid: int) -> str:
+        """The name that a table has, or had; "" where that isn't known."""
+        table = self.catalog.tables.get(oid) if self.catalog else None
+        return ".".join((table.namespace, table.name) if table else self.key_of(oid) or ())
+
+    def key_of(self, oid: int) -> tuple[str, str] | None:
+        """The same, as schema and name, by what messages said too."""
+        return self.held.get(oid) or next((key for key, name in self.names.items() if oid in name.before), None)
 
     def begin_copy(self, catalog: Catalog, point: int) -> None:
         """Remembers what a server had at the LSN as of which its rows are copied."""
@@ -156,15 +162,16 @@ class Remembered:
         before = self.catalog
         assert before is not None
         harmless = []
-        for kind, text in differences(before, now):
+        for kind, text, about in differences(before, now):
             if kind:
-                self.find(kind, now.lsn, text)
+                self.find(kind, now.lsn, text, about)
                 self.told[text] = now.lsn
             else:
                 harmless.append(text)
         self.left = (self.left | before.tables.keys()) - now.tables.keys()
         for oid in self.sent.keys() - now.tables.keys() - now.partitions.keys() - self.left:
-            self.find(PUBLICATION, now.lsn, gone_text(self.text_of(oid)))
+            kind, text, about = gone(oid, self.name_of(oid) or "table")
+            self.find(kind, now.lsn, text, about)
             self.left.add(oid)
         self.release_names(now)
         for oid, table in now.tables.items():
@@ -231,9 +238,9 @@ class Remembered:
         table = catalog.tables.get(oid)
         # What led to what was there at the last look is told by that. Before, each message is one step after the other.
         before = table.shape if table is not None and lsn > catalog.lsn else sent.shape if sent else None
-        told = list(shape_differences(relation.text(), before, relation.shape)) if before is not None else []
-        for kind, text in told:
-            self.find(kind, lsn, text)
+        told = list(shape_differences(oid, relation.text(), before, relation.shape)) if before is not None else []
+        for kind, text, about in told:
+            self.find(kind, lsn, text, about)
         if lsn > catalog.lsn or oid not in self.held:
             rename = self.rename if lsn > catalog.lsn else self.rename_earlier
             text = rename(relation.namespace, relation.name, oid, lsn)
@@ -257,15 +264,15 @@ class Remembered:
             self.sent[oid] = dataclasses.replace(self.sent[oid], lsn=lsn)
             self.is_changed = True
 
-    def find(self, kind: str, lsn: int, text: str) -> bool:
-        """Notes what was found. Returns false where it was known."""
+    def find(self, kind: str, lsn: int, text: str, about: About = NOTHING) -> bool:
+        """Notes what was found, and what it is about. Returns false where it was known."""
         if self.told.get(text, -1) >= lsn:
             return False
-        found = self.found.setdefault(kind, Found(lsn, []))
+        found = self.found.setdefault(kind, Found(lsn, {}))
         if text in found.texts:
             self.mended.pop(text, None)
             return False
-        found.add(text)
+        found.add(text, about)
         self.news.append(f"{kind} at {lsn_text(lsn)}: {text}")
         self.is_urgent = self.is_changed = True
         return True
@@ -298,8 +305,7 @@ class Remembered:
 
     def described(self, oid: int) -> Relation | None:
         """A table as it was described last, by which its rows can go; None where that isn't known."""
-        sent = self.sent.get(oid)
-        key = self.held.get(oid) or next((key for key, name in self.names.items() if oid in name.before), None)
+        sent, key = self.sent.get(oid), self.key_of(oid)
         return Relation(oid, *key, sent.shape) if key and sent and sent.shape else None
 
     def refuse(self, oid: int, why: str) -> None:
@@ -327,9 +333,12 @@ class Remembered:
 
     def found_of(self, oid: int) -> list[str]:
         """What was found of the rows of a table. That two tables have had one name stays so, whatever rows they have."""
-        number, several = f" ({oid})", ("type ", OF_PUBLICATION)
-        texts = [it for kind, found in self.found.items() if kind != NAMES for it in found.texts if number in it or it.startswith(several)]
-        return [it for it in texts if oid in (self.tables_of_several(it) or self.tables_in(it))]
+        texts = [text for kind, found in self.found.items() if kind != NAMES for text in found.texts]
+        return [it for it in texts if oid in (self.tables_of_several(it) or self.about(it).tables)]
+
+    def about(self, text: str) -> About:
+        """What a text that was found is about. Those of an earlier version of this program don't say it."""
+        return next((it.texts[text] for it in self.found.values() if text in it.texts), NOTHING)
 
     def is_mended(self, text: str, oid: int) -> bool:
         """Notes that a table's rows are right, as to what was found of it. Returns whether so are those of the others that it is about."""
@@ -344,28 +353,24 @@ class Remembered:
 
     def is_so(self, text: str) -> bool:
         """Whether a publication lacks changes of a kind, as a text says: then the rows of its tables are right only for now."""
-        found = LACKS.fullmatch(text)
-        publication = self.catalog.publications.get(found[1]) if found and self.catalog else None
-        return publication is not None and found is not None and found[2] not in publication.actions
+        about = self.about(text)
+        publication = self.catalog.publications.get(about.publication) if self.catalog and about.lacks else None
+        return publication is not None and about.lacks not in publication.actions
 
     def tables_of(self, text: str) -> list[int]:
-        """The published tables that a text is about: that are named in it, or are of its publication, or have a column of its type."""
+        """The published tables that a text is about, itself or by their publication or a column's type."""
         others = self.tables_of_several(text)
-        return [it for it in self.tables_in(text) if self.catalog and it in self.catalog.tables] if others is None else others
+        return [it for it in self.about(text).tables if self.catalog and it in self.catalog.tables] if others is None else others
 
     def tables_of_several(self, text: str) -> list[int] | None:
-        """The published tables that a text is about which is of a type, or of a publication; None of any other."""
-        tables = self.catalog.tables.values() if self.catalog else ()
-        if found := TYPE.match(text):
-            return [it.oid for it in tables if any(column.type_oid == int(found[1]) for column in it.shape.columns)]
-        for publication in self.catalog.publications if self.catalog else ():
-            if text.startswith(f"{OF_PUBLICATION}{publication} "):
-                return [it.oid for it in tables if publication in it.parts]
+        """The published tables that a text is about which is of a type, or of a publication that is there; None of any other."""
+        about, catalog = self.about(text), self.catalog
+        tables = catalog.tables.values() if catalog else ()
+        if about.type_oid:
+            return [it.oid for it in tables if any(column.type_oid == about.type_oid for column in it.shape.columns)]
+        if catalog and about.publication in catalog.publications:
+            return [it.oid for it in tables if about.publication in it.parts]
         return None
-
-    def tables_in(self, text: str) -> list[int]:
-        """The tables that a text names, by names that they have or had."""
-        return [oid for key, oid in names_in(text) if key in self.names]
 
     def never_copied(self, oid: int) -> None:
         """Forgets a table that went before any row of it was copied."""
@@ -414,7 +419,7 @@ class Remembered:
             for schema, table, oid, since, before in said["names"]
         }
         self.held = {it.oid: key for key, it in self.names.items() if it.oid is not None}
-        self.found = {kind: Found(parse_lsn(lsn), list(texts), int(more)) for kind, (lsn, texts, more) in said["found"].items()}
+        self.found = {kind: Found(parse_lsn(lsn), texts_of(texts), int(more)) for kind, (lsn, texts, more) in said["found"].items()}
         self.told = {text: parse_lsn(lsn) for text, lsn in said["told"].items()}
         self.left = {int(oid) for oid in said["left"]}
         self.mended = {text: [int(it) for it in oids] for text, oids in said.get("mended", {}).items()}
@@ -432,7 +437,10 @@ class Remembered:
             **catalog_written(self.catalog),
             "sent": {oid: [lsn_text(it.lsn), it.shape and [it.shape.identity, it.shape.columns]] for oid, it in self.sent.items()},
             "names": [[*key, it.oid, lsn_text(it.since), it.before] for key, it in sorted(self.names.items())],
-            "found": {kind: [lsn_text(it.lsn), it.texts, it.more] for kind, it in self.found.items()},
+            "found": {
+                kind: [lsn_text(it.lsn), {text: about.written() for text, about in it.texts.items()}, it.more]
+                for kind, it in self.found.items()
+            },
             "mended": self.mended,
             "copied": self.copied,
             "wanted": self.wanted,
@@ -485,6 +493,11 @@ def print_names(store: str) -> None:
         raise FileError(f"{remembered.path}: there is no such file yet: the next session makes it")
     for line in remembered.lines():
         print(json.dumps(line, ensure_ascii=False))
+
+
+def texts_of(said: dict[str, Any] | list[str]) -> dict[str, About]:
+    """The texts of a kind; an earlier version of this program didn't keep what they are about."""
+    return {str(it): NOTHING for it in said} if isinstance(said, list) else {text: about_of(it) for text, it in said.items()}
 
 
 def names_text(key: tuple[str, str], oid: int, before: int) -> str:

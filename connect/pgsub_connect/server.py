@@ -3,6 +3,7 @@
 from __future__ import annotations
 
 import dataclasses
+import re
 
 from . import log
 from .errors import IN_USE, ServerError, Unfit
@@ -30,6 +31,8 @@ LATER = {"idle_session_timeout": 140000, "transaction_timeout": 170000}
 # The first version of the server that has version 2 of the protocol, and with it streaming, binary values and messages; and the first
 # that aborts transactions in version 1 too.
 STREAMS, ABORTS_IN_VERSION_1 = 140000, 180000
+# A word of synchronous_standby_names, in double quotes or not.
+STANDBY = re.compile(r'"((?:[^"]|"")+)"|([^\s,()"]+)')
 IN_MILLISECONDS = {"ms": 1, "s": 1000, "min": 60_000, "h": 3_600_000, "d": 86_400_000}
 
 
@@ -131,6 +134,12 @@ def sender_timeout(connection: Connection) -> float | None:
     digits = text.rstrip("abcdefghijklmnopqrstuvwxyz")
     milliseconds = int(digits) * IN_MILLISECONDS.get(text[len(digits) :], 1)
     return milliseconds / 1000 if milliseconds else None
+
+
+def waits_for(standbys: str, name: str) -> bool:
+    """Whether commits at a server may wait for the standby with this name, where these are its synchronous_standby_names."""
+    names = {(quoted.replace('""', '"') or plain).lower() for quoted, plain in STANDBY.findall(standbys)}
+    return not names.isdisjoint({"*", name.lower()})
 
 
 # Where the log ends, how far it is on the disk, and how long its files are. Of a standby: how far it is replayed.

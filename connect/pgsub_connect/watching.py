@@ -65,7 +65,7 @@ class Watch:
     def lasting_of(self, kind: str) -> list[str]:
         """What was found of this kind but for tables whose rows are being added, by which it goes."""
         going = {oid for oid, why in self.remembered.wanted.items() if not why}
-        return [it for it in self.texts_of(kind) if kind == NAMES or going.isdisjoint(self.remembered.tables_in(it))]
+        return [it for it in self.texts_of(kind) if kind == NAMES or going.isdisjoint(self.remembered.about(it).tables)]
 
     def show(self) -> None:
         """Tells the progress what was found, and ends the following where it is to be strict."""

@@ -167,7 +167,8 @@ class Case(Quiet):
             if not run.checkpoint.known.adding and not run.remembered.wanted and not changed:
                 changed = True
                 self.change()
-            return changed and self.is_stored(run)
+            # (a session that has left out changes is followed by one that leaves out none)
+            return changed and self.is_stored(run) and not run.follower.is_whole
 
         self.assertTrue(run.until(is_done), (self.said, run.raised, run.checkpoint.known, run.remembered.wanted))
         run.end()

@@ -11,6 +11,8 @@ FILE.says may hold one of these words:
   `late SECONDS`     waits so long before it takes a commit
   `parts SECONDS`    says a line on standard error in two parts, the second one so long after the first
   `dies LSN`         kills itself once it has stored the commit with this end, in decimal, and takes the file away
+  `rejects LSN N TEXT`  ends at the commit with this end, in decimal, with this status and this line on standard error, and takes the
+                     file away; it confirms none of those before, as if all came at once
 """
 
 from __future__ import annotations
@@ -55,6 +57,11 @@ class Fake:
     def keep(self, end: int) -> None:
         if self.says[:1] == ["late"]:
             time.sleep(float(self.says[1]))
+        if self.says[:2] == ["rejects", str(end)]:
+            os.unlink(self.store + ".says")
+            status, line = self.says[2].split(" ", 1)
+            print(line, file=sys.stderr, flush=True)
+            sys.exit(int(status))
         self.position = max(self.position, end)
         self.confirmed = max(self.confirmed, end)
         with open(self.store, "w", encoding="ascii") as file:
@@ -92,7 +99,7 @@ class Fake:
             at = 35 if payload[25] == COMMIT else 39
             self.keep(int.from_bytes(payload[at : at + 8], "big"))
             self.inside = False
-        if self.confirmed > before or payload[:1] == b"k" and payload[17] == 1:
+        if (self.confirmed > before or payload[:1] == b"k" and payload[17] == 1) and self.says[:1] != ["rejects"]:
             self.status()
 
 

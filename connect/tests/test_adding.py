@@ -10,6 +10,7 @@ from pgsub_connect import adding
 from pgsub_connect.adding import Adder
 from pgsub_connect.checkpoint import Checkpoint
 from pgsub_connect.errors import NoSlot, Passing, ServerError, Stopped
+from pgsub_connect.found import About
 from pgsub_connect.remembered import Remembered
 
 from .adding_case import OTHER, THIRD, Case, Run, T
@@ -102,7 +103,7 @@ class Added(Case):
         self.followed()
         remembered = Remembered(self.store)
         remembered.left.add(OTHER)
-        remembered.find("publication", 1, "table public.other (16390) was dropped, or left the publication: the rows that it had stay")
+        remembered.find("publication", 1, "its rows stay", About((OTHER,), gone="public.other"))
         remembered.save()
         del self.world.tables[OTHER]
         run = Run(self)

@@ -5,6 +5,7 @@ from __future__ import annotations
 import dataclasses
 import os
 import unittest
+from typing import Any
 from unittest import mock
 
 from pgsub_connect import checkpoint as known_of
@@ -96,6 +97,25 @@ class File(FileCase):
         checkpoint = self.open()
         with mock.patch("os.pwrite", side_effect=OSError(28, "No space left on device")), self.assertRaisesRegex(Passing, "No space"):
             checkpoint.write(True, position=5)
+
+    def test_notes_between_other_changes(self) -> None:
+        """Each line is as if it was made anew, whatever the texts in it are."""
+        checkpoint, text = self.open(), 'a","confirmed":5,"position":5,"'
+        checkpoint.write(True, database=text, slot=text, confirmed=5, position=5)
+        changes: tuple[tuple[int, int, dict[str, Any]], ...] = (
+            (7, 6, {}), (8, 8, {"found": {"values": text}}), (9, 8, {}), (9, 9, {"adding": {"7": 5}}), (90, 80, {}),
+        )
+        for confirmed, position, fields in changes:
+            checkpoint.write(False, **fields)
+            checkpoint.note(confirmed, position)
+            self.assertEqual((checkpoint.known.confirmed, checkpoint.known.position), (confirmed, position))
+            self.assertEqual((checkpoint.read(), self.content()[:SIZE].strip()), (checkpoint.known, known_of.encoded(checkpoint.known)))
+
+    def test_a_note_that_cant_be_written(self) -> None:
+        checkpoint = self.open()
+        with mock.patch("os.pwrite", side_effect=OSError(28, "No space left on device")), self.assertRaisesRegex(Passing, "No space"):
+            checkpoint.note(5, 4)
+        self.assertEqual((checkpoint.known, checkpoint.counted), (Known(), None))
 
     def test_what_lies_above_the_position_is_durable(self) -> None:
         """Nothing else tells the next start of it. What the store shows itself isn't synced."""

@@ -7,6 +7,7 @@ import unittest
 
 from pgsub_connect.catalog import Catalog, Part, Partition, Table
 from pgsub_connect.differences import NAMES, PUBLICATION, VALUES, Difference, differences, shape_differences
+from pgsub_connect.found import NOTHING, About
 
 from .vectors import ID, NAME, PGSUB, a_catalog, a_shape, a_table
 
@@ -124,6 +125,19 @@ class Readings(unittest.TestCase):
                 said = list(differences(before, now))
                 self.assertEqual([it.kind for it in said], kinds, said)
                 self.assertIn(word, said[0].text if said else "")
+                self.assertNotIn(NOTHING, [it.about for it in said if it.kind])
+
+    def test_what_they_are_about(self) -> None:
+        """Rows of partitions are those of their root."""
+        for before, now, about in (
+            (a_catalog(T), a_catalog(T, U), About((2,), is_missing=True)), (a_catalog(T, U), a_catalog(T), About((2,), gone="public.u")),
+            (a_catalog(ROOT, partitions=TREE), a_catalog(ROOT, partitions=TREE[:1]), About((10,))),
+            (a_catalog(), a_catalog(publication=dataclasses.replace(PGSUB, oid=901)), About(publication="pgsub", is_missing=True)),
+            (a_catalog(), a_catalog(publication=dataclasses.replace(PGSUB, actions=("insert", "update", "truncate"))),
+             About(publication="pgsub", lacks="delete")),
+            (a_catalog(types={500: MOOD}), a_catalog(types={500: {**MOOD, "501": "blue"}}), About(type_oid=500)),
+        ):
+            self.assertEqual([it.about for it in differences(before, now)], [about])
 
     def test_names_are_no_business_of_theirs(self) -> None:
         swapped = a_catalog(a_table(1, "u"), a_table(2, "t"))
@@ -135,7 +149,7 @@ class Definitions(unittest.TestCase):
     """Two Relation messages: their columns have no numbers."""
 
     def said(self, before: list[tuple[int, str, int, int]], now: list[tuple[int, str, int, int]]) -> list[Difference]:
-        return list(shape_differences("public.t (1)", a_shape(before, numbers=[0] * len(before)), a_shape(now, numbers=[0] * len(now))))
+        return list(shape_differences(1, "public.t (1)", a_shape(before, numbers=[0] * len(before)), a_shape(now, numbers=[0] * len(now))))
 
     def test_names_changed_among_each_other(self) -> None:
         said = self.said([ID, (0, "a", 23, -1), (0, "b", 23, -1)], [ID, (0, "b", 23, -1), (0, "a", 23, -1)])

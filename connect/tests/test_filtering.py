@@ -231,6 +231,17 @@ class Given(Case):
         self.assertGreaterEqual(child.waiting, ROOM)
         self.assertEqual(child.room(), ROOM - child.waiting)
 
+    def test_to_one_that_takes_no_more(self) -> None:
+        """Its end tells why."""
+        child = self.shell("printf 'd\\0\\0\\0\\046r%033d' 0; exec <&-; sleep 0.2; exit 1")
+        child.start()
+        until = time.monotonic() + 20
+        while child.takes and time.monotonic() < until:
+            child.push_payloads([keepalive(1)] * 10)
+        child.push_payloads([keepalive(1)] * 10)
+        child.write()
+        self.assertEqual(self.end(child).status, 1)
+
     def test_bytes(self) -> None:
         long = bytes(range(256)) * (PIECE // 256 + 3)
         lots: list[list[bytes]] = [[keepalive(5), insert(1), long], [], [long], [insert(1)] * 3, [b"x" * 5000]]

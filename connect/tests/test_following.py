@@ -131,6 +131,19 @@ class Sessions(Case):
         self.server.to_send = [keepalive(0x1000, asks=True)]
         self.run_until(follower, lambda: self.confirmed() == 0x1000)
 
+    def test_a_keepalive_for_which_commits_wait_is_passed_on_at_once(self) -> None:
+        """As soon as the syncs take a small part of the time."""
+        self.patch(following, "QUIET", 30.0)
+        self.brain.answer("SHOW synchronous_standby_names", [["*"]])
+        follower = self.follower()
+        follower.last_moved = time.monotonic()
+        self.server.to_send = [keepalive(0x1000)]
+        self.run_until(follower, lambda: self.confirmed() == 0x1000)
+        follower.noted_in = 2.0
+        self.assertEqual(follower.quiet(), 2.0 * following.PART)
+        self.progress.is_waited_for = False
+        self.assertEqual(follower.quiet(), 30.0)
+
     def test_the_catalog_is_read_on_another_connection(self) -> None:
         """A session's process would decode older changes by what it has in its caches."""
         follower, seen = self.follower(), list[bool]()

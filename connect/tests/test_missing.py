@@ -127,6 +127,40 @@ class Order(FollowCase):
         self.assertEqual(happened[sent - 1][0], "synced")
         self.assertEqual((self.checkpoint.read().confirmed, self.counted()), (0x200, Counted(0, 0x108)))
 
+    def test_what_a_keepalive_confirms_beside_a_commit_waits(self) -> None:
+        """The commit is confirmed at once, without a sync; the rest a second later, or at once where the server asks."""
+        for asked in (None, 0x200):
+            with self.subTest(asked=asked):
+                follower, happened = self.follower(), list[int | str]()
+                follower.noting.note_all(ONE)
+                self.checkpoint.begin_counting(0, False)
+                self.patch(follower, "connection", mock.Mock(send=lambda it: happened.append(flushed(it))))
+                self.patch(os, "fdatasync", lambda _: happened.append("synced"))
+                follower.last_moved, follower.noting.asked = float("inf"), asked
+                happened.clear()
+                follower.forward([status(0x200)])
+                rest: list[int | str] = ["synced", 0x200]
+                self.assertEqual(happened, [0x108, *(rest if asked else [])])
+                self.assertEqual(follower.position, 0x108)
+                follower.last_moved = 0.0
+                follower.forward([])
+                follower.forward([])
+                self.assertEqual(happened, [0x108, *rest])
+                os.unlink(self.store + ".connector")
+
+    def test_what_is_confirmed_already_isnt_confirmed_in_parts(self) -> None:
+        """Commits that come again, below what a keepalive had confirmed."""
+        follower, sent = self.follower(), list[int]()
+        follower.noting.note_all(ONE)
+        self.checkpoint.write(False, confirmed=0x180)
+        self.checkpoint.begin_counting(0, False)
+        self.patch(follower, "connection", mock.Mock(send=lambda it: sent.append(flushed(it))))
+        follower.last_moved = float("inf")
+        follower.forward([status(0x108)])
+        follower.noting.note_all([begin(0x110, 7), commit(0x110, 0x118)])
+        follower.forward([status(0x200)])
+        self.assertEqual((sent, follower.held), ([0x108], status(0x200)))
+
     def test_a_status_isnt_repeated_that_couldnt_be_noted(self) -> None:
         """Not by a heartbeat either."""
         follower, sent = self.follower(), list[int]()
@@ -201,6 +235,32 @@ class Calls(FollowCase):
         self.assertEqual(set(waiting), {0})
         self.assertNotIn(False, told)
 
+    def test_what_has_come_is_passed_on_first(self) -> None:
+        """And what is confirmed: nothing else is done between the system's calls."""
+        follower, happened = self.follower(), list[str]()
+
+        def noted(where: object, name: str) -> None:
+            real = getattr(where, name)
+
+            def call(*words: object, **more: object) -> object:
+                happened.append(name)
+                return real(*words, **more)
+
+            self.patch(where, name, call)
+
+        for where, names in (
+            (Connection, ("consume", "send")), (follower.filter, ("serve", "written_of")), (follower.noting, ("note_all", "show")),
+            (follower.watch, ("tend",)), (follower.adder, ("wants_session", "step")), (follower.misses, ("tell",)),
+            (follower.checkpoint, ("note",)), (follower.snapshots, ("is_due",)),
+        ):
+            for name in names:
+                noted(where, name)
+        self.server.to_send = list(ONE)
+        self.run_until(follower, lambda: self.confirmed() == 0x108)
+        text = " ".join(happened)
+        self.assertIn("serve consume written_of note_all", text)
+        self.assertIn("serve send note", text)
+
     def test_what_an_encrypted_connection_has_read_already(self) -> None:
         """Nothing tells of it."""
         self.assertIn(False, self.calls(is_wrapped=True)[1])
@@ -266,6 +326,60 @@ class Killed(FollowCase):
         self.assertEqual(len(self.lines()), 1)
 
 
+class Rejected(FollowCase):
+    """What came right before a commit that is rejected is stored and counted, and not confirmed."""
+
+    def follow(self, status: int, said: str) -> Follower:
+        self.says(f"rejects {0x128} {status} {said}")
+        follower = self.follower()
+        self.server.to_send = [*ONE, *missing_commit(0x110, 2), begin(0x120, 8), insert(1), commit(0x120, 0x128)]
+        return follower
+
+    def check(self) -> None:
+        """The stretch isn't told as one that isn't counted."""
+        self.assertEqual((self.stored(), self.counted()), (0x118, Counted(0, 0x118, 2, 0x118, 1)))
+        self.assertEqual(len(self.lines()), 1)
+        self.assertIn("found: missing at 0/118: 2 changes found no row", self.lines()[0])
+
+    def test_in_the_next_run(self) -> None:
+        for said in ("pgsub: store 1 Clash", "pgsub: wire 1 BadTag"):
+            with self.subTest(said), self.assertRaises(FilterEnded):
+                self.follow(1, said).run()
+            self.check()
+            self.said.clear()
+            sessions = self.server.sessions + 1
+            self.run_until(self.follower(), lambda: self.server.sessions == sessions)  # noqa: B023
+            self.check()
+            self.said.clear()
+            for suffix in ("", ".connector"):
+                os.unlink(self.store + suffix)
+
+    def test_in_the_same_run(self) -> None:
+        """Where it goes on with whole transactions."""
+        self.run_until(self.follow(10, "pgsub: spool 1 SpoolFull"), lambda: self.server.sessions == 2)
+        self.check()
+
+    def test_where_the_store_failed(self) -> None:
+        """It may have stored what it couldn't tell."""
+        self.run_until(self.follow(13, "pgsub: store 8 Refused"), lambda: self.server.sessions == 2)
+        counted = self.counted()
+        self.assertEqual(counted and counted.gap, (0, 0x118))
+
+    def test_one_that_doesnt_open_its_store(self) -> None:
+        """It has said nothing of what a killed one before it had stored."""
+        child, words = self.follower().filter, ["/bin/sh", "-c", "exit 1", "sh"]
+        self.says(f"dies {0x108}")
+        for by, told in ((child.words, False), (words, False), (child.words, True), (words, True)):
+            child.words = by
+            with self.assertRaises(FilterEnded):
+                child.start()
+                child.push_payloads(ONE)
+                child.finish()
+                while True:
+                    child.serve(0.1)
+            self.assertIs(child.has_told_all, told)
+
+
 class Told(FollowCase):
     def misses(self, **options: object) -> Misses:
         self.checkpoint = Checkpoint(self.store)
@@ -276,7 +390,7 @@ class Told(FollowCase):
 
     def test_the_first_at_once_and_more_each_ten_seconds(self) -> None:
         misses = self.misses()
-        misses.begin_filter(0)
+        misses.begin_filter(0, False)
         with mock.patch("time.monotonic") as clock:
             for now, count, told in (
                 (100.0, 0, 0), (100.1, 1, 1), (101.0, 3, 1), (109.9, 4, 1), (110.1, 4, 2), (115.0, 4, 2), (125.0, 4, 2), (126.0, 5, 3), (127.0, 9, 3),
@@ -297,7 +411,7 @@ class Told(FollowCase):
     def test_those_of_several_filters(self) -> None:
         misses = self.misses()
         for position, missed in ((0, Missing(2, 0x108, 1)), (0x110, Missing(1, 0x118, 9))):
-            misses.begin_filter(position)
+            misses.begin_filter(position, False)
             misses.note(missed, position + 0x10)
             self.assertFalse(misses.is_news(missed))
         self.assertEqual(self.checkpoint.counted, Counted(0, 0x120, 3, 0x108, 1, gap=(0x10, 0x110)))

@@ -34,7 +34,7 @@ class Case(unittest.TestCase):
         self.noting.show()
 
     def found(self) -> dict[str, list[str]]:
-        return {kind: found.texts for kind, found in self.remembered.found.items()}
+        return {kind: list(found.texts) for kind, found in self.remembered.found.items()}
 
 
 class Counts(Case):

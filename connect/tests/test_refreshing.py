@@ -18,6 +18,7 @@ from pgsub_connect import refreshing, requesting, resting, snapshots
 from pgsub_connect.catalog import Catalog, Part, Partition
 from pgsub_connect.cli import Options, arguments
 from pgsub_connect.errors import FileError, Passing, ServerError, Stopped, Unfit
+from pgsub_connect.found import NOTHING, About
 from pgsub_connect.postgres import Check, never
 from pgsub_connect.refreshing import CHANGED, EXTRA, MISSING, OTHER, Told, compared
 from pgsub_connect.remembered import Remembered
@@ -31,12 +32,12 @@ ONE, TWO, THREE = a_table(1, "one"), a_table(2, "two"), a_table(3, "three")
 
 
 class Compared(unittest.TestCase):
-    def told(self, before: Catalog, now: Catalog, *found: tuple[str, str]) -> list[tuple[str, int, int]]:
+    def told(self, before: Catalog, now: Catalog, *found: tuple[str, str, About]) -> list[tuple[str, int, int]]:
         """What is told of which table, and in how many words, of two readings and what was found before."""
         remembered = Remembered("/nonexistent/s")
         remembered.begin_copy(before, 100)
-        for kind, text in found:
-            remembered.find(kind, 50, text)
+        for kind, text, about in found:
+            remembered.find(kind, 50, text, about)
         return [(it.what, it.oid, len(it.why)) for it in compared(remembered, now)]
 
     def test_all(self) -> None:
@@ -44,9 +45,11 @@ class Compared(unittest.TestCase):
         wide = a_table(1, "one", a_shape((ID, NAME, (0, "more", 23, -1))))
         other = a_table(1, "one", a_shape(((1, "id", 20, -1), NAME)))
         filtered = a_table(2, "two", part=Part("id > 5", None, False))
-        joined = ("publication", f"table {TWO.text()} joined: the rows that it had before are missing")
-        anew = ("publication", "publication pgsub was dropped and made anew: changes in between aren't sent")
-        enum = ("values", "type mood (25): a became b: values that were there have the old labels")
+        joined = ("publication", "it joined", About((2,), is_missing=True))
+        refused = ("publication", "its rows are missing, and public.two (2) can't be read", About((1,)))
+        anew = ("publication", "it was made anew", About(publication="pgsub", is_missing=True))
+        gone = ("publication", "publication pgsub2 is gone", About(publication="pgsub2"))
+        enum = ("values", "a became b", About(type_oid=25))
         for before, now, found, wanted in (
             (one, one, (), []),
             (one, both, (), [(MISSING, 2, 1)]),
@@ -57,21 +60,16 @@ class Compared(unittest.TestCase):
             (both, one, (joined,), [(OTHER, 0, 1), (EXTRA, 2, 1)]),
             (both, both, (anew,), [(MISSING, 1, 1), (MISSING, 2, 1)]),
             (both, both, (enum,), [(CHANGED, 1, 1), (CHANGED, 2, 1)]),
-            (both, both, (("history", "lost"), ("names", "x")), []),
-            (both, both, (("values", "of what is gone"),), [(OTHER, 0, 1)]),
+            (both, both, (refused,), [(CHANGED, 1, 1)]),
+            (both, both, (gone,), [(OTHER, 0, 1)]),
+            (both, both, (("history", "lost", NOTHING), ("names", "x", NOTHING)), []),
+            (both, both, (("values", "of what is gone", NOTHING),), [(OTHER, 0, 1)]),
         ):
             self.assertEqual(self.told(before, now, *found), wanted, found)
 
-    def test_a_name_that_begins_another_one(self) -> None:
-        """`one (1)` isn't `one (11)` nor `public.one_1`."""
-        longer = a_table(11, "one"), a_table(4, "one_1"), a_table(5, "xpublic.one")
-        now = a_catalog(ONE, *longer)
-        text = ("values", f"column c of {ONE.text()} was added or renamed: rows that were there have nulls in it")
-        self.assertEqual(self.told(now, now, text), [(CHANGED, 1, 1)])
-
     def test_a_table_that_was_renamed_since(self) -> None:
         now = a_catalog(a_table(1, "uno"), a_table(2, "one"), lsn=200)
-        text = ("values", f"column c of {ONE.text()} was added or renamed: rows that were there have nulls in it")
+        text = ("values", f"column c of {ONE.text()} was added or renamed: rows that were there have nulls in it", About((1,)))
         self.assertEqual(self.told(a_catalog(ONE, TWO), now, text), [(CHANGED, 1, 1)])
 
     def test_a_table_that_left_after_it_was_renamed(self) -> None:
@@ -220,8 +218,8 @@ class Mended(Case):
         remembered = self.remembered
         now = a_catalog(ONE, TWO)
         remembered.begin_copy(now, 100)
-        for kind, text in (("publication", "publication pgsub was dropped and made anew: changes in between aren't sent"), ("values", "type x (25): a became b")):
-            remembered.find(kind, 50, text)
+        for kind, about in (("publication", About(publication="pgsub")), ("values", About(type_oid=25))):
+            remembered.find(kind, 50, f"it is of several {kind}", about)
         for oid, left, kinds in ((1, [2], []), (2, [], ["publication", "values"])):
             self.assertEqual(remembered.added(oid, remembered.found_of(oid)), kinds)
             self.assertEqual([it.oid for it in compared(remembered, now)], left)
@@ -231,10 +229,10 @@ class Mended(Case):
     def test_what_is_found_again_is_to_be_mended_again(self) -> None:
         remembered = self.remembered
         remembered.begin_copy(a_catalog(ONE, TWO), 100)
-        text = "publication pgsub was dropped and made anew: changes in between aren't sent"
-        remembered.find("publication", 50, text)
+        text, about = "it was dropped and made anew", About(publication="pgsub")
+        remembered.find("publication", 50, text, about)
         remembered.added(1, remembered.found_of(1))
-        remembered.find("publication", 60, text)
+        remembered.find("publication", 60, text, about)
         self.assertEqual(remembered.added(2, remembered.found_of(2)), [])
         self.assertEqual([it.oid for it in compared(remembered, a_catalog(ONE, TWO))], [1])
 

@@ -8,6 +8,7 @@ from pgsub_connect import adding
 from pgsub_connect.checkpoint import Checkpoint
 from pgsub_connect.dropping import read_known
 from pgsub_connect.errors import NoSlot, Passing, ServerError, Unfit
+from pgsub_connect.found import About
 from pgsub_connect.remembered import Remembered
 
 from .adding_case import OTHER, THIRD, Case, Run, T
@@ -133,7 +134,7 @@ class InTheWay(Case):
         """What is found of a table that is being added ends nothing, unless that is refused."""
         text = "table public.t (16385) joined: the rows that it had before are missing"
         remembered = Remembered(self.store)
-        remembered.find("publication", 1, text)
+        remembered.find("publication", 1, text, About((T,), is_missing=True))
         remembered.save()
         self.want(T)
         run = self.goes_on(strict=True)

@@ -14,7 +14,7 @@ from unittest import mock
 
 from pgsub_connect.catalog import Part, Partition
 from pgsub_connect.errors import FileError, Passing
-from pgsub_connect.found import MOST, Found
+from pgsub_connect.found import MOST, NOTHING, About, Found
 from pgsub_connect.remembered import Relation, Remembered, print_names
 
 from .vectors import ID, NAME, PGSUB, a_catalog, a_shape, a_table
@@ -41,7 +41,7 @@ class Case(unittest.TestCase):
         self.remembered.note(Relation(oid, "public", name, shape), lsn, self.remembered.last_sent(oid))
 
     def found(self, kind: str) -> list[str]:
-        return self.remembered.found[kind].texts if kind in self.remembered.found else []
+        return list(self.remembered.found[kind].texts) if kind in self.remembered.found else []
 
     def names(self) -> dict[str, tuple[int | None, list[int]]]:
         return {f"{schema}.{name}": (it.oid, it.before) for (schema, name), it in self.remembered.names.items()}
@@ -199,15 +199,32 @@ class Looks(Case):
 
     def test_many_texts(self) -> None:
         """Those of one table are no more than fit, and of those of no table it is counted how many aren't there."""
-        found = Found(1, [])
+        t, u = About((16385,)), About((16386,))
+        found = Found(1, {})
         for it in range(MOST):
-            found.add(f"column c{it} of public.t (16385) was added")
-        for text in ("column d of public.t (16385) was added", "type mood (17000): a became b", "column d of public.u (16386) was added"):
-            found.add(text)
-        self.assertEqual((found.texts[MOST:], found.more), (["column d of public.u (16386) was added"], 1))
-        found.drop([it for it in found.texts if "16385" in it])
-        found.add("column e of public.t (16385) was added")
-        self.assertEqual((len(found.texts), found.more, found.numbers), (2, 1, {16385, 16386}))
+            found.add(f"column c{it} of public.t was added", t)
+        for text, about in (
+            ("column d of public.t was added", t), ("type mood: a became b", About(type_oid=17000)), ("column d of public.u was added", u),
+        ):
+            found.add(text, about)
+        self.assertEqual((list(found.texts)[MOST:], found.more), (["column d of public.u was added"], 1))
+        found.drop([text for text, about in found.texts.items() if about == t])
+        found.add("column e of public.t was added", t)
+        self.assertEqual((len(found.texts), found.more, found.tables), (2, 1, {16385, 16386}))
+
+    def test_what_they_are_about_is_kept(self) -> None:
+        """Whatever the texts say: an OID in one is no more than a word. Those of an earlier version are about nothing that is known."""
+        about = About((1,), "p (2)", 3, "update", True, "public.t (2)")
+        self.remembered.begin_copy(a_catalog(T, U), 100)
+        for text, it in (("all", about), ("public.u (2) can't be read", About((1,))), ("type x (25): a became b", NOTHING)):
+            self.remembered.find("publication", 150, text, it)
+        again = self.again()
+        self.assertEqual(list(again.found["publication"].texts.values()), [about, About((1,)), NOTHING])
+        self.assertEqual((again.found_of(1), again.found_of(2)), (["all", "public.u (2) can't be read"], []))
+        written = again.written()
+        written["found"] = {"values": ["0/7", ["column c of public.t (1) was added"], 0]}
+        again.restore(written)
+        self.assertEqual((list(again.found["values"].texts.items()), again.found_of(1)), ([("column c of public.t (1) was added", NOTHING)], []))
 
 
 class LooksAndMessages(Case):

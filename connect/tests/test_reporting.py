@@ -166,7 +166,7 @@ class Asks(Quiet):
         self.addCleanup(patch.stop)
         self.server.answer("pg_postmaster_start_time", [["7"]])
         self.server.answer("pg_size_bytes(pg_catalog.current_setting('max_slot", [["1000"]])
-        self.standby, self.row = "f", ["0/30", "0/30", "16777216", "5.5", "pgsub", "extended", "50"]
+        self.standby, self.row = "f", ["0/30", "0/30", "16777216", "5.5", "", "pgsub", "extended", "50"]
         self.server.answer("pg_replication_slots", lambda _: [[self.standby, *self.row]])
         self.progress = Progress()
         self.progress.sessions = 1
@@ -181,10 +181,17 @@ class Asks(Quiet):
 
     def test_a_server_without_these_columns(self) -> None:
         self.server.server_version = 120000
-        self.row[5:] = [None, None]  # type: ignore[list-item]
+        self.row[6:] = [None, None]  # type: ignore[list-item]
         self.asker.ask()
         self.assertEqual((self.progress.slot.wal_status, self.progress.slot.safe_wal_size), ("", None))
         self.assertEqual(self.server.told("wal_status"), [])
+
+    def test_whether_commits_wait(self) -> None:
+        self.progress.name = "pgsub"
+        for standbys, waits in (("FIRST 1 (other, pgsub)", True), ("other", False)):
+            self.row[4] = standbys
+            self.asker.ask()
+            self.assertIs(self.progress.is_waited_for, waits)
 
     def test_a_lost_connection_is_made_again(self) -> None:
         self.asker.ask()
@@ -210,6 +217,16 @@ class Asks(Quiet):
         asker.finish()
         self.assertFalse(asker.is_alive())
         self.assertEqual(self.server.opened, self.server.closed)
+
+
+class Standbys(unittest.TestCase):
+    def test_names(self) -> None:
+        for standbys, waits in (
+            ("", False), ("pgsub", True), ("PgSub", True), ("pgsub2", False), ("*", True), ("FIRST 2 (a, pgsub)", True), ("ANY 1 (a,b)", False),
+            ('"pgsub"', True), ('a, "say ""pgsub"""', False), ('"pgsub, a"', False),
+        ):
+            self.assertIs(server.waits_for(standbys, "pgsub"), waits, standbys)
+        self.assertTrue(server.waits_for('a, "say ""so"""', 'say "so"'))
 
 
 class Ends(unittest.TestCase):

@@ -23,7 +23,7 @@ from .options import Options
 from .proxy import Proxy
 from .rows import Rows, compare, rows_of_server, rows_of_store
 
-OK, REJECTED, USAGE, FILE, SERVER, UNFIT, BUG, PASSING = range(8)
+OK, REJECTED, USAGE, FILE, SERVER, UNFIT, BUG, PASSING, NO_SLOT, MISSED = range(10)
 LOG = "-wal"
 
 

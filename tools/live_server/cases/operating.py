@@ -11,6 +11,7 @@ import time
 
 from ..errors import Failed
 from ..follower import wait_until
+from ..patience import Patience
 from ..place import PASSING, SERVER, UNFIT, Place
 from ..rows import compare, rows_of_server, rows_of_store
 from .case import Case
@@ -189,8 +190,28 @@ def taken_away(place: Place) -> None:
         raise Failed(f"left are {place.value(MADE)} and {left}")
 
 
+def waited_for(place: Place) -> None:
+    """Commits that wait for the follower don't wait for long: neither those that it stores, nor those of a table that isn't published."""
+    place.stock()
+    place.run("CREATE TABLE plain (id int)")
+    place.follow("--create")
+    place.set(synchronous_standby_names=place.slot)
+    child = place.start()
+    wait_until(lambda: place.value("SELECT sync_state FROM pg_stat_replication") == "sync", "being waited for", 30, child.check)
+    with place.cluster.connect(place.database) as session:
+        for statement in ("UPDATE stock SET quantity = quantity + 1", "INSERT INTO plain VALUES (1)"):
+            began = time.monotonic()
+            session.run(*[statement] * 10)
+            if (took := time.monotonic() - began) > 5 * Patience.factor:
+                raise Failed(f"ten commits of {statement!r} took {took:.1f} seconds")
+    place.set(synchronous_standby_names="")
+    child.stop()
+    place.equal()
+
+
 CASES = (
     Case("until-an-lsn", until),
+    Case("commits-that-wait", waited_for),
     Case("lag-and-signs-of-life", lag),
     Case("slot-that-is-nearly-lost", nearly_lost),
     Case("check-changes-nothing", checked),

@@ -11,8 +11,8 @@ from ..errors import Unusable
 from ..options import Options
 from ..place import Place, Shared
 from . import (
-    adding, altering, copying, names, operating, privacy, publications, reaching, shapes, sideroads, silence, slots, standbys, starts, stops,
-    timelines, values, verifying, versions,
+    adding, altering, copying, missing, names, operating, privacy, publications, reaching, shapes, sideroads, silence, slots, standbys,
+    starts, stops, timelines, values, verifying, versions,
 )
 from .case import Case
 from .exports import CASES as EXPORTS
@@ -22,6 +22,7 @@ THEMES: dict[str, Sequence[Case]] = {
     "names": names.CASES,
     "publications": publications.CASES,
     "values": values.CASES,
+    "missing": missing.CASES,
     "exports": EXPORTS,
     "verifying": verifying.CASES,
     "adding": adding.CASES,

@@ -13,11 +13,11 @@ from collections.abc import Iterator
 
 from ..errors import Failed
 from ..follower import wait_until
-from ..place import OK, PASSING, SERVER, Place
+from ..place import NO_SLOT, OK, PASSING, SERVER, Place
 from .case import Case
 from .common import PLANTED, TABLES, changing, check_slots, moving, plant, spelled, verified, verify, verify_words
 
-DIFFERENT, NO_SLOT = 1, 8
+DIFFERENT = 1
 
 
 def check_left(place: Place) -> None:
