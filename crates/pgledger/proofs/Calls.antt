@@ -1,7 +1,7 @@
 -- Calls on a ledger, one after the other.
 use Rattle.std.proofs.Common.{◌∙◌, ℕ, List, Bool, refl}
 use Rattle.pgledger.specs.Entries.{Entry}
-use Rattle.pgledger.specs.Ledgers.{Keeps, Rests, Syncs}
+use Rattle.pgledger.specs.Ledgers.{Rests, Syncs}
 
 module _ {L : Type 0} (begins : L → ℕ) (is_wanting : L → Bool) (outlasts : L → ℕ → Type 0) (reopens : L → ℕ → L → Type 0) where
   pub rests_same : (a : L) → Rests begins is_wanting outlasts reopens a a

@@ -1,21 +1,18 @@
 -- The images of a commit lead from the rows before it to those after it.
-use Rattle.std.proofs.Common.{◌≡◌, ℕ, Bool, true, false, List, [], ◌∷◌, length, Option, Some, None, Result, Ok, Err, refl, sym, ap, subst, ◌∙◌}
-use Rattle.std.specs.Prelude.{⊤, ◌||◌, ◌==◌, if◌then◌else◌}
+use Rattle.std.proofs.Common.{◌≡◌, ℕ, List, [], ◌∷◌, length, Option, Some, None, Ok, refl, sym, ap, subst, ◌∙◌}
 use Rattle.std.specs.FinMap as map
 use Rattle.pgtuple.specs.Cells.{tuple_spelling}
 use Rattle.pgtuple.specs.declared.cell.Cell.{Cell}
 use Rattle.pglogical.specs.declared.item.RelationDef.{RelationDef}
 use Rattle.pglogical.specs.declared.item.OldKind.{OldKind}
-use Rattle.pgrel.specs.Identity.{same_shape, checked_insert, searched_identity}
+use Rattle.pgrel.specs.Identity.{checked_insert, searched_identity}
 use Rattle.pgrel.proofs.Rows.{resolved_width, resolved_whole}
 use Rattle.pgapply.specs.declared.op.Op.{Op}
 use Rattle.pgapply.specs.declared.op.Op.TheVariants.{Insert, Update, Delete, Truncate}
-use Rattle.pgapply.specs.declared.rows.StoreFault.{StoreFault}
 use Rattle.pgapply.specs.Value.{Row, Rows, Table, Tables, AreRows, AreTables}
 use Rattle.pgapply.specs.Apply.{Change, in_store, found_rows, updated, deleted, without_row, row_at, rows_after, apply, fold_changes}
 use Rattle.pgapply.proofs.KeepsForm.{same_ok, went_on, went_in, insert_checked, new_checked, found, apply_keeps}
-use Rattle.pgledger.specs.declared.image.Image.{Image}
-use Rattle.pgledger.specs.Images.{image_of, updated_image, deleted_image, searched_row, rows_or_none, rows_under, images, images_after, lines, Goes, Leads, Finds, Line, LineLeads, LinesLead}
+use Rattle.pgledger.specs.Images.{image_of, updated_image, deleted_image, searched_row, rows_or_none, rows_under, images, images_after, lines, Goes, Leads, Finds, LineLeads, LinesLead}
 
 module _ (def : RelationDef) (rows next : Rows) (h : AreRows def rows) where
   goes : (place : List ℕ) (row : Row) → map.get rows place ≡ Some row → Goes def row.cells rows (without_row place row rows)

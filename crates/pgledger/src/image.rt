@@ -3,8 +3,8 @@
 use pglogical::OldKind;
 use pgtuple::{Tuple, TupleRef};
 
-/// What a change does to one row of its relation: the row before it and the row after it, both whole. Of rows that are equal
-/// it is one copy.
+/// What a change does to one row of its relation: the row before it and the row after it, both
+/// whole. Of rows that are equal it is one copy.
 ///
 /// PostgreSQL documentation, Logical Replication Message Formats, Insert, Update, Delete, Truncate.
 #[derive(Debug, Drop)]

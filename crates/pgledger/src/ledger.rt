@@ -8,11 +8,13 @@ ghost use Rattle.pgledger.specs.Ledgers.{Appends, AppendsAtMost, CutsAt, Keeps, 
 use crate::image::Image;
 use pgapply::{Commit, StoreFault};
 
-/// A ledger of commits, as a file or a queue that others read. A store hands it each commit that it stages, and has it synced
-/// before it takes them. So it is never behind the store, and ahead of it by staged commits alone.
+/// A ledger of commits, as a file or a queue that others read. A store hands it each commit that it
+/// stages, and has it synced before it takes them. So it is never behind the store, and ahead of it
+/// by staged commits alone.
 ///
-/// A call that fails leaves the ledger stuck: it takes nothing more until it is opened anew, at the store's position, and
-/// what lies after that is cut off. `NoLedger` keeps nothing, and is what a store without a ledger uses.
+/// A call that fails leaves the ledger stuck: it takes nothing more until it is opened anew, at the
+/// store's position, and what lies after that is cut off. `NoLedger` keeps nothing, and is what a
+/// store without a ledger uses.
 ///
 /// PostgreSQL documentation, Logical Replication, Subscription.
 pub trait Ledger {
@@ -42,11 +44,13 @@ pub trait Ledger {
     fn wants(&self) -> bool
         ensures { result ≡ is_wanting self.now };
 
-    /// Appends a commit with one image for each of its changes, or with none where it wants none. It isn't synced.
+    /// Appends a commit with one image for each of its changes, or with none where it wants none.
+    /// It isn't synced.
     ///
     /// # Errors
     ///
-    /// `Memory` or `Refused`, also where it is stuck, and where the commit doesn't end after the last one.
+    /// `Memory` or `Refused`, also where it is stuck, and where the commit doesn't end after the
+    /// last one.
     fn append(&mut self, commit: &Commit<'_, '_>, images: &[Image<'_>]) -> Result<(), StoreFault>
         ensures appended { OnOk result (Appends keeps (entry_of commit.now.end commit.now.about
             commit.now.work.now.changes images.now) self.old self.new) }
@@ -71,7 +75,8 @@ pub trait Ledger {
         ensures fault { IfErr result IsOwnFault }
         ensures rests { Rests begins is_wanting outlasts reopens self.old self.new };
 
-    /// Takes nothing more from now on: commits that it has were not taken by the store, or may not have been.
+    /// Takes nothing more from now on: commits that it has were not taken by the store, or may not
+    /// have been.
     fn stick(&mut self)
         ensures kept { Keeps keeps self.old self.new }
         ensures stuck { is_stuck self.new ≡ true }

@@ -12,19 +12,21 @@ ghost use Rattle.pgledger.specs.Ledgers.{Appends, AppendsAtMost, Keeps, Rests, S
 use crate::ledger::Ledger;
 use pgapply::{Commit, ReplicaStore, StoreFault};
 
-/// A store that gives a ledger each commit that it stages, with the images of its changes, and has it synced before it takes
-/// them. Over `NoLedger` these calls are `stage` and `settle`.
+/// A store that gives a ledger each commit that it stages, with the images of its changes, and has
+/// it synced before it takes them. Over `NoLedger` these calls are `stage` and `settle`.
 ///
-/// A ledger that has taken commits which are then dropped, by `unstage` or a call that reads rows, has to be told by
-/// `stick`; `Recorded` does so.
+/// A ledger that has taken commits which are then dropped, by `unstage` or a call that reads rows,
+/// has to be told by `stick`; `Recorded` does so.
 ///
 /// PostgreSQL documentation, Logical Replication, Subscription.
 pub trait LedgerStore: ReplicaStore {
-    /// Stages a commit as `stage` does, and once all its changes are made, appends it to the ledger with their images.
+    /// Stages a commit as `stage` does, and once all its changes are made, appends it to the ledger
+    /// with their images.
     ///
     /// # Errors
     ///
-    /// Those of `stage`, and those of the ledger's `append`. Where the ledger isn't stuck, it is as it was.
+    /// Those of `stage`, and those of the ledger's `append`. Where the ledger isn't stuck, it is as
+    /// it was.
     fn stage_with<L: Ledger>(
         &mut self,
         commit: &Commit<'_, '_>,
@@ -68,7 +70,8 @@ pub trait LedgerStore: ReplicaStore {
         ensures untold { OnErr result (StaysOrSticks L.is_stuck ledger.old ledger.new) }
         ensures rests { Rests L.begins L.is_wanting L.outlasts L.reopens ledger.old ledger.new };
 
-    /// Syncs the ledger, once, and then takes all that is staged as `settle` does. Where nothing is staged, nothing is done.
+    /// Syncs the ledger, once, and then takes all that is staged as `settle` does. Where nothing is
+    /// staged, nothing is done.
     ///
     /// # Errors
     ///

@@ -10,9 +10,10 @@ use crate::ledger_store::LedgerStore;
 use pgapply::{Commit, DumpRow, DumpSink, Misses, ReplicaStore, StoreFault};
 use pglsn::Lsn;
 
-/// A store with a ledger of its commits. It holds tables only where the entries of the ledger lead to them commit by commit, from
-/// some tables where the ledger begins, with nothing after them but commits that are staged, or that were when the ledger
-/// got stuck. A crash keeps that where both are opened again: first the store, and then the ledger at its position.
+/// A store with a ledger of its commits. It holds tables only where the entries of the ledger lead
+/// to them commit by commit, from some tables where the ledger begins, with nothing after them but
+/// commits that are staged, or that were when the ledger got stuck. A crash keeps that where both
+/// are opened again: first the store, and then the ledger at its position.
 ///
 /// Once the ledger is stuck, each commit is refused.
 #[derive(Drop)]
@@ -49,7 +50,8 @@ impl<S: LedgerStore + Drop, L: Ledger + Drop> Recorded<S, L> {
         (self.store, self.ledger)
     }
 
-    /// Leaves the ledger stuck where commits are staged: the store is about to drop them, and the ledger has them.
+    /// Leaves the ledger stuck where commits are staged: the store is about to drop them, and the
+    /// ledger has them.
     fn leave_staged(&mut self)
         ensures store { self.new.store ≡ self.old.store }
         ensures kept { Keeps L.keeps self.old.ledger self.new.ledger }

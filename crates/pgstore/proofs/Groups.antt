@@ -1,5 +1,5 @@
 -- What holds of the commits that are staged, and what becomes of them.
-use Rattle.std.proofs.Common.{◌≡◌, ◌≢◌, ◌≤◌, ◌<◌, ◌^◌, ◌⊎◌, inl, inr, ℕ, Bool, true, false, List, Ok, IsTrue, refl, sym, ap, subst, ◌∙◌, arith}
+use Rattle.std.proofs.Common.{◌≡◌, ◌≢◌, ◌≤◌, ◌<◌, ◌^◌, inl, inr, ℕ, Bool, true, false, List, Ok, IsTrue, refl, sym, ap, subst, ◌∙◌, arith}
 use Rattle.std.specs.Prelude.{◌==◌}
 use Rattle.std.specs.Int.{w64, to_be_bytes}
 use Rattle.std.specs.Cmp.{unsigned_Decides}
@@ -11,9 +11,8 @@ use Rattle.sqlite.specs.View.{doubt}
 use Rattle.sqlite.specs.State.{HasCleanDisk, KeepsCommit, Survives}
 use Rattle.sqlite.proofs.StateLemmas.{survives_weaker}
 use Rattle.pglogical.specs.declared.item.RelationDef.{RelationDef}
-use Rattle.pgtables.specs.Kept as stored
 use Rattle.pgtables.specs.Kept.{tables_in}
-use Rattle.pgrows.specs.Rows.{IfServing, state, tables_of}
+use Rattle.pgrows.specs.Rows.{state, tables_of}
 use Rattle.pgapply.specs.declared.op.Op.{Op}
 use Rattle.pgapply.specs.declared.misses.Misses.{Misses}
 use Rattle.pgapply.specs.declared.rows.StoreFault.{StoreFault}
@@ -26,7 +25,7 @@ use Rattle.pgapply.specs.Taken as taken
 use Rattle.pgstore.specs.Spelled.{IsStored}
 use Rattle.pgstore.specs.Acts.{CountsFrom, RefusesToFold, committed_of}
 use Rattle.pgstore.specs.Staged.{before_of, HasStaged, KeepsStaged, LeavesSettled, Settles}
-use Rattle.pgstore.specs.StoreValue.{AreOf, Group, IsAtLeast, IsGroup, IsStore, HasTables, Keeps, LeavesGroup, LeavesSynced, Plans, Serves, StoreValue, begun_at, lost_of, refused_of, settled_of, staged_of, taken_of, unstaged_of}
+use Rattle.pgstore.specs.StoreValue.{Group, IsAtLeast, IsGroup, IsStore, HasTables, Keeps, LeavesGroup, LeavesSynced, Plans, Serves, StoreValue, begun_at, lost_of, refused_of, settled_of, staged_of, taken_of, unstaged_of}
 use Rattle.pgstore.proofs.Stores.{IsSettled, at_rest, crash_leaves, open_keeps}
 
 apart : (a b : ℕ) → (a == b) ≡ false → a ≢ b

@@ -1,5 +1,5 @@
-//! What the changes of a commit do to single rows, where a ledger wants it: the row that a change finds is read before the change
-//! is made.
+//! What the changes of a commit do to single rows, where a ledger wants it: the row that a change
+//! finds is read before the change is made.
 //!
 //! PostgreSQL documentation, Logical Replication Message Formats, Insert, Update, Delete, Truncate.
 
@@ -64,8 +64,8 @@ impl<'a> Telling<'a> {
         self.images.as_slice()
     }
 
-    /// Adds the image of a change to the rows of its relation, which has its definition already. Nothing changes, and nothing is
-    /// read unless images are wanted.
+    /// Adds the image of a change to the rows of its relation, which has its definition already.
+    /// Nothing changes, and nothing is read unless images are wanted.
     pub(crate) fn look<S: Alter>(
         &mut self,
         rows: &mut Rows<S>,

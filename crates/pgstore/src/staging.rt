@@ -98,8 +98,8 @@ fn undo_one<S: Alter>(rows: &mut Rows<S>, refusal: Refusal) -> Unstaged
     }
 }
 
-/// Puts the changes of a commit behind those that the transaction has, or nothing of it. It counts those that find no
-/// row, and tells what each of them does.
+/// Puts the changes of a commit behind those that the transaction has, or nothing of it. It counts
+/// those that find no row, and tells what each of them does.
 pub(crate) fn stage_changes<'a, S: Alter>(
     rows: &mut Rows<S>,
     alloc: Global,
@@ -225,8 +225,8 @@ pub(crate) fn stage_all<'a, S: Alter + Drop>(
     }
 }
 
-/// Stages a commit as `stage_all` does, and appends it to a ledger with the images of its changes. Where the ledger fails, all that
-/// is staged is lost.
+/// Stages a commit as `stage_all` does, and appends it to a ledger with the images of its changes.
+/// Where the ledger fails, all that is staged is lost.
 pub(crate) fn stage_told<S: Alter + Drop, L: Ledger>(
     source: &mut Source<S>,
     alloc: Global,

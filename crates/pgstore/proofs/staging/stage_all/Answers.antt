@@ -1,4 +1,4 @@
-use Rattle.std.proofs.Common.{sym, subst, ◌∙◌, arith}
+use Rattle.std.proofs.Common.{sym, subst, arith}
 use Rattle.sqlite.specs.State.{HasCleanDisk}
 use Rattle.pgtables.specs.Kept as stored
 use Rattle.pgrows.specs.Rows.{state}

@@ -1,4 +1,4 @@
-use Rattle.std.proofs.Common.{◌≡◌, ◌∙◌, sym, ap, subst}
+use Rattle.std.proofs.Common.{◌∙◌, sym, ap, subst}
 use Rattle.pgledger.proofs.Recording.{dropped_records, held_plans}
 use Rattle.pgledger.proofs.recorded.RecordedReplicaStore.unstage.Goals as goal
 

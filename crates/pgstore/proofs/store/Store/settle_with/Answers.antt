@@ -1,5 +1,5 @@
-use Rattle.std.proofs.Common.{sym, subst, arith}
-use Rattle.sqlite.specs.State.{HasCleanDisk, Survives}
+use Rattle.std.proofs.Common.{sym, subst}
+use Rattle.sqlite.specs.State.{Survives}
 use Rattle.pgrows.specs.Rows.{state}
 use Rattle.pgapply.specs.Value.{Tables}
 use Rattle.pgstore.specs.Acts.{committed_of}

@@ -1,4 +1,4 @@
-use Rattle.std.proofs.Common.{◌≡◌, ◌<◌, ◌^◌, arith, sym, subst, ap, ◌∙◌}
+use Rattle.std.proofs.Common.{◌≡◌, ◌<◌, ◌^◌, sym, subst, ap, ◌∙◌}
 use Rattle.pgapply.specs.Taken as taken
 use Rattle.pgapply.specs.Works.{change_values}
 use Rattle.pgstore.specs.Sources.{rows_in}
