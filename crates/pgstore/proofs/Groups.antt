@@ -1,5 +1,5 @@
 -- What holds of the commits that are staged, and what becomes of them.
-use Rattle.std.proofs.Common.{◌≡◌, ◌≢◌, ◌≤◌, ◌<◌, ◌^◌, ◌⊎◌, inl, inr, ℕ, Bool, true, false, List, Ok, IsTrue, refl, sym, ap, subst, ◌∙◌, arith}
+use Rattle.std.proofs.Common.{◌≡◌, ◌≢◌, ◌≤◌, ◌<◌, ◌^◌, inl, inr, ℕ, Bool, true, false, List, Ok, IsTrue, refl, sym, ap, subst, ◌∙◌, arith}
 use Rattle.std.specs.Prelude.{◌==◌}
 use Rattle.std.specs.Int.{w64, to_be_bytes}
 use Rattle.std.specs.Cmp.{unsigned_Decides}
@@ -11,9 +11,8 @@ use Rattle.sqlite.specs.View.{doubt}
 use Rattle.sqlite.specs.State.{HasCleanDisk, KeepsCommit, Survives}
 use Rattle.sqlite.proofs.StateLemmas.{survives_weaker}
 use Rattle.pglogical.specs.declared.item.RelationDef.{RelationDef}
-use Rattle.pgtables.specs.Kept as stored
 use Rattle.pgtables.specs.Kept.{tables_in}
-use Rattle.pgrows.specs.Rows.{IfServing, state, tables_of}
+use Rattle.pgrows.specs.Rows.{state, tables_of}
 use Rattle.pgapply.specs.declared.op.Op.{Op}
 use Rattle.pgapply.specs.declared.misses.Misses.{Misses}
 use Rattle.pgapply.specs.declared.rows.StoreFault.{StoreFault}
@@ -26,7 +25,7 @@ use Rattle.pgapply.specs.Taken as taken
 use Rattle.pgstore.specs.Spelled.{IsStored}
 use Rattle.pgstore.specs.Acts.{CountsFrom, RefusesToFold, committed_of}
 use Rattle.pgstore.specs.Staged.{before_of, HasStaged, KeepsStaged, LeavesSettled, Settles}
-use Rattle.pgstore.specs.StoreValue.{AreOf, Group, IsAtLeast, IsGroup, IsStore, HasTables, Keeps, LeavesGroup, Plans, Serves, StoreValue, begun_at, lost_of, refused_of, settled_of, staged_of, taken_of, unstaged_of}
+use Rattle.pgstore.specs.StoreValue.{Group, IsAtLeast, IsGroup, IsStore, HasTables, Keeps, LeavesGroup, LeavesSynced, Plans, Serves, StoreValue, begun_at, lost_of, refused_of, settled_of, staged_of, taken_of, unstaged_of}
 use Rattle.pgstore.proofs.Stores.{IsSettled, at_rest, crash_leaves, open_keeps}
 
 apart : (a b : ℕ) → (a == b) ≡ false → a ≢ b
@@ -83,7 +82,7 @@ first_group g old new position group here is = record {
 
 module _ {S : Type 0} (g : Ghosts S) (old new : S) (position : ℕ) (group : Group) (is_first : Bool) (first : is_first ≡ (group.reach == position)) (doubts : doubt (state g old).is_clean ≤ doubt (state g new).is_clean) where
   -- what was staged, by the value of the store
-  was_planned : (t : Tables) → Plans g (record { rows = old; position = position; group = group }) t → group.is_lost ≡ false → IsStored t (before_of g is_first old)
+  pub was_planned : (t : Tables) → Plans g (record { rows = old; position = position; group = group }) t → group.is_lost ≡ false → IsStored t (before_of g is_first old)
   was_planned t plans not = subst (λ b. IsStored t (before_of g b old)) (sym first) (plans not)
 
   -- what it is staged behind are tables of a store
@@ -252,6 +251,11 @@ module _ {S : Type 0} (g : Ghosts S) (old new : S) (position : ℕ) (group : Gro
 
   pub survives_group : group.reach < 2 ^ 64 → Survives (state g old) (state g new) (LeavesSettled g old (to_be_bytes w64 end)) → Survives (state g old) (state g new) (LeavesGroup g (record { rows = old; position = position; group = group }))
   survives_group range s = survives_weaker (state g old) (state g new) _ _ (λ _ db h. leaves_group range db h) s
+
+  -- with a ledger
+  pub survives_synced : (was_stuck : Bool) (Before After : Type 0) → (Before → After) → group.reach < 2 ^ 64 → Survives (state g old) (state g new) (λ db. LeavesSettled g old (to_be_bytes w64 end) db × (was_stuck ≡ false) × Before)
+      → Survives (state g old) (state g new) (LeavesSynced g was_stuck After (record { rows = old; position = position; group = group }))
+  survives_synced was_stuck Before After on range s = survives_weaker (state g old) (state g new) _ _ (λ _ db h. (leaves_group range db h.0, h.1, on h.2)) s
 
   -- what a settling leaves that wasn't answered Ok is at least as far
   pub unsettled_left : IsGroup g old position group → Survives (state g old) (state g new) (LeavesSettled g old (to_be_bytes w64 end)) → (v : Stored) → v.position ≡ position

@@ -1,5 +1,5 @@
 -- The SQL store as what a subscriber keeps its tables in.
-use Rattle.std.proofs.Common.{◌≡◌, ◌⊎◌, inl, inr, ℕ, List, Result, Ok, Err, OnOk, OnErr, IfOk, IfErr, true, IsTrue, refl, sym, ap, subst, ◌∙◌, arith}
+use Rattle.std.proofs.Common.{◌≡◌, ◌⊎◌, inl, inr, ℕ, List, Result, Ok, Err, OnOk, OnErr, IfOk, IfErr, Bool, true, false, IsTrue, refl, sym, ap, subst, ◌∙◌, arith}
 use Rattle.std.specs.Prelude.{◌==◌}
 use Rattle.std.specs.Cmp.{unsigned_Decides}
 use Rattle.sqlite.specs.State.{HasCleanDisk, Survives}
@@ -15,7 +15,7 @@ use Rattle.pgapply.specs.Stored.{Stored}
 use Rattle.pgapply.specs.Taken as taken
 use Rattle.pgstore.specs.Spelled.{IsStored}
 use Rattle.pgstore.specs.Reopened.{Reopens}
-use Rattle.pgstore.specs.StoreValue.{Group, StoreValue, IsHonest, Serves, Holds, Contains, Plans, Takes, Stays, RefusesWork, LeavesGroup, LeavesWork, unstaged_of}
+use Rattle.pgstore.specs.StoreValue.{Group, StoreValue, IsHonest, Serves, Holds, Contains, Plans, Takes, Stays, RefusesWork, LeavesGroup, LeavesSynced, LeavesWork, unstaged_of}
 use Rattle.pgstore.specs.Staged.{before_of}
 
 module _ {S : Type 0} (g : Ghosts S) where
@@ -74,6 +74,20 @@ module _ {S : Type 0} (g : Ghosts S) where
         let some = plans serves in
         let at = (left.opened (record { tables = some.0; position = old.group.reach }) (commits.1 some.0 some.1)).position in
         inr (serves, (λ t planned. (left.opened (record { tables = t; position = old.group.reach }) (commits.1 t planned)).stored, sym at))
+  ]
+
+  -- and what it may leave of one with a ledger is that, and the ledger was synced
+  pub leaves_synced : (was_stuck : Bool) (Synced : Type 0) (old new : StoreValue S) → Survives (state g old.rows) (state g new.rows) (LeavesSynced g was_stuck Synced old) → (Serves g old → (t : Tables) × Plans g old t) → IsHonest g new
+      → (other : StoreValue S) → Reopens g g new other
+      → Reopens g g old other ⊎ (Serves g old × taken.LeavesStaged holds_tables (λ s. s.position) (Plans g) (λ s. s.group.reach) old other × (was_stuck ≡ false) × Synced)
+  leaves_synced was_stuck Synced old new survives plans honest other left = elim (survives.crash honest left.db left.left) [
+    | inl was ↦ inl (record { db = left.db; left = was; opened = left.opened })
+    | inr commits ↦
+        let before : IsHonest g old = omega (arith, honest, survives.clean) in
+        let serves : Serves g old = record { honest = before; is_open = commits.0.0 } in
+        let some = plans serves in
+        let at = (left.opened (record { tables = some.0; position = old.group.reach }) (commits.0.1 some.0 some.1)).position in
+        inr (serves, (λ t planned. (left.opened (record { tables = t; position = old.group.reach }) (commits.0.1 t planned)).stored, sym at), commits.1, commits.2)
   ]
 
   -- the store where nothing is staged any more

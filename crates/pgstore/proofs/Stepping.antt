@@ -21,7 +21,11 @@ use Rattle.pglogical.specs.Spelling.{IsDefinition}
 use Rattle.pgstore.specs.Spelled.{IsReadable, IsChanging, IsStored}
 use Rattle.pgstore.specs.Acts.{AreGiven, Changes, CountsFrom, Finds, FoldsOn, Goes, IfOpened, MakesOf, Notes, Refuses, RefusesToFold, RefusesToGive, TellsMissing}
 use Rattle.pgstore.specs.Steps.{CountsAll, RefusesAll, StepsAll}
+use Rattle.pgledger.specs.declared.image.Image.{Image}
+use Rattle.pgledger.specs.Images.{images}
+use Rattle.pgstore.specs.Looks.{StaysOpen, Tells, TellsAll, TellsFrom, told_more}
 use Rattle.pgstore.proofs.Counting.{counted_more, counted_one}
+use Rattle.pgstore.proofs.Telling.{told_one, told_then}
 use Rattle.pgstore.proofs.Going.{goes_then}
 use Rattle.pgstore.proofs.Deciding.{fault_first}
 use Rattle.pgstore.proofs.Applying.{applied, refused_first, refused_then, was_given, given_then, fold_one, fold_append}
@@ -82,6 +86,19 @@ module _ (definitions : List RelationDef) (given after : ℕ → Option ℕ) (nu
         let found = rows_found v h are in
         counted_one v def e.1 found.0 found.1 end before behind missed (tells v found.0 found.2) noted ∙ ap (λ cs. with_misses before end (all_missing v cs)) (sym (append-nil (change_value definitions e) ∙ value_is definitions number def at e under))
 
+    -- what it does to one row is told
+    pub one_tells : (before after : Option (List Image)) → Tells g mid def e.1 before after → TellsAll g old definitions given (e ∷ []) before after
+    one_tells before after tells v h are =
+        let found = rows_found v h are in
+        told_one v def e.1 found.0 found.1 before after (tells v found.0 found.2) ∙ ap (λ cs. told_more before (images v cs)) (sym (append-nil (change_value definitions e) ∙ value_is definitions number def at e under))
+
+-- what was found stands where nothing changes
+pub finds_stays : {S : Type 0} (g : Ghosts S) (old mid next : S) (given : ℕ → Option ℕ) (def : RelationDef) (e : ℕ × Op) → Finds g old mid given def e → StaysOpen g mid next → Finds g old next given def e
+finds_stays g old mid next given def e finds stays = (
+  record { was_open = finds.0.was_open; is_open = stays.0.is_open },
+  λ v h given. let f = finds.1 v h given in (f.0, f.1, subst (IsChanging v def f.0) (sym stays.1) f.2, f.3),
+)
+
 module _ {S : Type 0} (g : Ghosts S) (a b c : S) (definitions : List RelationDef) (entries more : List (ℕ × Op)) (given after : ℕ → Option ℕ) where
   -- what is folded behind some changes
   folds_then : (v : Tables) → fold_changes v (change_values definitions (entries ++ more)) ≡ (fold_changes v (change_values definitions entries) >>= λ next. fold_changes next (change_values definitions more))
@@ -115,6 +132,14 @@ module _ {S : Type 0} (g : Ghosts S) (a b c : S) (definitions : List RelationDef
       let made = (one.made clean still).1 v h in
       next made.0 made.2 made.3 ∙ ap (λ m. with_misses m end (all_missing made.0 (change_values definitions more))) (first v h)
       ∙ sym (ap (λ cs. with_misses before end (all_missing v cs)) (values_append definitions entries more) ∙ counted_more v made.0 (change_values definitions entries) (change_values definitions more) end before made.1)
+
+  -- and what all of them did is told
+  pub folds_tell : (before between after : Option (List Image)) → FoldsOn g a b definitions entries given → TellsFrom (tables_of g a) definitions entries before between → TellsAll g b definitions given more between after
+      → HasCleanDisk (state g b) → IsTrue (state g a).is_open → TellsFrom (tables_of g a) definitions (entries ++ more) before after
+  folds_tell before between after one first next clean still v h =
+      let made = (one.made clean still).1 v h in
+      next made.0 made.2 made.3 ∙ ap (λ m. told_more m (images made.0 (change_values definitions more))) (first v h)
+      ∙ told_then v made.0 (change_values definitions entries) (change_values definitions more) before made.1 ∙ sym (ap (λ cs. told_more before (images v cs)) (values_append definitions entries more))
 
 -- a change that is refused is refused whatever follows it
 pub refuses_more : {S : Type 0} (g : Ghosts S) (a : S) (definitions : List RelationDef) (given : ℕ → Option ℕ) (e : ℕ × Op) (more : List (ℕ × Op)) (fault : StoreFault) → RefusesAll g a definitions given (e ∷ []) fault → RefusesAll g a definitions given (e ∷ more) fault

@@ -207,6 +207,10 @@ module _ {S : Type 0} (g : Ghosts S) where
   abbrev pub LeavesGroup : StoreValue S → Trees → Type 0
   LeavesGroup old db = IsTrue (state g old.rows).is_open × ((v : Tables) → Plans old v → AreOf (record { tables = v; position = old.group.reach }) db)
 
+  -- what it may leave of settling with a ledger: that, and the ledger wasn't stuck, and was synced before
+  abbrev pub LeavesSynced : Bool → Type 0 → StoreValue S → Trees → Type 0
+  LeavesSynced was_stuck Synced old db = LeavesGroup old db × (was_stuck ≡ false) × Synced
+
   -- the store holds what is stored in the tables of a connection, also where some of them are missing, and nothing at 0/0 where it has no tables
   pub record Adopts (conn : Held S) (store : StoreValue S) : Type 0 where
     pub stood : (v : Stored) → AreOf v (connection.state g conn).now.trees → Holds store v

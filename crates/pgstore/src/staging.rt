@@ -5,17 +5,21 @@ ghost use Rattle.std.specs.Int.{w64, to_be_bytes};
 ghost use Rattle.std.specs.List.{AllByRecursion};
 ghost use Rattle.sqlite.specs.State.{HasCleanDisk, KeepsCommit, Survives};
 ghost use Rattle.pglogical.specs.Spelling.{IsDefinition};
-ghost use Rattle.pgapply.specs.Works.{IsNumbered};
+ghost use Rattle.pgapply.specs.Works.{IsNumbered, change_values};
 ghost use Rattle.pgapply.specs.Stored.{IsOwnFault};
 ghost use Rattle.pgrows.specs.Rows.{IfServing, IsNumbered as HasNumbers, state, tables_of};
 ghost use Rattle.pgstore.specs.Acts.{CountsFrom, IfOpened, RefusesToFold};
 ghost use Rattle.pgstore.specs.Sources.{IsSource, rows_in};
+ghost use Rattle.pgledger.specs.Ledgers.{AppendsAtMost, Keeps, Rests, StaysOrSticks, Syncs};
+ghost use Rattle.pgstore.specs.Looks.{AppendsFrom, TellsFrom};
 ghost use Rattle.pgstore.specs.Staged.{before_of, HasStaged, KeepsStaged, LeavesSettled, Prepares, Returns, Settles, Stages, Unstages};
 
 use crate::fault::Refusal;
+use crate::looking::Telling;
 use crate::source::Source;
 use crate::taking::take_changes;
-use pgapply::{Misses, Op, StoreFault};
+use pgapply::{Commit, Misses, Op, StoreFault};
+use pgledger::Ledger;
 use pglogical::RelationDef;
 use pglsn::Lsn;
 use pgrows::rows::Rows;
@@ -40,6 +44,18 @@ impl Unstaged {
     {
         Unstaged {
             refusal: Refusal::from(error),
+            is_lost: true,
+        }
+    }
+
+    /// All that was staged is lost, since the ledger has failed.
+    fn untold(fault: StoreFault) -> Unstaged
+        requires { IsOwnFault fault }
+        ensures own { IsOwnFault result.refusal }
+        ensures lost { result.is_lost ≡ true }
+    {
+        Unstaged {
+            refusal: Refusal::new(fault),
             is_lost: true,
         }
     }
@@ -82,14 +98,16 @@ fn undo_one<S: Alter>(rows: &mut Rows<S>, refusal: Refusal) -> Unstaged
     }
 }
 
-/// Puts the changes of a commit behind those that the transaction has, or nothing of it, and counts those that find no row.
-pub(crate) fn stage_changes<S: Alter>(
+/// Puts the changes of a commit behind those that the transaction has, or nothing of it. It counts
+/// those that find no row, and tells what each of them does.
+pub(crate) fn stage_changes<'a, S: Alter>(
     rows: &mut Rows<S>,
     alloc: Global,
     definitions: &[RelationDef],
-    changes: &[(usize, Op<'_>)],
+    changes: &[(usize, Op<'a>)],
     end: Lsn,
     misses: &mut Misses,
+    telling: &mut Telling<'a>,
 ) -> Result<(), Unstaged>
     requires definitions { AllByRecursion IsDefinition definitions.now }
     requires numbered { AllByRecursion (IsNumbered definitions.now) changes.now }
@@ -98,6 +116,9 @@ pub(crate) fn stage_changes<S: Alter>(
     ensures counts { HasCleanDisk (state S.Store rows.new) → OnOk result
         (CountsFrom (tables_of S.Store rows.old) definitions.now changes.now end misses.old
         misses.new) }
+    ensures told { HasCleanDisk (state S.Store rows.new) → OnOk result
+        (TellsFrom (tables_of S.Store rows.old) definitions.now changes.now telling.old
+        telling.new) }
     ensures unstaged { HasCleanDisk (state S.Store rows.new) → IfErr result (λ u.
         u.is_lost ≡ false → Unstages S.Store rows.old rows.new) }
     ensures lost { IfErr result (λ u. u.is_lost ≡ true → IsOwnFault u.refusal) }
@@ -112,7 +133,7 @@ pub(crate) fn stage_changes<S: Alter>(
         return Err(Unstaged::lost(error));
     }
     rows.see_kept();
-    if let Err(refusal) = take_changes(rows, alloc, definitions, changes, end, misses) {
+    if let Err(refusal) = take_changes(rows, alloc, definitions, changes, end, misses, telling) {
         return Err(undo_one(rows, refusal));
     }
     if let Err(error) = rows.keep() {
@@ -156,14 +177,15 @@ fn prepare<S: Alter + Drop>(source: &mut Source<S>, alloc: Global, is_first: boo
 }
 
 /// Stages a commit behind those that are staged, or as the first, behind what is committed.
-pub(crate) fn stage_all<S: Alter + Drop>(
+pub(crate) fn stage_all<'a, S: Alter + Drop>(
     source: &mut Source<S>,
     alloc: Global,
     is_first: bool,
     definitions: &[RelationDef],
-    changes: &[(usize, Op<'_>)],
+    changes: &[(usize, Op<'a>)],
     end: Lsn,
     misses: &mut Misses,
+    telling: &mut Telling<'a>,
 ) -> Result<(), Unstaged>
     requires source { IsSource S.Store source.old }
     requires definitions { AllByRecursion IsDefinition definitions.now }
@@ -176,6 +198,9 @@ pub(crate) fn stage_all<S: Alter + Drop>(
     ensures counts { HasCleanDisk (state S.Store (rows_in source.new)) → OnOk result
         (CountsFrom (before_of S.Store is_first (rows_in source.old)) definitions.now changes.now
         end misses.old misses.new) }
+    ensures told { HasCleanDisk (state S.Store (rows_in source.new)) → OnOk result
+        (TellsFrom (before_of S.Store is_first (rows_in source.old)) definitions.now changes.now
+        telling.old telling.new) }
     ensures unstaged { HasCleanDisk (state S.Store (rows_in source.new)) → IfErr result (λ u.
         u.is_lost ≡ false → KeepsStaged S.Store is_first (rows_in source.old)
         (rows_in source.new)) }
@@ -191,12 +216,73 @@ pub(crate) fn stage_all<S: Alter + Drop>(
     prepare(source, alloc, is_first);
     match source {
         Source::Trees(rows) if rows.is_sound() => {
-            stage_changes(rows, alloc, definitions, changes, end, misses)
+            stage_changes(rows, alloc, definitions, changes, end, misses, telling)
         }
         _ => Err(Unstaged {
             refusal: Refusal::new(StoreFault::Refused),
             is_lost: true,
         }),
+    }
+}
+
+/// Stages a commit as `stage_all` does, and appends it to a ledger with the images of its changes.
+/// Where the ledger fails, all that is staged is lost.
+pub(crate) fn stage_told<S: Alter + Drop, L: Ledger>(
+    source: &mut Source<S>,
+    alloc: Global,
+    is_first: bool,
+    commit: &Commit<'_, '_>,
+    definitions: &[RelationDef],
+    changes: &[(usize, Op<'_>)],
+    misses: &mut Misses,
+    ledger: &mut L,
+) -> Result<(), Unstaged>
+    requires source { IsSource S.Store source.old }
+    requires definitions { AllByRecursion IsDefinition definitions.now }
+    requires numbered { AllByRecursion (IsNumbered definitions.now) changes.now }
+    requires are { change_values definitions.now changes.now ≡ commit.now.work.now.changes }
+    ensures source { IsSource S.Store source.new }
+    ensures range { commit.now.end < 2 ^ 64 }
+    ensures staged { HasCleanDisk (state S.Store (rows_in source.new)) → OnOk result
+        (HasStaged S.Store is_first (rows_in source.old) (rows_in source.new) definitions.now
+        changes.now) }
+    ensures counts { HasCleanDisk (state S.Store (rows_in source.new)) → OnOk result
+        (CountsFrom (before_of S.Store is_first (rows_in source.old)) definitions.now changes.now
+        commit.now.end misses.old misses.new) }
+    ensures unstaged { HasCleanDisk (state S.Store (rows_in source.new)) → IfErr result (λ u.
+        u.is_lost ≡ false → KeepsStaged S.Store is_first (rows_in source.old)
+        (rows_in source.new)) }
+    ensures lost { IfErr result (λ u. u.is_lost ≡ true → IsOwnFault u.refusal) }
+    ensures fault { IfOpened S.Store (rows_in source.old) (rows_in source.new) (IfErr result (λ u.
+        RefusesToFold (before_of S.Store is_first (rows_in source.old)) definitions.now changes.now
+        u.refusal)) }
+    ensures commit { HasCleanDisk (state S.Store (rows_in source.new)) →
+        KeepsCommit (state S.Store (rows_in source.old)) (state S.Store (rows_in source.new)) }
+    ensures survives { Survives (state S.Store (rows_in source.old))
+        (state S.Store (rows_in source.new)) (λ _. ⊥) }
+    ensures told { HasCleanDisk (state S.Store (rows_in source.new)) → OnOk result
+        (AppendsFrom L.Ledger.keeps (before_of S.Store is_first (rows_in source.old))
+        commit.now.end commit.now.about commit.now.work.now.changes ledger.old ledger.new) }
+    ensures free { OnOk result (L.Ledger.is_stuck ledger.new ≡ false) }
+    ensures at_most { AppendsAtMost L.Ledger.keeps commit.now.end ledger.old ledger.new }
+    ensures untold { OnErr result (StaysOrSticks L.Ledger.is_stuck ledger.old ledger.new) }
+    ensures rests { Rests L.Ledger.begins L.Ledger.is_wanting L.Ledger.outlasts L.Ledger.reopens
+        ledger.old ledger.new }
+{
+    let mut telling = Telling::new(alloc, ledger.wants());
+    stage_all(
+        source,
+        alloc,
+        is_first,
+        definitions,
+        changes,
+        commit.end,
+        misses,
+        &mut telling,
+    )?;
+    match ledger.append(commit, telling.images()) {
+        Ok(()) => Ok(()),
+        Err(fault) => Err(Unstaged::untold(fault)),
     }
 }
 
@@ -217,4 +303,39 @@ pub(crate) fn settle_all<S: Alter + Drop>(source: &mut Source<S>, end: Lsn) -> R
         Source::Trees(rows) => settle_rows(rows, end),
         Source::Adopted(_) => Err(Refusal::new(StoreFault::Refused)),
     }
+}
+
+/// Syncs a ledger, and commits what is staged as `settle_all` does.
+pub(crate) fn settle_told<S: Alter + Drop, L: Ledger>(
+    source: &mut Source<S>,
+    end: Lsn,
+    ledger: &mut L,
+) -> Result<(), Refusal>
+    requires { IsSource S.Store source.old }
+    ensures source { IsSource S.Store source.new }
+    ensures settled { HasCleanDisk (state S.Store (rows_in source.new)) → OnOk result
+        (Settles S.Store (rows_in source.old) (rows_in source.new) (to_be_bytes w64 end)) }
+    ensures commit { HasCleanDisk (state S.Store (rows_in source.new)) → OnErr result
+        (KeepsCommit (state S.Store (rows_in source.old)) (state S.Store (rows_in source.new))) }
+    ensures fault { IfErr result IsOwnFault }
+    ensures crash { Survives (state S.Store (rows_in source.old))
+        (state S.Store (rows_in source.new))
+        (LeavesSettled S.Store (rows_in source.old) (to_be_bytes w64 end)) }
+    ensures crash_synced { Survives (state S.Store (rows_in source.old))
+        (state S.Store (rows_in source.new))
+        (λ db. LeavesSettled S.Store (rows_in source.old) (to_be_bytes w64 end) db
+        × (L.Ledger.is_stuck ledger.old ≡ false)
+        × Syncs L.Ledger.keeps L.Ledger.begins L.Ledger.outlasts ledger.old ledger.new) }
+    ensures kept { Keeps L.Ledger.keeps ledger.old ledger.new }
+    ensures synced { OnOk result
+        (Syncs L.Ledger.keeps L.Ledger.begins L.Ledger.outlasts ledger.old ledger.new) }
+    ensures was_free { OnOk result (L.Ledger.is_stuck ledger.old ≡ false) }
+    ensures free { OnOk result (L.Ledger.is_stuck ledger.new ≡ false) }
+    ensures rests { Rests L.Ledger.begins L.Ledger.is_wanting L.Ledger.outlasts L.Ledger.reopens
+        ledger.old ledger.new }
+{
+    if let Err(fault) = ledger.sync() {
+        return Err(Refusal::new(fault));
+    }
+    settle_all(source, end)
 }

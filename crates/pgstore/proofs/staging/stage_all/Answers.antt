@@ -1,9 +1,10 @@
-use Rattle.std.proofs.Common.{sym, subst, ◌∙◌, arith}
+use Rattle.std.proofs.Common.{sym, subst, arith}
 use Rattle.sqlite.specs.State.{HasCleanDisk}
 use Rattle.pgtables.specs.Kept as stored
 use Rattle.pgrows.specs.Rows.{state}
 use Rattle.pgstore.specs.Spelled.{IsStored}
 use Rattle.pgstore.specs.Acts.{CountsFrom, RefusesToFold}
+use Rattle.pgstore.specs.Looks.{TellsFrom}
 use Rattle.pgstore.proofs.Acting.{if_err, on_ok}
 use Rattle.pgstore.proofs.staging.stage_all.Goals as goal
 
@@ -31,3 +32,10 @@ returns-in-Trees-clause-fault g c clean still =
     let prepared = (rw c.in-Trees.is at c.prepare.ensures.prepares) was sound in
     if_err c.stage_changes.result (c.stage_changes.ensures.fault clean sound) (λ u refuses.
     subst (λ (t : stored.Tables). RefusesToFold t c.args.definitions.now c.args.changes.now u.refusal) prepared.1 refuses)
+
+pub returns-in-Trees-clause-told : goal.returns-in-Trees-clause-told
+returns-in-Trees-clause-told g c clean =
+    let was : HasCleanDisk (state g.S.Store c.in-Trees.rows) = omega (arith, c.stage_changes.ensures.survives.clean, clean) in
+    let prepared = (rw c.in-Trees.is at c.prepare.ensures.prepares) was (c.is_sound.ensures.sound c.if-is_sound.true was).0 in
+    on_ok c.stage_changes.result (c.stage_changes.ensures.told clean) (λ tells.
+    subst (λ (t : stored.Tables). TellsFrom t c.args.definitions.now c.args.changes.now c.args.telling.now c.stage_changes.new.telling) prepared.1 tells)

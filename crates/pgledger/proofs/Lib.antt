@@ -1,0 +1,3 @@
+mod Telling
+pub mod Calls
+mod Recording

@@ -1,0 +1,157 @@
+//! What keeps the commits of a store, each with the images of its changes.
+
+ghost use Rattle.std.specs.Prelude.{◌≡◌, ℕ, List, Bool, true, false, OnOk, OnErr, IfErr};
+ghost use Rattle.pgapply.specs.Stored.{IsOwnFault};
+ghost use Rattle.pgledger.specs.Entries.{Entry, entry_of};
+ghost use Rattle.pgledger.specs.Ledgers.{Appends, AppendsAtMost, CutsAt, Keeps, Rests, Syncs, UnaskedKeeps};
+
+use crate::image::Image;
+use pgapply::{Commit, StoreFault};
+
+/// A ledger of commits, as a file or a queue that others read. A store hands it each commit that it
+/// stages, and has it synced before it takes them. So it is never behind the store, and ahead of it
+/// by staged commits alone.
+///
+/// A call that fails leaves the ledger stuck: it takes nothing more until it is opened anew, at the
+/// store's position, and what lies after that is cut off. `NoLedger` keeps nothing, and is what a
+/// store without a ledger uses.
+///
+/// PostgreSQL documentation, Logical Replication, Subscription.
+pub trait Ledger {
+    /// The LSN at which it begins.
+    ghost begins: { Self → ℕ };
+
+    /// It keeps these entries, the oldest first.
+    ghost keeps: { Self → List Entry → Type 0 };
+
+    /// Its entries up to this LSN outlast a crash.
+    ghost outlasts: { Self → ℕ → Type 0 };
+
+    /// It takes nothing more.
+    ghost is_stuck: { Self → Bool };
+
+    /// It wants the images of changes.
+    ghost is_wanting: { Self → Bool };
+
+    /// The other one was opened at this LSN, on what a crash at this moment may leave of this one.
+    ghost reopens: { Self → ℕ → Self → Type 0 };
+
+    /// Whether it takes nothing more.
+    fn is_stuck(&self) -> bool
+        ensures { result ≡ is_stuck self.now };
+
+    /// Whether it wants the images of changes. For one that doesn't no row is read.
+    fn wants(&self) -> bool
+        ensures { result ≡ is_wanting self.now };
+
+    /// Appends a commit with one image for each of its changes, or with none where it wants none.
+    /// It isn't synced.
+    ///
+    /// # Errors
+    ///
+    /// `Memory` or `Refused`, also where it is stuck, and where the commit doesn't end after the
+    /// last one.
+    fn append(&mut self, commit: &Commit<'_, '_>, images: &[Image<'_>]) -> Result<(), StoreFault>
+        ensures appended { OnOk result (Appends keeps (entry_of commit.now.end commit.now.about
+            commit.now.work.now.changes images.now) self.old self.new) }
+        ensures was_free { OnOk result (is_stuck self.old ≡ false) }
+        ensures free { OnOk result (is_stuck self.new ≡ false) }
+        ensures refused { OnErr result (AppendsAtMost keeps commit.now.end self.old self.new) }
+        ensures stuck { OnErr result (is_stuck self.new ≡ true) }
+        ensures fault { IfErr result IsOwnFault }
+        ensures rests { Rests begins is_wanting outlasts reopens self.old self.new };
+
+    /// Makes all that was appended outlast a crash.
+    ///
+    /// # Errors
+    ///
+    /// `Memory` or `Refused`, also where it is stuck.
+    fn sync(&mut self) -> Result<(), StoreFault>
+        ensures synced { OnOk result (Syncs keeps begins outlasts self.old self.new) }
+        ensures kept { Keeps keeps self.old self.new }
+        ensures was_free { OnOk result (is_stuck self.old ≡ false) }
+        ensures free { OnOk result (is_stuck self.new ≡ false) }
+        ensures stuck { OnErr result (is_stuck self.new ≡ true) }
+        ensures fault { IfErr result IsOwnFault }
+        ensures rests { Rests begins is_wanting outlasts reopens self.old self.new };
+
+    /// Takes nothing more from now on: commits that it has were not taken by the store, or may not
+    /// have been.
+    fn stick(&mut self)
+        ensures kept { Keeps keeps self.old self.new }
+        ensures stuck { is_stuck self.new ≡ true }
+        ensures rests { Rests begins is_wanting outlasts reopens self.old self.new };
+
+    /// Opened anew at an LSN it keeps the entries up to the one that ends there.
+    ghost cuts: { CutsAt keeps begins outlasts reopens };
+
+    /// Of one that wants no images no entry is asked back.
+    ghost unasked: { UnaskedKeeps keeps is_wanting };
+}
+
+/// The ledger of a store that has none: it keeps nothing, and no row is read for it.
+#[derive(Debug, Drop)]
+pub struct NoLedger {
+    is_stuck: bool,
+}
+
+impl NoLedger {
+    /// A ledger that isn't stuck.
+    pub fn new() -> NoLedger
+        ensures { result.is_stuck ≡ false }
+    {
+        NoLedger { is_stuck: false }
+    }
+}
+
+impl Ledger for NoLedger {
+    ghost use Rattle.std.specs.Prelude.{⊤, refl};
+
+    ghost begins = { λ _. 0 };
+
+    ghost keeps = { λ _ _. ⊤ };
+
+    ghost outlasts = { λ _ _. ⊤ };
+
+    ghost is_stuck = { λ l. l.is_stuck };
+
+    ghost is_wanting = { λ _. false };
+
+    ghost reopens = { λ _ _ _. ⊤ };
+
+    fn is_stuck(&self) -> bool {
+        self.is_stuck
+    }
+
+    fn wants(&self) -> bool {
+        false
+    }
+
+    fn append(
+        &mut self,
+        _commit: &Commit<'_, '_>,
+        _images: &[Image<'_>],
+    ) -> Result<(), StoreFault> {
+        if self.is_stuck {
+            Err(StoreFault::Refused)
+        } else {
+            Ok(())
+        }
+    }
+
+    fn sync(&mut self) -> Result<(), StoreFault> {
+        if self.is_stuck {
+            Err(StoreFault::Refused)
+        } else {
+            Ok(())
+        }
+    }
+
+    fn stick(&mut self) {
+        self.is_stuck = true;
+    }
+
+    ghost cuts = { λ old new p told later opened kept ends lasting above. (tt, refl, tt) };
+
+    ghost unasked = { λ l no es. tt };
+}

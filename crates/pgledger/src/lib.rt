@@ -1,0 +1,28 @@
+//! A ledger of commits beside a store: what each commit did to single rows, appended as the store
+//! stages it and synced before the store takes it.
+//!
+//! A store that implements [`LedgerStore`] gives its [`Ledger`] each commit with an [`Image`] of
+//! each change: the whole row before it and the whole row after it, also where the server sent
+//! neither. [`Recorded`] is a store with its ledger, and a `ReplicaStore` itself: whatever a
+//! subscriber returns, and whatever a crash leaves when both are opened again, the entries of its
+//! ledger lead commit by commit to exactly the rows that it holds.
+//!
+//! ```text
+//! let mut store = Recorded::new(store, ledger);
+//! store.stage(&commit)?;                  // the rows change, then the ledger has the commit
+//! store.settle()?;                        // the ledger is synced, then the store takes the commit
+//! ```
+//!
+//! PostgreSQL documentation, Logical Replication, Subscription; ALTER TABLE, REPLICA IDENTITY.
+#![tactic(auto)]
+
+pub mod image;
+pub mod laws;
+pub mod ledger;
+pub mod ledger_store;
+pub mod recorded;
+
+pub use image::Image;
+pub use ledger::{Ledger, NoLedger};
+pub use ledger_store::LedgerStore;
+pub use recorded::Recorded;
