@@ -64,13 +64,13 @@ class Child:
             self.kill()
             raise Failed(f"it didn't end within {seconds:.0f} seconds: {self.said()}") from None
 
-    def stop(self, number: int = SIGTERM, within: float = 60) -> str:
-        """Asks for the end, which has to come well. Returns what it said."""
+    def stop(self, number: int = SIGTERM, within: float = 60, status: int = 0) -> str:
+        """Asks for the end, which has to come well, with this status. Returns what it said."""
         began = time.monotonic()
         self.signal(number)
-        status = self.end()
-        if status:
-            raise Failed(f"it ended with status {status} after signal {number}: {self.said()}")
+        ended = self.end()
+        if ended != status:
+            raise Failed(f"it ended with status {ended} in place of {status} after signal {number}: {self.said()}")
         if (took := time.monotonic() - began) > within * Patience.factor:
             raise Failed(f"it ended {took:.1f} seconds after the signal")
         return self.said()

@@ -14,7 +14,7 @@ from ..child import Child
 from ..errors import Failed
 from ..follower import Supervisor, filters_of, is_adding, wait_until
 from ..pgbench import PgBench
-from ..place import OK, PASSING, REJECTED, SERVER, Place
+from ..place import MISSED, OK, PASSING, REJECTED, SERVER, Place
 from .case import Case
 from .common import PLANTED, TABLES, changing, check_slots, moving, plant, verified, verify
 
@@ -40,7 +40,8 @@ def check_left(place: Place) -> None:
 
 
 def joined(place: Place) -> None:
-    """A table with rows joins the publication: its rows are there after it was added, and nothing is wrong any more."""
+    """A table with rows joins the publication: its rows are there after it was added, and nothing is wrong any more. That an Update had
+    found no row before stays told."""
     place.stock()
     place.run(*MORE)
     child = place.start("--create")
@@ -56,7 +57,7 @@ def joined(place: Place) -> None:
     place.catch_up(child)
     verify(place)
     check_left(place)
-    child.stop()
+    child.stop(status=MISSED)
     place.equal()
 
 
