@@ -3,7 +3,7 @@
 from __future__ import annotations
 
 from ..errors import Failed
-from ..place import Place
+from ..place import MISSED, Place
 from .case import Case
 
 
@@ -83,13 +83,13 @@ def values_computed_anew(place: Place) -> None:
 
 
 def key_type(place: Place) -> None:
-    """The type of a key is altered while it is followed: told with the next change of the table."""
+    """The type of a key is altered while it is followed: told with the next change of the table, which finds no row by such a key."""
     place.stock()
     child = place.start("--create")
     place.catch_up(child)
     place.run("ALTER TABLE stock ALTER sku TYPE numeric(10, 2)", "UPDATE stock SET quantity = 9 WHERE sku = 1")
     child.wait_for("found: values", 30)
-    place.finds("values", "column sku", child.stop())
+    place.finds("values", "column sku", child.stop(status=MISSED))
 
 
 def label_renamed(place: Place) -> None:
