@@ -125,11 +125,11 @@ class Place:
     def has_confirmed(self, end: str, cluster: Cluster | None = None) -> bool:
         return is_confirmed(cluster or self.cluster, self.slot, end, self.database)
 
-    def follow(self, *more: str, dsn: str = "") -> str:
-        """Follows until all is confirmed, and ends. Returns what the connector said."""
+    def follow(self, *more: str, dsn: str = "", status: int = OK) -> str:
+        """Follows until all is confirmed, and ends with this status. Returns what the connector said."""
         child = self.start(*more, dsn=dsn)
         self.catch_up(child)
-        return child.stop()
+        return child.stop(status=status)
 
     def ends(self, status: int, text: str, *more: str, dsn: str = "", seconds: float = 90) -> str:
         """Starts, and expects the end by itself. Returns what was said."""

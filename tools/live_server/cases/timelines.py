@@ -4,7 +4,7 @@ from __future__ import annotations
 
 from ..cluster import Cluster
 from ..errors import Failed
-from ..place import UNFIT, Place
+from ..place import MISSED, UNFIT, Place
 from .case import Case
 
 
@@ -18,7 +18,10 @@ def promoted(place: Place, older: Cluster) -> None:
 
 
 def lacks_changes(place: Place) -> None:
-    """A promoted server that lacks changes of the store ends the following, at each start, until somebody accepts it."""
+    """A promoted server that lacks changes of the store ends the following, at each start, until somebody accepts it.
+
+    Where rows differ, its changes may find none then, and that is told.
+    """
     server = place.own_server()
     place.stock()
     place.follow("--create")
@@ -34,8 +37,8 @@ def lacks_changes(place: Place) -> None:
         place.ends(UNFIT, "the store has changes that the server hasn't", seconds=40)
     if "history" not in place.found():
         raise Failed(f"the checkpoint has {place.found()}")
-    place.follow("--accept", "history")
-    if place.checkpoint()["timeline"] != 2 or place.found():
+    said = place.follow("--accept", "history", status=MISSED)
+    if place.checkpoint()["timeline"] != 2 or place.found() or "found: missing" not in said:
         raise Failed(f"the checkpoint has {place.checkpoint()}")
 
 
