@@ -9,7 +9,7 @@ import psycopg
 
 from ..child import Child
 from ..errors import Failed
-from ..place import OK, REJECTED, SERVER, UNFIT, Place
+from ..place import MISSED, OK, REJECTED, SERVER, UNFIT, Place
 from .case import Case
 
 ROUNDS = 8
@@ -107,13 +107,14 @@ def begin(place: Place, rng: random.Random) -> None:
 
 
 def has_followed(place: Place, child: Child | None) -> bool:
-    """Follows until all is confirmed. Returns whether that was possible; a follower that ends tells why."""
-    for it in (child, place.start()) if child else (place.start(),):
+    """Follows until all is confirmed. Returns whether that was possible and each change found its row; else the follower tells why not."""
+    for started in (child, None) if child else (None,):
+        it = started or place.start()
         try:
             place.catch_up(it)
             it.stop()
         except Failed:
-            if it.is_running() or it.process.returncode not in (OK, REJECTED, SERVER, UNFIT):
+            if it.is_running() or it.process.returncode not in (OK, REJECTED, SERVER, UNFIT, MISSED):
                 raise
             return False
     return True
