@@ -5,7 +5,9 @@
 | IDLE | the table's changes are left out | once it is time: the table is read from the catalog, and the stream is held |
 | HELD | nothing is passed on | once all that was passed on is stored, and so confirmed: the slot is made and the table locked |
 | GOING | commits below P are passed on | once the first payload behind P has come: the rows are passed on |
-| SENT | all is passed on | once the store is at P: the table is there |
+| SENT | all is passed on, or nothing where the session is to end | once the store is at P: the table is there |
+
+The session is to end where it has described the table otherwise than its rows: then another one begins at P.
 
 Where the server makes no slot in time, or the table is altered or locked, the stream is let go, and later it is tried again. Where rows
 can't be read to their end the session ends, since a transaction is open in it. A table that can't be added is refused: it stays as it
@@ -96,8 +98,8 @@ class Adder:
         self.is_gone = False
         # what was found of the table before its rows were read
         self.texts: list[str] = []
-        # whether the session asks for whole transactions because of tables
-        self.is_whole = False
+        # whether the session asks for whole transactions because of tables, and whether it ends once the rows of one are stored
+        self.is_whole = self.ends_session = False
 
     # what is to be added
 
@@ -166,9 +168,12 @@ class Adder:
                 self.checkpoint.write_adding(adding)
 
     def wants_session(self) -> bool:
-        """Whether a session is to begin in place of the one that runs: changes are left out from its start, of whole transactions."""
+        """Whether a session is to begin in place of the one that runs: changes are left out from its start, of whole transactions, and
+        tables are described anew."""
         if self.phase != IDLE:
             return False
+        if self.ends_session:
+            return True
         if self.remembered.wanted and not self.next_oid():
             self.fill()
         left_out = self.left_out()
@@ -194,10 +199,10 @@ class Adder:
 
     def end_session(self) -> None:
         """A session has ended, and with it what was under way."""
-        if self.phase in (HELD, GOING):
+        if self.phase in (HELD, GOING) or self.ends_session:
             self.hold.end()
         self.close()
-        self.phase = IDLE
+        self.phase, self.ends_session = IDLE, False
 
     def close(self) -> None:
         if self.source:
@@ -293,7 +298,9 @@ class Adder:
             self.fail(error)
             raise ServerError("the session ends, since a table's rows can't be read") from None
         self.close()
-        self.hold.end()
+        self.ends_session = self.leaving.has_described_otherwise(rows.relation)
+        if not self.ends_session:
+            self.hold.end()
         self.phase, self.progress.state = SENT, "following"
         log.info(f"{self.table.text()}: {counted(rows.count, 'row')} as of {lsn_text(self.point)}")
 

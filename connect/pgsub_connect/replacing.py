@@ -32,6 +32,20 @@ row that the snapshot has, Commit:
 So what the filter gets is a session of a history: the server's, without the changes of the table in commits below P that were not
 stored before, and with one more commit. Its LSNs rise, each change has its Relation before it in the session (those of the table come
 with its own transaction, and the server's are passed on), and each keepalive's end is below the end of every later commit with changes.
+That is proved, wherever a session is cut off: by the laws of `crates/pgadding` (specs/Laws.antt). Beyond what they take from the paragraphs
+above, and what holds of any server, they ask two things of it (specs/Around.antt):
+
+- `KeepalivesTell`: what begins behind a keepalive between transactions has a final LSN of its end or above, also where it changes nothing.
+- `KeepsDefinition`: the changes behind P have the definition that came with the rows. That is the server's last one of the table in this
+  session, or the server sends another Relation message before the next change of the table.
+
+A server keeps the second where what its changes come from is altered, as any table that isn't partitioned. It doesn't where a partitioned
+table is published under its own name (publish_via_partition_root) and altered alone, in its name or replica identity: it notes by partition
+what it has described (`maybe_send_schema` in src/backend/replication/pgoutput/pgoutput.c), and none was altered. So where the Relation
+message of the rows isn't the last one of the table that was passed on in the session, nothing behind P is passed on in it. Once the rows are
+stored it ends, and the next one begins at P and describes each table anew. That is all that it mends: where partitions log no old rows that
+fit the replica identity of their root, any new session has changes that can't be applied.
+
 PostgreSQL's own table synchronisation differs in that it reads the rest, from its snapshot to where the others are, from a second slot.
 
 What a fault leaves at each step. The checkpoint has `adding`: for each table the P at which its rows are stored, 0 as long as that isn't
@@ -47,7 +61,8 @@ known. It is written durably before what it says is done:
 A position of P or above tells that the rows are stored, since no commit that ends there is passed on before them; and P becomes 0 before
 a session without the snapshot passes anything on. Nothing is confirmed that isn't stored: statuses come from the filter alone, and one
 with P or above comes only once it has the rows' commit, or a keepalive or commit behind it. A session that ends within the rows'
-transaction loses it as a whole.
+transaction loses it as a whole. One that is to end behind it may be lost at any time: nothing is noted of that, since each next session
+describes the tables anew.
 """
 
 from __future__ import annotations
@@ -57,7 +72,7 @@ from collections.abc import Sequence
 
 from .errors import ServerError
 from .messages import InsertHeads, begin, commit, frame, inserts, relation
-from .noting import BEGIN, CHANGES, COMMIT, START, TRUNCATE, final_lsn
+from .noting import BEGIN, CHANGES, COMMIT, RELATION, START, TRUNCATE, final_lsn
 from .publishing import Table
 
 # FrozenTransactionId.
@@ -77,9 +92,11 @@ class Leaving:
         self.begin_session()
 
     def begin_session(self) -> None:
-        """Forgets the transaction that was under way."""
+        """Forgets the transaction that was under way, and how tables were described."""
         # the final LSN of the transaction that is under way, and whether one is
         self.lsn, self.is_inside = 0, False
+        # by OID the last Relation message that was passed on
+        self.described: dict[bytes, bytes] = {}
 
     def set(self, points: dict[int, int]) -> None:
         """Leaves out the changes of these tables from now on, and of no others."""
@@ -105,6 +122,8 @@ class Leaving:
                 continue
             elif letter == TRUNCATE:
                 payload = self.truncation(payload)
+            elif letter == RELATION:
+                self.described[payload[26:30]] = payload[25:]
             elif letter == START:
                 raise ServerError("the server streams a transaction, and was asked for whole ones")
             elif not letter and self.is_beyond(payload):
@@ -117,6 +136,10 @@ class Leaving:
         """Whether a keepalive within a transaction says more than may be confirmed before the rows of some table are stored."""
         end = int.from_bytes(keepalive[1:9], "big")
         return self.is_inside and any(self.lsn < it <= end for it in self.points.values())
+
+    def has_described_otherwise(self, message: bytes) -> bool:
+        """Whether a Relation message of this one's table was passed on in this session, and the last of them is another one."""
+        return self.described.get(message[1:5], message) != message
 
     def truncation(self, payload: bytes) -> bytes:
         """A Truncate without the tables whose changes are left out; nothing where no other is left."""
@@ -136,13 +159,13 @@ class Rows:
 
     def __init__(self, table: Table, point: int, clock: int) -> None:
         self.table, self.point, self.lsn, self.clock = table, point, point - 1, clock
-        self.heads = InsertHeads(table, self.lsn)
+        self.heads, self.relation = InsertHeads(table, self.lsn), relation(table)
         self.cost = self.longest = self.count = 0
 
     def opening(self) -> list[bytes]:
         """Begin, Relation and Truncate."""
         truncate = struct.pack(">cIBI", b"T", 1, 0, self.table.oid)
-        items = [frame(self.lsn, it) for it in (relation(self.table), truncate)]
+        items = [frame(self.lsn, it) for it in (self.relation, truncate)]
         self.cost += sum(map(self.buffered, items))
         return [frame(self.lsn, begin(self.lsn, XID, self.clock)), *items]
 

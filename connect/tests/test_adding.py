@@ -3,6 +3,7 @@
 from __future__ import annotations
 
 import contextlib
+import dataclasses
 import unittest
 from unittest import mock
 
@@ -12,6 +13,7 @@ from pgsub_connect.checkpoint import Checkpoint
 from pgsub_connect.errors import NoSlot, Passing, ServerError, Stopped
 from pgsub_connect.found import About
 from pgsub_connect.remembered import Remembered
+from pgsub_connect.replacing import Rows
 
 from .adding_case import OTHER, THIRD, Case, Run, T
 from .row_filter import Store
@@ -140,6 +142,110 @@ class Added(Case):
         WorldSource.hook = staticmethod(mock.Mock(side_effect=ServerError("lost")))
         self.assertIsNone(run.ask(add=[THIRD]))
         self.assertEqual(run.remembered.wanted, {THIRD: ""})
+
+
+class Altered(Case):
+    """A table that is altered between a session's last change of it and P, and altered back behind P, which the server doesn't tell in the
+    same session: as a partitioned table whose rows are sent under its own name, and that is altered without its partitions."""
+
+    def setUp(self) -> None:
+        super().setUp()
+        self.followed()
+        self.spoil()
+        self.waits, self.points = True, list[tuple[int, int]]()
+        real = Adder.finish
+
+        def finish(adder: Adder, oid: int, point: int) -> None:
+            self.points.append((oid, point))
+            real(adder, oid, point)
+
+        self.patch(Adder, "finish", finish)
+
+    def alter(self, is_full: bool) -> None:
+        """Alters the table for who reads it. A session has described it as it was before, and doesn't tell."""
+        it = self.world.known[T]
+        columns = [dataclasses.replace(column, key=True) for column in it.columns]
+        self.world.tables[T] = dataclasses.replace(it, identity="f", columns=columns) if is_full else it
+
+    def described(self, **options: object) -> Run:
+        """Begins to add tables, and lets their changes come, which are left out."""
+
+        def hook(name: str) -> None:
+            if name == "make_slot" and self.waits:
+                raise NoSlot("late")
+            if name == "COPY" and self.world.tables[T].identity == "f":
+                self.alter(False)
+                self.change()
+
+        WorldSource.hook = staticmethod(hook)
+        run = Run(self, **options)
+        self.assertTrue(run.until(lambda: run.progress.state == "following"))
+        self.assertIsNone(run.ask(add=[T, OTHER]))
+        self.assertTrue(run.until(lambda: run.follower.adder.leaving.points.keys() == {T, OTHER}))
+        self.change()
+        self.assertTrue(run.until(lambda: self.is_stored(run)), (self.said, run.raised))
+        return run
+
+    def ends(self, run: Run) -> list[tuple[int, str]]:
+        """Ends once all is added and stored. Returns the sessions that began since tables are left out."""
+        self.change()
+        self.assertTrue(run.until(lambda: not run.remembered.wanted and self.is_stored(run)), (self.said, run.raised))
+        run.end()
+        self.assertIsNone(run.raised)
+        self.compare()
+        return self.server.started[2:]
+
+    def test_a_session_ends_with_the_rows(self) -> None:
+        """Nothing behind P is passed on before: another one begins at P."""
+        run = self.described(proto=1)
+        self.alter(True)
+        self.waits = False
+        self.assertTrue(run.until(lambda: len(self.points) == 2), (self.said, run.raised))
+        sessions = self.ends(run)
+        self.assertEqual((len(sessions), sessions[1][0], [oid for oid, _ in self.points]), (2, self.points[0][1], [T, OTHER]))
+
+    def test_a_session_goes_on_with_the_same_definition(self) -> None:
+        run = self.described(proto=1)
+        self.waits = False
+        self.assertTrue(run.until(lambda: len(self.points) == 2), (self.said, run.raised))
+        self.assertEqual(len(self.ends(run)), 1)
+
+    def test_the_filter_is_lost_before_the_rows_are_stored(self) -> None:
+        """They are read again, in a session that hasn't described the table."""
+        run = self.described()
+        self.alter(True)
+        lost = list[int]()
+
+        def closing(rows: Rows) -> bytes:
+            if not lost:
+                lost.append(rows.point)
+                with open(self.store + ".dies", "w", encoding="utf-8") as file:
+                    file.write(str(rows.point))
+            return real(rows)
+
+        real = Rows.closing
+        self.patch(Rows, "closing", closing)
+        self.waits = False
+        self.assertTrue(run.until(lambda: len(self.points) == 2), (self.said, run.raised))
+        self.ends(run)
+        self.assertGreater(self.points[0][1], lost[0])
+
+    def test_the_end_is_asked_for_before(self) -> None:
+        """The next start begins a session of its own."""
+        run = self.described()
+        self.alter(True)
+
+        def wants_session(adder: Adder) -> bool:
+            if adder.ends_session:
+                run.follower.stop_asked = True
+            return real(adder)
+
+        real = Adder.wants_session
+        self.patch(Adder, "wants_session", wants_session)
+        self.waits = False
+        run.thread.join(20)
+        self.assertEqual((run.raised, run.snapshots.hold.is_held, [oid for oid, _ in self.points]), (None, False, [T]))
+        self.goes_on()
 
 
 if __name__ == "__main__":

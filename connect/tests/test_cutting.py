@@ -12,6 +12,7 @@ from pgsub_connect.checkpoint import Checkpoint
 from pgsub_connect.dropping import read_known
 from pgsub_connect.following import Follower
 from pgsub_connect.remembered import Remembered
+from pgsub_connect.replacing import Leaving
 
 from .adding_case import Case, Run, T
 from .small_world import WorldSource
@@ -62,6 +63,18 @@ class Cuts(Case):
             with self.subTest(name=name, after=after):
                 found = self.cut([(Adder, name)], after, times)
                 self.assertEqual({oid: min(point, 1) for oid, point in found.items()}, noted)
+                self.change()
+                self.goes_on()
+
+    def test_where_the_session_ends_with_the_rows(self) -> None:
+        """As where the server has described the table otherwise before."""
+        self.patch(Leaving, "has_described_otherwise", lambda *_: True)
+        for where, name, after, noted in (
+            (Adder, "send", False, [str(T)]), (Adder, "send", True, [str(T)]), (Adder, "finish", False, [str(T)]), (Adder, "finish", True, []),
+            (Follower, "renew", False, []), (Follower, "renew", True, []),
+        ):
+            with self.subTest(name=name, after=after):
+                self.assertEqual(list(self.cut([(where, name)], after)), noted)
                 self.change()
                 self.goes_on()
 

@@ -74,6 +74,17 @@ class Left(unittest.TestCase):
         self.assertEqual(passed(pair(0x100, *inner), {T: 0x80, OTHER: 0}), pair(0x100, insert(T), insert(3)))
         self.assertEqual(passed(pair(0x100, *inner), {}), pair(0x100, *inner))
 
+    def test_how_tables_were_described(self) -> None:
+        """The last message of a table counts, in one session alone."""
+        leaving, first, last = Leaving(), relation(T, "t")[25:], relation(T, "was")[25:]
+        leaving.set({T: POINT})
+        found = []
+        for names in ((), ("t",), ("was",), ("t", "was"), ("was", "t")):
+            leaving.begin_session()
+            leaving.passing(pair(0x100, *(relation(T, it) for it in names), relation(OTHER, "other")))
+            found.append((leaving.has_described_otherwise(first), leaving.has_described_otherwise(last)))
+        self.assertEqual(found, [(False, False), (False, True), (True, False), (True, False), (False, True)])
+
     def test_one_transaction_after_the_other(self) -> None:
         payloads = [*pair(0x100, insert(T)), keepalive(0x1F8), *pair(0x1F0, insert(T), insert(OTHER)), *pair(0x200, insert(T))]
         wanted = [*pair(0x100), keepalive(0x1F8), *pair(0x1F0, insert(OTHER)), *pair(0x200, insert(T))]

@@ -291,6 +291,48 @@ def altered(place: Place) -> None:
     place.equal()
 
 
+ANEW = "a session begins anew"
+
+
+def root_altered(place: Place) -> None:
+    """A partitioned table whose changes are sent under its own name is altered without its partitions before its rows are read, and back
+    after that. A session that has described it isn't told: it ends with the rows, and the next one describes it as it is."""
+    place.stock()
+    place.run(
+        "CREATE TABLE parted (id int PRIMARY KEY, note text) PARTITION BY RANGE (id)",
+        "CREATE TABLE parted_1 PARTITION OF parted FOR VALUES FROM (0) TO (1000)",
+        "INSERT INTO parted SELECT it, 'note ' || it FROM generate_series(1, 100) it", "ALTER PUBLICATION pgsub ADD TABLE parted",
+        "ALTER PUBLICATION pgsub SET (publish_via_partition_root = true)",
+    )
+    place.follow("--create")
+    proxy = place.proxy()
+    # (a session that streams nothing doesn't end because all tables are there)
+    child = place.start("--proto", "1", dsn=place.dsn(proxy.folder))
+    child.wait_for("following slot")
+
+    def add_both(sessions: int, *commands: str) -> None:
+        """Adds both tables, with changes and more between the slots of the first and the second."""
+        before = child.said().count(ANEW)
+        proxy.before("LOCK TABLE", lambda: place.run("UPDATE parted SET note = note || '.' WHERE id = 1", *commands))
+        add(place, "stock", "parted")
+        place.run(
+            "ALTER TABLE parted REPLICA IDENTITY DEFAULT", "UPDATE parted SET note = note || '!' WHERE id < 10",
+            "DELETE FROM parted WHERE id = (SELECT min(id) FROM parted WHERE id > 20)", "UPDATE parted SET id = 1001 - id WHERE id > 90",
+        )
+        place.change()
+        place.catch_up(child)
+        if child.said().count(ANEW) != before + sessions:
+            raise Failed(child.said())
+
+    # One session for both, and another one behind the rows.
+    add_both(1)
+    add_both(2, "ALTER TABLE parted REPLICA IDENTITY FULL")
+    verify(place)
+    check_left(place)
+    child.stop()
+    place.equal()
+
+
 def long_transaction(place: Place) -> None:
     """Following goes on while the server makes no slot because of a transaction that runs; the table is added once it has ended."""
     place.stock()
@@ -436,6 +478,7 @@ CASES = (
     Case("verify-repairs-what-is-planted", repaired),
     Case("add-too-large", too_large),
     Case("add-altered-meanwhile", altered),
+    Case("add-a-root-that-is-altered-alone", root_altered),
     Case("add-beside-a-long-transaction", long_transaction),
     Case("add-synchronous", synchronous),
     Case("refresh", refreshed, since=15),
