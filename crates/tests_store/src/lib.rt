@@ -11,6 +11,8 @@ mod cases;
 #[cfg(test)]
 mod disks;
 #[cfg(test)]
+mod images;
+#[cfg(test)]
 mod lines;
 #[cfg(test)]
 mod staging;

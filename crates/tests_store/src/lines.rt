@@ -7,7 +7,7 @@ use pgtuple::CellRef;
 use std::alloc::{AllocError, Global};
 use std::fmt::Write as _;
 
-fn push_cell(lines: &mut String, cell: &CellRef<'_>) -> Result<(), AllocError> {
+pub(crate) fn push_cell(lines: &mut String, cell: &CellRef<'_>) -> Result<(), AllocError> {
     lines.push(' ')?;
     match *cell {
         CellRef::Text(text) => lines.push_str(text),

@@ -99,7 +99,7 @@ fn op<'a>(change: Change, old: &'a Tuple, new: &'a Tuple) -> Op<'a> {
     }
 }
 
-fn all_tuples(
+pub(crate) fn all_tuples(
     alloc: Global,
     changes: &[(usize, Change)],
 ) -> Result<Vec<(Tuple, Tuple)>, StoreFault> {
@@ -111,7 +111,7 @@ fn all_tuples(
 }
 
 /// A work that has all definitions and these changes.
-fn work_of<'a>(
+pub(crate) fn work_of<'a>(
     rt: &(impl Abort + AllocGlobal),
     changes: &[(usize, Change)],
     tuples: &'a [(Tuple, Tuple)],
