@@ -1,12 +1,14 @@
-//! The connection to a store's file.
+//! The trees in a store's file.
 
 ghost use Rattle.std.specs.Prelude.{IfOk};
-ghost use Rattle.sqlite.specs.WalFiles.{image_at};
-ghost use Rattle.sqlite.specs.State.{HasCleanDisk};
+ghost use Rattle.sqlite.specs.Files.{over_files};
 ghost use Rattle.sqlite.specs.Start.{FindsIn};
-ghost use Rattle.sqlite.specs.Files.{file_state, IsOpened};
+ghost use Rattle.sqlite.specs.State.{HasCleanDisk};
+ghost use Rattle.sqlite.specs.WalFiles.{image_at};
+ghost use Rattle.pgrows.specs.Rows.{state};
+ghost use Rattle.pgstore.specs.Trees.{IsJustOpened};
 
-use sqlite::{Connection, Error, ErrorCode, FileFrom, FileStore, Options, Start};
+use sqlite::{Error, ErrorCode, FileFrom, FileStore, Options, Start};
 use sqlite_std_file::OpenError;
 use std::hash::{BuildHasher, RandomState};
 use std::io::ErrorKind;
@@ -40,8 +42,8 @@ fn path_error(error: OpenError) -> Error {
     })
 }
 
-/// A connection to the file at a path, with its log beside it, as the SQL library's own call makes it, with so many pages in memory
-/// and a longer log.
+/// The trees in the file at a path, with its log beside it, as the SQL library's own call finds them, with so many pages in memory and a
+/// longer log. What their rows are isn't looked at yet.
 ///
 /// SQLite documentation, Write-Ahead Logging, Performance Considerations.
 pub(crate) fn connect<F: Start>(
@@ -49,10 +51,10 @@ pub(crate) fn connect<F: Start>(
     path: &str,
     cache: usize,
     start: F,
-) -> Result<Connection<FileStore<FileFrom<F>>>, Error>
-    ensures opened { IfOk result (λ c. HasCleanDisk (file_state c) → IsOpened c) }
-    ensures found { IfOk result (λ c. HasCleanDisk (file_state c) →
-        FindsIn (image_at F.Start) (file_state c)) }
+) -> Result<FileStore<FileFrom<F>>, Error>
+    ensures fresh { IfOk result (IsJustOpened over_files) }
+    ensures found { IfOk result (λ store. HasCleanDisk (state over_files store) →
+        FindsIn (image_at F.Start) (state over_files store)) }
 {
     // That call rejects a path that SQLite takes for memory or for a URI.
     if path == ":memory:" || path.starts_with("file:") {
@@ -63,8 +65,8 @@ pub(crate) fn connect<F: Start>(
         Ok(files) => files,
         Err(error) => return Err(path_error(error)),
     };
-    match Connection::open_files_with(rt.alloc(), files, options, false) {
-        Ok(conn) => Ok(conn),
+    match pgfiles::open(rt.alloc(), files, options) {
+        Ok(store) => Ok(store),
         Err((error, _)) => Err(error),
     }
 }

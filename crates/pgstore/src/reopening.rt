@@ -15,7 +15,7 @@ ghost use Rattle.pgstore.specs.Reopened.{HoldsContent, ReopensLeft};
 use crate::fault::Refusal;
 use crate::store::Store;
 use pgapply::StoreFault;
-use sqlite::{Connection, FileStore, Files, Options};
+use sqlite::{FileStore, Files, Options};
 use sqlite_disk::Disk;
 use std::alloc::Global;
 
@@ -72,11 +72,11 @@ impl<D: Disk + Drop> Store<FileStore<D>> {
             ReopensLeft (image_of D.Disk files) store) }
         ensures fault { IfErr result (λ fault. IsOwnFault fault ⊎ (fault ≡ StoreFault.NotAStore)) }
     {
-        let conn = match Connection::open_files(alloc, files, options) {
-            Ok(conn) => conn,
+        let store = match pgfiles::open(alloc, files, options) {
+            Ok(store) => store,
             Err((error, _)) => return Err(StoreFault::from(Refusal::from(error))),
         };
-        match Store::adopt(alloc, conn) {
+        match Store::of_trees(alloc, store) {
             Ok(store) => Ok(store),
             Err((fault, _)) => Err(fault),
         }

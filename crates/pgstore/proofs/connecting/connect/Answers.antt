@@ -1,8 +1,11 @@
 use Rattle.std.proofs.Common.{ℕ, Bool, cond, List, ap₂, subst}
 use Rattle.sqlite_disk.specs.Events.{Event, replay}
+use Rattle.sqlite_trees.proofs.Doubt.{clean_of}
 use Rattle.sqlite.specs.Recovery.{Image}
-use Rattle.sqlite.specs.Files.{file_state}
+use Rattle.sqlite.specs.Files.{over_files}
 use Rattle.sqlite.specs.Start.{FindsIn}
+use Rattle.pgrows.specs.Rows.{state}
+use Rattle.pgstore.proofs.TreesRead.{found_over}
 use Rattle.pgstore.proofs.connecting.connect.Goals as goal
 
 abbrev image : List ℕ → List ℕ → Image
@@ -11,10 +14,5 @@ image log db = record { log = log; db = db }
 abbrev seen : List ℕ → List ℕ → Bool → List Event → List ℕ
 seen log db is_log history = (replay (cond is_log log db) history).seen
 
--- files that were opened just now show what was said of the path
-pub returns-in-Ok-open_files_with-clause-found : goal.returns-in-Ok-open_files_with-clause-found
-returns-in-Ok-open_files_with-clause-found g c clean =
-    let (log, db) = c.in-Ok.ensures.fresh in
-    let found = c.in-Ok-open_files_with.ensures.found clean in
-    let same = ap₂ image (ap₂ (seen g.F.Start.log g.F.Start.db) log.0 log.1) (ap₂ (seen g.F.Start.log g.F.Start.db) db.0 db.1) in
-    subst (λ i. FindsIn i (file_state c.in-Ok-open_files_with.conn)) same (record { holds = found.holds; reads = found.reads })
+pub returns-in-Ok-open-clause-fresh : goal.returns-in-Ok-open-clause-fresh
+returns-in-Ok-open-clause-fresh g c = ?
