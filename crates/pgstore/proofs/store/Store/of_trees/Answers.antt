@@ -28,7 +28,7 @@ returns-in-Some-clause-serves g c honest =
     let here : IsClean (g.S.Store.view now) = subst (λ s. IsClean (g.S.Store.view s)) c.at.ensures.rows honest in
     record {
       honest = honest;
-      is_open = subst (λ s. IsTrue (g.S.Store.view s).is_open) (sym c.at.ensures.rows) (open_of (g.S.Store.view now) (g.met.S.Store.broken_if_shut now) (at-requires-clause-fresh g c here).sound);
+      is_open = subst (λ s. IsTrue (g.S.Store.view s).is_open) (sym c.at.ensures.rows) (open_of (g.S.Store.view now) (g.met.S.Store.broken_if_shut now) (fresh_still (g.S.Store.view c.args.store) (g.S.Store.view now) (c.in-Ok.ensures.same here) (c.requires (omega (arith, c.read_store.ensures.quiet.clean, here)))).sound);
     }
 
 pub returns-in-Some-clause-holds : goal.returns-in-Some-clause-holds
@@ -38,7 +38,7 @@ returns-in-Some-clause-holds g c honest =
       omega (arith, c.read_store.ensures.quiet.clean, here),
       λ content finds.
           subst₂ (λ s p. HoldsContent g.S.Store content (record { rows = s; position = p; group = c.at.result.group })) (sym c.at.ensures.rows) (sym c.at.ensures.position)
-          (trees_hold g.S.Store now c.in-Some.position (omega arith) (at-requires-clause-fresh g c) (at-requires-clause-holds g c) c.at.result.group content here (read_finds g.S.Store c.args.store now content (c.in-Ok.ensures.same here) finds)),
+          (trees_hold g.S.Store now c.in-Some.position (omega arith) (λ clean. fresh_still (g.S.Store.view c.args.store) (g.S.Store.view now) (c.in-Ok.ensures.same clean) (c.requires (omega (arith, c.read_store.ensures.quiet.clean, clean)))) (λ clean. subst (λ (t : Trees). AreStore t c.in-Some.position) (sym (ap (λ (v : View). v.trees) (c.in-Ok.ensures.same clean))) (rw c.in-Some.is at (c.in-Ok.ensures.found clean)).1) c.at.result.group content here (read_finds g.S.Store c.args.store now content (c.in-Ok.ensures.same here) finds)),
     )
 
 pub returns-in-None-clause-holds : goal.returns-in-None-clause-holds
