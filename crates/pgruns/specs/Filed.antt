@@ -10,6 +10,7 @@ use Rattle.sqlite.specs.Recovery.{Image}
 use Rattle.sqlite.specs.State.{HasCleanDisk}
 use Rattle.sqlite.specs.Store.{Ghosts}
 use Rattle.sqlite.specs.Tree.{Trees}
+use Rattle.sqlite.specs.WalReads.{AreClean}
 use Rattle.pgcommand.specs.declared.limits.Limits.{Limits}
 use Rattle.pgorder.specs.declared.Version.{Version}
 use Rattle.pgapply.specs.declared.rows.StoreFault.{StoreFault}
@@ -65,11 +66,11 @@ module _ {S : Type 0} (g : Ghosts S) where
 
 module _ {D : Type 0} {g : disk.Ghosts D} where
   -- A store is closed to its files: whatever content they have then, or after a crash later, is one that it could leave. Where the log
-  -- can't be copied, its trees can leave nothing new.
+  -- can't be copied, its trees can leave nothing new. The disks were honest while it was open, if they have been so up to then.
   abbrev pub ClosesTo : StoreValue (FileStore D g) → Result (Files D) (StoreFault × FileStore D g) → Type 0
-  ClosesTo ended (Ok files) = Leaves g (state over_files ended.rows).may_leave files
+  ClosesTo ended (Ok files) = (AreClean g files.log files.db → IsHonest over_files ended) × Leaves g (state over_files ended.rows).may_leave files
   ClosesTo ended (Err e) =
-      HasCleanDisk (state over_files e.1) → (db : Trees) → (state over_files e.1).may_leave db → (state over_files ended.rows).may_leave db
+      HasCleanDisk (state over_files e.1) → IsHonest over_files ended × ((db : Trees) → (state over_files e.1).may_leave db → (state over_files ended.rows).may_leave db)
 
   -- why the log can't be copied, where it can't
   abbrev pub fault_of_closing : Result (Files D) (StoreFault × FileStore D g) → Option StoreFault

@@ -6,6 +6,7 @@ ghost use Rattle.std.specs.Prelude.{◌≡◌, ◌⊎◌, IsTrue, IfOk, IfErr};
 ghost use Rattle.sqlite.specs.Files.{image_of, over_files};
 ghost use Rattle.sqlite.specs.State.{HasCleanDisk};
 ghost use Rattle.sqlite.specs.Tree.{Trees};
+ghost use Rattle.sqlite.specs.WalReads.{AreClean};
 ghost use Rattle.pgmemory.specs.Stopped.{Leaves};
 ghost use Rattle.pgrows.specs.Rows.{state};
 ghost use Rattle.pgapply.specs.Stored.{IsOwnFault};
@@ -36,6 +37,10 @@ impl<D: Disk + Drop> Store<FileStore<D>> {
     /// `Memory` or `Refused` where the log can't be copied. The store of the trees comes back beside the fault.
     pub fn close_files(self) -> Result<Files<D>, (StoreFault, FileStore<D>)>
         ensures left { IfOk result (Leaves D.Disk (state over_files self.rows).may_leave) }
+        ensures honest { IfOk result (λ files. AreClean D.Disk files.log files.db →
+            IsHonest over_files self) }
+        ensures honest_unclosed { IfErr result (λ e. HasCleanDisk (state over_files e.1) →
+            IsHonest over_files self) }
         ensures unclosed { IfErr result (λ e. HasCleanDisk (state over_files e.1) →
             (db : Trees) → (state over_files e.1).may_leave db →
             (state over_files self.rows).may_leave db) }

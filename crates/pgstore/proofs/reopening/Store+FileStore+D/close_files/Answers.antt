@@ -27,6 +27,17 @@ returns-in-Ok-clause-left g c clean image may = ∥∥₁_map (c.stop.ensures.le
       it.2,
     ))
 
+pub returns-in-Ok-clause-honest : goal.returns-in-Ok-clause-honest
+returns-in-Ok-clause-honest g c clean =
+    let after : IsClean (view c.checkpoint.new.self) = c.stop.ensures.clean clean in
+    let before : IsClean (view c.into_store-store.result) = omega (arith, c.checkpoint.ensures.quiet.clean, after) in
+    omega (arith, c.into_store-store.ensures.crash.clean, before)
+
+pub returns-in-Err-clause-honest_unclosed : goal.returns-in-Err-clause-honest_unclosed
+returns-in-Err-clause-honest_unclosed g c clean =
+    let before : IsClean (view c.into_store-store.result) = omega (arith, c.checkpoint.ensures.quiet.clean, clean) in
+    omega (arith, c.into_store-store.ensures.crash.clean, before)
+
 pub returns-in-Err-clause-unclosed : goal.returns-in-Err-clause-unclosed
 returns-in-Err-clause-unclosed g c clean db left =
     let before : IsClean (view c.into_store-store.result) = omega (arith, c.checkpoint.ensures.quiet.clean, clean) in
