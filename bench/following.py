@@ -140,13 +140,16 @@ class Subscription:
         self.name = f"subscription, {'synchronous commits' if synchronous else 'as by default'}"
         servers.make_database(servers.subscriber, slot)
         self.session: Session = servers.subscriber.connect(slot)
-        commit = "on" if synchronous else "off"
+        self.copy("on" if synchronous else "off")
+        self.stop()
+
+    def copy(self, commit: str) -> None:
+        """Makes the subscription, and waits until it has the rows that are there."""
         self.session.run(
-            f"CREATE SUBSCRIPTION {slot} CONNECTION '{servers.publisher.dsn_inside()}' PUBLICATION {PUBLICATION}"
+            f"CREATE SUBSCRIPTION {self.slot} CONNECTION '{self.servers.publisher.dsn_inside()}' PUBLICATION {PUBLICATION}"
             f" WITH (streaming = true, synchronous_commit = {commit})",
         )
-        wait_until(self.is_copied, f"{slot}: the copy", LIMIT)
-        self.stop()
+        wait_until(self.is_copied, f"{self.slot}: the copy", LIMIT)
 
     def is_copied(self) -> bool:
         return self.session.value("SELECT bool_and(srsubstate = 'r') FROM pg_subscription_rel") == "t"
@@ -179,8 +182,12 @@ class Program:
         self.store = servers.options.folder / f"{slot}.db"
         self.words = servers.options.words(servers.publisher.dsn(), self.store, "--slot", slot, "--proto", str(proto))
         self.child = servers.child(slot, [*self.words, "--create"])
-        self.child.wait_for("following slot", LIMIT)
+        self.copy()
         self.stop()
+
+    def copy(self) -> None:
+        """Waits until it has the rows that are there."""
+        self.child.wait_for("following slot", LIMIT)
 
     def start(self) -> None:
         self.child = self.servers.child(self.slot, self.words)
