@@ -29,7 +29,8 @@ pub enum Found<D: Disk> {
     Others(Files<D>),
 }
 
-/// The size of the pages of a database without sums, or `None` where the files hold something else or can't be read.
+/// The size of the pages of a database without sums, or `None` where the files hold something else
+/// or can't be read.
 fn plain_size<D: Disk>(alloc: Global, files: &mut Files<D>) -> Option<PageSize>
     requires log { IsTrue (D.Disk.is_usable files.old.log) }
     requires db { IsTrue (D.Disk.is_usable files.old.db) }
@@ -74,8 +75,8 @@ fn named(error: OpenError, before: Tally, now: Tally) -> StoreError {
     }
 }
 
-/// Recovers the log of files that list the tables of a store, and checks each of their pages. Other files come back, and hold what they
-/// held.
+/// Recovers the log of files that list the tables of a store, and checks each of their pages. Other
+/// files come back, and hold what they held.
 ///
 /// # Errors
 ///
