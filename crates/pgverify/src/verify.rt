@@ -60,7 +60,8 @@ fn is_whole(left: Remains) -> bool
     left.has_definitions && (left.has_rows && left.has_position)
 }
 
-/// The definitions by rising OID, or `None` where a row of `rel` isn't one of a definition. Nothing changes.
+/// The definitions by rising OID, or `None` where a row of `rel` isn't one of a definition. Nothing
+/// changes.
 pub fn read_definitions<S: Alter>(
     store: &mut S,
     alloc: Global,
@@ -137,7 +138,8 @@ fn is_indexed<S: Alter>(store: &mut S, alloc: Global) -> Result<bool, StoreError
     is_index(store, &mut work, &index)
 }
 
-/// Whether each row of `held` is accepted, no two have one identity, and the index has the entry of each. Nothing changes.
+/// Whether each row of `held` is accepted, no two have one identity, and the index has the entry of
+/// each. Nothing changes.
 pub fn check_rows<S: Alter, C: RowCheck>(
     store: &mut S,
     alloc: Global,
@@ -160,7 +162,8 @@ pub fn check_rows<S: Alter, C: RowCheck>(
     is_indexed(store, alloc)
 }
 
-/// The position that the only row of `pos` stores, or `None` where there is no row, another one or more than one. Nothing changes.
+/// The position that the only row of `pos` stores, or `None` where there is no row, another one or
+/// more than one. Nothing changes.
 pub fn read_position<S: Alter>(store: &mut S, alloc: Global) -> Result<Option<u64>, StoreError>
     ensures found { IsClean (S.Store.view store.new) → IfOk result (λ found. IfSome found
         (λ position. ((S.Store.view store.old).trees 3 ≡ pos_row (to_be_bytes w64 position) ∷ [])
