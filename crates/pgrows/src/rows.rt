@@ -4,6 +4,7 @@ ghost use Rattle.std.specs.Prelude.{◌≡◌, ◌≢◌, ◌∷◌, [], None, t
 ghost use Rattle.std.specs.FinMap.{get};
 ghost use Rattle.sqlite.specs.Held as connection;
 ghost use Rattle.sqlite.specs.State.{HasCleanDisk, Survives};
+ghost use Rattle.sqlite.specs.Steps.{IsFresh};
 ghost use Rattle.pgtables.specs.Kept as connected;
 ghost use Rattle.pgtables.specs.Kept.{IsKept, is_there, with_definition, with_place, with_row, without_row, without_rows};
 ghost use Rattle.pgtables.specs.Shown.{AllFit, FitsCopies, FitsDefinition, ListsRows};
@@ -77,6 +78,25 @@ impl<S: Alter + Drop> Rows<S> {
         see_committed(&conn);
         Rows {
             store: conn.into_store(),
+            alloc,
+            key: Row::new(alloc),
+            found: Row::new(alloc),
+            row: Row::new(alloc),
+            low: Row::new(alloc),
+            high: Row::new(alloc),
+            last: None,
+            failed: false,
+        }
+    }
+
+    /// The rows of trees that were just opened and hold the tables of a store. It takes no memory, and reads nothing.
+    pub fn of_trees(alloc: Global, store: S) -> Rows<S>
+        requires fresh { IfServing S.Store store (IsFresh (S.Store.view store)) }
+        requires kept { IfServing S.Store store (IsKept (state S.Store store).now) }
+        ensures { result ≡ store }
+    {
+        Rows {
+            store,
             alloc,
             key: Row::new(alloc),
             found: Row::new(alloc),

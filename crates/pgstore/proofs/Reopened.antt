@@ -25,7 +25,7 @@ use Rattle.pgstore.proofs.Founding.{whole_value}
 use Rattle.pgstore.proofs.Stores.{IsSettled}
 
 -- two databases with the same trees are one
-same_database : (a b : Database) → IsDatabase a → IsDatabase b → a.trees ≡ b.trees → a ≡ b
+pub same_database : (a b : Database) → IsDatabase a → IsDatabase b → a.trees ≡ b.trees → a ≡ b
 same_database a b one two trees =
     let schema : a.schema ≡ b.schema = schema_once (a.trees catalog_tree) a.schema b.schema one.lists (subst (λ (t : Trees). IsDatabase (record { schema = b.schema; trees = t })) (sym trees) two).lists in
     λ i. record { schema = schema i; trees = trees i }

@@ -73,7 +73,7 @@ fn read_definition(
 }
 
 /// The stored definitions, which are given by rising OID.
-fn read_book(alloc: Global, stored: &[(u32, StoredDefinition)]) -> Result<Book, Refusal>
+pub(crate) fn read_book(alloc: Global, stored: &[(u32, StoredDefinition)]) -> Result<Book, Refusal>
     ensures ok { IfOk result (λ book. T (is_sorted nat_cmp stored.now) →
         AreDefinitionsOf stored.now book) }
     ensures err { IfErr result IsRefusal }
@@ -111,9 +111,9 @@ fn is_row(
 
 /// Checks the stored rows against the definitions.
 #[derive(Clone, Copy)]
-struct KnownRows<'a> {
-    alloc: Global,
-    definitions: &'a Book,
+pub(crate) struct KnownRows<'a> {
+    pub(crate) alloc: Global,
+    pub(crate) definitions: &'a Book,
 }
 
 impl RowCheck for KnownRows<'_> {

@@ -1,12 +1,9 @@
-//! The connection to a store's file.
+//! A store's file by its path.
 
-ghost use Rattle.std.specs.Prelude.{IfOk};
-ghost use Rattle.sqlite.specs.WalFiles.{image_at};
-ghost use Rattle.sqlite.specs.State.{HasCleanDisk};
-ghost use Rattle.sqlite.specs.Start.{FindsIn};
-ghost use Rattle.sqlite.specs.Files.{file_state, IsOpened};
+ghost use Rattle.std.specs.Prelude.{true, false, IsTrue, IfOk};
+ghost use Rattle.sqlite_std_file.specs.File.{IsFresh, file_is_usable};
 
-use sqlite::{Connection, Error, ErrorCode, FileFrom, FileStore, Options, Start};
+use sqlite::{Error, ErrorCode, FileFrom, Files, Options, Start};
 use sqlite_std_file::OpenError;
 use std::hash::{BuildHasher, RandomState};
 use std::io::ErrorKind;
@@ -40,31 +37,27 @@ fn path_error(error: OpenError) -> Error {
     })
 }
 
-/// A connection to the file at a path, with its log beside it, as the SQL library's own call makes it, with so many pages in memory
-/// and a longer log.
+/// The file at a path, with its log beside it, as the SQL library's own call reaches them, and how
+/// they are opened: with so many pages in memory and a longer log.
 ///
 /// SQLite documentation, Write-Ahead Logging, Performance Considerations.
-pub(crate) fn connect<F: Start>(
+pub(crate) fn reach<F: Start>(
     rt: &HostRuntime,
     path: &str,
     cache: usize,
     start: F,
-) -> Result<Connection<FileStore<FileFrom<F>>>, Error>
-    ensures opened { IfOk result (λ c. HasCleanDisk (file_state c) → IsOpened c) }
-    ensures found { IfOk result (λ c. HasCleanDisk (file_state c) →
-        FindsIn (image_at F.Start) (file_state c)) }
+) -> Result<(Files<FileFrom<F>>, Options), Error>
+    ensures log { IfOk result (λ it. IsTrue (file_is_usable F.Start it.0.log)) }
+    ensures db { IfOk result (λ it. IsTrue (file_is_usable F.Start it.0.db)) }
+    ensures fresh { IfOk result (λ it. IsFresh true it.0.log × IsFresh false it.0.db) }
 {
     // That call rejects a path that SQLite takes for memory or for a URI.
     if path == ":memory:" || path.starts_with("file:") {
         return Err(Error::SqliteFailure(ErrorCode::CannotOpen));
     }
     let options = options(rt, cache)?;
-    let files = match sqlite_std_file::open(rt, path, start) {
-        Ok(files) => files,
-        Err(error) => return Err(path_error(error)),
-    };
-    match Connection::open_files_with(rt.alloc(), files, options, false) {
-        Ok(conn) => Ok(conn),
-        Err((error, _)) => Err(error),
+    match sqlite_std_file::open(rt, path, start) {
+        Ok(files) => Ok((files, options)),
+        Err(error) => Err(path_error(error)),
     }
 }

@@ -2,7 +2,8 @@
 //!
 //! SQLite documentation, Write-Ahead Logging.
 
-ghost use Rattle.std.specs.Prelude.{◌≡◌, ◌⊎◌, IsTrue, IfOk, IfErr};
+ghost use Rattle.std.specs.Prelude.{◌≡◌, ◌⊎◌, IsTrue, IfOk, IfErr, IfSome};
+ghost use Rattle.sqlite.specs.Held as connection;
 ghost use Rattle.sqlite.specs.Files.{image_of, over_files};
 ghost use Rattle.sqlite.specs.State.{HasCleanDisk};
 ghost use Rattle.sqlite.specs.Tree.{Trees};
@@ -11,16 +12,75 @@ ghost use Rattle.pgmemory.specs.Stopped.{Leaves};
 ghost use Rattle.pgrows.specs.Rows.{state};
 ghost use Rattle.pgapply.specs.Stored.{IsOwnFault};
 ghost use Rattle.pgstore.specs.StoreValue.{IsHonest, Serves};
-ghost use Rattle.pgstore.specs.Reopened.{HoldsContent, ReopensLeft};
+ghost use Rattle.pgstore.specs.Reopened.{HoldsContent, ReopensLeft, StaysAsFound};
 
 use crate::fault::Refusal;
 use crate::store::Store;
 use pgapply::StoreFault;
+use pgopening::Found;
 use sqlite::{Connection, FileStore, Files, Options};
 use sqlite_disk::Disk;
 use std::alloc::Global;
 
 impl<D: Disk + Drop> Store<FileStore<D>> {
+    /// The store in two files, as `adopt` takes it: the SQL library checks their rows too, with all
+    /// of a table in memory.
+    fn adopt_files(
+        alloc: Global,
+        files: Files<D>,
+        options: Options,
+    ) -> Result<Store<FileStore<D>>, (StoreFault, Option<Connection<FileStore<D>>>)>
+        requires log { IsTrue (D.Disk.is_usable files.log) }
+        requires db { IsTrue (D.Disk.is_usable files.db) }
+        ensures serves { IfOk result (λ store. IsHonest over_files store →
+            Serves over_files store) }
+        ensures stood { IfOk result (λ store. IsHonest over_files store →
+            HoldsContent over_files (image_of D.Disk files) store) }
+        ensures unchanged { IfErr result (λ e. IfSome e.1 (λ conn.
+            HasCleanDisk (connection.state over_files conn) →
+            StaysAsFound over_files (image_of D.Disk files) conn)) }
+        ensures fault { IfErr result (λ e. IsOwnFault e.0 ⊎ (e.0 ≡ StoreFault.NotAStore)) }
+        ensures disks { IfOk result (λ store. IsHonest over_files store →
+            AreClean D.Disk files.log files.db) }
+        ensures disks_refused { IfErr result (λ e. IfSome e.1 (λ conn.
+            HasCleanDisk (connection.state over_files conn) →
+            AreClean D.Disk files.log files.db)) }
+    {
+        let conn = match Connection::open_files(alloc, files, options) {
+            Ok(conn) => conn,
+            Err((error, _)) => return Err((StoreFault::from(Refusal::from(error)), None)),
+        };
+        match Store::adopt(alloc, conn) {
+            Ok(store) => Ok(store),
+            Err((fault, conn)) => Err((fault, Some(conn))),
+        }
+    }
+
+    /// As `open_files`. A whole store takes the memory of its definitions and of one row. Where the
+    /// files hold none, the connection to them comes back beside the fault.
+    pub(crate) fn open_found(
+        alloc: Global,
+        files: Files<D>,
+        options: Options,
+    ) -> Result<Store<FileStore<D>>, (StoreFault, Option<Connection<FileStore<D>>>)>
+        requires log { IsTrue (D.Disk.is_usable files.log) }
+        requires db { IsTrue (D.Disk.is_usable files.db) }
+        ensures serves { IfOk result (λ store. IsHonest over_files store →
+            Serves over_files store) }
+        ensures stood { IfOk result (λ store. IsHonest over_files store →
+            HoldsContent over_files (image_of D.Disk files) store) }
+        ensures unchanged { IfErr result (λ e. IfSome e.1 (λ conn.
+            HasCleanDisk (connection.state over_files conn) →
+            StaysAsFound over_files (image_of D.Disk files) conn)) }
+        ensures fault { IfErr result (λ e. IsOwnFault e.0 ⊎ (e.0 ≡ StoreFault.NotAStore)) }
+    {
+        match pgopening::open(alloc, files, options) {
+            Ok(Found::Trees(store)) => Store::of_trees(alloc, store),
+            Ok(Found::Others(files)) => Store::adopt_files(alloc, files, options),
+            Err(error) => Err((StoreFault::from(Refusal::from(error)), None)),
+        }
+    }
+
     /// The two files as they are, without a word to the disks: what a crash at this moment leaves. While the disks are honest, each
     /// content that the files may have after the crash holds a database that the store may leave.
     pub fn stop(self) -> Files<D>
@@ -77,11 +137,7 @@ impl<D: Disk + Drop> Store<FileStore<D>> {
             ReopensLeft (image_of D.Disk files) store) }
         ensures fault { IfErr result (λ fault. IsOwnFault fault ⊎ (fault ≡ StoreFault.NotAStore)) }
     {
-        let conn = match Connection::open_files(alloc, files, options) {
-            Ok(conn) => conn,
-            Err((error, _)) => return Err(StoreFault::from(Refusal::from(error))),
-        };
-        match Store::adopt(alloc, conn) {
+        match Store::open_found(alloc, files, options) {
             Ok(store) => Ok(store),
             Err((fault, _)) => Err(fault),
         }

@@ -7,4 +7,6 @@
 #[cfg(test)]
 mod opened_tests;
 #[cfg(test)]
+mod opening_tests;
+#[cfg(test)]
 mod tests;

@@ -1,18 +1,26 @@
-use Rattle.std.proofs.Common.{arith}
-use Rattle.sqlite.specs.Held.{state}
-use Rattle.sqlite.specs.State.{HasCleanDisk}
+use Rattle.std.proofs.Common.{ℕ, Bool, cond, List, ap₂, subst}
+use Rattle.sqlite_disk.specs.Events.{Event, replay}
+use Rattle.sqlite.specs.Recovery.{Image}
 use Rattle.sqlite.specs.Files.{over_files}
-use Rattle.sqlite.specs.WalFiles.{image_at}
-use Rattle.pgstore.proofs.Reopened.{adopted_holds}
+use Rattle.pgstore.specs.Reopened.{HoldsContent, StaysAsFound}
+use Rattle.pgstore.proofs.TreesRead.{if_err, if_ok, if_some}
 use Rattle.pgstore.proofs.store.Store+FileStore+FileFrom+F.open_or_return.Goals as goal
 
-pub returns-in-Ok-adopt-clause-stood : goal.returns-in-Ok-adopt-clause-stood
-returns-in-Ok-adopt-clause-stood g c honest =
-    let clean : HasCleanDisk (state over_files c.in-Ok.conn) = omega (arith, c.in-Ok-adopt.ensures.crash.clean, honest) in
-    let opened = c.in-Ok.ensures.opened clean in
-    adopted_holds over_files (image_at g.F.Start) c.in-Ok.conn _ (c.in-Ok.ensures.found clean) opened.0 opened.1 (c.in-Ok-adopt.ensures.adopted honest)
+abbrev image : List ℕ → List ℕ → Image
+image log db = record { log = log; db = db }
 
-pub returns-in-Err-adopt-clause-unchanged : goal.returns-in-Err-adopt-clause-unchanged
-returns-in-Err-adopt-clause-unchanged g c honest =
-    let clean : HasCleanDisk (state over_files c.in-Ok.conn) = omega (arith, c.in-Err-adopt.ensures.crash_refused.clean, honest) in
-    c.in-Err-adopt.ensures.as_found (image_at g.F.Start) (c.in-Ok.ensures.found clean) (c.in-Ok.ensures.opened clean).0
+abbrev seen : List ℕ → List ℕ → Bool → List Event → List ℕ
+seen log db is_log history = (replay (cond is_log log db) history).seen
+
+-- files that were opened just now show what was said of the path
+pub returns-in-Ok-clause-stood : goal.returns-in-Ok-clause-stood
+returns-in-Ok-clause-stood g c =
+    let (log, db) = c.in-Ok.ensures.fresh in
+    let same = ap₂ image (ap₂ (seen g.F.Start.log g.F.Start.db) log.0 log.1) (ap₂ (seen g.F.Start.log g.F.Start.db) db.0 db.1) in
+    if_ok c.open_found.result _ _ (λ it held honest. subst (λ i. HoldsContent over_files i it) same (held honest)) c.open_found.ensures.stood
+
+pub returns-in-Ok-clause-unchanged : goal.returns-in-Ok-clause-unchanged
+returns-in-Ok-clause-unchanged g c =
+    let (log, db) = c.in-Ok.ensures.fresh in
+    let same = ap₂ image (ap₂ (seen g.F.Start.log g.F.Start.db) log.0 log.1) (ap₂ (seen g.F.Start.log g.F.Start.db) db.0 db.1) in
+    if_err c.open_found.result _ _ (λ e stays. if_some e.1 _ _ (λ conn held clean. subst (λ i. StaysAsFound over_files i conn) same (held clean)) stays) c.open_found.ensures.unchanged

@@ -1,0 +1,2 @@
+mod One
+pub mod Plain

@@ -1,0 +1,107 @@
+//! The store in trees of which a database was just opened.
+//!
+//! The SQL library checks a database before it gives a connection to it, with all rows of a table
+//! in memory. So a store that is whole is read below SQL, one row at a time, and only what isn't
+//! one gets a connection.
+
+ghost use Rattle.std.specs.Prelude.{◌≡◌, ◌⊎◌, false, IfOk, IfErr, IfSome, OnOk};
+ghost use Rattle.sqlite.specs.ExecCalls.{OnlyReads};
+ghost use Rattle.sqlite.specs.View.{IsClean, IsQuiet};
+ghost use Rattle.pgapply.specs.Stored.{IsOwnFault};
+ghost use Rattle.pgstore.specs.StoreValue.{IsHonest, Serves};
+ghost use Rattle.pgstore.specs.Trees.{AreStore, HoldsOpened, IsJustOpened, StaysOpened};
+
+use crate::adopting::{KnownRows, read_book};
+use crate::fault::Refusal;
+use crate::store::Store;
+use pgapply::StoreFault;
+use pglsn::Lsn;
+use pgverify::{check_rows, lists_store, read_definitions, read_position};
+use sqlite::{Alter, Connection};
+use std::alloc::Global;
+
+/// The position of the store in the trees, or `None` where they aren't those of a whole one. Each
+/// row is read once and checked, in memory for the definitions and one row. Nothing changes.
+pub(crate) fn read_store<S: Alter>(store: &mut S, alloc: Global) -> Result<Option<Lsn>, Refusal>
+    ensures found { IsClean (S.Store.view store.new) → IfOk result (λ found. IfSome found
+        (λ position. ((S.Store.view store.old).is_broken ≡ false)
+        × AreStore (S.Store.view store.old).trees position)) }
+    ensures same { OnOk result (IsClean (S.Store.view store.new) →
+        OnlyReads (S.Store.view store.old) (S.Store.view store.new)) }
+    ensures quiet { IsQuiet S.Store.view S.Store.faults S.Store.recovers S.Store.is_shielded
+        store.old store.new }
+    ensures err { IfErr result IsOwnFault }
+{
+    if !lists_store(store, alloc)? {
+        return Ok(None);
+    }
+    let Some(definitions) = read_definitions(store, alloc)? else {
+        return Ok(None);
+    };
+    let Ok(book) = read_book(alloc, definitions.as_slice()) else {
+        return Ok(None);
+    };
+    let rows = KnownRows {
+        alloc,
+        definitions: &book,
+    };
+    if !check_rows(store, alloc, &rows)? {
+        return Ok(None);
+    }
+    let Some(position) = read_position(store, alloc)? else {
+        return Ok(None);
+    };
+    Ok(Some(Lsn(position)))
+}
+
+impl<S: Alter + Drop> Store<S> {
+    /// The store in a database, as `adopt` takes it: the SQL library reads and checks its rows,
+    /// with all of a table in memory.
+    ///
+    /// # Errors
+    ///
+    /// Those of `adopt`, and `Memory` or `Refused` where the SQL library refuses the database. A
+    /// connection comes back beside the fault where there is one.
+    fn adopt_over(alloc: Global, store: S) -> Result<Store<S>, (StoreFault, Option<Connection<S>>)>
+        requires { IsJustOpened S.Store store }
+        ensures serves { IfOk result (λ it. IsHonest S.Store it → Serves S.Store it) }
+        ensures holds { IfOk result (HoldsOpened S.Store store) }
+        ensures stays { IfErr result (λ e. IfSome e.1 (StaysOpened S.Store store)) }
+        ensures fault { IfErr result (λ e. IsOwnFault e.0 ⊎ (e.0 ≡ StoreFault.NotAStore)) }
+    {
+        let conn = match Connection::over(alloc, store) {
+            Ok(conn) => conn,
+            Err((error, _)) => return Err((StoreFault::from(Refusal::from(error)), None)),
+        };
+        match Store::adopt(alloc, conn) {
+            Ok(it) => Ok(it),
+            Err((fault, conn)) => Err((fault, Some(conn))),
+        }
+    }
+
+    /// The store in trees of which a database was just opened, as `adopt` takes it. A whole store
+    /// takes the memory of one row.
+    ///
+    /// # Errors
+    ///
+    /// Those of `adopt_over`.
+    pub(crate) fn of_trees(
+        alloc: Global,
+        mut store: S,
+    ) -> Result<Store<S>, (StoreFault, Option<Connection<S>>)>
+        requires { IsJustOpened S.Store store }
+        ensures serves { IfOk result (λ it. IsHonest S.Store it → Serves S.Store it) }
+        ensures holds { IfOk result (HoldsOpened S.Store store) }
+        ensures stays { IfErr result (λ e. IfSome e.1 (StaysOpened S.Store store)) }
+        ensures fault { IfErr result (λ e. IsOwnFault e.0 ⊎ (e.0 ≡ StoreFault.NotAStore)) }
+    {
+        let found = match read_store(&mut store, alloc) {
+            Ok(found) => found,
+            Err(refusal) => return Err((StoreFault::from(refusal), None)),
+        };
+        match found {
+            Some(position) => Ok(Store::at(alloc, store, position)),
+            None => Store::adopt_over(alloc, store),
+        }
+    }
+}

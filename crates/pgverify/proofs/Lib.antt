@@ -1,0 +1,5 @@
+mod DefinedRows
+mod HeldRows
+mod Laid
+mod OwnKeys
+pub mod Sound
