@@ -19,6 +19,7 @@ ghost use Rattle.pgsub_core.specs.declared.fault.Fault.TheVariants.{Store as OfS
 ghost use Rattle.pgsub_cli.specs.declared.fault.Ending.{Ending};
 ghost use Rattle.pgsub_cli.specs.declared.fault.RunFault.{RunFault};
 ghost use Rattle.pgsub_cli.specs.declared.fault.RunFault.TheVariants.{Stream};
+ghost use Rattle.pgsub_cli.specs.Caused.{TellsCaused};
 ghost use Rattle.pgsub_cli.specs.Dumped.{Dumps};
 ghost use Rattle.pgruns.specs.Filed.{FollowsTold, LeavesNothingNew, RunsInFiles, TellsBoth, fault_of_closing, status_closed, status_of_unclosed};
 ghost use Rattle.pgsub_cli.specs.FollowedLive.{ending_of};
@@ -99,7 +100,7 @@ fn follow_store<
     requires writable { link.old.write_failed ≡ false }
     ensures ends { (why : Option FollowFault)
         × (result.0 ≡ status_of_follow result.1.group.missed.count why)
-        × Tells E.takes E.failed [] [] (ending_of why) err.old err.new
+        × TellsCaused E.takes E.failed (ending_of why) err.old err.new
         × ((why ≡ Some follow.Read) ↔ (link.new.read_failed ≡ true))
         × ((why ≡ Some follow.Write) ↔ (link.new.write_failed ≡ true))
         × IfSome why IsOfFollowing
@@ -212,7 +213,8 @@ pub fn follow_file<
         × IfSome left (λ conn. HasCleanDisk (connection.state over_files conn) →
         StaysAsFound over_files (image_at F.Start) conn)) }
     ensures ran { IfOk result.1 (λ closing. (why : Option FollowFault)
-        × TellsBoth E.takes E.failed (ending_of why) (fault_of_closing closing) err.old err.new
+        × TellsBoth E.takes E.failed (TellsCaused E.takes E.failed (ending_of why))
+        (fault_of_closing closing) err.old err.new
         × ((why ≡ Some follow.Read) ↔ (link.new.read_failed ≡ true))
         × ((why ≡ Some follow.Write) ↔ (link.new.write_failed ≡ true))
         × IfSome why IsOfFollowing
@@ -269,7 +271,8 @@ pub fn apply_to_file<
         StaysAsFound over_files (image_at F.Start) conn)) }
     ensures ran { IfOk result.1 (λ closing. (why : Result Ending RunFault)
         × (result.0 ≡ status_closed status_of_unopened (status_of why) (fault_of_closing closing))
-        × TellsBoth E.takes E.failed why (fault_of_closing closing) err.old err.new
+        × TellsBoth E.takes E.failed (Tells E.takes E.failed [] [] why)
+        (fault_of_closing closing) err.old err.new
         × RunsInFiles (image_at F.Start) (λ opened ended.
         Writes W.takes W.failed (λ fault. IsHonest over_files ended → IsReadFault fault)
         (λ stopped lines. IsHonest over_files ended →
@@ -316,7 +319,8 @@ pub fn dump_file<F: Start, W: Output + Drop, E: Output>(
         StaysAsFound over_files (image_at F.Start) conn)) }
     ensures ran { IfOk result.1 (λ closing. (why : Result Ending RunFault)
         × (result.0 ≡ status_closed status_of_unopened (status_of why) (fault_of_closing closing))
-        × TellsBoth E.takes E.failed why (fault_of_closing closing) err.old err.new
+        × TellsBoth E.takes E.failed (Tells E.takes E.failed [] [] why)
+        (fault_of_closing closing) err.old err.new
         × RunsInFiles (image_at F.Start) (λ opened ended.
         (IsHonest over_files ended → (tables : Tables) → HasTables over_files opened tables →
         Dumps W.takes W.failed (dump tables) opened.position out result.2 why)

@@ -8,6 +8,7 @@ ghost use Rattle.pgsub_core.specs.declared.fault.Fault.TheVariants.{Store};
 ghost use Rattle.pgsub_cli.specs.declared.fault.RunFault.TheVariants.{Stream};
 ghost use Rattle.pgsub_cli.specs.FollowStatus.{status_of_fault, status_of_follow, status_of_store, status_of_unfollowed};
 ghost use Rattle.pgsub_cli.specs.FollowedLive.{FollowsOver, ending_of};
+ghost use Rattle.pgsub_cli.specs.Caused.{TellsCause, TellsCaused};
 ghost use Rattle.pgsub_cli.specs.Runs.{Tells};
 
 use crate::fault::{Ending, RunFault};
@@ -88,10 +89,31 @@ pub fn tell_unfollowed<E: Output>(alloc: Global, fault: StoreFault, err: &mut E)
     }
 }
 
+/// Writes the line of why a store refused, where that is known. Where it can't be made or written, the line of the fault comes alone.
+fn tell_cause<E: Output>(
+    alloc: Global,
+    ended: Result<Ending, RunFault>,
+    cause: Option<&str>,
+    err: &mut E,
+)
+    ensures { TellsCause E.takes E.failed ended err.old err.new }
+{
+    let Err(RunFault::Stream(Fault::Store(StoreFault::Refused))) = ended else {
+        return;
+    };
+    let Some(cause) = cause else {
+        return;
+    };
+    if let Ok(line) = format!(in alloc; "pgsub: {cause}\n") {
+        let _ = err.write_lines(line.as_str());
+    }
+}
+
 /// Follows a server over an opened store, to the end of its bytes, within these limits. Returns the exit status, and the store. The
 /// status is 0 where the bytes ended, and 16 where changes found no row then; 1 where the stream is rejected, 10 where `max_buffered` is
 /// too low and 11 where `max_frame` is, 13 where the store failed, 14 where memory ran out and 15 where a read or a write failed.
-/// Standard error gets the line of the fault.
+/// Standard error gets the line of the fault, and before it, where the store refused and knows why, a line of that: `pgsub: the disk is
+/// full`. No other run writes one: what `apply` and `dump` write to standard error is fixed, and is one line.
 ///
 /// What was read, fed and written, that all that is confirmed is stored, and which changes find no row, is as `follow_live` says.
 pub fn run_follow<R: Read + Drop, W: Write + Drop, K: Clock, C: ReplicaStore + Drop, E: Output>(
@@ -108,7 +130,7 @@ pub fn run_follow<R: Read + Drop, W: Write + Drop, K: Clock, C: ReplicaStore + D
     ensures status { result.0 ≤ 16 }
     ensures ends { (ended : Option FollowFault)
         × (result.0 ≡ status_of_follow (C.missed result.1).count ended)
-        × Tells E.takes E.failed [] [] (ending_of ended) err.old err.new
+        × TellsCaused E.takes E.failed (ending_of ended) err.old err.new
         × ((ended ≡ Some follow.Read) ↔ (link.new.read_failed ≡ true))
         × ((ended ≡ Some follow.Write) ↔ (link.new.write_failed ≡ true))
         × IfSome ended IsOfFollowing
@@ -121,7 +143,9 @@ pub fn run_follow<R: Read + Drop, W: Write + Drop, K: Clock, C: ReplicaStore + D
 {
     let mut subscriber = subscriber_over(alloc, store, limits, version);
     let followed = follow_live(alloc, link, clock, &mut subscriber);
-    tell(alloc, ending(followed), "", "", err);
     let store = subscriber.into_store();
+    let ended = ending(followed);
+    tell_cause(alloc, ended, store.cause(), err);
+    tell(alloc, ended, "", "", err);
     (follow_status(followed, store.misses().count), store)
 }
