@@ -32,10 +32,9 @@ ghost use Rattle.pgsub_cli.specs.Storing.{PrintsOver, status_of_unopened};
 
 use crate::closing::{Closing, close_told, followed_status, run_status};
 use crate::new_file::make_file;
-use pgapply::StoreFault;
 use pgfollow::{Clock, Link};
 use pgorder::Version;
-use pgstore::Store;
+use pgstore::{Refusal, Store};
 use pgsub_cli::files::Output;
 use pgsub_cli::following::tell_unfollowed;
 use pgsub_cli::reported::Listener;
@@ -60,7 +59,7 @@ fn open_file<F: Start>(
     path: &str,
     cache: usize,
     start: F,
-) -> Result<Store<FileStore<FileFrom<F>>>, (StoreFault, Option<Connection<FileStore<FileFrom<F>>>>)>
+) -> Result<Store<FileStore<FileFrom<F>>>, (Refusal, Option<Connection<FileStore<FileFrom<F>>>>)>
     ensures serves { IfOk result (λ store. IsHonest over_files store → Serves over_files store) }
     ensures stood { IfOk result (λ store. IsHonest over_files store →
         HoldsContent over_files (image_at F.Start) store) }
@@ -69,7 +68,7 @@ fn open_file<F: Start>(
         StaysAsFound over_files (image_at F.Start) conn)) }
 {
     if let Err(fault) = make_file(rt, path) {
-        return Err((fault, None));
+        return Err((Refusal::new(fault), None));
     }
     Store::open_or_return(alloc, rt, path, cache, start)
 }
@@ -184,7 +183,8 @@ fn dump_store<S: Alter + Drop, W: Output + Drop, E: Output>(
 ///
 /// The status is that of `run_follow`, and where that is 0, of a log that can't be copied: 13, or
 /// 14 where memory ran out. Where no store is opened it is that of `tell_unfollowed`. Standard
-/// error gets a line for each.
+/// error gets a line for each, and before it the cause of a store that refused, where that is known;
+/// of closing none is told.
 pub fn follow_file<
     F: Start,
     L: Listener + Drop,
@@ -209,7 +209,7 @@ pub fn follow_file<
     requires writable { link.old.write_failed ≡ false }
     ensures unopened { IfErr result.1 (λ left. (f : StoreFault)
         × (result.0 ≡ status_of_unfollowed f) × (link.new ≡ link.old)
-        × Tells E.takes E.failed [] [] (Err (Stream (OfStore f))) err.old err.new
+        × TellsCaused E.takes E.failed (Err (Stream (OfStore f))) err.old err.new
         × IfSome left (λ conn. HasCleanDisk (connection.state over_files conn) →
         StaysAsFound over_files (image_at F.Start) conn)) }
     ensures ran { IfOk result.1 (λ closing. (why : Option FollowFault)
@@ -233,7 +233,10 @@ pub fn follow_file<
             let (fault, closing) = close_told(alloc, store, err);
             (followed_status(status, fault), Ok(closing))
         }
-        Err((fault, conn)) => (tell_unfollowed(alloc, fault, err), Err(conn)),
+        Err((refusal, conn)) => {
+            let (fault, cause) = (refusal.fault(), refusal.cause());
+            (tell_unfollowed(alloc, fault, cause, err), Err(conn))
+        }
     }
 }
 
@@ -295,7 +298,7 @@ pub fn apply_to_file<
             let (fault, closing) = close_told(alloc, store, err);
             (run_status(status, fault), Ok(closing))
         }
-        Err((fault, conn)) => (tell_unopened(alloc, fault, err), Err(conn)),
+        Err((refusal, conn)) => (tell_unopened(alloc, refusal.fault(), err), Err(conn)),
     }
 }
 
@@ -334,6 +337,6 @@ pub fn dump_file<F: Start, W: Output + Drop, E: Output>(
             let (fault, closing) = close_told(alloc, store, err);
             (run_status(status, fault), Ok(closing), out)
         }
-        Err((fault, conn)) => (tell_unopened(alloc, fault, err), Err(conn), out),
+        Err((refusal, conn)) => (tell_unopened(alloc, refusal.fault(), err), Err(conn), out),
     }
 }

@@ -10,6 +10,9 @@ pub(crate) enum Cause {
     Failed,
     Damaged,
     TooLong,
+    NoDatabase,
+    InUse,
+    Unopened,
 }
 
 impl Cause {
@@ -18,10 +21,11 @@ impl Cause {
         match error {
             Error::SqliteFailure(ErrorCode::DiskFull) => Some(Cause::Full),
             Error::SqliteFailure(ErrorCode::SystemIoFailure) => Some(Cause::Failed),
-            Error::SqliteFailure(ErrorCode::DatabaseCorrupt | ErrorCode::NotADatabase) => {
-                Some(Cause::Damaged)
-            }
+            Error::SqliteFailure(ErrorCode::DatabaseCorrupt) => Some(Cause::Damaged),
             Error::SqliteFailure(ErrorCode::TooBig) => Some(Cause::TooLong),
+            Error::SqliteFailure(ErrorCode::NotADatabase) => Some(Cause::NoDatabase),
+            Error::SqliteFailure(ErrorCode::DatabaseBusy) => Some(Cause::InUse),
+            Error::SqliteFailure(ErrorCode::CannotOpen) => Some(Cause::Unopened),
             _ => None,
         }
     }
@@ -43,6 +47,9 @@ impl Cause {
             Cause::Failed => "the disk failed",
             Cause::Damaged => "the file is damaged",
             Cause::TooLong => "a row is too long",
+            Cause::NoDatabase => "the file is no database",
+            Cause::InUse => "another process has the file open",
+            Cause::Unopened => "the file can't be opened",
         }
     }
 }

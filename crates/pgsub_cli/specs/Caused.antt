@@ -1,5 +1,6 @@
 -- What standard error gets of a fault whose cause the store may know.
-use Rattle.std.specs.Prelude.{◌≡◌, ◌⊎◌, ◌++◌, ◌∷◌, [], List, ℕ, Result, Err, codes}
+use Rattle.std.specs.Prelude.{◌≡◌, ◌≢◌, ◌⊎◌, ◌++◌, ◌∷◌, [], List, ℕ, Result, Err, codes}
+use Rattle.std.specs.List.{AllByRecursion}
 use Rattle.pgapply.specs.declared.rows.StoreFault.TheVariants as store
 use Rattle.pgsub_core.specs.declared.fault.Fault.TheVariants as fault
 use Rattle.pgsub_cli.specs.declared.fault.Ending.{Ending}
@@ -11,9 +12,10 @@ abbrev pub cause_line : List ℕ → List ℕ
 cause_line cause = codes "pgsub: " ++ (cause ++ 10 ∷ [])
 
 module _ {E : Type 0} (takes : E → List ℕ → E → Type 0) (failed : E → Type 0) where
-  -- One line with a text of the store, where that refused. It is left out where no cause is known, or no memory is there for the line.
+  -- Where a store refused, one line of why. It is left out where that isn't known, or memory runs out.
   abbrev pub TellsCause : Result Ending RunFault → E → E → Type 0
-  TellsCause ended old new = (new ≡ old) ⊎ ((ended ≡ Err (run.Stream (fault.Store store.Refused))) × (((cause : List ℕ) × takes old (cause_line cause) new) ⊎ failed old))
+  TellsCause ended old new =
+      (new ≡ old) ⊎ ((ended ≡ Err (run.Stream (fault.Store store.Refused))) × (((cause : List ℕ) × AllByRecursion (λ b. b ≢ 10) cause × takes old (cause_line cause) new) ⊎ failed old))
 
   -- that line, and behind it the one of the fault
   abbrev pub TellsCaused : Result Ending RunFault → E → E → Type 0

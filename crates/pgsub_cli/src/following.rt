@@ -74,14 +74,20 @@ fn follow_status(followed: Result<(), FollowFault>, missed: u64) -> u8
     }
 }
 
-/// Tells why a server can't be followed over a store that couldn't be opened, as `tell_unopened` does. Returns the exit status: 3 where
-/// the file is no store, 14 where memory ran out and else 12.
-pub fn tell_unfollowed<E: Output>(alloc: Global, fault: StoreFault, err: &mut E) -> u8
+/// Tells why a server can't be followed over a store that couldn't be opened, as `tell_unopened` does, and before it the cause, where it
+/// is known. Returns the exit status: 3 where the file is no store, 14 where memory ran out and else 12.
+pub fn tell_unfollowed<E: Output>(
+    alloc: Global,
+    fault: StoreFault,
+    cause: Option<&str>,
+    err: &mut E,
+) -> u8
     ensures status { result ≡ status_of_unfollowed fault }
-    ensures tells { Tells E.takes E.failed [] [] (Err (Stream (Store fault))) err.old err.new }
+    ensures tells { TellsCaused E.takes E.failed (Err (Stream (Store fault))) err.old err.new }
 {
-    let stopped = RunFault::Stream(Fault::Store(fault));
-    tell(alloc, Err(stopped), "", "", err);
+    let stopped = Err(RunFault::Stream(Fault::Store(fault)));
+    tell_cause(alloc, stopped, cause, err);
+    tell(alloc, stopped, "", "", err);
     match fault {
         StoreFault::NotAStore => 3,
         StoreFault::Memory => 14,
@@ -89,7 +95,8 @@ pub fn tell_unfollowed<E: Output>(alloc: Global, fault: StoreFault, err: &mut E)
     }
 }
 
-/// Writes the line of why a store refused, where that is known. Where it can't be made or written, the line of the fault comes alone.
+/// Writes the line of why a store refused, where that is known. Where the text isn't one line, or there is no memory for it, nothing is
+/// written.
 fn tell_cause<E: Output>(
     alloc: Global,
     ended: Result<Ending, RunFault>,
@@ -104,6 +111,9 @@ fn tell_cause<E: Output>(
     let Some(cause) = cause else {
         return;
     };
+    if cause.as_bytes().contains(&b'\n') {
+        return;
+    }
     if let Ok(line) = format!(in alloc; "pgsub: {cause}\n") {
         let _ = err.write_lines(line.as_str());
     }

@@ -427,11 +427,16 @@ fn a_store_that_fails_has_its_status(rt: HostRuntime) -> Result<(), Fail> {
 fn a_store_that_is_not_opened_has_its_status(rt: HostRuntime) -> Result<(), Fail> {
     for (fault, line, status) in [
         (StoreFault::NotAStore, "pgsub: store 10 NotAStore\n", 3),
-        (StoreFault::Refused, "pgsub: store 8 Refused\n", 12),
+        (
+            StoreFault::Refused,
+            "pgsub: it is in use\npgsub: store 8 Refused\n",
+            12,
+        ),
         (StoreFault::Memory, "pgsub: memory\n", 14),
     ] {
         let mut err = Vec::new(rt.alloc());
-        assert_eq!(rt; tell_unfollowed(rt.alloc(), fault, &mut err), status);
+        let told = tell_unfollowed(rt.alloc(), fault, Some("it is in use"), &mut err);
+        assert_eq!(rt; told, status);
         assert_eq!(rt; err.as_slice(), line.as_bytes());
     }
     Ok(())

@@ -16,3 +16,6 @@ pub returns-in-Err-adopt-clause-unchanged : goal.returns-in-Err-adopt-clause-unc
 returns-in-Err-adopt-clause-unchanged g c honest =
     let clean : HasCleanDisk (state over_files c.in-Ok.conn) = omega (arith, c.in-Err-adopt.ensures.crash_refused.clean, honest) in
     c.in-Err-adopt.ensures.as_found (image_at g.F.Start) (c.in-Ok.ensures.found clean) (c.in-Ok.ensures.opened clean).0
+
+pub returns-in-Err-adopt-clause-fault : goal.returns-in-Err-adopt-clause-fault
+returns-in-Err-adopt-clause-fault g c = rw c.new.ensures c.in-Err-adopt.ensures.fault
