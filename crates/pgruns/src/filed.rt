@@ -1,6 +1,6 @@
 //! Runs over a store in the files at a path: opens it, runs, and closes it.
 
-ghost use Rattle.std.specs.Prelude.{◌≡◌, ◌↔◌, [], false, true, Option, Result, Err, Some, IfOk, IfErr, IfSome, ⊤};
+ghost use Rattle.std.specs.Prelude.{◌≡◌, ◌↔◌, [], false, true, Option, Result, Err, Some, IfOk, IfErr, IfSome};
 ghost use Rattle.sqlite.specs.Files.{over_files};
 ghost use Rattle.sqlite.specs.Held as connection;
 ghost use Rattle.sqlite.specs.State.{HasCleanDisk};
@@ -24,7 +24,6 @@ ghost use Rattle.pgsub_cli.specs.Dumped.{Dumps};
 ghost use Rattle.pgruns.specs.Filed.{FollowsTold, LeavesNothingNew, RunsInFiles, TellsBoth, fault_of_closing, status_closed, status_of_unclosed};
 ghost use Rattle.pgsub_cli.specs.FollowedLive.{ending_of};
 ghost use Rattle.pgsub_cli.specs.FollowStatus.{status_of_follow, status_of_unfollowed};
-ghost use Rattle.pgsub_cli.specs.Reports.{ReaderBegins, ReaderGives};
 ghost use Rattle.pgsub_cli.specs.Runs.{Tells, Writes, status_of};
 ghost use Rattle.pgsub_cli.specs.StoreAfter.{HoldsAfter, LosesNothing, MayBeLeft};
 ghost use Rattle.pgsub_cli.specs.Stores.{position_of};
@@ -35,7 +34,7 @@ use crate::new_file::make_file;
 use pgfollow::{Clock, Link};
 use pgorder::Version;
 use pgstore::{Refusal, Store};
-use pgsub_cli::files::Output;
+use pgsub_cli::files::{Input, Output};
 use pgsub_cli::following::tell_unfollowed;
 use pgsub_cli::reported::Listener;
 use pgsub_cli::reporting::Reporter;
@@ -117,7 +116,7 @@ fn follow_store<
 /// Applies to an opened store of any kind what comes, and prints what it holds then.
 fn apply_to_store<
     S: Alter + Drop,
-    R: Read + Drop,
+    R: Input + Drop,
     K: Ticks + Drop,
     P: Output + Drop,
     W: Output,
@@ -134,18 +133,18 @@ fn apply_to_store<
     ensures ends { (ended : Result Ending RunFault) × (result.0 ≡ status_of ended)
         × Writes W.takes W.failed (λ fault. IsHonest S.Store result.1 → IsReadFault fault)
         (λ stopped lines. IsHonest S.Store result.1 →
-        PrintsOver (ReaderGives R.remaining) (ReaderBegins R.remaining) (λ _. ⊤)
+        PrintsOver R.gives R.begins R.failed
         (HasTables S.Store) position_of limits input store result.1 stopped lines) out.old out.new
         ended × Tells E.takes E.failed [] [] ended err.old err.new }
     ensures kept { Serves S.Store result.1 →
-        HoldsAfter (ReaderGives R.remaining) (ReaderBegins R.remaining) (λ _. ⊤)
+        HoldsAfter R.gives R.begins R.failed
         (HasTables S.Store) position_of limits input store result.1 }
     ensures left { IsHonest S.Store result.1 →
-        MayBeLeft (ReaderGives R.remaining) (ReaderBegins R.remaining) (λ _. ⊤)
+        MayBeLeft R.gives R.begins R.failed
         (HasTables S.Store) position_of (Reopens S.Store S.Store) (Serves S.Store) limits input
         store result.1 }
     ensures crash { IsHonest S.Store result.1 → Serves S.Store store →
-        LosesNothing (ReaderGives R.remaining) (ReaderBegins R.remaining) (λ _. ⊤)
+        LosesNothing R.gives R.begins R.failed
         (HasTables S.Store) position_of (Reopens S.Store S.Store) limits input store result.1 }
     ensures honest { IsHonest S.Store result.1 → IsHonest S.Store store }
 {
@@ -250,7 +249,7 @@ pub fn follow_file<
 /// gets a line for each.
 pub fn apply_to_file<
     F: Start,
-    R: Read + Drop,
+    R: Input + Drop,
     K: Ticks + Drop,
     P: Output + Drop,
     W: Output,
@@ -279,16 +278,16 @@ pub fn apply_to_file<
         × RunsInFiles (image_at F.Start) (λ opened ended.
         Writes W.takes W.failed (λ fault. IsHonest over_files ended → IsReadFault fault)
         (λ stopped lines. IsHonest over_files ended →
-        PrintsOver (ReaderGives R.remaining) (ReaderBegins R.remaining) (λ _. ⊤)
+        PrintsOver R.gives R.begins R.failed
         (HasTables over_files) position_of limits input opened ended stopped lines) out.old out.new
         why × (Serves over_files ended →
-        HoldsAfter (ReaderGives R.remaining) (ReaderBegins R.remaining) (λ _. ⊤)
+        HoldsAfter R.gives R.begins R.failed
         (HasTables over_files) position_of limits input opened ended)
         × (IsHonest over_files ended →
-        MayBeLeft (ReaderGives R.remaining) (ReaderBegins R.remaining) (λ _. ⊤)
+        MayBeLeft R.gives R.begins R.failed
         (HasTables over_files) position_of (Reopens over_files over_files) (Serves over_files)
         limits input opened ended
-        × LosesNothing (ReaderGives R.remaining) (ReaderBegins R.remaining) (λ _. ⊤)
+        × LosesNothing R.gives R.begins R.failed
         (HasTables over_files) position_of (Reopens over_files over_files) limits input opened
         ended)) closing) }
 {
