@@ -94,6 +94,15 @@ class Ends(Case):
             self.assertEqual((ended.status, ended.said, ended.is_rejection()), (status, f"pgsub: why {status}", rejected))
             self.assertEqual((ended.is_full(), ended.is_unopened()), (status == 10, status == 12))
 
+    def test_a_cause_before_its_fault(self) -> None:
+        """It is passed on, and the fault stays what was said last."""
+        child = self.shell("echo 'pgsub: the disk is full' >&2; echo 'pgsub: store 8 Refused' >&2; exit 13")
+        with self.assertRaises(FilterEnded) as raised:
+            child.start()
+        ended = raised.exception
+        self.assertEqual((ended.status, ended.said, ended.is_rejection()), (13, "pgsub: store 8 Refused", False))
+        self.assertEqual(self.said, ["filter: pgsub: the disk is full", "filter: pgsub: store 8 Refused"])
+
     def test_by_a_signal(self) -> None:
         with self.assertRaises(FilterEnded) as raised:
             self.shell("kill -9 $$").start()

@@ -46,9 +46,9 @@ abbrev pub status_closed : (StoreFault → ℕ) → ℕ → Option StoreFault �
 status_closed status ended None = ended
 status_closed status ended (Some f) = if ended == 0 then status f else ended
 
--- Standard error gets the line of the fault that a run ended with, and then that of closing its store. Where there is none it gets nothing.
-abbrev pub TellsBoth : {E : Type 0} → (E → List ℕ → E → Type 0) → (E → Type 0) → Result Ending RunFault → Option StoreFault → E → E → Type 0
-TellsBoth {E} takes failed ended closing old new = (between : E) × Tells takes failed [] [] ended old between × Tells takes failed [] [] (ending_of_closing closing) between new
+-- Standard error gets what a run tells of the fault that it ended with, and then the line of the fault of closing its store, where there is one.
+abbrev pub TellsBoth : {E : Type 0} → (E → List ℕ → E → Type 0) → (E → Type 0) → (E → E → Type 0) → Option StoreFault → E → E → Type 0
+TellsBoth {E} takes failed tells closing old new = (between : E) × tells old between × Tells takes failed [] [] (ending_of_closing closing) between new
 
 -- ---- the store of a run
 

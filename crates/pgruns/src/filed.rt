@@ -1,6 +1,6 @@
 //! Runs over a store in the files at a path: opens it, runs, and closes it.
 
-ghost use Rattle.std.specs.Prelude.{◌≡◌, ◌↔◌, [], false, true, Option, Result, Err, Some, IfOk, IfErr, IfSome, ⊤};
+ghost use Rattle.std.specs.Prelude.{◌≡◌, ◌↔◌, [], false, true, Option, Result, Err, Some, IfOk, IfErr, IfSome};
 ghost use Rattle.sqlite.specs.Files.{over_files};
 ghost use Rattle.sqlite.specs.Held as connection;
 ghost use Rattle.sqlite.specs.State.{HasCleanDisk};
@@ -19,11 +19,11 @@ ghost use Rattle.pgsub_core.specs.declared.fault.Fault.TheVariants.{Store as OfS
 ghost use Rattle.pgsub_cli.specs.declared.fault.Ending.{Ending};
 ghost use Rattle.pgsub_cli.specs.declared.fault.RunFault.{RunFault};
 ghost use Rattle.pgsub_cli.specs.declared.fault.RunFault.TheVariants.{Stream};
+ghost use Rattle.pgsub_cli.specs.Caused.{TellsCaused};
 ghost use Rattle.pgsub_cli.specs.Dumped.{Dumps};
 ghost use Rattle.pgruns.specs.Filed.{FollowsTold, LeavesNothingNew, RunsInFiles, TellsBoth, fault_of_closing, status_closed, status_of_unclosed};
 ghost use Rattle.pgsub_cli.specs.FollowedLive.{ending_of};
 ghost use Rattle.pgsub_cli.specs.FollowStatus.{status_of_follow, status_of_unfollowed};
-ghost use Rattle.pgsub_cli.specs.Reports.{ReaderBegins, ReaderGives};
 ghost use Rattle.pgsub_cli.specs.Runs.{Tells, Writes, status_of};
 ghost use Rattle.pgsub_cli.specs.StoreAfter.{HoldsAfter, LosesNothing, MayBeLeft};
 ghost use Rattle.pgsub_cli.specs.Stores.{position_of};
@@ -31,11 +31,10 @@ ghost use Rattle.pgsub_cli.specs.Storing.{PrintsOver, status_of_unopened};
 
 use crate::closing::{Closing, close_told, followed_status, run_status};
 use crate::new_file::make_file;
-use pgapply::StoreFault;
 use pgfollow::{Clock, Link};
 use pgorder::Version;
-use pgstore::Store;
-use pgsub_cli::files::Output;
+use pgstore::{Refusal, Store};
+use pgsub_cli::files::{Input, Output};
 use pgsub_cli::following::tell_unfollowed;
 use pgsub_cli::reported::Listener;
 use pgsub_cli::reporting::Reporter;
@@ -59,7 +58,7 @@ fn open_file<F: Start>(
     path: &str,
     cache: usize,
     start: F,
-) -> Result<Store<FileStore<FileFrom<F>>>, (StoreFault, Option<Connection<FileStore<FileFrom<F>>>>)>
+) -> Result<Store<FileStore<FileFrom<F>>>, (Refusal, Option<Connection<FileStore<FileFrom<F>>>>)>
     ensures serves { IfOk result (λ store. IsHonest over_files store → Serves over_files store) }
     ensures stood { IfOk result (λ store. IsHonest over_files store →
         HoldsContent over_files (image_at F.Start) store) }
@@ -68,7 +67,7 @@ fn open_file<F: Start>(
         StaysAsFound over_files (image_at F.Start) conn)) }
 {
     if let Err(fault) = make_file(rt, path) {
-        return Err((fault, None));
+        return Err((Refusal::new(fault), None));
     }
     Store::open_or_return(alloc, rt, path, cache, start)
 }
@@ -99,7 +98,7 @@ fn follow_store<
     requires writable { link.old.write_failed ≡ false }
     ensures ends { (why : Option FollowFault)
         × (result.0 ≡ status_of_follow result.1.group.missed.count why)
-        × Tells E.takes E.failed [] [] (ending_of why) err.old err.new
+        × TellsCaused E.takes E.failed (ending_of why) err.old err.new
         × ((why ≡ Some follow.Read) ↔ (link.new.read_failed ≡ true))
         × ((why ≡ Some follow.Write) ↔ (link.new.write_failed ≡ true))
         × IfSome why IsOfFollowing
@@ -117,7 +116,7 @@ fn follow_store<
 /// Applies to an opened store of any kind what comes, and prints what it holds then.
 fn apply_to_store<
     S: Alter + Drop,
-    R: Read + Drop,
+    R: Input + Drop,
     K: Ticks + Drop,
     P: Output + Drop,
     W: Output,
@@ -134,18 +133,18 @@ fn apply_to_store<
     ensures ends { (ended : Result Ending RunFault) × (result.0 ≡ status_of ended)
         × Writes W.takes W.failed (λ fault. IsHonest S.Store result.1 → IsReadFault fault)
         (λ stopped lines. IsHonest S.Store result.1 →
-        PrintsOver (ReaderGives R.remaining) (ReaderBegins R.remaining) (λ _. ⊤)
+        PrintsOver R.gives R.begins R.failed
         (HasTables S.Store) position_of limits input store result.1 stopped lines) out.old out.new
         ended × Tells E.takes E.failed [] [] ended err.old err.new }
     ensures kept { Serves S.Store result.1 →
-        HoldsAfter (ReaderGives R.remaining) (ReaderBegins R.remaining) (λ _. ⊤)
+        HoldsAfter R.gives R.begins R.failed
         (HasTables S.Store) position_of limits input store result.1 }
     ensures left { IsHonest S.Store result.1 →
-        MayBeLeft (ReaderGives R.remaining) (ReaderBegins R.remaining) (λ _. ⊤)
+        MayBeLeft R.gives R.begins R.failed
         (HasTables S.Store) position_of (Reopens S.Store S.Store) (Serves S.Store) limits input
         store result.1 }
     ensures crash { IsHonest S.Store result.1 → Serves S.Store store →
-        LosesNothing (ReaderGives R.remaining) (ReaderBegins R.remaining) (λ _. ⊤)
+        LosesNothing R.gives R.begins R.failed
         (HasTables S.Store) position_of (Reopens S.Store S.Store) limits input store result.1 }
     ensures honest { IsHonest S.Store result.1 → IsHonest S.Store store }
 {
@@ -183,7 +182,8 @@ fn dump_store<S: Alter + Drop, W: Output + Drop, E: Output>(
 ///
 /// The status is that of `run_follow`, and where that is 0, of a log that can't be copied: 13, or
 /// 14 where memory ran out. Where no store is opened it is that of `tell_unfollowed`. Standard
-/// error gets a line for each.
+/// error gets a line for each, and before it the cause of a store that refused, where that is known;
+/// of closing none is told.
 pub fn follow_file<
     F: Start,
     L: Listener + Drop,
@@ -208,11 +208,12 @@ pub fn follow_file<
     requires writable { link.old.write_failed ≡ false }
     ensures unopened { IfErr result.1 (λ left. (f : StoreFault)
         × (result.0 ≡ status_of_unfollowed f) × (link.new ≡ link.old)
-        × Tells E.takes E.failed [] [] (Err (Stream (OfStore f))) err.old err.new
+        × TellsCaused E.takes E.failed (Err (Stream (OfStore f))) err.old err.new
         × IfSome left (λ conn. HasCleanDisk (connection.state over_files conn) →
         StaysAsFound over_files (image_at F.Start) conn)) }
     ensures ran { IfOk result.1 (λ closing. (why : Option FollowFault)
-        × TellsBoth E.takes E.failed (ending_of why) (fault_of_closing closing) err.old err.new
+        × TellsBoth E.takes E.failed (TellsCaused E.takes E.failed (ending_of why))
+        (fault_of_closing closing) err.old err.new
         × ((why ≡ Some follow.Read) ↔ (link.new.read_failed ≡ true))
         × ((why ≡ Some follow.Write) ↔ (link.new.write_failed ≡ true))
         × IfSome why IsOfFollowing
@@ -231,7 +232,10 @@ pub fn follow_file<
             let (fault, closing) = close_told(alloc, store, err);
             (followed_status(status, fault), Ok(closing))
         }
-        Err((fault, conn)) => (tell_unfollowed(alloc, fault, err), Err(conn)),
+        Err((refusal, conn)) => {
+            let (fault, cause) = (refusal.fault(), refusal.cause());
+            (tell_unfollowed(alloc, fault, cause, err), Err(conn))
+        }
     }
 }
 
@@ -245,7 +249,7 @@ pub fn follow_file<
 /// gets a line for each.
 pub fn apply_to_file<
     F: Start,
-    R: Read + Drop,
+    R: Input + Drop,
     K: Ticks + Drop,
     P: Output + Drop,
     W: Output,
@@ -269,20 +273,21 @@ pub fn apply_to_file<
         StaysAsFound over_files (image_at F.Start) conn)) }
     ensures ran { IfOk result.1 (λ closing. (why : Result Ending RunFault)
         × (result.0 ≡ status_closed status_of_unopened (status_of why) (fault_of_closing closing))
-        × TellsBoth E.takes E.failed why (fault_of_closing closing) err.old err.new
+        × TellsBoth E.takes E.failed (Tells E.takes E.failed [] [] why)
+        (fault_of_closing closing) err.old err.new
         × RunsInFiles (image_at F.Start) (λ opened ended.
         Writes W.takes W.failed (λ fault. IsHonest over_files ended → IsReadFault fault)
         (λ stopped lines. IsHonest over_files ended →
-        PrintsOver (ReaderGives R.remaining) (ReaderBegins R.remaining) (λ _. ⊤)
+        PrintsOver R.gives R.begins R.failed
         (HasTables over_files) position_of limits input opened ended stopped lines) out.old out.new
         why × (Serves over_files ended →
-        HoldsAfter (ReaderGives R.remaining) (ReaderBegins R.remaining) (λ _. ⊤)
+        HoldsAfter R.gives R.begins R.failed
         (HasTables over_files) position_of limits input opened ended)
         × (IsHonest over_files ended →
-        MayBeLeft (ReaderGives R.remaining) (ReaderBegins R.remaining) (λ _. ⊤)
+        MayBeLeft R.gives R.begins R.failed
         (HasTables over_files) position_of (Reopens over_files over_files) (Serves over_files)
         limits input opened ended
-        × LosesNothing (ReaderGives R.remaining) (ReaderBegins R.remaining) (λ _. ⊤)
+        × LosesNothing R.gives R.begins R.failed
         (HasTables over_files) position_of (Reopens over_files over_files) limits input opened
         ended)) closing) }
 {
@@ -292,7 +297,7 @@ pub fn apply_to_file<
             let (fault, closing) = close_told(alloc, store, err);
             (run_status(status, fault), Ok(closing))
         }
-        Err((fault, conn)) => (tell_unopened(alloc, fault, err), Err(conn)),
+        Err((refusal, conn)) => (tell_unopened(alloc, refusal.fault(), err), Err(conn)),
     }
 }
 
@@ -316,7 +321,8 @@ pub fn dump_file<F: Start, W: Output + Drop, E: Output>(
         StaysAsFound over_files (image_at F.Start) conn)) }
     ensures ran { IfOk result.1 (λ closing. (why : Result Ending RunFault)
         × (result.0 ≡ status_closed status_of_unopened (status_of why) (fault_of_closing closing))
-        × TellsBoth E.takes E.failed why (fault_of_closing closing) err.old err.new
+        × TellsBoth E.takes E.failed (Tells E.takes E.failed [] [] why)
+        (fault_of_closing closing) err.old err.new
         × RunsInFiles (image_at F.Start) (λ opened ended.
         (IsHonest over_files ended → (tables : Tables) → HasTables over_files opened tables →
         Dumps W.takes W.failed (dump tables) opened.position out result.2 why)
@@ -330,6 +336,6 @@ pub fn dump_file<F: Start, W: Output + Drop, E: Output>(
             let (fault, closing) = close_told(alloc, store, err);
             (run_status(status, fault), Ok(closing), out)
         }
-        Err((fault, conn)) => (tell_unopened(alloc, fault, err), Err(conn), out),
+        Err((refusal, conn)) => (tell_unopened(alloc, refusal.fault(), err), Err(conn), out),
     }
 }

@@ -33,6 +33,7 @@ fn path_error(error: OpenError) -> Error {
         OpenError::OutOfMemory => ErrorCode::OutOfMemory,
         OpenError::Busy => ErrorCode::DatabaseBusy,
         OpenError::Io(error) if error.kind() == ErrorKind::OutOfMemory => ErrorCode::OutOfMemory,
+        OpenError::Io(error) if error.kind() == ErrorKind::StorageFull => ErrorCode::DiskFull,
         _ => ErrorCode::CannotOpen,
     })
 }

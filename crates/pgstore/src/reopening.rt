@@ -29,7 +29,7 @@ impl<D: Disk + Drop> Store<FileStore<D>> {
         alloc: Global,
         files: Files<D>,
         options: Options,
-    ) -> Result<Store<FileStore<D>>, (StoreFault, Option<Connection<FileStore<D>>>)>
+    ) -> Result<Store<FileStore<D>>, (Refusal, Option<Connection<FileStore<D>>>)>
         requires log { IsTrue (D.Disk.is_usable files.log) }
         requires db { IsTrue (D.Disk.is_usable files.db) }
         ensures serves { IfOk result (λ store. IsHonest over_files store →
@@ -48,11 +48,11 @@ impl<D: Disk + Drop> Store<FileStore<D>> {
     {
         let conn = match Connection::open_files(alloc, files, options) {
             Ok(conn) => conn,
-            Err((error, _)) => return Err((StoreFault::from(Refusal::from(error)), None)),
+            Err((error, _)) => return Err((Refusal::from(error), None)),
         };
         match Store::adopt(alloc, conn) {
             Ok(store) => Ok(store),
-            Err((fault, conn)) => Err((fault, Some(conn))),
+            Err((fault, conn)) => Err((Refusal::new(fault), Some(conn))),
         }
     }
 
@@ -62,7 +62,7 @@ impl<D: Disk + Drop> Store<FileStore<D>> {
         alloc: Global,
         files: Files<D>,
         options: Options,
-    ) -> Result<Store<FileStore<D>>, (StoreFault, Option<Connection<FileStore<D>>>)>
+    ) -> Result<Store<FileStore<D>>, (Refusal, Option<Connection<FileStore<D>>>)>
         requires log { IsTrue (D.Disk.is_usable files.log) }
         requires db { IsTrue (D.Disk.is_usable files.db) }
         ensures serves { IfOk result (λ store. IsHonest over_files store →
@@ -77,7 +77,7 @@ impl<D: Disk + Drop> Store<FileStore<D>> {
         match pgopening::open(alloc, files, options) {
             Ok(Found::Trees(store)) => Store::of_trees(alloc, store),
             Ok(Found::Others(files)) => Store::adopt_files(alloc, files, options),
-            Err(error) => Err((StoreFault::from(Refusal::from(error)), None)),
+            Err(error) => Err((Refusal::from(error), None)),
         }
     }
 
@@ -139,7 +139,7 @@ impl<D: Disk + Drop> Store<FileStore<D>> {
     {
         match Store::open_found(alloc, files, options) {
             Ok(store) => Ok(store),
-            Err((fault, _)) => Err(fault),
+            Err((refusal, _conn)) => Err(StoreFault::from(refusal)),
         }
     }
 }

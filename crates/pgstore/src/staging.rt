@@ -94,7 +94,10 @@ fn undo_one<S: Alter>(rows: &mut Rows<S>, refusal: Refusal) -> Unstaged
             refusal,
             is_lost: false,
         },
-        Err(error) => Unstaged::lost(error),
+        Err(error) => Unstaged {
+            refusal: Refusal::from(error).behind(&refusal),
+            is_lost: true,
+        },
     }
 }
 

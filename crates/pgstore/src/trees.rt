@@ -62,7 +62,7 @@ impl<S: Alter + Drop> Store<S> {
     ///
     /// Those of `adopt`, and `Memory` or `Refused` where the SQL library refuses the database. A
     /// connection comes back beside the fault where there is one.
-    fn adopt_over(alloc: Global, store: S) -> Result<Store<S>, (StoreFault, Option<Connection<S>>)>
+    fn adopt_over(alloc: Global, store: S) -> Result<Store<S>, (Refusal, Option<Connection<S>>)>
         requires { IsJustOpened S.Store store }
         ensures serves { IfOk result (λ it. IsHonest S.Store it → Serves S.Store it) }
         ensures holds { IfOk result (HoldsOpened S.Store store) }
@@ -71,11 +71,11 @@ impl<S: Alter + Drop> Store<S> {
     {
         let conn = match Connection::over(alloc, store) {
             Ok(conn) => conn,
-            Err((error, _)) => return Err((StoreFault::from(Refusal::from(error)), None)),
+            Err((error, _)) => return Err((Refusal::from(error), None)),
         };
         match Store::adopt(alloc, conn) {
             Ok(it) => Ok(it),
-            Err((fault, conn)) => Err((fault, Some(conn))),
+            Err((fault, conn)) => Err((Refusal::new(fault), Some(conn))),
         }
     }
 
@@ -88,7 +88,7 @@ impl<S: Alter + Drop> Store<S> {
     pub(crate) fn of_trees(
         alloc: Global,
         mut store: S,
-    ) -> Result<Store<S>, (StoreFault, Option<Connection<S>>)>
+    ) -> Result<Store<S>, (Refusal, Option<Connection<S>>)>
         requires { IsJustOpened S.Store store }
         ensures serves { IfOk result (λ it. IsHonest S.Store it → Serves S.Store it) }
         ensures holds { IfOk result (HoldsOpened S.Store store) }
@@ -97,7 +97,7 @@ impl<S: Alter + Drop> Store<S> {
     {
         let found = match read_store(&mut store, alloc) {
             Ok(found) => found,
-            Err(refusal) => return Err((StoreFault::from(refusal), None)),
+            Err(refusal) => return Err((refusal, None)),
         };
         match found {
             Some(position) => Ok(Store::at(alloc, store, position)),

@@ -16,3 +16,4 @@ pub mod Lines
 pub mod FollowedLive
 pub mod FollowStatus
 pub mod MissedLines
+pub mod Caused

@@ -1,5 +1,5 @@
 -- The line that tells how far a long run is.
-use Rattle.std.specs.Prelude.{◌≡◌, ◌≤◌, ◌+◌, ◌-◌, ◌^◌, ◌⊎◌, min, ℕ, List, ◌++◌, Option, Some, None, IfSome, codes, decimal}
+use Rattle.std.specs.Prelude.{◌≡◌, ◌≤◌, ◌+◌, ◌-◌, ◌^◌, ◌⊎◌, min, ℕ, List, ◌++◌, Option, Some, None, codes, decimal}
 use Rattle.std.specs.Time.{instant_nanos}
 use Rattle.std.specs.declared.time.Instant.{Instant}
 use Rattle.pglsn.specs.Texts.{lsn_text}
@@ -41,15 +41,7 @@ module _ {E : Type 0} (takes : E → List ℕ → E → Type 0) (failed : E → 
   abbrev pub TellsProgress : Instant → Instant → Progress → E → E → Type 0
   TellsProgress last last' p old new = (new ≡ old) ⊎ ((instant_nanos last + 1000000000 ≤ instant_nanos last') × (takes old (progress_line p) new ⊎ failed old))
 
--- of a reader of which these bytes remain: all of them, and the first ones
-module _ {R : Type 0} (remaining : R → Option (List ℕ)) where
-  abbrev pub ReaderGives : R → List ℕ → Type 0
-  ReaderGives reader bytes = IfSome (remaining reader) (λ known. bytes ≡ known)
-
-  abbrev pub ReaderBegins : R → List ℕ → Type 0
-  ReaderBegins reader bytes = IfSome (remaining reader) (λ known. (rest : List ℕ) × (known ≡ bytes ++ rest))
-
--- the same comes, of a reader within another one
+-- the same comes, of a file within another one
 abbrev pub CountsIncoming : {R Q : Type 0} → (Q → R) → Incoming R → Incoming Q → Type 0
 CountsIncoming within (Sessions sessions) (Sessions same) = same ≡ sessions
 CountsIncoming within (Raw reader) (Raw counted) = within counted ≡ reader

@@ -17,7 +17,7 @@ ghost use Rattle.pgsub_cli.specs.StoreAfter.{StandsFed, LeavesFileHistory};
 ghost use Rattle.pgsub_cli.specs.Stores.{position_of};
 
 use crate::dump::{dump_text, resume_text};
-use crate::files::Input;
+use crate::files::{Input, Unheard};
 use crate::limits::{CLOCK, Limits};
 use crate::printed::Printed;
 use crate::stores::new_subscriber;
@@ -123,7 +123,7 @@ pub(crate) fn apply_input<R: Input + Drop, P: Spools + Drop, C: ReplicaStore + D
 {
     // where it stands tells what a crash leaves at the start
     let _start = subscriber.position();
-    let stopped = file.feed_to(subscriber).err();
+    let stopped = file.feed_to(subscriber, Unheard).err();
     Ok(Printed {
         lines: stored_lines(alloc, subscriber)?,
         stopped,

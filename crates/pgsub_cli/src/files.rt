@@ -17,6 +17,36 @@ use std::alloc::Global;
 use std::io;
 use std::io::{Read, Write};
 
+/// Hears how many bytes each read gave.
+pub trait ReadListener {
+    fn hear(&mut self, count: u64);
+}
+
+/// Hears nothing.
+#[derive(Clone, Copy)]
+pub struct Unheard;
+
+impl ReadListener for Unheard {
+    fn hear(&mut self, _count: u64) {}
+}
+
+/// A reader, of which a listener hears how many bytes each read gave.
+#[derive(Drop)]
+struct Heard<R: Read + Drop, L: ReadListener + Drop> {
+    reader: R,
+    listener: L,
+}
+
+impl<R: Read + Drop, L: ReadListener + Drop> Read for Heard<R, L> {
+    ghost remaining = { λ heard. R.remaining heard.reader };
+
+    fn read(&mut self, buf: &mut [u8]) -> io::Result<usize> {
+        let count = self.reader.read(buf)?;
+        self.listener.hear(count as u64);
+        Ok(count)
+    }
+}
+
 /// What a recording is read from.
 pub trait Input {
     /// That these are all its bytes.
@@ -36,12 +66,13 @@ pub trait Input {
             × (longest < length bytes) }
         ensures failed { OnErr result (failed self) };
 
-    /// Feeds all its bytes as they are read to a subscriber, as one session from a disconnection on. What comes before a read that
-    /// fails is fed, and so is what comes before the first fault. Whatever a crash at the end may leave of the store could be left
-    /// before, or has what some front of the bytes leads to.
-    fn feed_to<P: Spools + Drop, C: ReplicaStore + Drop>(
+    /// Feeds all its bytes as they are read to a subscriber, as one session from a disconnection on, and a listener hears of each read.
+    /// What comes before a read that fails is fed, and so is what comes before the first fault. Whatever a crash at the end may leave
+    /// of the store could be left before, or has what some front of the bytes leads to.
+    fn feed_to<P: Spools + Drop, C: ReplicaStore + Drop, L: ReadListener + Drop>(
         self,
         subscriber: &mut Subscriber<P, C>,
+        listener: L,
     ) -> Result<(), Fault>
         ensures fed { C.serves subscriber.new.applied.store →
             FeedsFile gives begins failed C.holds C.place self subscriber.old subscriber.new
@@ -76,12 +107,14 @@ impl<R: Read + Drop> Input for R {
         Ok(Some(text))
     }
 
-    fn feed_to<P: Spools + Drop, C: ReplicaStore + Drop>(
+    fn feed_to<P: Spools + Drop, C: ReplicaStore + Drop, L: ReadListener + Drop>(
         self,
         subscriber: &mut Subscriber<P, C>,
+        listener: L,
     ) -> Result<(), Fault> {
         subscriber.disconnect();
-        let mut source = Source::new(self);
+        let reader = self;
+        let mut source = Source::new(Heard { reader, listener });
         pump(&mut source, subscriber, CLOCK)
     }
 }

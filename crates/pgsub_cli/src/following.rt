@@ -8,6 +8,7 @@ ghost use Rattle.pgsub_core.specs.declared.fault.Fault.TheVariants.{Store};
 ghost use Rattle.pgsub_cli.specs.declared.fault.RunFault.TheVariants.{Stream};
 ghost use Rattle.pgsub_cli.specs.FollowStatus.{status_of_fault, status_of_follow, status_of_store, status_of_unfollowed};
 ghost use Rattle.pgsub_cli.specs.FollowedLive.{FollowsOver, ending_of};
+ghost use Rattle.pgsub_cli.specs.Caused.{TellsCause, TellsCaused};
 ghost use Rattle.pgsub_cli.specs.Runs.{Tells};
 
 use crate::fault::{Ending, RunFault};
@@ -73,14 +74,20 @@ fn follow_status(followed: Result<(), FollowFault>, missed: u64) -> u8
     }
 }
 
-/// Tells why a server can't be followed over a store that couldn't be opened, as `tell_unopened` does. Returns the exit status: 3 where
-/// the file is no store, 14 where memory ran out and else 12.
-pub fn tell_unfollowed<E: Output>(alloc: Global, fault: StoreFault, err: &mut E) -> u8
+/// Tells why a server can't be followed over a store that couldn't be opened, as `tell_unopened` does, and before it the cause, where it
+/// is known. Returns the exit status: 3 where the file is no store, 14 where memory ran out and else 12.
+pub fn tell_unfollowed<E: Output>(
+    alloc: Global,
+    fault: StoreFault,
+    cause: Option<&str>,
+    err: &mut E,
+) -> u8
     ensures status { result ≡ status_of_unfollowed fault }
-    ensures tells { Tells E.takes E.failed [] [] (Err (Stream (Store fault))) err.old err.new }
+    ensures tells { TellsCaused E.takes E.failed (Err (Stream (Store fault))) err.old err.new }
 {
-    let stopped = RunFault::Stream(Fault::Store(fault));
-    tell(alloc, Err(stopped), "", "", err);
+    let stopped = Err(RunFault::Stream(Fault::Store(fault)));
+    tell_cause(alloc, stopped, cause, err);
+    tell(alloc, stopped, "", "", err);
     match fault {
         StoreFault::NotAStore => 3,
         StoreFault::Memory => 14,
@@ -88,10 +95,35 @@ pub fn tell_unfollowed<E: Output>(alloc: Global, fault: StoreFault, err: &mut E)
     }
 }
 
+/// Writes the line of why a store refused, where that is known. Where the text isn't one line, or there is no memory for it, nothing is
+/// written.
+fn tell_cause<E: Output>(
+    alloc: Global,
+    ended: Result<Ending, RunFault>,
+    cause: Option<&str>,
+    err: &mut E,
+)
+    ensures { TellsCause E.takes E.failed ended err.old err.new }
+{
+    let Err(RunFault::Stream(Fault::Store(StoreFault::Refused))) = ended else {
+        return;
+    };
+    let Some(cause) = cause else {
+        return;
+    };
+    if cause.as_bytes().contains(&b'\n') {
+        return;
+    }
+    if let Ok(line) = format!(in alloc; "pgsub: {cause}\n") {
+        let _ = err.write_lines(line.as_str());
+    }
+}
+
 /// Follows a server over an opened store, to the end of its bytes, within these limits. Returns the exit status, and the store. The
 /// status is 0 where the bytes ended, and 16 where changes found no row then; 1 where the stream is rejected, 10 where `max_buffered` is
 /// too low and 11 where `max_frame` is, 13 where the store failed, 14 where memory ran out and 15 where a read or a write failed.
-/// Standard error gets the line of the fault.
+/// Standard error gets the line of the fault, and before it, where the store refused and knows why, a line of that: `pgsub: the disk is
+/// full`. No other run writes one: what `apply` and `dump` write to standard error is fixed, and is one line.
 ///
 /// What was read, fed and written, that all that is confirmed is stored, and which changes find no row, is as `follow_live` says.
 pub fn run_follow<R: Read + Drop, W: Write + Drop, K: Clock, C: ReplicaStore + Drop, E: Output>(
@@ -108,7 +140,7 @@ pub fn run_follow<R: Read + Drop, W: Write + Drop, K: Clock, C: ReplicaStore + D
     ensures status { result.0 ≤ 16 }
     ensures ends { (ended : Option FollowFault)
         × (result.0 ≡ status_of_follow (C.missed result.1).count ended)
-        × Tells E.takes E.failed [] [] (ending_of ended) err.old err.new
+        × TellsCaused E.takes E.failed (ending_of ended) err.old err.new
         × ((ended ≡ Some follow.Read) ↔ (link.new.read_failed ≡ true))
         × ((ended ≡ Some follow.Write) ↔ (link.new.write_failed ≡ true))
         × IfSome ended IsOfFollowing
@@ -121,7 +153,9 @@ pub fn run_follow<R: Read + Drop, W: Write + Drop, K: Clock, C: ReplicaStore + D
 {
     let mut subscriber = subscriber_over(alloc, store, limits, version);
     let followed = follow_live(alloc, link, clock, &mut subscriber);
-    tell(alloc, ending(followed), "", "", err);
     let store = subscriber.into_store();
+    let ended = ending(followed);
+    tell_cause(alloc, ended, store.cause(), err);
+    tell(alloc, ended, "", "", err);
     (follow_status(followed, store.misses().count), store)
 }

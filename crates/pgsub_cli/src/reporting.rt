@@ -1,24 +1,25 @@
 //! Tells, while a store takes commits, how far that is. What a reader gives and what a store holds are as without it.
 
-ghost use Rattle.std.specs.Prelude.{◌≡◌, ◌≤◌, ◌+◌, ◌⊎◌, [], Result, Some, IfOk, ⊤};
+ghost use Rattle.std.specs.Prelude.{◌≡◌, ◌≤◌, ◌+◌, ◌⊎◌, [], Result, Some, IfOk};
 ghost use Rattle.pgsub_core.specs.Machine.Faults.{IsReadFault};
 ghost use Rattle.pgsub_cli.specs.declared.fault.Ending.{Ending};
 ghost use Rattle.pgsub_cli.specs.declared.fault.RunFault.{RunFault};
-ghost use Rattle.pgsub_cli.specs.Reports.{CountsIncoming, IsCounted, ReaderBegins, ReaderGives, TellsProgress, bytes_text, nothing_of, progress_line, with_bytes, with_commits};
+ghost use Rattle.pgsub_cli.specs.Reports.{CountsIncoming, IsCounted, TellsProgress, bytes_text, nothing_of, progress_line, with_bytes, with_commits};
 ghost use Rattle.pgsub_cli.specs.Runs.{Tells, Writes, status_of};
 ghost use Rattle.pgsub_cli.specs.StoreAfter.{HoldsAfter, MayBeLeft, LosesNothing};
 ghost use Rattle.pgsub_cli.specs.Storing.{PrintsOver};
 
-use crate::files::Output;
+use crate::files::{Input, Output, ReadListener};
 use crate::limits::Limits;
 use crate::reported::{Listener, Reported, Settling};
 use crate::storing::{Incoming, run_within};
 use pgapply::ReplicaStore;
 use pglsn::Lsn;
 use pgorder::Version;
+use pgspool::Spools;
+use pgsub_core::{Fault, Subscriber};
 use std::alloc::Global;
 use std::cell::RefCell;
-use std::io::Read;
 use std::time::{Clock, Duration, Instant};
 use std::{fmt, io};
 
@@ -182,50 +183,71 @@ impl<K: Clock + Drop, E: Output + Drop> Listener for Commits<'_, K, E> {
     }
 }
 
-/// A reader whose bytes are told.
+/// Tells a reporter of each read, and then another listener.
 #[derive(Drop)]
-pub struct Counted<'a, R: Read + Drop, K: Clock + Drop, E: Output + Drop> {
-    reader: R,
+struct Bytes<'a, K: Clock + Drop, E: Output + Drop, L: ReadListener + Drop> {
     reporter: &'a RefCell<Reporter<K, E>>,
+    next: L,
 }
 
-impl<'a, R: Read + Drop, K: Clock + Drop, E: Output + Drop> Counted<'a, R, K, E> {
-    /// The reader, whose bytes are told to the reporter from now on.
-    pub fn new(reader: R, reporter: &'a RefCell<Reporter<K, E>>) -> Counted<'a, R, K, E>
-        ensures { result.reader ≡ reader }
-    {
-        Counted { reader, reporter }
+impl<K: Clock + Drop, E: Output + Drop, L: ReadListener + Drop> ReadListener
+    for Bytes<'_, K, E, L> {
+    fn hear(&mut self, count: u64) {
+        if let Ok(mut reporter) = self.reporter.try_borrow_mut() {
+            reporter.note_bytes(count);
+        }
+        self.next.hear(count);
     }
 }
 
-impl<R: Read + Drop, K: Clock + Drop, E: Output + Drop> Read for Counted<'_, R, K, E> {
-    ghost remaining = { λ counted. R.remaining counted.reader };
+/// What a file gives, of which a reporter is told as it is read.
+#[derive(Drop)]
+pub struct Counted<'a, R: Input + Drop, K: Clock + Drop, E: Output + Drop> {
+    file: R,
+    reporter: &'a RefCell<Reporter<K, E>>,
+}
 
-    fn read(&mut self, buf: &mut [u8]) -> io::Result<usize> {
-        let count = self.reader.read(buf)?;
-        if let Ok(mut reporter) = self.reporter.try_borrow_mut() {
-            reporter.note_bytes(count as u64);
-        }
-        Ok(count)
+impl<R: Input + Drop, K: Clock + Drop, E: Output + Drop> Input for Counted<'_, R, K, E> {
+    ghost gives = { λ counted bytes. R.gives counted.file bytes };
+
+    ghost begins = { λ counted bytes. R.begins counted.file bytes };
+
+    ghost failed = { λ counted. R.failed counted.file };
+
+    fn read_whole(self, alloc: Global, longest: u32) -> io::Result<Option<Vec<u8>>> {
+        self.file.read_whole(alloc, longest)
+    }
+
+    fn feed_to<P: Spools + Drop, C: ReplicaStore + Drop, L: ReadListener + Drop>(
+        self,
+        subscriber: &mut Subscriber<P, C>,
+        listener: L,
+    ) -> Result<(), Fault> {
+        let reporter = self.reporter;
+        let told = Bytes {
+            reporter,
+            next: listener,
+        };
+        self.file.feed_to(subscriber, told)
     }
 }
 
 /// What comes, of which the bytes are told as they are read.
-fn count_bytes<'a, R: Read + Drop, K: Clock + Drop, E: Output + Drop>(
+fn count_bytes<'a, R: Input + Drop, K: Clock + Drop, E: Output + Drop>(
     incoming: Incoming<R>,
     reporter: &'a RefCell<Reporter<K, E>>,
 ) -> Incoming<Counted<'a, R, K, E>>
-    ensures { CountsIncoming (λ c. c.reader) incoming result }
+    ensures { CountsIncoming (λ c. c.file) incoming result }
 {
     match incoming {
         Incoming::Sessions(sessions) => Incoming::Sessions(sessions),
-        Incoming::Raw(file) => Incoming::Raw(Counted::new(file, reporter)),
+        Incoming::Raw(file) => Incoming::Raw(Counted { file, reporter }),
     }
 }
 
 /// Applies to an opened store what comes, and tells the reporter meanwhile.
 fn run_reported<
-    R: Read + Drop,
+    R: Input + Drop,
     C: ReplicaStore + Drop,
     K: Clock + Drop,
     P: Output + Drop,
@@ -245,17 +267,17 @@ fn run_reported<
     ensures ends { (ended : Result Ending RunFault) × (result.0 ≡ status_of ended)
         × Writes W.takes W.failed (λ fault. C.is_honest result.1 → IsReadFault fault)
         (λ stopped lines. C.is_honest result.1 →
-        PrintsOver (ReaderGives R.remaining) (ReaderBegins R.remaining) (λ _. ⊤) C.holds C.place
+        PrintsOver R.gives R.begins R.failed C.holds C.place
         limits (Some (version, incoming)) store result.1 stopped lines) out.old out.new ended
         × Tells E.takes E.failed [] [] ended err.old err.new }
     ensures kept { C.serves result.1 →
-        HoldsAfter (ReaderGives R.remaining) (ReaderBegins R.remaining) (λ _. ⊤) C.holds C.place
+        HoldsAfter R.gives R.begins R.failed C.holds C.place
         limits (Some (version, incoming)) store result.1 }
     ensures left { C.is_honest result.1 →
-        MayBeLeft (ReaderGives R.remaining) (ReaderBegins R.remaining) (λ _. ⊤) C.holds C.place
+        MayBeLeft R.gives R.begins R.failed C.holds C.place
         C.reopens C.serves limits (Some (version, incoming)) store result.1 }
     ensures crash { C.is_honest result.1 → C.serves store →
-        LosesNothing (ReaderGives R.remaining) (ReaderBegins R.remaining) (λ _. ⊤) C.holds C.place
+        LosesNothing R.gives R.begins R.failed C.holds C.place
         C.reopens limits (Some (version, incoming)) store result.1 }
     ensures honest { C.is_honest result.1 → C.is_honest store }
 {
@@ -274,7 +296,7 @@ fn run_reported<
 /// Runs a task over an opened store, as `run_within` does, and tells a reporter meanwhile, where there is one. What is printed, what the
 /// store holds then, what a crash may leave of it, what standard error gets for a fault and the exit status are as without it.
 pub fn run_opened<
-    R: Read + Drop,
+    R: Input + Drop,
     C: ReplicaStore + Drop,
     K: Clock + Drop,
     P: Output + Drop,
@@ -293,17 +315,17 @@ pub fn run_opened<
     ensures ends { (ended : Result Ending RunFault) × (result.0 ≡ status_of ended)
         × Writes W.takes W.failed (λ fault. C.is_honest result.1 → IsReadFault fault)
         (λ stopped lines. C.is_honest result.1 →
-        PrintsOver (ReaderGives R.remaining) (ReaderBegins R.remaining) (λ _. ⊤) C.holds C.place
+        PrintsOver R.gives R.begins R.failed C.holds C.place
         limits input store result.1 stopped lines) out.old out.new ended
         × Tells E.takes E.failed [] [] ended err.old err.new }
     ensures kept { C.serves result.1 →
-        HoldsAfter (ReaderGives R.remaining) (ReaderBegins R.remaining) (λ _. ⊤) C.holds C.place
+        HoldsAfter R.gives R.begins R.failed C.holds C.place
         limits input store result.1 }
     ensures left { C.is_honest result.1 →
-        MayBeLeft (ReaderGives R.remaining) (ReaderBegins R.remaining) (λ _. ⊤) C.holds C.place
+        MayBeLeft R.gives R.begins R.failed C.holds C.place
         C.reopens C.serves limits input store result.1 }
     ensures crash { C.is_honest result.1 → C.serves store →
-        LosesNothing (ReaderGives R.remaining) (ReaderBegins R.remaining) (λ _. ⊤) C.holds C.place
+        LosesNothing R.gives R.begins R.failed C.holds C.place
         C.reopens limits input store result.1 }
     ensures honest { C.is_honest result.1 → C.is_honest store }
 {

@@ -376,6 +376,10 @@ impl ReplicaStore for Failing {
     fn misses(&self) -> Misses {
         Misses::none()
     }
+
+    fn cause(&self) -> Option<&str> {
+        Some("the disk is full")
+    }
 }
 
 /// What following over a store that takes nothing tells, and its status.
@@ -406,7 +410,11 @@ fn check_failing(
 fn a_store_that_fails_has_its_status(rt: HostRuntime) -> Result<(), Fail> {
     for (fault, line, status) in [
         (StoreFault::Clash, "pgsub: store 1 Clash\n", 1),
-        (StoreFault::Refused, "pgsub: store 8 Refused\n", 13),
+        (
+            StoreFault::Refused,
+            "pgsub: the disk is full\npgsub: store 8 Refused\n",
+            13,
+        ),
         (StoreFault::NotAStore, "pgsub: store 10 NotAStore\n", 13),
         (StoreFault::Memory, "pgsub: memory\n", 14),
     ] {
@@ -419,11 +427,16 @@ fn a_store_that_fails_has_its_status(rt: HostRuntime) -> Result<(), Fail> {
 fn a_store_that_is_not_opened_has_its_status(rt: HostRuntime) -> Result<(), Fail> {
     for (fault, line, status) in [
         (StoreFault::NotAStore, "pgsub: store 10 NotAStore\n", 3),
-        (StoreFault::Refused, "pgsub: store 8 Refused\n", 12),
+        (
+            StoreFault::Refused,
+            "pgsub: it is in use\npgsub: store 8 Refused\n",
+            12,
+        ),
         (StoreFault::Memory, "pgsub: memory\n", 14),
     ] {
         let mut err = Vec::new(rt.alloc());
-        assert_eq!(rt; tell_unfollowed(rt.alloc(), fault, &mut err), status);
+        let told = tell_unfollowed(rt.alloc(), fault, Some("it is in use"), &mut err);
+        assert_eq!(rt; told, status);
         assert_eq!(rt; err.as_slice(), line.as_bytes());
     }
     Ok(())

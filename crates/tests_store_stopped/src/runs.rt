@@ -32,6 +32,14 @@ fn may_come_of_a_stop(fed: &Result<(), Fault>) -> bool {
     )
 }
 
+/// Whether a store tells why it refused, where it did: the disk failed.
+fn tells_the_cause<C: ReplicaStore>(fed: &Result<(), Fault>, store: &C) -> bool {
+    match fed {
+        Err(Fault::Store(StoreFault::Refused)) => store.cause() == Some("the disk failed"),
+        _ => true,
+    }
+}
+
 fn is_cell(cell: &Cell, text: Option<&str>) -> bool {
     match (cell, text) {
         (Cell::Null, None) => true,
@@ -86,6 +94,9 @@ impl Trial for Stops<'_> {
         let (fed, store) = feed(alloc, store, self.bytes);
         if !may_come_of_a_stop(&fed) {
             return Err(Fail::from("another fault"));
+        }
+        if !tells_the_cause(&fed, &store) {
+            return Err(Fail::from("another cause"));
         }
         Ok(store)
     }

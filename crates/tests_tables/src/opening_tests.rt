@@ -17,7 +17,11 @@ const CASES: &[(bool, &str, bool)] = &[
     ),
     (true, "CREATE TABLE other (id INTEGER)", false),
     (true, "DROP TABLE pos", false),
-    (true, "DROP TABLE pos; CREATE TABLE pos (id INTEGER, lsn BLOB)", false),
+    (
+        true,
+        "DROP TABLE pos; CREATE TABLE pos (id INTEGER, lsn BLOB)",
+        false,
+    ),
     (false, "", false),
     (
         false,

@@ -178,6 +178,8 @@ def disk_full(place: Place) -> None:
     child = place.start()
     wait_until(lambda: not child.is_running() or "tried again" in child.said() or "started again" in child.said(), "failing", 30)
     filler.unlink()
+    if "store 8 Refused" in child.said() and "pgsub: the disk is full" not in child.said():
+        raise Failed(f"it doesn't tell that the disk is full: {child.said()}")
     if not child.is_running():
         place.has_ended(child, PASSING, "No space")
         child = place.start()

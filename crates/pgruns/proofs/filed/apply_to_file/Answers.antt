@@ -23,4 +23,4 @@ returns-in-Ok-clause-ran g c =
     )
 
 pub returns-in-Err-clause-unopened : goal.returns-in-Err-clause-unopened
-returns-in-Err-clause-unopened g c = (c.in-Err.fault, c.tell_unopened.ensures.status, refl, c.tell_unopened.ensures.tells, c.in-Err.ensures.unchanged)
+returns-in-Err-clause-unopened g c = (c.fault.result, c.tell_unopened.ensures.status, refl, c.tell_unopened.ensures.tells, c.in-Err.ensures.unchanged)

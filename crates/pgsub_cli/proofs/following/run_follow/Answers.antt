@@ -5,7 +5,7 @@ use Rattle.pgfollow.specs.Live.{IsOfFollowing, ended_by}
 use Rattle.pgsub_cli.specs.declared.fault.Ending.{Ending}
 use Rattle.pgsub_cli.specs.declared.fault.RunFault.{RunFault}
 use Rattle.pgsub_cli.specs.FollowStatus.{status_of_follow}
-use Rattle.pgsub_cli.specs.Runs.{Tells}
+use Rattle.pgsub_cli.specs.Caused.{TellsCaused}
 use Rattle.pgsub_cli.proofs.Ended.{ended_as, ended_is}
 use Rattle.pgsub_cli.proofs.following.run_follow.Goals as goal
 
@@ -13,7 +13,7 @@ pub returns-clause-ends : goal.returns-clause-ends
 returns-clause-ends g c = (
   ended_by c.follow_live-followed.result,
   subst (λ (m : Misses). c.follow_status.result ≡ status_of_follow m.count (ended_by c.follow_live-followed.result)) c.misses.ensures c.follow_status.ensures,
-  subst (λ (x : Result Ending RunFault). Tells g.E.Output.takes g.E.Output.failed [] [] x c.args.err.now c.tell.new.err) c.ending.ensures c.tell.ensures,
+  subst (λ (x : Result Ending RunFault). TellsCaused g.E.Output.takes g.E.Output.failed x c.args.err.now c.tell.new.err) c.ending-ended.ensures (c.tell_cause.new.err, c.tell_cause.ensures, c.tell.ensures),
   (
     λ is. c.follow_live-followed.ensures.read.0 ((ended_is c.follow_live-followed.result follow.Read).0 is),
     λ failed. (ended_is c.follow_live-followed.result follow.Read).1 (c.follow_live-followed.ensures.read.1 failed),

@@ -1,5 +1,4 @@
 use Rattle.std.proofs.Common.{◌≡◌, ℕ, List, Option, Some, refl, subst, sym}
-use Rattle.std.specs.Prelude.{⊤}
 use Rattle.pgorder.specs.declared.Version.{Version}
 use Rattle.pgsub_core.specs.declared.fault.Fault.{Fault}
 use Rattle.pgsub_core.specs.Machine.Faults.{IsReadFault}
@@ -7,7 +6,6 @@ use Rattle.pgsub_cli.specs.declared.storing.Incoming.{Incoming}
 use Rattle.pgsub_cli.specs.declared.reporting.Counted.{Counted}
 use Rattle.pgsub_cli.specs.declared.reported.Reported.{Reported}
 use Rattle.pgsub_cli.specs.declared.reporting.Commits.{Commits}
-use Rattle.pgsub_cli.specs.Reports.{ReaderBegins, ReaderGives}
 use Rattle.pgsub_cli.specs.StoreAfter.{HoldsAfter, MayBeLeft, LosesNothing}
 use Rattle.pgsub_cli.specs.Storing.{PrintsOver}
 use Rattle.pgsub_cli.proofs.LeftWithin.{holds_within, left_within, loses_within}
@@ -17,10 +15,10 @@ use Rattle.pgsub_cli.proofs.reporting.run_reported.Goals as goal
 pub returns-clause-ends : goal.returns-clause-ends
 returns-clause-ends g c =
     let it = g.C.ReplicaStore in
-    let gives : g.row.R.Denot → List ℕ → Type 0 = ReaderGives g.R.Read.remaining in
-    let begins : g.row.R.Denot → List ℕ → Type 0 = ReaderBegins g.R.Read.remaining in
-    let failed : g.row.R.Denot → Type 0 = λ _. ⊤ in
-    let reader : Counted g.row.R.Denot g.row.K.Denot g.row.P.Denot → g.row.R.Denot = λ q. q.reader in
+    let gives : g.row.R.Denot → List ℕ → Type 0 = g.R.Input.gives in
+    let begins : g.row.R.Denot → List ℕ → Type 0 = g.R.Input.begins in
+    let failed : g.row.R.Denot → Type 0 = g.R.Input.failed in
+    let reader : Counted g.row.R.Denot g.row.K.Denot g.row.P.Denot → g.row.R.Denot = λ q. q.file in
     let within : Reported g.row.C.Denot (Commits g.row.K.Denot g.row.P.Denot) → g.row.C.Denot = λ s. s.store in
     let input : Option (Version × Incoming g.row.R.Denot) = Some (c.args.version, c.args.incoming) in
     let counted : Option (Version × Incoming (Counted g.row.R.Denot g.row.K.Denot g.row.P.Denot)) = Some (c.args.version, c.count_bytes.result) in
@@ -39,10 +37,10 @@ returns-clause-ends g c =
 pub returns-clause-kept : goal.returns-clause-kept
 returns-clause-kept g c serves =
     let it = g.C.ReplicaStore in
-    let gives : g.row.R.Denot → List ℕ → Type 0 = ReaderGives g.R.Read.remaining in
-    let begins : g.row.R.Denot → List ℕ → Type 0 = ReaderBegins g.R.Read.remaining in
-    let failed : g.row.R.Denot → Type 0 = λ _. ⊤ in
-    let reader : Counted g.row.R.Denot g.row.K.Denot g.row.P.Denot → g.row.R.Denot = λ q. q.reader in
+    let gives : g.row.R.Denot → List ℕ → Type 0 = g.R.Input.gives in
+    let begins : g.row.R.Denot → List ℕ → Type 0 = g.R.Input.begins in
+    let failed : g.row.R.Denot → Type 0 = g.R.Input.failed in
+    let reader : Counted g.row.R.Denot g.row.K.Denot g.row.P.Denot → g.row.R.Denot = λ q. q.file in
     let inner : Reported g.row.C.Denot (Commits g.row.K.Denot g.row.P.Denot) → g.row.C.Denot = λ s. s.store in
     let input : Option (Version × Incoming g.row.R.Denot) = Some (c.args.version, c.args.incoming) in
     let there = c.run_within-status.result.1 in
@@ -54,10 +52,10 @@ returns-clause-kept g c serves =
 pub returns-clause-left : goal.returns-clause-left
 returns-clause-left g c honest =
     let it = g.C.ReplicaStore in
-    let gives : g.row.R.Denot → List ℕ → Type 0 = ReaderGives g.R.Read.remaining in
-    let begins : g.row.R.Denot → List ℕ → Type 0 = ReaderBegins g.R.Read.remaining in
-    let failed : g.row.R.Denot → Type 0 = λ _. ⊤ in
-    let reader : Counted g.row.R.Denot g.row.K.Denot g.row.P.Denot → g.row.R.Denot = λ q. q.reader in
+    let gives : g.row.R.Denot → List ℕ → Type 0 = g.R.Input.gives in
+    let begins : g.row.R.Denot → List ℕ → Type 0 = g.R.Input.begins in
+    let failed : g.row.R.Denot → Type 0 = g.R.Input.failed in
+    let reader : Counted g.row.R.Denot g.row.K.Denot g.row.P.Denot → g.row.R.Denot = λ q. q.file in
     let inner : Reported g.row.C.Denot (Commits g.row.K.Denot g.row.P.Denot) → g.row.C.Denot = λ s. s.store in
     let input : Option (Version × Incoming g.row.R.Denot) = Some (c.args.version, c.args.incoming) in
     let there = c.run_within-status.result.1 in
@@ -71,10 +69,10 @@ returns-clause-left g c honest =
 pub returns-clause-crash : goal.returns-clause-crash
 returns-clause-crash g c honest serves =
     let it = g.C.ReplicaStore in
-    let gives : g.row.R.Denot → List ℕ → Type 0 = ReaderGives g.R.Read.remaining in
-    let begins : g.row.R.Denot → List ℕ → Type 0 = ReaderBegins g.R.Read.remaining in
-    let failed : g.row.R.Denot → Type 0 = λ _. ⊤ in
-    let reader : Counted g.row.R.Denot g.row.K.Denot g.row.P.Denot → g.row.R.Denot = λ q. q.reader in
+    let gives : g.row.R.Denot → List ℕ → Type 0 = g.R.Input.gives in
+    let begins : g.row.R.Denot → List ℕ → Type 0 = g.R.Input.begins in
+    let failed : g.row.R.Denot → Type 0 = g.R.Input.failed in
+    let reader : Counted g.row.R.Denot g.row.K.Denot g.row.P.Denot → g.row.R.Denot = λ q. q.file in
     let inner : Reported g.row.C.Denot (Commits g.row.K.Denot g.row.P.Denot) → g.row.C.Denot = λ s. s.store in
     let input : Option (Version × Incoming g.row.R.Denot) = Some (c.args.version, c.args.incoming) in
     let there = c.run_within-status.result.1 in
