@@ -9,7 +9,6 @@ ghost use Rattle.pgsub_cli.specs.declared.fault.RunFault.TheVariants.{Stream};
 ghost use Rattle.pgsub_cli.specs.FollowStatus.{status_of_fault, status_of_follow, status_of_store, status_of_unfollowed};
 ghost use Rattle.pgsub_cli.specs.FollowedLive.{FollowsOver, ending_of};
 ghost use Rattle.pgsub_cli.specs.Caused.{TellsCause, TellsCaused};
-ghost use Rattle.pgsub_cli.specs.Runs.{Tells};
 
 use crate::fault::{Ending, RunFault};
 use crate::files::Output;
@@ -123,7 +122,7 @@ fn tell_cause<E: Output>(
 /// status is 0 where the bytes ended, and 16 where changes found no row then; 1 where the stream is rejected, 10 where `max_buffered` is
 /// too low and 11 where `max_frame` is, 13 where the store failed, 14 where memory ran out and 15 where a read or a write failed.
 /// Standard error gets the line of the fault, and before it, where the store refused and knows why, a line of that: `pgsub: the disk is
-/// full`. No other run writes one: what `apply` and `dump` write to standard error is fixed, and is one line.
+/// full`. No other run writes one: what `apply` and `dump` write to standard error are lines of a fixed list.
 ///
 /// What was read, fed and written, that all that is confirmed is stored, and which changes find no row, is as `follow_live` says.
 pub fn run_follow<R: Read + Drop, W: Write + Drop, K: Clock, C: ReplicaStore + Drop, E: Output>(
