@@ -317,12 +317,17 @@ class Remembered:
         """Notes durably that a table was added, or isn't to be any more: what was found of it goes. Returns the kinds that go by that."""
         self.wanted.pop(oid, None)
         self.partial.discard(oid)
-        texts = [it for it in texts if self.is_mended(it, oid)]
+        gone = self.are_right(oid, texts)
         if oid in self.unwanted:
             self.unwanted.discard(oid)
             self.left.discard(oid)
             self.sent.pop(oid, None)
-        gone = []
+            self.save()
+        return gone
+
+    def are_right(self, oid: int, texts: Iterable[str]) -> list[str]:
+        """Notes durably that a table's rows are right as to what was found of it. Returns the kinds that go by that."""
+        texts, gone = [it for it in texts if self.is_mended(it, oid)], []
         for kind, found in list(self.found.items()):
             found.drop(texts)
             if found.is_empty():
