@@ -109,6 +109,10 @@ class Remembered:
         """Whether a Relation message of this OID is no news."""
         return self.catalog is not None and (oid in self.catalog.tables or oid in self.catalog.partitions or oid in self.sent)
 
+    def is_unpublished(self, oid: int, lsn: int) -> bool:
+        """Whether a table wasn't published under its own name at the last look, which was before a commit with this LSN."""
+        return self.catalog is not None and lsn > self.catalog.lsn and oid not in self.catalog.tables
+
     def is_partition(self, oid: int) -> bool:
         """Whether this is a partition whose rows are sent under another name."""
         return self.catalog is not None and oid in self.catalog.partitions and oid not in self.catalog.tables
