@@ -75,7 +75,7 @@ class Follower:
         self.misses = Misses(options, checkpoint, progress, remembered)
         self.skipping = Skipping(options.skip, checkpoint, progress, remembered)
         self.adder = Adder(options, checkpoint, progress, remembered, self.watch, self.noting, snapshots.hold, self)
-        self.repairing = Repairing(options, checkpoint, remembered, self.watch, self.noting, snapshots, self)
+        self.repairing = Repairing(options, checkpoint, progress, remembered, self.watch, self.noting, snapshots, self)
         snapshots.adds, snapshots.is_streaming, snapshots.reached = self.adder.take, self.is_streaming, self.reached
         self.kills = sizes.Kills()
         # the greatest end of a commit that was passed on and is confirmed

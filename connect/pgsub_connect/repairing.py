@@ -13,6 +13,8 @@ module `replacing` says of the rows of a table that is added:
 
 Unlike there no change is left out, and nothing is noted: where the session is lost before the transaction is stored the copy is as it
 was, and all that the server sends comes again. The changes find their rows and clash with none, since the copy was compared at P.
+The laws of `crates/pgadding` don't speak of such a transaction: theirs is a truncation and Inserts, of a table of which they leave out the
+changes before P, so that it doesn't matter what rows the copy has.
 
 What was found of the tables' rows before they were compared, and may have made them wrong, goes with the repair.
 """
@@ -31,6 +33,7 @@ from .errors import ServerError
 from .holding import CHANGES
 from .messages import begin, commit, frame
 from .noting import EPOCH, relation_of
+from .progress import Progress
 from .replacing import XID, payload_of
 from .texts import counted, lsn_text
 
@@ -98,12 +101,15 @@ class Repairing:
     """What becomes of a request to repair rows."""
 
     def __init__(
-        self, options: Options, checkpoint: Checkpoint, remembered: Remembered, watch: Watch, noting: Noting, snapshots: Snapshots, stream: Stream,
+        self, options: Options, checkpoint: Checkpoint, progress: Progress, remembered: Remembered, watch: Watch, noting: Noting,
+        snapshots: Snapshots, stream: Stream,
     ) -> None:
-        self.options, self.checkpoint, self.remembered, self.watch = options, checkpoint, remembered, watch
+        self.options, self.checkpoint, self.progress, self.remembered, self.watch = options, checkpoint, progress, remembered, watch
         self.noting, self.snapshots, self.hold, self.stream = noting, snapshots, snapshots.hold, stream
         # whether the session asks for whole transactions because of this, and whether it ends since a repair is stored
         self.is_whole = self.ends_session = False
+        # whether the progress was told that the stream is held for a repair
+        self.is_shown = False
         # what was found before the rows were compared
         self.texts: set[str] = set()
 
@@ -125,7 +131,7 @@ class Repairing:
                 self.finish()
             else:
                 self.give_up("the session ended before")
-        self.ends_session = False
+        self.ends_session = self.is_shown = False
 
     def is_stored(self) -> bool:
         return self.hold.is_sent and self.hold.point is not None and self.stream.position >= self.hold.point
@@ -138,6 +144,9 @@ class Repairing:
 
     def step(self) -> None:
         """Goes on, where that is possible now. Called between payloads."""
+        if self.hold.keeps != self.is_shown:
+            self.is_shown = self.hold.keeps
+            self.progress.state = "repairing rows" if self.is_shown else "following"
         if self.is_stored():
             self.finish()
         elif self.hold.tables is not None and not self.hold.is_sent:

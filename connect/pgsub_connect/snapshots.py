@@ -132,7 +132,7 @@ class Snapshots:
             log.warning("whoever had asked for the copy at one LSN is gone: following goes on")
             remove(self.request)
             hold.end()
-        elif "error" in asked or asked and "held" not in asked:
+        elif "error" in asked or hold.is_copied and asked and "held" not in asked:
             # (that is the next request of whoever has asked)
             hold.end()
         elif hold.point is None and "point" in asked:

@@ -6,13 +6,14 @@ import collections
 import contextlib
 import os
 import struct
-import threading
+import time
 import unittest
 from collections.abc import Callable, Iterator
 from unittest import mock
 
+from pgsub_connect import snapshots
 from pgsub_connect.digests import Plan, text_of
-from pgsub_connect.errors import Passing, ServerError
+from pgsub_connect.errors import Passing
 from pgsub_connect.found import About
 from pgsub_connect.holding import Hold
 from pgsub_connect.meeting import Request
@@ -181,8 +182,9 @@ class Repaired(Repairs):
         """The hold goes with the request, and the session that was begun for it ends."""
         run = self.running()
         with self.compared():
-            pass
+            self.assertTrue(run.until(lambda: run.progress.state == "repairing rows"))
         self.assertTrue(run.until(lambda: run.progress.sessions == 3 and not run.snapshots.hold.is_held), (self.said, run.raised))
+        self.assertTrue(run.until(lambda: run.progress.state == "following"))
         self.repair()
         self.ends(run)
 
@@ -192,6 +194,19 @@ class Repaired(Repairs):
         for _ in range(3):
             with self.compared():
                 pass
+        self.repair()
+        self.ends(run)
+
+    def test_a_copy_that_takes_long(self) -> None:
+        """Nothing is passed on meanwhile."""
+        run, real = self.running(), snapshots.fold
+
+        def fold(path: str) -> None:
+            time.sleep(0.2)
+            real(path)
+
+        self.patch(snapshots, "fold", fold)
+        self.hook = lambda name: self.change() if name == "slot" else None
         self.repair()
         self.ends(run)
 
@@ -391,15 +406,15 @@ class Held(unittest.TestCase):
             self.assertEqual((hold.passing(payloads, False), hold.kept), (wanted, payloads[4:]))
 
     def test_sessions(self) -> None:
-        stream, snapshots = mock.Mock(), mock.Mock()
-        snapshots.hold = Hold()
-        repairing = Repairing(mock.Mock(), mock.Mock(), mock.Mock(), mock.Mock(), mock.Mock(), snapshots, stream)
+        it, stream, asked = mock.Mock(), mock.Mock(), mock.Mock()
+        asked.hold = Hold()
+        repairing = Repairing(it, it, it, it, it, it, asked, stream)
         found = []
         for wants, streaming, streams, keeps in (
             (False, True, True, False), (True, True, True, False), (True, False, True, False), (False, False, True, True), (False, False, True, False),
             (True, False, False, False), (False, False, False, False),
         ):
-            snapshots.wants_whole, snapshots.hold.keeps = wants, keeps
+            asked.wants_whole, asked.hold.keeps = wants, keeps
             stream.is_streaming.return_value = streaming
             wanted = repairing.wants_session()
             found.append((wanted, repairing.begin_session(streams), repairing.is_whole))
