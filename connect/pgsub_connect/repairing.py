@@ -115,8 +115,9 @@ class Repairing:
 
     def wants_session(self) -> bool:
         """Whether a session is to begin in place of the one that runs."""
-        wants_whole = self.snapshots.wants_whole
-        return self.ends_session or wants_whole and self.stream.is_streaming() or self.is_whole and not wants_whole and not self.hold.keeps
+        if self.snapshots.wants_whole:
+            return self.ends_session or self.stream.is_streaming()
+        return self.ends_session or self.is_whole and not self.hold.is_held
 
     def begin_session(self, streams: bool) -> bool:
         """A session begins. Returns whether it has to be one of whole transactions."""

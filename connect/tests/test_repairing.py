@@ -414,7 +414,7 @@ class Held(unittest.TestCase):
             (False, True, True, False), (True, True, True, False), (True, False, True, False), (False, False, True, True), (False, False, True, False),
             (True, False, False, False), (False, False, False, False),
         ):
-            asked.wants_whole, asked.hold.keeps = wants, keeps
+            asked.wants_whole, asked.hold.keeps, asked.hold.is_held = wants, keeps, keeps
             stream.is_streaming.return_value = streaming
             wanted = repairing.wants_session()
             found.append((wanted, repairing.begin_session(streams), repairing.is_whole))

@@ -16,6 +16,7 @@ from ..errors import Failed
 from ..follower import Supervisor, filters_of, wait_until
 from ..pgbench import PgBench
 from ..place import MISSED, OK, PASSING, Place
+from . import shapes
 from .adding import check_left, kill
 from .case import Case
 from .common import PLANTED, TABLES, Moves, moving, plant, spelled, verify, verify_words
@@ -168,6 +169,45 @@ def ended(child: Child) -> None:
     child.signal(SIGTERM)
     if (status := child.end()) not in (OK, MISSED):
         raise Failed(f"status {status}: {child.said()}")
+
+
+def every_shape(place: Place) -> None:
+    """Rows of tables of every shape and of many types are mended, some of them and all."""
+    place.run(*shapes.create(place.options.installed.version), *shapes.ROWS)
+    place.follow("--create")
+    for query in ("DELETE FROM held WHERE rowid % 2 = ?", "DELETE FROM held WHERE rowid % 2 <> ?", "DELETE FROM held WHERE oid > ?"):
+        edit(place, (query, (0,)))
+        child = place.start()
+        child.wait_for("following slot")
+        _, said = verify(place, "--repair")
+        if ANEW in said:
+            raise Failed(said)
+        verify(place)
+        check_left(place)
+        child.stop()
+        place.equal()
+
+
+def other_encoding(place: Place) -> None:
+    """So are the texts of a database that isn't in UTF-8."""
+    place.own_server(encoding="LATIN1")
+    place.run(
+        "CREATE TABLE t (word text PRIMARY KEY, more text)", "INSERT INTO t SELECT U&'gr\\00fc\\00df ' || it, U&'\\00e4' FROM generate_series(1, 1000) it",
+        "CREATE PUBLICATION pgsub FOR ALL TABLES",
+    )
+    place.follow("--create")
+    edit(
+        place, ("DELETE FROM held WHERE rowid % 10 = ?", (1,)), ("INSERT INTO held SELECT oid, ?, ?, 1 FROM rel", (spelled(("grüß",)), spelled(("grüß", "ä")))),
+        ("UPDATE held SET body = ? WHERE ident = ?", (spelled(("grüß 3", "a")), spelled(("grüß 3",)))),
+    )
+    child = place.start()
+    child.wait_for("following slot")
+    _, said = verify(place, "--repair")
+    if "public.t: 100 inserted, 1 updated, 1 deleted" not in said:
+        raise Failed(said)
+    verify(place)
+    child.stop()
+    place.equal()
 
 
 def streamed(place: Place) -> None:
@@ -387,6 +427,8 @@ CASES = (
     Case("repair-by-rows", each),
     Case("repair-beside-changes", beside_changes),
     Case("repair-a-whole-table", whole),
+    Case("repair-tables-of-every-shape", every_shape),
+    Case("repair-another-encoding", other_encoding),
     Case("repair-under-moves", streamed),
     Case("repair-what-was-found", found_goes),
     Case("repair-cut-at-each-step", cut),
