@@ -33,7 +33,7 @@ Where rows are to be repaired, as the module `repairing` says, the request has `
 | Field | Written by | Means |
 |---|---|---|
 | `copied` | the follower | the copy is there |
-| `tables` | verify | the OIDs of the tables whose changes are in the file that `into` names, with `.changes` behind it; once they are stored, the request goes |
+| `tables` | verify | of these tables, by OIDs, changes are in the file `into`.changes; once they are stored, the request goes |
 """
 
 from __future__ import annotations

@@ -13,7 +13,7 @@ from typing import TYPE_CHECKING
 
 from .checkpoint import FOLLOWING, Known
 from .copying import CHANGED, check_names, create_temporary
-from .errors import NoSlot, Passing, ServerError, Unfit
+from .errors import NoSlot, Passing, ServerError, Unfit, Unrepaired
 from .holding import CHANGES, write_request
 from .postgres import Check, Connection
 from .publishing import Table, published_tables, stored_in
@@ -77,7 +77,8 @@ class Request:
         write_request(self.request, into=self.into, held="", copied="", tables=tables, **self.more)
         while (found := read_request(self.request)).get("into", self.into) == self.into and os.path.exists(self.request):
             if "error" in found:
-                raise Passing(f"{self.store}: its follower repaired nothing: {found['error']}")
+                kind = Unrepaired if found.get("lasts") else Passing
+                raise kind(f"{self.store}: its follower repaired nothing: {found['error']}")
             if not is_followed(self.store):
                 raise Passing(f"{self.store} isn't followed any more: compare again, to see whether it is repaired")
             self.check()

@@ -131,7 +131,7 @@ class Repairing:
             if self.is_stored():
                 self.finish()
             else:
-                self.give_up("the session ended before")
+                self.give_up("the session ended before", False)
         self.ends_session = self.is_shown = False
 
     def is_stored(self) -> bool:
@@ -160,7 +160,7 @@ class Repairing:
         try:
             first = self.checked(next(lots))
         except Unusable as error:
-            self.give_up(str(error))
+            self.give_up(str(error), True)
             return
         lsn, clock = self.hold.point - 1, round((time.time() - EPOCH) * 1000000)
         self.hold.is_sent = True
@@ -169,7 +169,7 @@ class Repairing:
             for lot in lots:
                 self.push([frame(lsn, it) for it in self.checked(lot)])
         except Unusable as error:
-            self.give_up(str(error))
+            self.give_up(str(error), True)
             raise ServerError("the session ends, since rows can't be repaired") from None
         self.push([frame(lsn, commit(lsn, self.hold.point, clock))])
 
@@ -201,8 +201,9 @@ class Repairing:
         self.ends_session = True
         self.watch.show()
 
-    def give_up(self, why: str) -> None:
+    def give_up(self, why: str, lasts: bool) -> None:
+        """Lets the stream go. `lasts`: another try would end in the same way."""
         log.warning(f"no row is repaired: {why}")
         assert self.hold.into
-        self.snapshots.reject(self.hold.into, why)
+        self.snapshots.reject(self.hold.into, why, lasts)
         self.hold.end()

@@ -140,7 +140,8 @@ class Sides:
     def rows(self, plan: Plan, chunks: list[int]) -> Iterator[Row]:
         """The server's rows in some chunks, in the order of their keys."""
         wanted = set(chunks)
-        for lines in self.source.plain.copied_blocks(Queries(plan, self.source.encoding).texts(chunks if len(chunks) <= NAMED else []), BLOCK):
+        query = Queries(plan, self.source.encoding).texts(chunks if len(chunks) <= NAMED else [])
+        for lines in self.source.plain.copied_blocks(query, BLOCK):
             for line in lines:
                 text = line[:-1] if b"\\" not in line else unescaped(line[:-1])
                 key = plan.key_text(fields_in(text), text) if plan.key else text

@@ -28,7 +28,8 @@ class Snapshots:
 
     A request is the file `STORE.request`, a JSON object whose `into` names a file in the store's own folder. It goes when the copy
     is there, or gets the field `error`. One with `hold` is for a copy at one LSN, as the module `holding` says, and where it has `repair`
-    the stream stays held, in a session of whole transactions, so that rows may be repaired; one with `add` asks for no copy: it has the OIDs of tables to add, and as `remove` those of which the rows are to go, and goes once that is noted.
+    the stream stays held, in a session of whole transactions, so that rows may be repaired; one with `add` asks for no copy: it has the
+    OIDs of tables to add, and as `remove` those of which the rows are to go, and goes once that is noted.
     """
 
     def __init__(self, store: str, path: str | None, every: float, mode: int = 0o600) -> None:
@@ -161,10 +162,10 @@ class Snapshots:
                 with open(self.request, "w", encoding="utf-8") as file:
                     json.dump({"into": into, "error": error}, file)
 
-    def reject(self, into: str, why: str) -> None:
-        """Tells whoever waits for a request still that nothing comes of it."""
+    def reject(self, into: str, why: str, lasts: bool) -> None:
+        """Tells whoever waits for a request still that nothing comes of it, nor of another one if that `lasts`."""
         if self.is_waited_for(into, False):
-            self.answer(into, why)
+            write_request(self.request, into=into, error=why, lasts=lasts)
 
     def take(self, position: int, tick: Callable[[], None]) -> None:
         """Copies the files of a store at rest, and has a thread make one file of them. `tick` is called between parts."""

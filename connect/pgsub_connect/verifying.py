@@ -21,7 +21,7 @@ from . import log, requesting
 from .checkpoint import Known
 from .digests import Field, Fields, NotText, Plan, Sums, fields_in
 from .dropping import read_known
-from .errors import FileError, Passing, Stopped, Unfit
+from .errors import FileError, Passing, Stopped, Unfit, Unrepaired
 from .making import names_of
 from .meeting import Request, Source
 from .mending import Changes, Mender
@@ -140,7 +140,11 @@ def verify(options: Options, check: Check) -> int:
     different = compare(options, check)
     if not different or not options.repair:
         return DIFFERENT if different else EQUAL
-    left = repair(options, {it.oid for it in different}, check)
+    try:
+        left = repair(options, {it.oid for it in different}, check)
+    except Unrepaired as error:
+        log.error(str(error))
+        return DIFFERENT
     return requesting.add(options, {it.oid: it.text() for it in left}, check) if left else EQUAL
 
 
@@ -157,7 +161,11 @@ def compare(options: Options, check: Check) -> list[Table]:
 
 def repair(options: Options, oids: Collection[int], check: Check) -> list[Table]:
     """Compares tables once more, while the stream is held, and has the changes passed on. Returns those that are to be copied anew."""
-    with met(options, lambda it: [table for table in it.tables if table.oid in oids], check, repairs=True) as (sides, tables, request, point):
+
+    def choose(source: Source) -> list[Table]:
+        return [it for it in source.tables if it.oid in oids]
+
+    with met(options, choose, check, repairs=True) as (sides, tables, request, point):
         with contextlib.closing(Changes(request.changes(), options.store)) as changes:
             mender = Mender(sides, changes)
             mender.run(tables)

@@ -28,7 +28,8 @@ from .vectors import begin, commit, data, logged
 
 NOTHING = Table(3, "public", "bare", "r", "n", None, None, [Column("a", 25, -1, False, 1)])
 # A key of two columns, of which the first isn't one.
-TWO = Table(4, "public", "two", "r", "i", None, None, [Column("n", 25, -1, False, 1), Column("a", 25, -1, True, 2), Column("b", 25, -1, True, 3)])
+COLUMNS = [Column("n", 25, -1, False, 1), Column("a", 25, -1, True, 2), Column("b", 25, -1, True, 3)]
+TWO = Table(4, "public", "two", "r", "i", None, None, COLUMNS)
 TOO_MANY: Rows = [[f"too many {it}", None] for it in range(300)]
 Some = dict[tuple[str | None, ...], int]
 
@@ -130,7 +131,8 @@ class Written(Case):
         self.assertEqual(mender.written, {1: {b"I": 1, b"U": 1, b"D": 1}, 2: {b"I": 1, b"D": 1}})
         self.assertEqual((mender.left, mender.text()), ([], "5 rows of 2 tables"))
         first = [
-            b"U\0\0\0\x01N\0\x02t\0\0\0\x017t\0\0\0\x06name 7", b"I\0\0\0\x01N\0\x02t\0\0\0\x018t\0\0\0\x06name 8", b"D\0\0\0\x01K\0\x02t\0\0\0\x01xn",
+            b"U\0\0\0\x01N\0\x02t\0\0\0\x017t\0\0\0\x06name 7", b"I\0\0\0\x01N\0\x02t\0\0\0\x018t\0\0\0\x06name 8",
+            b"D\0\0\0\x01K\0\x02t\0\0\0\x01xn",
         ]
         second = [b"D\0\0\0\x02O\0\x02t\0\0\0\x01xt\0\0\0\0", b"I\0\0\0\x02N\0\x02t\0\0\0\x01xn"]
         self.assertEqual(self.messages(), [relation(KEYED), *first, relation(WHOLE), *second])
@@ -147,7 +149,8 @@ class Written(Case):
         more: Rows = [[f"more {it}", "x"] for it in range(300)]
         self.server.tables[1] = [*ROWS, *more]
         for mine in (
-            ROWS, [*ROWS[:450], *more], [*more, *([it[0], "other"] for it in ROWS[:300]), *ROWS[300:]], [*more, *ROWS, *([it[0], "y"] for it in TOO_MANY)],
+            ROWS, [*ROWS[:450], *more], [*more, *([it[0], "other"] for it in ROWS[:300]), *ROWS[300:]],
+            [*more, *ROWS, *([it[0], "y"] for it in TOO_MANY)],
             [*more, *([it[0], "other"] for it in ROWS[:100]), *ROWS[200:], *TOO_MANY[:100]],
         ):
             self.keep({1: cast(Rows, mine), 2: EQUAL_ROWS[1:]})

@@ -13,7 +13,7 @@ from unittest import mock
 
 from pgsub_connect import snapshots
 from pgsub_connect.digests import Plan, text_of
-from pgsub_connect.errors import Passing
+from pgsub_connect.errors import Passing, Unrepaired
 from pgsub_connect.found import About
 from pgsub_connect.holding import Hold
 from pgsub_connect.meeting import Request
@@ -267,13 +267,13 @@ class Repaired(Repairs):
         """Following goes on in the same session where nothing was passed on."""
         run = self.running(proto=1)
         run.follower.options.max_buffered = 50
-        with self.assertRaisesRegex(Passing, "50 may be buffered"):
+        with self.assertRaisesRegex(Unrepaired, "50 may be buffered"):
             self.repair()
         self.change()
         self.assertTrue(run.until(lambda: self.is_stored(run)), (self.said, run.raised))
         self.assertEqual(run.progress.sessions, 1)
         run.follower.options.max_buffered, run.follower.options.max_frame = 1 << 20, 30
-        with self.assertRaisesRegex(Passing, "--max-frame"):
+        with self.assertRaisesRegex(Unrepaired, "--max-frame"):
             self.repair()
         run.follower.options.max_frame = 1 << 20
         self.repair()
@@ -411,8 +411,8 @@ class Held(unittest.TestCase):
         repairing = Repairing(it, it, it, it, it, it, asked, stream)
         found = []
         for wants, streaming, streams, keeps in (
-            (False, True, True, False), (True, True, True, False), (True, False, True, False), (False, False, True, True), (False, False, True, False),
-            (True, False, False, False), (False, False, False, False),
+            (False, True, True, False), (True, True, True, False), (True, False, True, False), (False, False, True, True),
+            (False, False, True, False), (True, False, False, False), (False, False, False, False),
         ):
             asked.wants_whole, asked.hold.keeps, asked.hold.is_held = wants, keeps, keeps
             stream.is_streaming.return_value = streaming

@@ -15,7 +15,7 @@ from pgsub_connect import cli, requesting, verifying
 from pgsub_connect.checkpoint import FOLLOWING, Known
 from pgsub_connect.cli import Options
 from pgsub_connect.digests import NotText, Plan, Summing, fields_of, text_of
-from pgsub_connect.errors import FileError, NoSlot, Passing, Stopped, Unfit
+from pgsub_connect.errors import FileError, NoSlot, Passing, Stopped, Unfit, Unrepaired
 from pgsub_connect.meeting import Source
 from pgsub_connect.postgres import never
 from pgsub_connect.publishing import Column, Table
@@ -264,6 +264,13 @@ class Reads(Case):
             ), mock.patch.object(requesting, "add", return_value=7) as add:
                 self.assertEqual(verifying.run(self.options, never), status)
             self.assertEqual(add.call_args and add.call_args.args[1], asked)
+
+    def test_what_the_follower_does_not_pass_on(self) -> None:
+        self.options.repair = True
+        repair = mock.Mock(side_effect=Unrepaired("too much"))
+        with mock.patch.multiple(verifying, compare=lambda *_: [WHOLE], repair=repair), logged() as told:
+            self.assertEqual(verifying.run(self.options, never), 1)
+        self.assertEqual(told, ["error: too much"])
 
     def test_which_tables_differ(self) -> None:
         """Those that were compared and aren't equal, and those that couldn't be."""
