@@ -24,6 +24,7 @@ from pgsub_connect.publishing import Table
 from pgsub_connect.remembered import Remembered
 from pgsub_connect.repairing import Repairing, Unusable, messages_in
 from pgsub_connect.replacing import XID
+from pgsub_connect.snapshots import Snapshots
 from pgsub_connect.watching import Watch
 
 from .adding_case import OTHER, T, THIRD, Case, Run
@@ -404,6 +405,15 @@ class Held(unittest.TestCase):
             hold.begin("copy", 5.0, keeps)
             hold.go(0x200)
             self.assertEqual((hold.passing(payloads, False), hold.kept), (wanted, payloads[4:]))
+
+    def test_who_asked_is_gone(self) -> None:
+        """The stream stays held once the changes are on their way: behind them nothing is passed on in the session."""
+        for is_sent in (False, True):
+            asked = Snapshots("/nowhere/copy.db", None, 0.0)
+            asked.hold.begin("/nowhere/copy", 5.0, True)
+            asked.hold.is_sent = is_sent
+            asked.look_after("/nowhere/copy")
+            self.assertEqual(asked.hold.is_held, is_sent)
 
     def test_sessions(self) -> None:
         it, stream, asked = mock.Mock(), mock.Mock(), mock.Mock()
