@@ -10,7 +10,8 @@
 | what may make the copy wrong | `watching`, `missing`, `remembered`, `found`, `differences` |
 | how it goes | `progress`, `asking`, `lag`, `reporting`, `metrics` |
 | copies for readers | `snapshots`, `resting`, `taking`, `exporting`, `stored`, `values`, `naming`, `placing` |
-| copy and server compared | `verifying`, `digests`, `meeting`, `holding` |
+| copy and server compared | `verifying`, `sides`, `digests`, `meeting`, `holding` |
+| rows that differ are mended | `mending`, `repairing` |
 | other subcommands | `checking`, `dropping`, `probing` |
 """
 

@@ -300,7 +300,7 @@ def add_verifying(parser: argparse.ArgumentParser) -> None:
     add = parser.add_argument
     add("--store", metavar="FILE", required=True, help="the store, which has to be followed meanwhile")
     add("--table", action="append", default=[], help="compare this table, may be repeated (default: all that are published)")
-    add("--repair", action="store_true", help="have the follower copy the tables that differ anew")
+    add("--repair", action="store_true", help="have the follower mend the rows that differ, or copy a table anew of which many do")
     add("--show", type=within(0, 1 << 20), default=20, metavar="N", help="print at most N keys that differ (default: 20)")
     add("--hold", type=within_seconds(600.0), default=10.0, metavar="N",
         help="hold the stream for at most N seconds until the server has made a slot (default: 10)")

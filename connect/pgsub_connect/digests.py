@@ -199,9 +199,8 @@ class Queries:
         )
 
     def texts(self, chunks: Sequence[int]) -> str:
-        """The COPY of the row texts of some chunks, in the order of their keys' bytes and then their own."""
+        """The COPY of the row texts of some chunks, or of all where none is named, in the order of their keys' bytes and then their own."""
         name = "k" if self.plan.key else "r"
-        listed = ", ".join(map(str, chunks))
         ordered = ", ".join(dict.fromkeys((self.encoded(name), self.encoded("r"))))
-        where = f"WHERE {self.chunk(self.hashed(name))} IN ({listed})"
-        return f"COPY (SELECT s.r FROM ({self.rows()}) s {where} ORDER BY {ordered}) TO STDOUT"
+        where = f"WHERE {self.chunk(self.hashed(name))} IN ({', '.join(map(str, chunks))}) " if chunks else ""
+        return f"COPY (SELECT s.r FROM ({self.rows()}) s {where}ORDER BY {ordered}) TO STDOUT"

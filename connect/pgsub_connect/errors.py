@@ -23,6 +23,10 @@ class NoSlot(Exception):
     """The server didn't make a slot in time: nothing was compared."""
 
 
+class Unrepaired(Exception):
+    """The follower doesn't pass on what would repair the copy, and wouldn't at another try."""
+
+
 class UsageError(Exception):
     """Words of the command line ask for what the server's version doesn't have."""
 

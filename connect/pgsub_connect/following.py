@@ -21,6 +21,7 @@ from .postgres import COPY_BOTH, Connection
 from .progress import Progress
 from .recording import Aside
 from .remembered import Remembered
+from .repairing import Repairing
 from .server import (
     ABORTS_IN_VERSION_1, STREAMS, Server, identify, is_lost, left_at, log_end, sender_timeout, settle, slot_position, tell_plain_text,
     tell_version_1, waits_for,
@@ -74,7 +75,8 @@ class Follower:
         self.misses = Misses(options, checkpoint, progress, remembered)
         self.skipping = Skipping(options.skip, checkpoint, progress, remembered)
         self.adder = Adder(options, checkpoint, progress, remembered, self.watch, self.noting, snapshots.hold, self)
-        snapshots.adds = self.adder.take
+        self.repairing = Repairing(options, checkpoint, progress, remembered, self.watch, self.noting, snapshots, self)
+        snapshots.adds, snapshots.is_streaming, snapshots.reached = self.adder.take, self.is_streaming, self.reached
         self.kills = sizes.Kills()
         # the greatest end of a commit that was passed on and is confirmed
         self.position = 0
@@ -85,7 +87,7 @@ class Follower:
         self.told = b""
         self.held: bytes | None = None
         self.until = options.until if isinstance(options.until, int) else None
-        # whether whole transactions are asked for because of tables that are added
+        # whether whole transactions are asked for because of tables that are added, or rows that are repaired
         self.is_whole = False
 
     def run(self) -> None:
@@ -187,10 +189,12 @@ class Follower:
             self.forget_confirmed(self.filter.confirmed())
             if self.noting.ends or self.filter.waiting:
                 return True
+        if self.snapshots.hold.keeps:
+            self.repairing.look()
         state, self.progress.state = self.progress.state, "copying the store"
         self.snapshots.take(self.position, self.tick)
         self.progress.state = state
-        return False
+        return self.snapshots.hold.stops()
 
     def tick(self) -> None:
         """Keeps server and status file content while something takes long."""
@@ -274,7 +278,8 @@ class Follower:
         if not self.watch.look_again(self.check_stop, self.position):
             self.noting.wants_look = True
         self.skipping.begin_session(self.filter.confirmed())
-        self.is_whole = self.adder.begin_session(self.position, self.streams)
+        adds, repairs = self.adder.begin_session(self.position, self.streams), self.repairing.begin_session(self.streams)
+        self.is_whole = adds or repairs
         self.noting.begin_session()
         if options.until == "now" and self.until is None:
             self.until = log_end(connection)
@@ -451,11 +456,13 @@ class Follower:
         self.end_session_by_ourselves()
 
     def ends_for_another(self, connection: Connection) -> bool:
-        """Goes on with tables that are added. Returns whether another session is to begin for them."""
+        """Goes on with tables that are added, and rows that are repaired. Returns whether another session is to begin for them."""
         self.progress.beat()
         if self.progress.was_promoted:
             raise ServerError("the standby was promoted: a session with the new primary is begun")
-        if self.adder.wants_session():
+        # (behind a repair nothing is passed on in this session)
+        self.repairing.step()
+        if self.repairing.wants_session() or not self.snapshots.hold.keeps and self.adder.wants_session():
             self.renew(connection)
             return True
         self.adder.step()
@@ -487,8 +494,8 @@ class Follower:
             self.send(asking(self.told) if waits or silent > limit / 2 else self.told)
 
     def renew(self, connection: Connection) -> None:
-        """Ends a session so that another one begins, with whole transactions where a table is added, or again without."""
-        log.info("a session begins anew, because of tables that are added")
+        """Ends a session so that another one begins, with whole transactions where rows come from here, or again without."""
+        log.info("a session begins anew, because of rows that are added or repaired")
         self.delay = 0.0
         connection.end_copy()
 
@@ -670,6 +677,7 @@ class Follower:
     def disconnect(self) -> None:
         self.held = None
         self.adder.end_session()
+        self.repairing.end_session()
         self.snapshots.hold.end_session()
         self.watch.finish()
         if self.connection:

@@ -1,4 +1,4 @@
-"""Stops the stream between two commits, so that the copy is exactly that of one LSN: for `pgsub-connect verify`, or to add a table.
+"""Stops the stream between two commits, so that the copy is exactly that of one LSN: for `pgsub-connect verify`, or to add or repair rows.
 
 That LSN is a slot's consistent point P, and the server is read under the snapshot that the slot exports. It "will show exactly the
 state of the database after which all changes will be included in the change stream" (PostgreSQL's documentation, Logical Decoding
@@ -27,6 +27,13 @@ The request is a dialog in the file `STORE.request`, which is locked (flock) by 
 | `hold` | verify | for how many seconds at most the stream may be held until `point` is there |
 | `held` | the follower | nothing is passed on from now on; its position |
 | `point` | verify | P: the stream goes on up to there, then the copy is taken, and the request goes |
+
+Where rows are to be repaired, as the module `repairing` says, the request has `repair` from its beginning on, and the stream stays held:
+
+| Field | Written by | Means |
+|---|---|---|
+| `copied` | the follower | the copy is there |
+| `tables` | verify | of these tables, by OIDs, changes are in the file `into`.changes; once they are stored, the request goes |
 """
 
 from __future__ import annotations
@@ -43,6 +50,9 @@ from .noting import BEGIN, COMMIT, STREAM_COMMIT, final_lsn
 
 # The most seconds that a request may ask for.
 LONGEST = 610.0
+# What the name of the file with changes has behind that of the copy.
+CHANGES = ".changes"
+KEEPALIVE = b"k"
 
 
 class Hold:
@@ -54,13 +64,18 @@ class Hold:
         self.into: str | None = None
         self.point: int | None = None
         self.until = 0.0
+        # whether it stays held once the copy was taken, since rows may be repaired; whether it was taken; the tables of the changes that
+        # are to be passed on, None as long as these aren't told; and whether they were passed on
+        self.keeps = self.is_copied = self.is_sent = False
+        self.tables: list[int] | None = None
         # whether all commits up to the point have come in this session, and what came behind them
         self.is_there = False
         self.kept: list[bytes] = []
 
-    def begin(self, into: str | None, seconds: float) -> None:
+    def begin(self, into: str | None, seconds: float, keeps: bool = False) -> None:
         """Nothing is passed on from now on."""
-        self.is_held, self.into, self.point, self.is_there = True, into, None, False
+        self.end()
+        self.is_held, self.into, self.keeps = True, into, keeps
         self.until = time.monotonic() + seconds
 
     def go(self, point: int) -> None:
@@ -70,6 +85,7 @@ class Hold:
     def end(self) -> None:
         """All goes on, with what was kept back."""
         self.is_held, self.into, self.point, self.is_there = False, None, None, False
+        self.keeps, self.is_copied, self.is_sent, self.tables = False, False, False, None
 
     def end_session(self) -> None:
         """The server sends again what was kept back, and what the filter may have lost."""
@@ -83,6 +99,10 @@ class Hold:
         """Whether it is held for a copy that somebody has asked for."""
         return self.into is not None
 
+    def is_due(self) -> bool:
+        """Whether the copy is to be taken once all that was passed on is stored."""
+        return self.is_there and not self.is_copied
+
     def is_going(self) -> bool:
         """Whether payloads are passed on up to the point."""
         return self.point is not None and not self.is_there
@@ -94,7 +114,10 @@ class Hold:
         count = count_below(payloads, self.point, is_inside)
         self.kept = payloads[count:]
         self.is_there = bool(self.kept)
-        return payloads[:count]
+        if not self.keeps:
+            return payloads[:count]
+        # (within a transaction no server tells of the point or more; before the changes nothing may)
+        return [it for it in payloads[:count] if it[:1] != KEEPALIVE or int.from_bytes(it[1:9], "big") < self.point]
 
     def take_kept(self) -> list[bytes]:
         kept, self.kept = self.kept, []

@@ -13,8 +13,8 @@ from typing import TYPE_CHECKING
 
 from .checkpoint import FOLLOWING, Known
 from .copying import CHANGED, check_names, create_temporary
-from .errors import NoSlot, Passing, ServerError, Unfit
-from .holding import write_request
+from .errors import NoSlot, Passing, ServerError, Unfit, Unrepaired
+from .holding import CHANGES, write_request
 from .postgres import Check, Connection
 from .publishing import Table, published_tables, stored_in
 from .reading import GONE, LOCK_TIMEOUT, lock_tables, take_snapshot
@@ -33,16 +33,20 @@ PATIENCE, MARGIN = 60.0, 5.0
 
 
 class Request:
-    """A request for the follower's copy at an LSN that is told once the stream is held. It goes at the end, and with it the hold."""
+    """A request for the follower's copy at an LSN that is told once the stream is held. It goes at the end, and with it the hold.
 
-    def __init__(self, store: str, seconds: float, check: Check) -> None:
+    `repairs`: the stream stays held, until changes are passed on.
+    """
+
+    def __init__(self, store: str, seconds: float, check: Check, repairs: bool = False) -> None:
         self.store, self.request, self.seconds, self.check = store, store + ".request", seconds, check
         self.into = os.path.abspath(own_name(store + ".export"))
+        self.more = {"repair": True} if repairs else {}
         self.file: int | None = None
 
     def hold(self) -> None:
         """Has the follower hold the stream."""
-        self.file = put_request(self.store, self.request, self.into, self.check, hold=self.seconds + MARGIN)
+        self.file = put_request(self.store, self.request, self.into, self.check, hold=self.seconds + MARGIN, **self.more)
         if self.file is None:
             raise self.ended()
         until = time.monotonic() + PATIENCE
@@ -60,13 +64,29 @@ class Request:
 
     def tell(self, point: int) -> None:
         """Lets the stream go on up to this LSN, where the copy is taken."""
-        write_request(self.request, into=self.into, hold=self.seconds + MARGIN, held="", point=lsn_text(point))
+        write_request(self.request, into=self.into, hold=self.seconds + MARGIN, held="", point=lsn_text(point), **self.more)
 
     def copied(self) -> str:
         """Waits for the copy, and returns its path."""
         if not wait_for_copy(self.store, self.request, self.into, self.check):
             raise self.ended()
         return self.into
+
+    def pass_on(self, tables: list[int]) -> None:
+        """Has the follower pass on the changes of tables that are in the file, and waits until the store has them."""
+        write_request(self.request, into=self.into, held="", copied="", tables=tables, **self.more)
+        while (found := read_request(self.request)).get("into", self.into) == self.into and os.path.exists(self.request):
+            if "error" in found:
+                kind = Unrepaired if found.get("lasts") else Passing
+                raise kind(f"{self.store}: its follower repaired nothing: {found['error']}")
+            if not is_followed(self.store):
+                raise Passing(f"{self.store} isn't followed any more: compare again, to see whether it is repaired")
+            self.check()
+            time.sleep(LOOK)
+
+    def changes(self) -> str:
+        """The path of the file with changes."""
+        return self.into + CHANGES
 
     def ended(self) -> Passing:
         return Passing(f"nobody follows into {self.store}: a follower has to run, which brings its copy to the LSN of the comparison")
@@ -77,6 +97,7 @@ class Request:
         if self.file is not None:
             os.close(self.file)
             self.file = None
+        remove(self.changes())
         remove_files(self.into)
 
 

@@ -1,4 +1,4 @@
-"""The messages of the initial copy's transactions, and how rows in COPY's text format become Inserts.
+"""The messages of the connector's own transactions, and how rows in COPY's text format become Inserts.
 
 Lines are encoded a block at a time and column by column, since a call for each value costs more than all else. Within a line
 only the server's own tabs and newlines are tabs and newlines: those of values come as `\\t` and `\\n`.
@@ -8,6 +8,7 @@ from __future__ import annotations
 
 import re
 import struct
+from collections.abc import Sequence
 
 from .publishing import Table
 
@@ -39,6 +40,26 @@ def relation(table: Table) -> bytes:
     for column in table.columns:
         parts += [bytes([column.key]), column.name.encode(), b"\0", struct.pack(">Ii", column.type_oid, column.modifier)]
     return b"".join(parts)
+
+
+def cells(fields: Sequence[bytes | None]) -> bytes:
+    """A tuple of texts and nulls."""
+    texts = [b"n" if it is None else struct.pack(">cI", b"t", len(it)) + it for it in fields]
+    return struct.pack(">H", len(fields)) + b"".join(texts)
+
+
+def insert(oid: int, row: Sequence[bytes | None]) -> bytes:
+    return struct.pack(">cIc", b"I", oid, b"N") + cells(row)
+
+
+def update(oid: int, row: Sequence[bytes | None]) -> bytes:
+    """An Update of the row that has the new one's key."""
+    return struct.pack(">cIc", b"U", oid, b"N") + cells(row)
+
+
+def delete(oid: int, kind: bytes, row: Sequence[bytes | None]) -> bytes:
+    """A Delete of the row with this key (`K`), or of one that is this (`O`)."""
+    return struct.pack(">cIc", b"D", oid, kind) + cells(row)
 
 
 class CellHeads(dict[int, bytes]):

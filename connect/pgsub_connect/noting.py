@@ -55,7 +55,7 @@ class Streamed:
 
 
 class Noting:
-    """Notes payloads. `wants_look`: a table came that isn't among those that are remembered."""
+    """Notes payloads. `wants_look`: a table came that isn't among those that are remembered, or wasn't published when these were."""
 
     def __init__(self, progress: Progress, remembered: Remembered) -> None:
         self.progress, self.remembered = progress, remembered
@@ -178,18 +178,21 @@ class Noting:
     def describe(self, passed: Passed, relations: list[tuple[bytes, bytes]]) -> None:
         """Compares the Relation messages of tables that a commit changes with what is remembered.
 
-        One of a partition comes with that of the table under whose name its rows are sent, and no change ever has it.
+        One of a partition comes with that of the table under whose name its rows are sent, and no change has it, as long as it is one.
         """
+        changed, lsn = {number(key[-4:]): None for key in passed[1]}, final_lsn(passed[0])
         oids = [number(body[:4]) for _, body in relations]
         for oid, (_, body) in zip(oids, relations):
-            if not self.remembered.is_partition(oid):
+            if oid in changed or not self.remembered.is_partition(oid):
                 self.described.setdefault(oid, []).append(body)
-            if not self.remembered.is_known(oid) and oid not in self.strangers:
+            if self.remembered.is_known(oid) and not (oid in changed and self.remembered.is_unpublished(oid, lsn)):
+                self.strangers.discard(oid)
+            elif oid not in self.strangers:
                 self.strangers.add(oid)
                 self.wants_look = True
-        for oid in {number(key[-4:]): None for key in passed[1]}:
+        for oid in changed:
             if oid in self.described:
-                self.compare(oid, self.described.pop(oid), final_lsn(passed[0]))
+                self.compare(oid, self.described.pop(oid), lsn)
         for oid in oids:
             del self.described.get(oid, [])[:-1]
         relations.clear()

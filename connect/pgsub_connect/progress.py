@@ -12,7 +12,7 @@ from .texts import lsn_text
 
 # What a follower may be at.
 STATES = (
-    "starting", "copying", "opening the store", "connecting", "following", "copying the store", "adding a table",
+    "starting", "copying", "opening the store", "connecting", "following", "copying the store", "adding a table", "repairing rows",
     "waiting to connect again", "stopping", "stopped", "failed",
 )
 

@@ -109,6 +109,10 @@ class Remembered:
         """Whether a Relation message of this OID is no news."""
         return self.catalog is not None and (oid in self.catalog.tables or oid in self.catalog.partitions or oid in self.sent)
 
+    def is_unpublished(self, oid: int, lsn: int) -> bool:
+        """Whether a table wasn't published under its own name at the last look, which was before a commit with this LSN."""
+        return self.catalog is not None and lsn > self.catalog.lsn and oid not in self.catalog.tables
+
     def is_partition(self, oid: int) -> bool:
         """Whether this is a partition whose rows are sent under another name."""
         return self.catalog is not None and oid in self.catalog.partitions and oid not in self.catalog.tables
@@ -317,12 +321,17 @@ class Remembered:
         """Notes durably that a table was added, or isn't to be any more: what was found of it goes. Returns the kinds that go by that."""
         self.wanted.pop(oid, None)
         self.partial.discard(oid)
-        texts = [it for it in texts if self.is_mended(it, oid)]
+        gone = self.are_right(oid, texts)
         if oid in self.unwanted:
             self.unwanted.discard(oid)
             self.left.discard(oid)
             self.sent.pop(oid, None)
-        gone = []
+            self.save()
+        return gone
+
+    def are_right(self, oid: int, texts: Iterable[str]) -> list[str]:
+        """Notes durably that a table's rows are right as to what was found of it. Returns the kinds that go by that."""
+        texts, gone = [it for it in texts if self.is_mended(it, oid)], []
         for kind, found in list(self.found.items()):
             found.drop(texts)
             if found.is_empty():

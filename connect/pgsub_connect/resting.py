@@ -178,6 +178,9 @@ def wait_for_copy(store: str, request: str, into: str, check: Check) -> bool:
             raise Passing(f"{request}: the request is gone, and the copy isn't there")
         if "error" in found:
             raise Passing(f"{store}: its follower couldn't copy it: {found['error']}")
+        if "copied" in found:
+            # (the stream stays held)
+            return True
         if not is_followed(store):
             remove(request)
             remove_files(into)
@@ -208,7 +211,7 @@ def read_request(path: str) -> dict[str, Any]:
 def own_name(path: str) -> str:
     """A name for a file of this process alone. What killed processes have left under such a name goes."""
     folder, name = os.path.split(os.path.abspath(path))
-    pattern = re.compile(re.escape(name) + r"\.(\d+)(?:\.new|\.request)?(?:-wal|-shm|-journal)?")
+    pattern = re.compile(re.escape(name) + r"\.(\d+)(?:\.new|\.request|\.changes)?(?:-wal|-shm|-journal)?")
     for entry in os.scandir(folder):
         found = pattern.fullmatch(entry.name)
         with contextlib.suppress(OSError):

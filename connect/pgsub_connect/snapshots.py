@@ -27,8 +27,9 @@ class Snapshots:
     """Copies a store to another file: each so many seconds, when a signal asks for it, and when a request does.
 
     A request is the file `STORE.request`, a JSON object whose `into` names a file in the store's own folder. It goes when the copy
-    is there, or gets the field `error`. One with `hold` is for a copy at one LSN, as the module `holding` says; one with `add` asks for
-    no copy: it has the OIDs of tables to add, and as `remove` those of which the rows are to go, and goes once that is noted.
+    is there, or gets the field `error`. One with `hold` is for a copy at one LSN, as the module `holding` says, and where it has `repair`
+    the stream stays held, in a session of whole transactions, so that rows may be repaired; one with `add` asks for no copy: it has the
+    OIDs of tables to add, and as `remove` those of which the rows are to go, and goes once that is noted.
     """
 
     def __init__(self, store: str, path: str | None, every: float, mode: int = 0o600) -> None:
@@ -42,6 +43,11 @@ class Snapshots:
         self.hold = Hold()
         # takes the tables of a request to add some, and returns why it doesn't
         self.adds: Callable[[dict[str, Any]], str | None] = lambda asked: "no table can be added"
+        # of the follower: whether large transactions come while they run, and an LSN that nothing that was passed on is above
+        self.is_streaming: Callable[[], bool] = lambda: False
+        self.reached: Callable[[], int] = lambda: 0
+        # whether a request waits for a session of whole transactions
+        self.wants_whole = False
 
     def is_due(self, position: int) -> bool:
         """Whether to copy a store that is at this position: where it was asked for, or it is time and the last copy is older."""
@@ -55,7 +61,7 @@ class Snapshots:
         if self.finishing and self.finishing.is_alive():
             return False
         if self.hold.into:
-            return self.hold.is_there
+            return self.hold.is_due()
         if self.wanted is not None:
             return True
         if not self.path:
@@ -67,6 +73,7 @@ class Snapshots:
         if self.hold.into:
             self.look_after(self.hold.into)
         elif self.wanted is None and not (self.finishing and self.finishing.is_alive()):
+            self.wants_whole = False
             self.wanted = self.read_request(position)
 
     def read_request(self, position: int) -> str | None:
@@ -88,7 +95,7 @@ class Snapshots:
         if "held" in asked:
             self.answer(into, "another follower runs now")
         else:
-            self.begin_hold(into, asked["hold"], is_alive, position)
+            self.begin_hold(into, asked, is_alive, position)
         return None
 
     def asked_now(self) -> tuple[dict[str, Any], bool] | None:
@@ -100,18 +107,24 @@ class Snapshots:
             return None
         return read_locked(self.request)
 
-    def begin_hold(self, into: str, seconds: object, is_alive: bool, position: int) -> None:
-        """Holds the stream for whoever will tell an LSN within so many seconds."""
+    def begin_hold(self, into: str, asked: dict[str, Any], is_alive: bool, position: int) -> None:
+        """Holds the stream for whoever will tell an LSN within some seconds."""
+        seconds, keeps = asked["hold"], "repair" in asked
         if not is_alive or not isinstance(seconds, (int, float)) or not 0 < seconds <= LONGEST:
             # (who asks holds a lock as long as it is alive)
             remove(self.request)
-            return
-        self.hold.begin(into, seconds)
-        write_request(self.request, into=into, hold=seconds, held=lsn_text(position))
+        elif keeps and self.is_streaming():
+            self.wants_whole = True
+        else:
+            self.hold.begin(into, seconds, keeps)
+            write_request(self.request, into=into, hold=seconds, held=lsn_text(position), **({"repair": True} if keeps else {}))
 
     def look_after(self, into: str) -> None:
         """Goes on up to the LSN that is told now, or lets the stream go where nobody waits for it any more."""
         hold, found = self.hold, self.asked_now()
+        if hold.is_sent:
+            # (the changes are on their way, whoever has asked)
+            return
         if found is None:
             hold.end()
             return
@@ -120,12 +133,25 @@ class Snapshots:
             log.warning("whoever had asked for the copy at one LSN is gone: following goes on")
             remove(self.request)
             hold.end()
+        elif "error" in asked or hold.is_copied and asked and "held" not in asked:
+            # (that is the next request of whoever has asked)
+            hold.end()
         elif hold.point is None and "point" in asked:
             with contextlib.suppress(ValueError):
-                hold.go(parse_lsn(str(asked["point"])))
+                self.go(into, parse_lsn(str(asked["point"])))
+        elif hold.is_copied and isinstance(asked.get("tables"), list):
+            hold.tables = [it for it in asked["tables"] if isinstance(it, int)]
         elif hold.point is None and time.monotonic() > hold.until:
             self.answer(into, "the LSN at which to copy it wasn't told in time")
             hold.end()
+
+    def go(self, into: str, point: int) -> None:
+        """Goes on up to an LSN. One at which rows are repaired has to be above all that was passed on."""
+        if self.hold.keeps and point <= (reached := self.reached()):
+            self.answer(into, f"its slot is at {lsn_text(point)}, and the stream at {lsn_text(reached)}: is it of a standby behind?")
+            self.hold.end()
+        else:
+            self.hold.go(point)
 
     def answer(self, into: str, error: str | None) -> None:
         """Tells whoever waits for a request."""
@@ -136,11 +162,19 @@ class Snapshots:
                 with open(self.request, "w", encoding="utf-8") as file:
                     json.dump({"into": into, "error": error}, file)
 
+    def reject(self, into: str, why: str, lasts: bool) -> None:
+        """Tells whoever waits for a request still that nothing comes of it, nor of another one if that `lasts`."""
+        if self.is_waited_for(into, False):
+            write_request(self.request, into=into, error=why, lasts=lasts)
+
     def take(self, position: int, tick: Callable[[], None]) -> None:
         """Copies the files of a store at rest, and has a thread make one file of them. `tick` is called between parts."""
         into, self.wanted = self.hold.into or self.wanted, None
-        is_locked = self.hold.into is not None
-        self.hold.end()
+        is_locked, keeps = self.hold.into is not None, self.hold.keeps
+        if keeps:
+            self.hold.is_copied = True
+        else:
+            self.hold.end()
         path = into or self.path
         assert path
         if into is None:
@@ -155,11 +189,12 @@ class Snapshots:
         except OSError as error:
             self.fail(path, into, f"{error.strerror}")
             return
-        self.finishing = threading.Thread(target=self.finish, args=(path, into, position, is_locked), daemon=True)
+        self.finishing = threading.Thread(target=self.finish, args=(path, into, position, is_locked, keeps), daemon=True)
         self.finishing.start()
 
-    def finish(self, path: str, into: str | None, position: int, is_locked: bool) -> None:
-        """Puts the log into the copied file, which gets its name once it is whole. What was there stays until then."""
+    def finish(self, path: str, into: str | None, position: int, is_locked: bool, keeps: bool = False) -> None:
+        """Puts the log into the copied file, which gets its name once it is whole. What was there stays until then. `keeps`: the request
+        goes on."""
         new = path + ".new"
         try:
             fold(new)
@@ -179,7 +214,9 @@ class Snapshots:
             remove(path)
             return
         log.info(f"{path}: the rows at {lsn_text(found)}")
-        if into is not None:
+        if keeps:
+            write_request(self.request, into=into, repair=True, held="", copied="")
+        elif into is not None:
             self.answer(into, None)
 
     def is_waited_for(self, into: str, is_locked: bool) -> bool:

@@ -4,34 +4,32 @@ Of each table the sums of the module `digests` are compared, chunk by chunk. Of 
 rows are read on both sides in the order of their keys, and those that differ are printed, a JSON object on each line. A value of more
 than some hundred characters is cut, and its length and hash are told.
 
-With `--repair` the follower then copies the tables that differ anew, as the module `adding` says: not single rows, so that what makes a
-difference needn't be known, nor the rows of the copy be held for as long as they are compared.
+With `--repair` the tables that differ are then compared once more, and what differs is mended, as the module `mending` says.
 """
 
 from __future__ import annotations
 
-import collections
 import contextlib
 import hashlib
 import itertools
 import json
 import sqlite3
-from collections.abc import Collection, Iterable, Iterator
+from collections.abc import Callable, Collection, Iterator
 from typing import TYPE_CHECKING
 
 from . import log, requesting
 from .checkpoint import Known
-from .digests import Field, Fields, NotText, Plan, Queries, Summing, Sums, chunks_for, fields_in, fields_of, text_of
+from .digests import Field, Fields, NotText, Plan, Sums, fields_in
 from .dropping import read_known
-from .errors import FileError, Passing, Stopped, Unfit
+from .errors import FileError, Passing, Stopped, Unfit, Unrepaired
 from .making import names_of
 from .meeting import Request, Source
-from .messages import unescaped
+from .mending import Changes, Mender
 from .postgres import Check
-from .publishing import Table, estimated_rows
-from .remembered import Relation, Remembered
+from .publishing import Table
+from .remembered import Remembered
 from .resting import check_there, is_followed
-from .stored import check_store, opened, read_position, read_relations
+from .sides import Copy, Group, Sides
 from .texts import counted, lsn_text
 from .values import Malformed
 
@@ -39,93 +37,8 @@ if TYPE_CHECKING:
     from .cli import Options
 
 EQUAL, DIFFERENT = 0, 1
-# How many bytes of rows are read at a time, after how many rows it is looked whether the end was asked for, and how much of a value is
-# shown.
-BLOCK, ROWS, SHOWN = 1 << 17, 1000, 300
-
-# Rows of a key, each with how often it is there.
-Group = collections.Counter[bytes]
-# A row's key and text, and how often it is there.
-Row = tuple[bytes, bytes, int]
-
-
-class Copy:
-    """The copy as of the LSN: a store's file."""
-
-    def __init__(self, path: str, told: str, point: int, check: Check) -> None:
-        self.check = check
-        check_store(path, told)
-        self.base = opened(path)
-        self.position = read_position(self.base)
-        if self.position > point:
-            raise Unfit(f"the copy is at {lsn_text(self.position)}, and this server's slot at {lsn_text(point)}: is it a standby behind?")
-        self.relations = read_relations(self.base)
-        self.counts: dict[int, int] = dict(self.base.execute("SELECT oid, count(*) FROM held GROUP BY oid"))
-
-    def columns(self, table: Table) -> list[str]:
-        """The names of a table's columns here; those of the server where nothing of it ever came."""
-        relation = self.relations.get(table.oid)
-        return [it.name for it in relation.shape.columns] if relation else [it.name for it in table.columns]
-
-    def left(self, tables: Iterable[Table]) -> list[Relation]:
-        """The tables that have rows here and aren't among these."""
-        known = {it.oid for it in tables}
-        return [it for oid, it in self.relations.items() if oid not in known and oid in self.counts]
-
-    def sums(self, plans: Iterable[Plan]) -> dict[int, Sums]:
-        """Those of each table, by one pass over the file."""
-        found = {it.table.oid: Summing(it) for it in plans}
-        rows = self.base.execute("SELECT oid, body, copies FROM held NOT INDEXED")
-        while several := rows.fetchmany(ROWS):
-            self.check()
-            for oid, body, copies in several:
-                if summing := found.get(oid):
-                    summing.add(body, copies)
-        return {oid: it.sums for oid, it in found.items()}
-
-    def rows(self, plan: Plan, chunks: list[int]) -> Iterator[Row]:
-        """The rows of some chunks, in the order of their keys."""
-        wanted, width = set(chunks), plan.width
-
-        def text(body: bytes) -> bytes:
-            return text_of(fields_of(body, width))
-
-        def key(text: bytes) -> bytes | None:
-            """A row's key, None where its chunk isn't wanted."""
-            found = plan.key_text(fields_in(text), text) if plan.key else text
-            return found if plan.chunk_of(found) in wanted else None
-
-        self.base.create_function("row_text", 1, text, deterministic=True)
-        self.base.create_function("row_key", 1, key, deterministic=True)
-        inner = "SELECT row_text(body) AS text, copies FROM held WHERE oid = ?"
-        yield from self.base.execute(
-            f"SELECT * FROM (SELECT row_key(text) AS key, text, copies FROM ({inner})) WHERE key IS NOT NULL ORDER BY key, text",
-            (plan.table.oid,),
-        )
-
-    def close(self) -> None:
-        self.base.close()
-
-
-def grouped(rows: Iterable[Row]) -> Iterator[tuple[bytes, Group]]:
-    """Rows in the order of their keys, those of each key together."""
-    for key, several in itertools.groupby(rows, lambda it: it[0]):
-        group = Group()
-        for _, text, copies in several:
-            group[text] += copies
-        yield key, group
-
-
-def differing(server: Iterable[Row], copy: Iterable[Row]) -> Iterator[tuple[bytes, Group, Group]]:
-    """The keys whose rows differ: those that only the server has, and those that only the copy has. Both come in order."""
-    there, here = grouped(server), grouped(copy)
-    one, two = next(there, None), next(here, None)
-    while one or two:
-        key = min(it[0] for it in (one, two) if it)
-        theirs, ours = one[1] if one and one[0] == key else Group(), two[1] if two and two[0] == key else Group()
-        if theirs != ours:
-            yield key, theirs - ours, ours - theirs
-        one, two = next(there, None) if one and one[0] == key else one, next(here, None) if two and two[0] == key else two
+# How much of a value is shown.
+SHOWN = 300
 
 
 def shown(field: Field) -> str | None:
@@ -141,8 +54,8 @@ def shown(field: Field) -> str | None:
 class Verifier:
     """Compares the tables one after the other."""
 
-    def __init__(self, options: Options, source: Source, copy: Copy) -> None:
-        self.options, self.source, self.copy = options, source, copy
+    def __init__(self, options: Options, sides: Sides) -> None:
+        self.options, self.sides = options, sides
         self.left = options.show
         self.rows = 0
         # the tables that differ
@@ -150,32 +63,24 @@ class Verifier:
 
     def run(self, tables: list[Table]) -> bool:
         """Compares all of these. Returns whether they are equal."""
-        fitting = [it for it in tables if self.has_columns(it)]
-        plans = [Plan(it, chunks_for(self.about(it))) for it in fitting]
-        ours = self.copy.sums(plans)
+        plans = [self.sides.plan(it) for it in tables if self.has_columns(it)]
+        ours = self.sides.copy.sums(plans)
         equal = {it.table.oid for it in plans if self.is_equal(it, ours[it.table.oid])}
         self.different = [it for it in tables if it.oid not in equal]
         return not self.different
 
     def has_columns(self, table: Table) -> bool:
         """Whether a table has the same columns on both sides; tells where it hasn't."""
-        there, here = [it.name for it in table.columns], self.copy.columns(table)
-        if there == here:
+        if self.sides.has_columns(table):
             return True
+        there, here = [it.name for it in table.columns], self.sides.copy.columns(table)
         self.tell({"table": table.text(), "columns": {"server": there, "copy": here}})
         log.warning(f"{table.text()}: it has other columns on the server than in the copy, so its rows aren't compared")
         return False
 
-    def about(self, table: Table) -> int:
-        """About how many rows a table has."""
-        return max(self.copy.counts.get(table.oid, 0), estimated_rows(self.source.plain, [table]) or 0)
-
     def is_equal(self, plan: Plan, ours: Sums) -> bool:
         """Compares a table, and tells what differs."""
-        queries, theirs = Queries(plan, self.source.encoding), Sums(plan.chunks)
-        for row in self.source.plain.rows(queries.sums()):
-            chunk, rows, first, second = (int(it or 0) for it in row)
-            theirs.set(chunk, rows, first, second)
+        theirs = self.sides.sums(plan)
         self.rows += theirs.total()
         chunks = theirs.differing(ours)
         if not chunks:
@@ -184,25 +89,18 @@ class Verifier:
         log.warning(f"{text}; {len(chunks)} of {counted(plan.chunks, 'chunk')} differ")
         if self.left > 0:
             # (each of them has a row to show)
-            self.show(plan, queries, chunks[: self.left])
+            self.show(plan, chunks[: self.left])
         return False
 
-    def show(self, plan: Plan, queries: Queries, chunks: list[int]) -> None:
+    def show(self, plan: Plan, chunks: list[int]) -> None:
         """Prints the rows of some chunks that differ, as many as may be shown."""
-        server, copy = self.server_rows(plan, queries.texts(chunks)), self.copy.rows(plan, chunks)
         found = 0
-        for key, theirs, ours in differing(server, copy):
+        for key, theirs, ours in self.sides.differing(plan, chunks):
             found += 1
             if self.left > 0:
                 self.left -= 1
-                self.show_key(plan, key, theirs, ours)
+                self.show_key(plan, key, theirs - ours, ours - theirs)
         log.info(f"{plan.table.text()}: {counted(found, 'key' if plan.key else 'row')} in {counted(len(chunks), 'chunk')} differ")
-
-    def server_rows(self, plan: Plan, query: str) -> Iterator[Row]:
-        for lines in self.source.plain.copied_blocks(query, BLOCK):
-            for line in lines:
-                text = line[:-1] if b"\\" not in line else unescaped(line[:-1])
-                yield plan.key_text(fields_in(text), text) if plan.key else text, text, 1
 
     def show_key(self, plan: Plan, key: bytes, theirs: Group, ours: Group) -> None:
         """Prints what each side has of a key that the other hasn't."""
@@ -240,30 +138,62 @@ def run(options: Options, check: Check) -> int:
 
 def verify(options: Options, check: Check) -> int:
     different = compare(options, check)
-    if different and options.repair:
-        return requesting.add(options, {it.oid: it.text() for it in different}, check)
-    return DIFFERENT if different else EQUAL
+    if not different or not options.repair:
+        return DIFFERENT if different else EQUAL
+    try:
+        left = repair(options, {it.oid for it in different}, check)
+    except Unrepaired as error:
+        log.error(str(error))
+        return DIFFERENT
+    return requesting.add(options, {it.oid: it.text() for it in left}, check) if left else EQUAL
 
 
 def compare(options: Options, check: Check) -> list[Table]:
     """Compares, and tells what differs. Returns the tables that do."""
-    check_there(options.store)
-    known = read_known(options.store + ".connector")
-    options.slot = known.slot or options.slot
-    with contextlib.ExitStack() as stack:
-        request = stack.enter_context(contextlib.closing(Request(options.store, options.hold, check)))
-        if not is_followed(options.store):
-            raise request.ended()
-        source = stack.enter_context(contextlib.closing(Source(options, known, check)))
-        tables = settled(source.chosen(options.table), known, Remembered(options.store).partial)
-        point = meet(request, source, options.hold)
-        copy = stack.enter_context(contextlib.closing(Copy(request.copied(), options.store, point, check)))
-        tell_left(copy, source)
-        verifier = Verifier(options, source, copy)
+    with met(options, lambda it: it.chosen(options.table), check) as (sides, tables, _, point):
+        tell_left(sides)
+        verifier = Verifier(options, sides)
         is_equal = verifier.run(tables)
     text = f"{counted(len(tables), 'table')}, {counted(verifier.rows, 'row')} on the server at {lsn_text(point)}"
     log.info(f"{text}: {'equal' if is_equal else 'the copy differs'}")
     return verifier.different
+
+
+def repair(options: Options, oids: Collection[int], check: Check) -> list[Table]:
+    """Compares tables once more, while the stream is held, and has the changes passed on. Returns those that are to be copied anew."""
+
+    def choose(source: Source) -> list[Table]:
+        return [it for it in source.tables if it.oid in oids]
+
+    with met(options, choose, check, repairs=True) as (sides, tables, request, point):
+        with contextlib.closing(Changes(request.changes(), options.store)) as changes:
+            mender = Mender(sides, changes)
+            mender.run(tables)
+        if mender.written:
+            request.pass_on(list(mender.written))
+            log.info(f"repaired at {lsn_text(point)}: {mender.text()}")
+    return mender.left
+
+
+# A server and a copy, the tables that are looked at, the request, and the LSN.
+Met = tuple[Sides, list[Table], Request, int]
+
+
+@contextlib.contextmanager
+def met(options: Options, choose: Callable[[Source], list[Table]], check: Check, repairs: bool = False) -> Iterator[Met]:
+    """Brings server and copy to one LSN. `repairs`: there the stream stays held."""
+    check_there(options.store)
+    known = read_known(options.store + ".connector")
+    options.slot = known.slot or options.slot
+    with contextlib.ExitStack() as stack:
+        request = stack.enter_context(contextlib.closing(Request(options.store, options.hold, check, repairs)))
+        if not is_followed(options.store):
+            raise request.ended()
+        source = stack.enter_context(contextlib.closing(Source(options, known, check)))
+        tables = settled(choose(source), known, Remembered(options.store).partial)
+        point = meet(request, source, options.hold)
+        copy = stack.enter_context(contextlib.closing(Copy(request.copied(), options.store, point, check)))
+        yield Sides(source, copy), tables, request, point
 
 
 def settled(tables: list[Table], known: Known, partial: Collection[int] = ()) -> list[Table]:
@@ -282,8 +212,8 @@ def meet(request: Request, source: Source, seconds: float) -> int:
     return point
 
 
-def tell_left(copy: Copy, source: Source) -> None:
+def tell_left(sides: Sides) -> None:
     """Tells which rows of the copy aren't compared."""
-    if left := copy.left(source.tables):
+    if left := sides.copy.left(sides.source.tables):
         names = names_of([it.text() for it in left])
         log.info(f"the copy has rows of {counted(len(left), 'table')} that the publications don't have now: {names}")

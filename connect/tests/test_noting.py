@@ -2,6 +2,7 @@
 
 from __future__ import annotations
 
+import dataclasses
 import tempfile
 import unittest
 
@@ -187,6 +188,35 @@ class Relations(Case):
         self.assertEqual((self.found(), self.noting.wants_look), ({}, True))
         self.note(begin(510, 7), insert(10), commit(510, 518))
         self.assertNotIn(12, self.remembered.sent)
+
+    def test_changes_under_the_name_of_a_root_that_was_not_published(self) -> None:
+        """It is known by its partitions, whose rows came under their own names: from now on the copy has two of them."""
+        assert self.remembered.catalog
+        self.remembered.catalog.partitions.update({20: Partition(20, 0, "public.parted", False), 2: Partition(2, 20, "public.u", True)})
+        self.note(begin(500, 7), relation(20, "parted"), relation(2, "u"), insert(2), commit(500, 508))
+        self.assertFalse(self.noting.wants_look)
+        self.note(begin(510, 7), relation(20, "parted"), relation(2, "u"), insert(20), commit(510, 518))
+        self.assertTrue(self.noting.wants_look)
+        self.assertEqual(self.remembered.text_of(20), "public.parted (20)")
+
+    def test_a_table_that_left_and_joined_again(self) -> None:
+        """Each time asks for a look, unless the last one was later."""
+        assert self.remembered.catalog
+        it = self.remembered.catalog.tables[1]
+        self.note(begin(500, 7), relation(1, "t"), insert(1), commit(500, 508))
+        for lsn, looked, wants in ((510, 600, False), (610, 600, True), (620, 620, False)):
+            self.remembered.catalog.tables.pop(1, None)
+            self.remembered.catalog = dataclasses.replace(self.remembered.catalog, lsn=looked)
+            self.noting.wants_look = False
+            self.note(begin(lsn, 7), relation(1, "t"), insert(1), commit(lsn, lsn + 8))
+            self.assertEqual(self.noting.wants_look, wants, lsn)
+        for lsn in (700, 720):
+            self.remembered.catalog.tables[1] = it
+            self.note(begin(lsn, 7), relation(1, "t"), insert(1), commit(lsn, lsn + 8))
+            self.remembered.catalog.tables.pop(1)
+            self.noting.wants_look = False
+            self.note(begin(lsn + 10, 7), relation(1, "t"), insert(1), commit(lsn + 10, lsn + 18))
+            self.assertTrue(self.noting.wants_look)
 
     def test_a_change_in_a_later_commit(self) -> None:
         self.note(begin(500, 7), relation(1, "t", [ID, NAME, MORE]), insert(2), commit(500, 508))

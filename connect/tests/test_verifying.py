@@ -15,12 +15,13 @@ from pgsub_connect import cli, requesting, verifying
 from pgsub_connect.checkpoint import FOLLOWING, Known
 from pgsub_connect.cli import Options
 from pgsub_connect.digests import NotText, Plan, Summing, fields_of, text_of
-from pgsub_connect.errors import FileError, NoSlot, Passing, Stopped, Unfit
+from pgsub_connect.errors import FileError, NoSlot, Passing, Stopped, Unfit, Unrepaired
 from pgsub_connect.meeting import Source
 from pgsub_connect.postgres import never
 from pgsub_connect.publishing import Column, Table
+from pgsub_connect.sides import Copy, Sides
 from pgsub_connect.values import Malformed
-from pgsub_connect.verifying import Copy, Verifier
+from pgsub_connect.verifying import Verifier
 
 from .fake_server import FakeServer, connection_to
 from .stores import Cell, StoreCase, spelled
@@ -105,7 +106,7 @@ class Case(StoreCase):
             stack.enter_context(contextlib.redirect_stdout(out))
             stack.enter_context(mock.patch.multiple("pgsub_connect.digests.Queries", sums=sums, texts=texts))
             copy = stack.enter_context(contextlib.closing(Copy(self.path, self.path, 0x130, never)))
-            self.is_equal = Verifier(self.options, cast(Source, source), copy).run(list(self.tables))
+            self.is_equal = Verifier(self.options, Sides(cast(Source, source), copy)).run(list(self.tables))
         return [json.loads(line) for line in out.getvalue().splitlines()]
 
     def one(self, rows: dict[int, Rows]) -> dict[str, Any]:
@@ -216,7 +217,7 @@ class Finds(Case):
         """What is in a row can't do anything to a terminal."""
         out = io.StringIO()
         with contextlib.redirect_stdout(out):
-            Verifier(self.options, mock.Mock(), mock.Mock()).tell({"row": {"a": "\x1b[2J\x9b\u202e"}})
+            Verifier(self.options, mock.Mock()).tell({"row": {"a": "\x1b[2J\x9b\u202e"}})
         self.assertTrue(out.getvalue().rstrip("\n").isprintable())
 
 
@@ -252,20 +253,31 @@ class Reads(Case):
             self.compare()
 
     def test_what_differs_is_repaired_where_that_is_asked_for(self) -> None:
-        for different, repair, status, asked in (
-            ([], False, 0, None), ([], True, 0, None), ([WHOLE], False, 1, None), ([WHOLE], True, 7, {WHOLE.oid: WHOLE.text()}),
+        """What can't be by rows is copied anew."""
+        for different, repair, left, status, asked in (
+            ([], False, [], 0, None), ([], True, [], 0, None), ([WHOLE], False, [], 1, None), ([WHOLE], True, [], 0, None),
+            ([WHOLE, KEYED], True, [WHOLE], 7, {WHOLE.oid: WHOLE.text()}),
         ):
             self.options.repair = repair
-            with mock.patch.object(verifying, "compare", lambda *_, it=different: it), mock.patch.object(requesting, "add", return_value=7) as add:
+            with mock.patch.multiple(
+                verifying, compare=lambda *_, it=different: it, repair=lambda *_, it=left: it,
+            ), mock.patch.object(requesting, "add", return_value=7) as add:
                 self.assertEqual(verifying.run(self.options, never), status)
             self.assertEqual(add.call_args and add.call_args.args[1], asked)
+
+    def test_what_the_follower_does_not_pass_on(self) -> None:
+        self.options.repair = True
+        repair = mock.Mock(side_effect=Unrepaired("too much"))
+        with mock.patch.multiple(verifying, compare=lambda *_: [WHOLE], repair=repair), logged() as told:
+            self.assertEqual(verifying.run(self.options, never), 1)
+        self.assertEqual(told, ["error: too much"])
 
     def test_which_tables_differ(self) -> None:
         """Those that were compared and aren't equal, and those that couldn't be."""
         source = cast(Source, SimpleNamespace(plain=connection_to(self.server), encoding="UTF8", tables=list(self.tables)))
         for columns, equal, different in ((True, True, []), (True, False, [KEYED, WHOLE]), (False, True, [KEYED, WHOLE])):
             with contextlib.closing(Copy(self.path, self.path, 0x130, never)) as copy:
-                verifier = Verifier(self.options, source, copy)
+                verifier = Verifier(self.options, Sides(source, copy))
                 with mock.patch.multiple(verifier, has_columns=lambda _, it=columns: it, is_equal=lambda *_, it=equal: it):
                     self.assertEqual(verifier.run(list(self.tables)), not different)
                 self.assertEqual(verifier.different, different)

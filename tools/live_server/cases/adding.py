@@ -16,7 +16,7 @@ from ..follower import Supervisor, filters_of, is_adding, wait_until
 from ..pgbench import PgBench
 from ..place import MISSED, OK, PASSING, REJECTED, SERVER, Place
 from .case import Case
-from .common import PLANTED, TABLES, changing, check_slots, moving, plant, verified, verify
+from .common import changing, check_slots, moving, verified, verify
 
 REFUSED = 1
 MORE = ("CREATE TABLE more (id int PRIMARY KEY, note text)", "INSERT INTO more SELECT it, 'note ' || it FROM generate_series(1, 20000) it")
@@ -222,24 +222,6 @@ def parts_killed(place: Place) -> None:
         check_left(place)
         child.stop()
         place.equal()
-
-
-def repaired(place: Place) -> None:
-    """`verify --repair` mends each of the planted differences, beside other changes."""
-    place.run(*TABLES)
-    place.follow("--create")
-    for name, (change, _) in PLANTED.items():
-        plant(place, place.store, change)
-        child = place.start()
-        child.wait_for("following slot")
-        place.run("UPDATE other SET note = note || '.' WHERE sku > 3", "INSERT INTO stock SELECT max(sku) + 1, 'new', NULL FROM stock")
-        if not verify(place, "--repair")[0]:
-            raise Failed(f"{name}: nothing was found")
-        place.run("UPDATE stock SET note = 'x' WHERE sku % 50 = 0", "INSERT INTO log VALUES ('line 3', NULL)")
-        verify(place)
-        child.stop()
-    place.follow()
-    place.equal()
 
 
 def too_large(place: Place) -> None:
@@ -475,7 +457,6 @@ CASES = (
     Case("add-a-table-that-clashes", clashes),
     Case("add-cut-at-each-step", cut),
     Case("add-parts-killed", parts_killed),
-    Case("verify-repairs-what-is-planted", repaired),
     Case("add-too-large", too_large),
     Case("add-altered-meanwhile", altered),
     Case("add-a-root-that-is-altered-alone", root_altered),

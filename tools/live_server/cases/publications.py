@@ -3,7 +3,7 @@
 from __future__ import annotations
 
 from ..errors import Failed
-from ..place import LOG, SERVER, USAGE, Place
+from ..place import LOG, MISSED, SERVER, USAGE, Place
 from .case import Case
 
 
@@ -93,6 +93,16 @@ def via_root(place: Place) -> None:
     place.run("ALTER PUBLICATION pgsub SET (publish_via_partition_root)", "INSERT INTO sales VALUES (12)")
     place.finds("publication", "partition", place.follow())
     place.is_strict_about("publication")
+
+
+def via_root_while_following(place: Place) -> None:
+    """So it is where that changes while they are followed: the first change under the root's name tells, which finds no row."""
+    parted(place, "")
+    child = place.start("--create")
+    place.catch_up(child)
+    place.run("ALTER PUBLICATION pgsub SET (publish_via_partition_root)", "UPDATE sales SET id = 12 WHERE id = 11")
+    child.wait_for("found: publication", 30)
+    place.finds("publication", "public.sales", child.stop(status=MISSED))
 
 
 def inserts_only(place: Place) -> None:
@@ -198,6 +208,7 @@ CASES = (
     Case("partition-truncated", partition_truncated),
     Case("partition-made", partition_made),
     Case("partitions-under-another-name", via_root),
+    Case("partitions-under-another-name-while-following", via_root_while_following),
     Case("publication-of-inserts", inserts_only),
     Case("row-filter-altered", row_filter, since=15),
     Case("publication-made-again", made_again),

@@ -11,7 +11,7 @@ from ..errors import Unusable
 from ..options import Options
 from ..place import Place, Shared
 from . import (
-    adding, altering, copying, missing, names, operating, privacy, publications, reaching, shapes, sideroads, silence, slots, standbys,
+    adding, altering, copying, missing, names, operating, privacy, publications, reaching, repairing, shapes, sideroads, silence, slots, standbys,
     starts, stops, timelines, values, verifying, versions,
 )
 from .case import Case
@@ -26,6 +26,7 @@ THEMES: dict[str, Sequence[Case]] = {
     "exports": EXPORTS,
     "verifying": verifying.CASES,
     "adding": adding.CASES,
+    "repairing": repairing.CASES,
     "timelines": timelines.CASES,
     "slots": slots.CASES,
     "copying": copying.CASES,
