@@ -27,3 +27,6 @@ pub returns-in-Err-adopt-clause-disks_refused : goal.returns-in-Err-adopt-clause
 returns-in-Err-adopt-clause-disks_refused g c honest =
     let clean : HasCleanDisk (state over_files c.in-Ok.conn) = omega (arith, c.in-Err-adopt.ensures.crash_refused.clean, honest) in
     (c.in-Ok.ensures.found clean).honest
+
+pub returns-in-Err-adopt-clause-fault : goal.returns-in-Err-adopt-clause-fault
+returns-in-Err-adopt-clause-fault g c = rw c.new.ensures c.in-Err-adopt.ensures.fault
