@@ -7,6 +7,4 @@
 #[cfg(test)]
 mod opened_tests;
 #[cfg(test)]
-mod opening_tests;
-#[cfg(test)]
 mod tests;
