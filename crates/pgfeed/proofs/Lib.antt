@@ -1,0 +1,4 @@
+pub mod Examples
+pub mod Bodies
+pub mod Plain
+pub mod Widths
