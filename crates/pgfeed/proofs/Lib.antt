@@ -1,4 +1,6 @@
 pub mod Examples
 pub mod Bodies
+pub mod Fronts
 pub mod Plain
+pub mod Walking
 pub mod Widths
