@@ -11,6 +11,7 @@ use Rattle.pgapply.specs.Apply.{Change}
 use Rattle.pgledger.specs.declared.image.Image.{Image}
 use Rattle.pgledger.specs.Images.{Line, lines}
 use Rattle.pgledger.specs.Entries.{entry_of}
+use Rattle.pgfeed.specs.Fits.{FitsEntry, FitsLine}
 use Rattle.pgfeed.specs.Texts.{body_text, commit_line, entry_text, image_line, is_told, table_line}
 
 abbrev line_of : RelationDef → Image → Line
@@ -114,12 +115,30 @@ lines_length [] images = omega arith
 lines_length (change ∷ changes) [] = omega arith
 lines_length (change ∷ changes) (image ∷ images) = let more = lines_length changes images in omega arith
 
+counted : (count : ℕ) (defs : List RelationDef) (entries : List (ℕ × Op)) (changes : List Change) (images : List Image) → change_values defs entries ≡ changes → AllByRecursion (IsNumbered defs) entries
+    → count ≡ min (length entries) (length images) → count ≡ length (lines changes images)
+counted count defs entries changes images made numbered many =
+    many ∙ ap (λ k. min k (length images)) (sym (changes_length defs entries numbered) ∙ ap length made) ∙ sym (lines_length changes images)
+
+told_of : (body : List ℕ) (defs : List RelationDef) (entries : List (ℕ × Op)) (changes : List Change) (images : List Image) → change_values defs entries ≡ changes
+    → body ≡ body_text [] 0 (lines (change_values defs entries) images) → body ≡ body_text [] 0 (lines changes images)
+told_of body defs entries changes images made is = is ∙ ap (λ them. body_text [] 0 (lines them images)) made
+
 -- the text is the line of the commit, and then its lines
 pub entry_is : (text line body : List ℕ) (prev end count : ℕ) (about : Option About) (defs : List RelationDef) (entries : List (ℕ × Op)) (changes : List Change) (images : List Image)
     → change_values defs entries ≡ changes → AllByRecursion (IsNumbered defs) entries → body ≡ body_text [] 0 (lines (change_values defs entries) images) → count ≡ min (length entries) (length images)
     → line ≡ commit_line end prev (length body) count about → text ≡ line ++ body → text ≡ entry_text prev (entry_of end about changes images)
 unfolding entry_text
 entry_is text line body prev end count about defs entries changes images made numbered is many heads whole =
-    let counted : count ≡ length (lines changes images) = many ∙ ap (λ k. min k (length images)) (sym (changes_length defs entries numbered) ∙ ap length made) ∙ sym (lines_length changes images) in
-    let told : body ≡ body_text [] 0 (lines changes images) = is ∙ ap (λ them. body_text [] 0 (lines them images)) made in
-    rw (whole, heads, counted, told) refl
+    let count_is = counted count defs entries changes images made numbered many in
+    let told = told_of body defs entries changes images made is in
+    rw (whole, heads, count_is, told) refl
+
+pub entry_fits : (body : List ℕ) (prev end long count : ℕ) (about : Option About) (defs : List RelationDef) (entries : List (ℕ × Op)) (changes : List Change) (images : List Image)
+    → change_values defs entries ≡ changes → AllByRecursion (IsNumbered defs) entries → body ≡ body_text [] 0 (lines (change_values defs entries) images) → count ≡ min (length entries) (length images)
+    → long ≡ length body → FitsLine end prev long count about → FitsEntry prev (entry_of end about changes images)
+entry_fits body prev end long count about defs entries changes images made numbered is many size fits =
+    let count_is = counted count defs entries changes images made numbered many in
+    let told = told_of body defs entries changes images made is in
+    let long_is : long ≡ length (body_text [] 0 (lines changes images)) = size ∙ ap length told in
+    rw (long_is, count_is) at fits

@@ -1,6 +1,4 @@
 pub mod Examples
+pub mod Calls
 pub mod Bodies
-pub mod Fronts
 pub mod Plain
-pub mod Walking
-pub mod Widths

@@ -1,6 +1,8 @@
 -- Which values a line of a commit may have: those of 64 bits.
-use Rattle.std.specs.Prelude.{ℕ, ◌<◌, ◌^◌, Option, IfSome, FitsSigned}
+use Rattle.std.specs.Prelude.{ℕ, ◌<◌, ◌^◌, Option, IfSome, FitsSigned, length}
 use Rattle.std.specs.Int.{w64}
+use Rattle.pgledger.specs.Entries.{Entry}
+use Rattle.pgfeed.specs.Texts.{entry_body}
 use Rattle.pgapply.specs.declared.commit.About.{About}
 
 pub record FitsAbout (about : About) : Type 0 where
@@ -14,3 +16,7 @@ pub record FitsLine (end prev bytes changes : ℕ) (about : Option About) : Type
   pub bytes_fit : bytes < 2 ^ 64
   pub changes_fit : changes < 2 ^ 64
   pub about_fits : IfSome about FitsAbout
+
+-- of an entry behind the commit that ends at that LSN
+abbrev pub FitsEntry : ℕ → Entry → Type 0
+FitsEntry prev e = FitsLine e.end prev (length (entry_body e)) (length e.lines) e.about

@@ -1,3 +1,5 @@
 pub mod Texts
 pub mod Fits
 pub mod Reading
+pub mod Segments
+pub mod Cutting

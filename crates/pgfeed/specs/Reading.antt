@@ -1,13 +1,9 @@
 -- How the text of entries is read: the line of each commit tells where the next one is.
 use Rattle.std.specs.Prelude.{◌≡◌, ◌<◌, ◌≤◌, ◌+◌, ◌^◌, ℕ, List, [], ◌∷◌, ◌++◌, length, map, take, drop, ⊤}
 use Rattle.pgledger.specs.Entries.{Entry, last_end}
+use Rattle.pgfeed.specs.declared.mark.Mark.{Mark}
 use Rattle.pgfeed.specs.Texts.{commit_front, entries_text, entry_body}
-use Rattle.pgfeed.specs.Fits.{FitsLine}
-
--- what the line of a commit tells a reader
-pub record Mark : Type 0 where
-  pub end : ℕ
-  pub bytes : ℕ
+use Rattle.pgfeed.specs.Fits.{FitsEntry}
 
 abbrev pub mark_of : Entry → Mark
 mark_of e = record { end = e.end; bytes = length (entry_body e) }
@@ -31,7 +27,7 @@ Walks at (mark ∷ marks) text place size =
 -- each entry ends after the one before it, and its numbers are of 64 bits
 abbrev pub AreEntries : ℕ → List Entry → Type 0
 AreEntries at [] = ⊤
-AreEntries at (e ∷ es) = (at < e.end) × FitsLine e.end at (length (entry_body e)) (length e.lines) e.about × AreEntries e.end es
+AreEntries at (e ∷ es) = (at < e.end) × FitsEntry at e × AreEntries e.end es
 
 -- The lines of commits lead over the entries, whatever follows.
 abbrev pub LinesLeadOver : Type 0

@@ -1,10 +1,11 @@
 //! The text of an entry.
 
-ghost use Rattle.std.specs.Prelude.{◌≡◌, ◌++◌, IfOk, [], Some, length, slice_get, string_bytes};
+ghost use Rattle.std.specs.Prelude.{◌≡◌, ◌++◌, IfOk, OnOk, [], Some, length, slice_get, string_bytes};
 ghost use Rattle.std.specs.List.{AllByRecursion};
 ghost use Rattle.pgapply.specs.Works.{IsNumbered, change_values};
 ghost use Rattle.pgledger.specs.Entries.{entry_of};
 ghost use Rattle.pgledger.specs.Images.{lines};
+ghost use Rattle.pgfeed.specs.Fits.{FitsEntry};
 ghost use Rattle.pgfeed.specs.Texts.{body_text, entry_text};
 
 use crate::changes::push_image;
@@ -56,8 +57,10 @@ pub fn entry_text(
     commit: &Commit<'_, '_>,
     images: &[Image<'_>],
 ) -> Result<String, AllocError>
-    ensures { IfOk result (λ text. string_bytes text ≡ entry_text prev (entry_of commit.now.end
-        commit.now.about commit.now.work.now.changes images.now)) }
+    ensures text { IfOk result (λ text. string_bytes text ≡ entry_text prev (entry_of
+        commit.now.end commit.now.about commit.now.work.now.changes images.now)) }
+    ensures fits { OnOk result (FitsEntry prev (entry_of commit.now.end commit.now.about
+        commit.now.work.now.changes images.now)) }
 {
     let definitions = commit.work.definitions();
     let entries = commit.work.entries();

@@ -149,8 +149,9 @@ pub(crate) fn commit_line(
     changes: usize,
     about: Option<About>,
 ) -> Result<String, AllocError>
-    ensures { IfOk result (λ line. string_bytes line
+    ensures line { IfOk result (λ line. string_bytes line
         ≡ commit_line end prev bytes changes about) }
+    ensures fits { FitsLine end prev bytes changes about }
 {
     let object = commit_object(alloc, end, prev, bytes, changes, about)?;
     padded(object, COMMIT_SIZE)

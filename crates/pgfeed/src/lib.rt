@@ -8,7 +8,11 @@ pub mod fault;
 mod heads;
 mod json;
 pub mod laws;
+pub mod mark;
+mod segment;
 mod tables;
 
 pub use entries::entry_text;
 pub use fault::FeedFault;
+pub use mark::Mark;
+pub use segment::Segment;

@@ -1,5 +1,5 @@
 use Rattle.std.proofs.Common.{◌<◌, List, ℕ, length, sym, subst}
-use Rattle.pgfeed.proofs.Widths.{object_length}
+use Rattle.pgfeed.specs.Cutting.Widths.{object_length}
 use Rattle.pgfeed.proofs.heads.commit_line.Goals as goal
 
 pub padded-requires : goal.padded-requires

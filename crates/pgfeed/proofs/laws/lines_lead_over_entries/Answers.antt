@@ -1,4 +1,4 @@
-use Rattle.pgfeed.proofs.Walking.{over_entries}
+use Rattle.pgfeed.specs.Cutting.Walking.{over_entries}
 use Rattle.pgfeed.proofs.laws.lines_lead_over_entries.Goals as goal
 
 pub returns : goal.returns

@@ -31,9 +31,9 @@ lacks_append stop (x ∷ xs) ys free none = (free.0, lacks_append stop xs ys fre
 digits_lack : (base stop : ℕ) (text : List ℕ) → base ≤ digit_value stop → AllDigits base text → Lacks stop text
 digits_lack base stop [] free digits = tt
 digits_lack base stop (c ∷ text) free digits = (
-      λ e. let P : ℕ → Type 0 = λ n. digit_value n < base in let bad : digit_value stop < base = subst P e digits.0 in absurd (omega arith),
-      digits_lack base stop text free digits.1,
-    )
+  λ e. let P : ℕ → Type 0 = λ n. digit_value n < base in let bad : digit_value stop < base = subst P e digits.0 in absurd (omega arith),
+  digits_lack base stop text free digits.1,
+)
 
 lsn_lacks : (n : ℕ) → n < 2 ^ 64 → Lacks 34 (lsn_text n)
 lsn_lacks n small =

@@ -6,9 +6,10 @@ use Rattle.pgapply.specs.declared.commit.About.{About}
 use Rattle.pgledger.specs.Entries.{Entry, last_end}
 use Rattle.pgfeed.specs.Texts.{commit_front, commit_line, commit_object, commit_rest, entries_text, entry_body, entry_text}
 use Rattle.pgfeed.specs.Fits.{FitsLine}
-use Rattle.pgfeed.specs.Reading.{AreEntries, BeginsWith, LinesLeadOver, Mark, TextIsReadInOneWay, Walks, mark_of}
-use Rattle.pgfeed.proofs.Fronts.{one_front}
-use Rattle.pgfeed.proofs.Widths.{line_length}
+use Rattle.pgfeed.specs.declared.mark.Mark.{Mark}
+use Rattle.pgfeed.specs.Reading.{AreEntries, BeginsWith, LinesLeadOver, TextIsReadInOneWay, Walks, mark_of}
+use Rattle.pgfeed.specs.Cutting.Fronts.{one_front}
+use Rattle.pgfeed.specs.Cutting.Widths.{line_length}
 
 -- a walk goes up
 walks_up : (at place size : ℕ) (marks : List Mark) (text : List ℕ) → Walks at marks text place size → at ≤ place
@@ -53,7 +54,7 @@ take_front n xs ys e = rw (← e) (take-append_seam xs ys)
 pub drop_front : (n : ℕ) (xs ys : List ℕ) → length xs ≡ n → drop n (xs ++ ys) ≡ ys
 drop_front n xs ys e = rw (← e) (drop-append_seam xs ys)
 
-next_entry : (at : ℕ) (e : Entry) (es : List Entry) → entries_text at (e ∷ es) ≡ entry_text at e ++ entries_text e.end es
+pub next_entry : (at : ℕ) (e : Entry) (es : List Entry) → entries_text at (e ∷ es) ≡ entry_text at e ++ entries_text e.end es
 unfolding entries_text
 next_entry at e es = refl
 
@@ -92,8 +93,7 @@ over_entries at (e ∷ es) rest are =
     ap (λ text. text ++ rest) (next_entry at e es) ∙ append_assoc (entry_text at e) (entries_text e.end es) rest in
     let next : drop (256 + length (entry_body e)) (entries_text at (e ∷ es) ++ rest) ≡ entries_text e.end es ++ rest =
     ap (drop (256 + length (entry_body e))) text ∙ drop_front (256 + length (entry_body e)) (entry_text at e) (entries_text e.end es ++ rest) size in
-    let more : Walks e.end (map mark_of es) (entries_text e.end es ++ rest) (last_end e.end es) (length (entries_text e.end es)) = over_entries e.end es rest are.2 in
-    (
+    let more : Walks e.end (map mark_of es) (entries_text e.end es ++ rest) (last_end e.end es) (length (entries_text e.end es)) = over_entries e.end es rest are.2 in (
       subst (BeginsWith at (mark_of e)) (sym text) (begins at e (entries_text e.end es ++ rest) are.0 are.1),
       (
         length (entries_text e.end es),
