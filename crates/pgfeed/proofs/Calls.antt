@@ -1,11 +1,12 @@
 -- What the calls of a segment leave.
-use Rattle.std.proofs.Common.{◌≡◌, ◌<◌, ◌≤◌, ◌+◌, ℕ, List, [], ◌∷◌, ◌++◌, length, max, refl, sym, ◌∙◌, subst, arith, length-append}
+use Rattle.std.proofs.Common.{◌≡◌, ◌<◌, ◌≤◌, ◌+◌, ℕ, List, [], ◌∷◌, ◌++◌, length, max, append-nil, ap, ◌^◌, refl, sym, ◌∙◌, subst, arith, length-append}
 use Rattle.sqlite_disk.specs.Disk.{Holds, Only, Torn}
 use Rattle.pgledger.specs.Entries.{Entry, last_end}
-use Rattle.pgfeed.specs.Segments.{KeepsEntries, Lasts, Reopens, WritesBehind}
-use Rattle.pgfeed.specs.Texts.{entries_text, entry_text}
+use Rattle.pgfeed.specs.Segments.{IsHead, KeepsEntries, Lasts, Reopens, WritesBehind}
+use Rattle.pgfeed.specs.Texts.{entries_text, entry_text, segment_head}
 use Rattle.pgfeed.specs.Fits.{FitsEntry}
 use Rattle.pgfeed.specs.Cutting.Kept.{kept_behind, kept_front, kept_more}
+use Rattle.pgfeed.specs.Cutting.Walking.{no_entry}
 use Rattle.pgfeed.specs.Cutting.Opened.{lasts_behind, reopens_before}
 
 torn_same : (at : ℕ) (file : List ℕ) → Torn at 0 file file
@@ -50,3 +51,37 @@ pub untold : (base new_base last new_last size more : ℕ) (old new : List ℕ) 
 untold base new_base last new_last size more old new before after same stays ends writes es k =
     subst (λ b. KeepsEntries b new_last more new es) (sym same) (subst (λ l. KeepsEntries base l more new es) (sym ends)
     (subst (λ n. KeepsEntries base last n new es) (sym stays) (kept_behind base last size writes.0 old new es k writes.1)))
+
+-- a head alone
+head_of : (base : ℕ) (head system database slot : List ℕ) → head ≡ segment_head base system database slot → length head ≡ 1024 → base < 2 ^ 64 → IsHead base head
+head_of base head system database slot is size fits = record { system = system; database = database; slot = slot; head_is = is; size = size; base_fits = fits }
+
+pub head_keeps : (base b l n : ℕ) (head system database slot file : List ℕ) → head ≡ segment_head base system database slot → length head ≡ 1024 → base < 2 ^ 64 → b ≡ base → l ≡ base → n ≡ 1024 → file ≡ head
+    → KeepsEntries b l n file []
+head_keeps base b l n head system database slot file is size fits begins ends long whole = record {
+  head = head;
+  rest = [];
+  is_head = subst (λ at. IsHead at head) (sym begins) (head_of base head system database slot is size fits);
+  file_is = whole ∙ sym (append-nil head) ∙ ap (λ xs. head ++ xs) (sym (append-nil (entries_text b []) ∙ no_entry b));
+  size_is = omega (arith, ap length (no_entry b));
+  entries = tt;
+  last_is = ends ∙ sym begins;
+}
+
+pub head_lasts : (base b n : ℕ) (head system database slot : List ℕ) (after : List ℕ → Type 0) → head ≡ segment_head base system database slot → length head ≡ 1024 → base < 2 ^ 64 → b ≡ base → n ≡ 1024 → Only head after
+    → Lasts b n after base
+head_lasts base b n head system database slot after is size fits begins long only = (
+  head,
+  record {
+    is_front = record {
+      head = head;
+      told = [];
+      is_head = subst (λ at. IsHead at head) (sym begins) (head_of base head system database slot is size fits);
+      entries = tt;
+      ends = begins;
+      front_is = sym (append-nil head) ∙ ap (λ xs. head ++ xs) (sym (no_entry b));
+    };
+    within = omega arith;
+    each = λ c left. ([], only c left ∙ sym (append-nil head));
+  },
+)

@@ -9,6 +9,7 @@ mod heads;
 mod json;
 pub mod laws;
 pub mod mark;
+mod opening;
 mod segment;
 mod tables;
 

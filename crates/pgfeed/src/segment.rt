@@ -1,6 +1,6 @@
 //! A segment of a feed in a file.
 
-ghost use Rattle.std.specs.Prelude.{◌≡◌, ◌<◌, ◌≤◌, ◌+◌, ℕ, List, length, IsTrue, IfOk, OnOk, OnErr, IfErr};
+ghost use Rattle.std.specs.Prelude.{◌≡◌, ◌<◌, ◌≤◌, ◌+◌, ℕ, List, length, false, IsTrue, IfOk, OnOk, OnErr, IfErr};
 ghost use Rattle.pgapply.specs.Stored.{IsOwnFault};
 ghost use Rattle.pgledger.specs.Entries.{Entry, entry_of};
 ghost use Rattle.sqlite_disk.specs.Disk.{Holds};
@@ -30,6 +30,23 @@ pub struct Segment<D: Disk + Drop> {
 }
 
 impl<D: Disk + Drop> Segment<D> {
+    pub(crate) fn of(alloc: Global, disk: D, base: Lsn, last: Lsn, size: usize) -> Segment<D>
+        ensures disk { result.disk ≡ disk }
+        ensures base { result.base ≡ base }
+        ensures last { result.last ≡ last }
+        ensures size { result.size ≡ size }
+        ensures free { result.is_stuck ≡ false }
+    {
+        Segment {
+            alloc,
+            disk,
+            base,
+            last,
+            size,
+            is_stuck: false,
+        }
+    }
+
     /// The LSN at which it begins.
     pub fn base(&self) -> Lsn
         ensures { result ≡ self.now.base }

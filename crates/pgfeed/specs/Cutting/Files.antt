@@ -13,15 +13,19 @@ drop_drop k n xs =
     ext_get_or 0 (drop n (drop k xs)) (drop (k + n) xs) (omega arith) (λ i lt.
     get_or-drop n (drop k xs) i 0 ∙ get_or-drop k xs (n + i) 0 ∙ ap (λ j. get_or xs j 0) (omega arith) ∙ sym (get_or-drop (k + n) xs i 0))
 
+-- the bytes at an offset
+pub holds_at : (file : List ℕ) (at : ℕ) (bytes : List ℕ) → Holds file at bytes → take (length bytes) (drop at file) ≡ bytes
+holds_at file at bytes holds =
+    let n : ℕ = length bytes in
+    let long = length-drop at file in
+    let size : length (take n (drop at file)) ≡ n = length-take-le n (drop at file) (omega (arith, holds.within)) in
+    ext_get_or 0 (take n (drop at file)) bytes size (λ i lt. let less : i < n = omega arith in get_or-take n (drop at file) i 0 less ∙ get_or-drop at file i 0 ∙ holds.each i less)
+
 -- what the file has behind this offset begins with these bytes
 pub holds_behind : (file : List ℕ) (at : ℕ) (bytes : List ℕ) → Holds file at bytes → drop at file ≡ bytes ++ drop (at + length bytes) file
 holds_behind file at bytes holds =
     let n : ℕ = length bytes in
-    let long = length-drop at file in
-    let size : length (take n (drop at file)) ≡ n = length-take-le n (drop at file) (omega (arith, holds.within)) in
-    let same : take n (drop at file) ≡ bytes =
-    ext_get_or 0 (take n (drop at file)) bytes size (λ i lt. let less : i < n = omega arith in get_or-take n (drop at file) i 0 less ∙ get_or-drop at file i 0 ∙ holds.each i less) in
-    sym (take-append-drop n (drop at file)) ∙ ap (λ xs. xs ++ drop n (drop at file)) same ∙ ap (λ xs. bytes ++ xs) (drop_drop at n file)
+    sym (take-append-drop n (drop at file)) ∙ ap (λ xs. xs ++ drop n (drop at file)) (holds_at file at bytes holds) ∙ ap (λ xs. bytes ++ xs) (drop_drop at n file)
 
 -- a write leaves what is before it
 pub torn_before : (k at n : ℕ) (old new : List ℕ) → Torn at n old new → k ≤ at → k ≤ length old → take k new ≡ take k old
