@@ -2,7 +2,7 @@
 use Rattle.std.proofs.Common.{◌≡◌, ◌<◌, ◌≤◌, ◌+◌, ℕ, List, [], ◌∷◌, ◌++◌, length, max, append-nil, ap, ◌^◌, refl, sym, ◌∙◌, subst, arith, length-append}
 use Rattle.sqlite_disk.specs.Disk.{Holds, Only, Torn}
 use Rattle.pgledger.specs.Entries.{Entry, last_end}
-use Rattle.pgfeed.specs.Segments.{IsHead, KeepsEntries, Lasts, Reopens, WritesBehind}
+use Rattle.pgfeed.specs.Segments.{IsCut, IsFound, IsHead, KeepsEntries, Lasts, Reopens, WritesBehind}
 use Rattle.pgfeed.specs.Texts.{entries_text, entry_text, segment_head}
 use Rattle.pgfeed.specs.Fits.{FitsEntry}
 use Rattle.pgfeed.specs.Cutting.Kept.{kept_behind, kept_front, kept_more}
@@ -85,3 +85,15 @@ head_lasts base b n head system database slot after is size fits begins long onl
     each = λ c left. ([], only c left ∙ sym (append-nil head));
   },
 )
+
+-- whichever segment a crash left this text of, what was found in it and cut reopens that one
+pub left_reopens : (base size place at new_base new_last new_size : ℕ) (text file : List ℕ) (outcomes after : List ℕ → Type 0) → base ≡ at → outcomes text → new_base ≡ at → new_last ≡ place
+    → IsFound at place text new_size → IsCut text new_size file after → Reopens base size outcomes place new_base new_last new_size file after
+left_reopens base size place at new_base new_last new_size text file outcomes after same left begins ends found cut = record {
+  text = text;
+  has = λ front lasting. lasting.each text left;
+  base_is = begins ∙ sym same;
+  last_is = ends;
+  found = subst (λ b. IsFound b place text new_size) (sym same) found;
+  cut = cut;
+}

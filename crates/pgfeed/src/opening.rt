@@ -4,7 +4,7 @@ ghost use Rattle.std.specs.Prelude.{◌≡◌, ◌++◌, ◌+◌, ◌<◌, ◌�
 ghost use Rattle.sqlite_disk.specs.Disk.{Only};
 ghost use Rattle.pgfeed.specs.declared.fault.FeedFault.TheVariants.{NotAFeed, Refused};
 ghost use Rattle.pgfeed.specs.Reading.{BeginsWith, Walks};
-ghost use Rattle.pgfeed.specs.Segments.{IsCut, IsFound, KeepsEntries, Lasts};
+ghost use Rattle.pgfeed.specs.Segments.{IsCut, IsFound, KeepsEntries, Lasts, Reopens};
 ghost use Rattle.pgfeed.specs.Texts.{segment_front, segment_head};
 
 use crate::fault::FeedFault;
@@ -198,6 +198,10 @@ impl<D: Disk + Drop> Segment<D> {
             IsFound base position (D.seen disk) s.size) }
         ensures cut { IfOk result (λ s. IsTrue (D.is_clean s.disk) →
             IsCut (D.seen disk) s.size (D.seen s.disk) (D.may_leave s.disk)) }
+        ensures reopens { IfOk result (λ s. IsTrue (D.is_clean s.disk) → (old : Self D) →
+            old.base ≡ base → D.may_leave old.disk (D.seen disk) →
+            Reopens old.base old.size (D.may_leave old.disk) position s.base s.last s.size
+            (D.seen s.disk) (D.may_leave s.disk)) }
         ensures begins { IfOk result (λ s. (s.base ≡ base) × (s.last ≡ position)
             × (s.is_stuck ≡ false)) }
         ensures refused { IfErr result (λ e. e.0 ≡ NotAFeed → (D.seen e.1 ≡ D.seen disk)

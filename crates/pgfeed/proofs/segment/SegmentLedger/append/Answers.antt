@@ -1,11 +1,13 @@
 use Rattle.std.proofs.Common.{inl, refl, arith}
+use Rattle.pgledger.specs.Entries.{Entry, entry_of}
 use Rattle.pgfeed.proofs.Calls.{appended, lasts_more, reopens_less, untold}
 use Rattle.pgfeed.proofs.segment.SegmentLedger.append.Goals as goal
 
 pub returns-in-Ok-clause-appended : goal.returns-in-Ok-clause-appended
 returns-in-Ok-clause-appended g c = λ es kept.
     let done = c.in-Ok.ensures in
-    appended _ _ _ _ _ _ _ _ (g.D.Disk.may_leave c.args.self.now.disk) (g.D.Disk.may_leave c.write.new.self.disk) _ done.base done.last done.size done.above done.fits done.text done.behind es kept
+    let e : Entry = entry_of c.args.commit.now.end c.args.commit.now.about c.args.commit.now.work.now.changes c.args.images.now in
+    appended _ _ _ _ _ _ _ _ (g.D.Disk.may_leave c.args.self.now.disk) (g.D.Disk.may_leave c.write.new.self.disk) e done.base done.last done.size done.above done.fits done.text done.behind es kept
 
 pub returns-in-Ok-clause-rests : goal.returns-in-Ok-clause-rests
 returns-in-Ok-clause-rests g c =
