@@ -1,5 +1,5 @@
 -- The lines of a commit's changes, one after the other.
-use Rattle.std.proofs.Common.{◌≡◌, ◌<◌, zero, min, length-append, ◌⊎◌, inl, inr, subst, ◌+◌, ℕ, suc, List, [], ◌∷◌, ◌++◌, map, reverse, true, false, Option, Some, None, refl, ap, ◌∙◌, sym, append_assoc, append-nil, add-one, length, arith}
+use Rattle.std.proofs.Common.{◌≡◌, ◌<◌, zero, min, length-append, ◌⊎◌, inl, inr, subst, ◌+◌, ℕ, suc, List, [], ◌∷◌, ◌++◌, map, reverse, true, false, Option, Some, refl, ap, ◌∙◌, sym, append_assoc, append-nil, add-one, length, arith}
 use Rattle.std.specs.Prelude.{slice_get}
 use Rattle.std.specs.List.{AllByRecursion}
 use Rattle.std.proofs.lemmas.List.{reverse-append, map-append}

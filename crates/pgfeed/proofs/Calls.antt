@@ -1,5 +1,5 @@
 -- What the calls of a segment leave.
-use Rattle.std.proofs.Common.{◌≡◌, ◌<◌, ◌≤◌, ◌+◌, ℕ, List, [], ◌∷◌, ◌++◌, length, max, append-nil, ap, ◌^◌, refl, sym, ◌∙◌, subst, arith, length-append}
+use Rattle.std.proofs.Common.{◌≡◌, ◌<◌, ◌≤◌, ◌+◌, ℕ, List, [], ◌∷◌, ◌++◌, length, append-nil, ap, ◌^◌, refl, sym, ◌∙◌, subst, arith}
 use Rattle.sqlite_disk.specs.Disk.{Holds, Only, Torn}
 use Rattle.pgledger.specs.Entries.{Entry, last_end}
 use Rattle.pgfeed.specs.Segments.{IsCut, IsFound, IsHead, KeepsEntries, Lasts, Reopens, WritesBehind}

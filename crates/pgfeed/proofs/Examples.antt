@@ -1,5 +1,5 @@
 -- A feed's text, of each kind of change.
-use Rattle.std.proofs.Common.{◌≡◌, ℕ, pos, negsuc, List, [], ◌∷◌, ◌++◌, Option, Some, None, true, false, refl}
+use Rattle.std.proofs.Common.{◌≡◌, pos, negsuc, [], ◌∷◌, ◌++◌, Some, None, true, false, refl}
 use Rattle.std.specs.Prelude.{codes}
 use Rattle.std.specs.Fmt.{digits}
 use Rattle.json.specs.Print.{escape_byte}
@@ -8,9 +8,7 @@ use Rattle.pglsn.specs.Texts.{lsn_text, half_text}
 use Rattle.pgtuple.specs.declared.cell.Cell.TheVariants.{Null, Unchanged, Text, Binary}
 use Rattle.pglogical.specs.declared.item.RelationDef.{RelationDef}
 use Rattle.pglogical.specs.declared.item.OldKind.TheVariants.{Key, Full}
-use Rattle.pgapply.specs.declared.commit.About.{About}
 use Rattle.pgledger.specs.declared.image.Image.TheVariants.{Inserted, Updated, Deleted, Truncated, Missed}
-use Rattle.pgledger.specs.Images.{Line}
 use Rattle.pgledger.specs.Entries.{Entry}
 use Rattle.pgfeed.specs.Texts.{body_text, entry_text, key_data, segment_head, table_front, table_rest}
 

@@ -1,19 +1,19 @@
 -- What a feed tells in JSON has no floats, so that its text is the compact one.
-use Rattle.std.proofs.Common.{◌≡◌, ℕ, ℤ, pos, negsuc, List, [], ◌∷◌, map, Bool, true, false, Result, Ok, Err, IfOk, refl, String, string_bytes, cond}
+use Rattle.std.proofs.Common.{◌≡◌, ℕ, ℤ, pos, negsuc, List, [], ◌∷◌, Bool, true, false, Result, Ok, Err, IfOk, refl, String, string_bytes, cond}
 use Rattle.std.specs.declared.alloc.AllocError.{AllocError}
 use Rattle.std.specs.declared.alloc.Global.{Global}
 use Rattle.serde_json.specs.declared.value.Value.{Value}
 use Rattle.serde_json.specs.Data.{Data, null, string}
 use Rattle.serde_json.specs.Find.{is_float, of_integer}
-use Rattle.serde_json.specs.View.{view, items_of}
-use Rattle.serde_json.specs.Written.{compact_text, has_float, items_have_float}
+use Rattle.serde_json.specs.View.{view}
+use Rattle.serde_json.specs.Written.{compact_text, has_float}
 use Rattle.pgtuple.specs.declared.cell.Cell.{Cell}
 use Rattle.pgtuple.specs.declared.cell.Cell.TheVariants.{Null, Unchanged, Text, Binary}
 use Rattle.pglogical.specs.declared.item.Column.{Column}
 use Rattle.pglogical.specs.declared.item.RelationDef.{RelationDef}
 use Rattle.pgrel.specs.Identity.{keyed}
 use Rattle.pgjson.specs.Cells.{cell_data, cells_data, list}
-use Rattle.pgfeed.specs.Texts.{column_data, columns_data, key_data, key_names}
+use Rattle.pgfeed.specs.Texts.{columns_data, key_data, key_names}
 
 integer_plain : (n : ℤ) → is_float (of_integer n) ≡ false
 integer_plain (pos n) = refl

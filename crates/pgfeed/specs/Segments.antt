@@ -1,10 +1,10 @@
 -- A segment of a feed in a file: what the file has, what a crash leaves of it, and opening what was left.
-use Rattle.std.specs.Prelude.{◌≡◌, ◌<◌, ◌≤◌, ◌+◌, ◌^◌, ℕ, List, [], ◌∷◌, ◌++◌, length, take, drop}
+use Rattle.std.specs.Prelude.{◌≡◌, ◌<◌, ◌≤◌, ◌+◌, ◌^◌, ℕ, List, ◌++◌, length, take, drop}
 use Rattle.sqlite_disk.specs.Disk.{Follows, Only, Torn}
 use Rattle.pgledger.specs.Entries.{Entry, last_end}
 use Rattle.pgfeed.specs.declared.mark.Mark.{Mark}
 use Rattle.pgfeed.specs.Reading.{AreEntries, Walks}
-use Rattle.pgfeed.specs.Texts.{entries_text, segment_front, segment_head, segment_object}
+use Rattle.pgfeed.specs.Texts.{entries_text, segment_front, segment_head}
 
 -- the head of a segment that begins at this LSN
 pub record IsHead (base : ℕ) (head : List ℕ) : Type 0 where

@@ -1,13 +1,12 @@
 -- The text of a feed: lines of JSON (RFC 8259) in UTF-8, each ended by a line feed. Cells are as in a dump.
 -- PostgreSQL documentation, Logical Replication Message Formats, Relation, Insert, Update, Delete, Truncate, Commit.
-use Rattle.std.specs.Prelude.{ℕ, suc, ◌-◌, ◌==◌, ◌&&◌, ℤ, pos, ◌+ℤ◌, List, [], ◌∷◌, ◌++◌, length, map, replicate, Bool, true, false, Option, Some, None, if◌then◌else◌, codes, decimal}
+use Rattle.std.specs.Prelude.{ℕ, suc, ◌-◌, ◌==◌, ◌&&◌, ℤ, pos, ◌+ℤ◌, List, [], ◌∷◌, ◌++◌, length, map, replicate, Bool, false, Option, Some, None, if◌then◌else◌, codes, decimal}
 use Rattle.std.specs.Fmt.{signed_decimal}
 use Rattle.std.specs.Cmp.Lexicographic.{pointwise}
 use Rattle.std.specs.Ordering.{int_eq}
 use Rattle.std.proofs.Math.Bool.{beq}
 use Rattle.json.specs.Print.{quoted}
-use Rattle.serde_json.specs.Data.{Data, null, number, string}
-use Rattle.serde_json.specs.Find.{of_integer}
+use Rattle.serde_json.specs.Data.{Data, null, string}
 use Rattle.serde_json.specs.Written.{compact_text}
 use Rattle.pglsn.specs.Texts.{lsn_text}
 use Rattle.pgtuple.specs.declared.cell.Cell.{Cell}
@@ -22,7 +21,7 @@ use Rattle.pgledger.specs.declared.image.Image.TheVariants.{Inserted, Updated, D
 use Rattle.pgledger.specs.Images.{Line}
 use Rattle.pgledger.specs.Entries.{Entry}
 use Rattle.pgjson.specs.Cells.{cells_data, list}
-use Rattle.pgjson.specs.Messages.{integer, letter_data, natural, old_data, prior_data}
+use Rattle.pgjson.specs.Messages.{integer, letter_data, natural, prior_data}
 
 -- blanks up to the line feed, so that the line has so many bytes
 abbrev pub padded : ℕ → List ℕ → List ℕ

@@ -2,11 +2,12 @@
 //!
 //! PostgreSQL documentation, Logical Replication Message Formats, Insert, Update, Delete, Truncate.
 
-ghost use Rattle.std.specs.Prelude.{◌≡◌, ◌++◌, ℕ, List, OnOk, Some, None, codes, string_bytes};
+ghost use Rattle.std.specs.Prelude.{◌≡◌, ◌++◌, OnOk, Some, None, codes, string_bytes};
 ghost use Rattle.serde_json.specs.Written.{compact_text};
 ghost use Rattle.pgjson.specs.Cells.{cells_data};
-ghost use Rattle.pgjson.specs.Messages.{old_data, prior_data};
-ghost use Rattle.pgfeed.specs.Texts.{change_front, change_line, image_line, missed_line, row_data, sent_op, sent_rows, sent_text};
+ghost use Rattle.pgjson.specs.Messages.{prior_data};
+ghost use Rattle.pgfeed.specs.Texts.{change_front, change_line, image_line, missed_line, row_data};
+ghost use Rattle.pgfeed.specs.Texts.{sent_op, sent_rows, sent_text};
 
 use crate::json::{cells_text, old_text};
 use pgledger::Image;

@@ -1,6 +1,6 @@
 //! The text of an entry.
 
-ghost use Rattle.std.specs.Prelude.{◌≡◌, ◌++◌, IfOk, OnOk, [], Some, length, slice_get, string_bytes};
+ghost use Rattle.std.specs.Prelude.{◌≡◌, IfOk, OnOk, [], Some, slice_get, string_bytes};
 ghost use Rattle.std.specs.List.{AllByRecursion};
 ghost use Rattle.pgapply.specs.Works.{IsNumbered, change_values};
 ghost use Rattle.pgledger.specs.Entries.{entry_of};

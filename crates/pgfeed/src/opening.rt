@@ -1,9 +1,10 @@
 //! Making and opening a segment of a feed.
 
-ghost use Rattle.std.specs.Prelude.{◌≡◌, ◌++◌, ◌+◌, ◌<◌, ◌≤◌, ◌⊎◌, ℕ, List, [], length, take, drop, false, IsTrue, IfOk, OnOk, IfErr, string_bytes};
+ghost use Rattle.std.specs.Prelude.{◌≡◌, ◌++◌, ◌+◌, ◌<◌, ◌≤◌, ℕ, List, []};
+ghost use Rattle.std.specs.Prelude.{length, take, drop, false, IsTrue, IfOk, OnOk, IfErr};
 ghost use Rattle.sqlite_disk.specs.Disk.{Only};
 ghost use Rattle.pgfeed.specs.declared.fault.FeedFault.TheVariants.{NotAFeed, Refused};
-ghost use Rattle.pgfeed.specs.Reading.{BeginsWith, Walks};
+ghost use Rattle.pgfeed.specs.Reading.{BeginsWith};
 ghost use Rattle.pgfeed.specs.Segments.{IsCut, IsFound, KeepsEntries, Lasts, Reopens};
 ghost use Rattle.pgfeed.specs.Texts.{segment_front, segment_head};
 

@@ -1,12 +1,12 @@
 //! A segment of a feed in a file.
 
-ghost use Rattle.std.specs.Prelude.{◌≡◌, ◌<◌, ◌≤◌, ◌+◌, ℕ, List, length, false, IsTrue, IfOk, OnOk, OnErr, IfErr};
+ghost use Rattle.std.specs.Prelude.{◌≡◌, ◌<◌, ◌+◌, length, false, OnOk, OnErr, IfErr};
 ghost use Rattle.pgapply.specs.Stored.{IsOwnFault};
-ghost use Rattle.pgledger.specs.Entries.{Entry, entry_of};
+ghost use Rattle.pgledger.specs.Entries.{entry_of};
 ghost use Rattle.sqlite_disk.specs.Disk.{Holds};
 ghost use Rattle.pgfeed.specs.Fits.{FitsEntry};
-ghost use Rattle.pgfeed.specs.Segments.{HasWhatLasts, IsCut, IsFound, KeepsEntries, Lasts, WritesBehind};
-ghost use Rattle.pgfeed.specs.Texts.{entry_body, entry_text};
+ghost use Rattle.pgfeed.specs.Segments.{KeepsEntries, Lasts, WritesBehind};
+ghost use Rattle.pgfeed.specs.Texts.{entry_text};
 
 use crate::entries::entry_text;
 use pgapply::{Commit, StoreFault};

@@ -1,9 +1,9 @@
 -- What calls of a disk leave of a file.
-use Rattle.std.proofs.Common.{◌≡◌, ◌<◌, ◌≤◌, ◌+◌, ◌-◌, ℕ, List, [], ◌∷◌, ◌++◌, length, get_or, take, drop, refl, ap, sym, ◌∙◌, subst, arith, length-append, append_assoc, append-nil}
-use Rattle.std.proofs.lemmas.List.{ext_get_or, take-append-drop, take-append-le, length-take, length-take-le, length-drop, get_or-take, get_or-drop}
+use Rattle.std.proofs.Common.{◌≡◌, ◌<◌, ◌≤◌, ◌+◌, ℕ, List, ◌++◌, length, get_or, take, drop, refl, ap, sym, ◌∙◌, arith, length-append}
+use Rattle.std.proofs.lemmas.List.{ext_get_or, take-append-drop, length-take-le, length-drop, get_or-take, get_or-drop}
 use Rattle.sqlite_disk.specs.Disk.{Cut, Holds, Torn}
 use Rattle.pgfeed.specs.Segments.{Begins}
-use Rattle.pgfeed.specs.Cutting.Walking.{take_front, drop_front}
+use Rattle.pgfeed.specs.Cutting.Walking.{take_front}
 
 pub drop_drop : (k n : ℕ) (xs : List ℕ) → drop n (drop k xs) ≡ drop (k + n) xs
 drop_drop k n xs =

@@ -1,11 +1,11 @@
 -- What a segment keeps through its calls.
-use Rattle.std.proofs.Common.{◌≡◌, ◌<◌, ◌≤◌, ◌+◌, ◌-◌, ℕ, List, [], ◌∷◌, ◌++◌, length, take, drop, refl, ap, sym, ◌∙◌, subst, arith, length-append, append_assoc, append-nil}
+use Rattle.std.proofs.Common.{◌≡◌, ◌<◌, ◌≤◌, ◌+◌, ℕ, List, [], ◌∷◌, ◌++◌, length, take, drop, refl, ap, sym, ◌∙◌, subst, arith, length-append, append_assoc, append-nil}
 use Rattle.std.proofs.lemmas.List.{take-append-drop}
 use Rattle.sqlite_disk.specs.Disk.{Holds, Torn}
 use Rattle.pgledger.specs.Entries.{Entry, last_end}
 use Rattle.pgfeed.specs.Fits.{FitsEntry}
 use Rattle.pgfeed.specs.Reading.{AreEntries}
-use Rattle.pgfeed.specs.Segments.{IsHead, KeepsEntries}
+use Rattle.pgfeed.specs.Segments.{KeepsEntries}
 use Rattle.pgfeed.specs.Texts.{entries_text, entry_text}
 use Rattle.pgfeed.specs.Cutting.Walking.{next_entry, no_entry}
 use Rattle.pgfeed.specs.Cutting.Files.{front_of, holds_behind, torn_before}

@@ -1,11 +1,10 @@
 -- A segment that is opened on what a crash left keeps the entries up to the LSN.
-use Rattle.std.proofs.Common.{true, false, ◌≡◌, ◌<◌, ◌≤◌, ◌+◌, ◌-◌, ◌^◌, ℕ, List, [], ◌∷◌, ◌++◌, length, map, take, drop, refl, ap, sym, ◌∙◌, subst, arith, length-append, append_assoc, append-nil}
-use Rattle.sqlite_disk.specs.Disk.{Follows, Torn}
+use Rattle.std.proofs.Common.{true, false, ◌≡◌, ◌≤◌, ◌+◌, ℕ, List, [], ◌++◌, length, map, take, drop, refl, ap, sym, ◌∙◌, subst, arith, length-append, append_assoc, append-nil}
 use Rattle.pgledger.specs.Entries.{Entry, last_end}
 use Rattle.pgfeed.specs.Reading.{AreEntries, Walks, mark_of}
-use Rattle.pgfeed.specs.Segments.{Begins, HasWhatLasts, IsFound, IsFront, IsHead, KeepsEntries, Lasts, LastsAs, Reopens, WritesBehind}
+use Rattle.pgfeed.specs.Segments.{Begins, IsFound, IsFront, IsHead, KeepsEntries, Lasts, LastsAs, Reopens, WritesBehind}
 use Rattle.pgfeed.specs.Texts.{entries_text}
-use Rattle.pgfeed.specs.Cutting.Walking.{drop_front, one_walk, over_entries, take_front}
+use Rattle.pgfeed.specs.Cutting.Walking.{drop_front, one_walk, over_entries}
 use Rattle.pgfeed.specs.Cutting.Files.{begins_torn, front_of}
 use Rattle.pgfeed.specs.Cutting.Kept.{entries_front, text_append}
 

@@ -7,7 +7,7 @@ use Rattle.pgledger.specs.Entries.{Entry, last_end}
 use Rattle.pgfeed.specs.Texts.{commit_front, commit_line, commit_object, commit_rest, entries_text, entry_body, entry_text}
 use Rattle.pgfeed.specs.Fits.{FitsLine}
 use Rattle.pgfeed.specs.declared.mark.Mark.{Mark}
-use Rattle.pgfeed.specs.Reading.{AreEntries, BeginsWith, LinesLeadOver, TextIsReadInOneWay, Walks, mark_of}
+use Rattle.pgfeed.specs.Reading.{BeginsWith, LinesLeadOver, TextIsReadInOneWay, Walks, mark_of}
 use Rattle.pgfeed.specs.Cutting.Fronts.{one_front}
 use Rattle.pgfeed.specs.Cutting.Widths.{line_length}
 

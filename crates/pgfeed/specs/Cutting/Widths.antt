@@ -1,6 +1,6 @@
 -- How long the line of a commit is at most.
-use Rattle.std.proofs.Common.{◌≡◌, ◌<◌, ◌≤◌, ◌+◌, ◌-◌, ◌^◌, ℕ, ℤ, pos, negsuc, ◌+ℤ◌, List, [], ◌∷◌, ◌++◌, length, Option, Some, None, refl, ap, arith, length-append, cond}
-use Rattle.std.specs.Prelude.{IfSome, codes, decimal, FitsSigned, replicate}
+use Rattle.std.proofs.Common.{◌≡◌, ◌<◌, ◌≤◌, ◌+◌, ◌-◌, ◌^◌, ℕ, ℤ, pos, negsuc, ◌+ℤ◌, List, ◌∷◌, length, Option, Some, None, refl, ap, arith, length-append}
+use Rattle.std.specs.Prelude.{IfSome, decimal, FitsSigned, replicate}
 use Rattle.std.specs.Int.{w64}
 use Rattle.std.specs.Fmt.{signed_decimal}
 use Rattle.std.proofs.lemmas.Fmt.{length-decimal-le, length_signed_le}

@@ -1,4 +1,4 @@
-use Rattle.std.proofs.Common.{◌≡◌, ◌≤◌, ◌+◌, ◌-◌, ℕ, List, [], ◌∷◌, drop, take, length, refl, ap, sym, ◌∙◌, subst, rules, arith, IsTrue, false, is_lt, nat_cmp}
+use Rattle.std.proofs.Common.{◌≡◌, ◌≤◌, ◌+◌, ◌-◌, ℕ, List, [], ◌∷◌, drop, take, length, refl, ap, sym, ◌∙◌, subst, rules, arith, false, is_lt, nat_cmp}
 use Rattle.pgfeed.specs.declared.mark.Mark.{Mark}
 use Rattle.pgfeed.specs.Reading.{BeginsWith, Walks}
 use Rattle.pgfeed.specs.Cutting.Files.{drop_drop}

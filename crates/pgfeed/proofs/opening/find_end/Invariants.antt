@@ -1,7 +1,6 @@
-use Rattle.std.proofs.Common.{◌≡◌, ◌≤◌, ◌+◌, ◌-◌, ℕ, List, drop, length, IsTrue, ◌++◌, take}
+use Rattle.std.proofs.Common.{◌≡◌, ◌≤◌, ◌+◌, ◌-◌, ℕ, List, drop, IsTrue}
 use Rattle.pgfeed.specs.declared.mark.Mark.{Mark}
 use Rattle.pgfeed.specs.Reading.{Walks}
-use Rattle.pgfeed.specs.Texts.{segment_front}
 use Rattle.pgfeed.proofs.opening.find_end.Given as goal
 
 abbrev pub invariant-commits : goal.invariant-commits

@@ -1,7 +1,6 @@
-use Rattle.std.proofs.Common.{◌≡◌, ◌++◌, ◌<◌, ◌≤◌, ◌+◌, ◌^◌, ℕ, List, drop, take, length, ap, sym, ◌∙◌, rules, arith}
+use Rattle.std.proofs.Common.{◌≡◌, ◌≤◌, ◌+◌, ℕ, List, drop, take, length, ap, sym, ◌∙◌, rules, arith}
 use Rattle.std.proofs.lemmas.List.{length-drop}
 use Rattle.sqlite_disk.specs.Disk.{Holds}
-use Rattle.pgfeed.specs.Texts.{commit_front}
 use Rattle.pgfeed.specs.Cutting.Files.{holds_at}
 use Rattle.pgfeed.proofs.opening.next_mark.Goals as goal
 

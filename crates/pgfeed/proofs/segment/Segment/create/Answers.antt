@@ -1,4 +1,4 @@
-use Rattle.std.proofs.Common.{◌≡◌, ◌<◌, ◌^◌, ap, sym, ◌∙◌, rules, arith, length, List, ℕ, string_bytes, subst}
+use Rattle.std.proofs.Common.{◌≡◌, ◌<◌, ap, sym, ◌∙◌, rules, arith, length, List, ℕ, string_bytes, subst}
 use Rattle.sqlite_disk.specs.Disk.{Only}
 use Rattle.pgfeed.proofs.Calls.{head_keeps, head_lasts}
 use Rattle.pgfeed.proofs.segment.Segment.create.Goals as goal

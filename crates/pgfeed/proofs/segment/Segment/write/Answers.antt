@@ -1,4 +1,4 @@
-use Rattle.std.proofs.Common.{◌≡◌, ◌<◌, ◌∙◌, List, ℕ, length, string_bytes, subst, arith, ap}
+use Rattle.std.proofs.Common.{◌≡◌, length, subst, arith, ap}
 use Rattle.pgledger.specs.Entries.{Entry, entry_of}
 use Rattle.sqlite_disk.specs.Disk.{Holds}
 use Rattle.pgfeed.specs.Texts.{entry_text}
