@@ -2,4 +2,5 @@ pub mod Texts
 pub mod Fits
 pub mod Reading
 pub mod Segments
+pub mod Whole
 pub mod Cutting

@@ -5,6 +5,7 @@ ghost use Rattle.pgapply.specs.declared.commit.About.{About};
 ghost use Rattle.pgfeed.specs.Fits.{FitsLine};
 ghost use Rattle.pgfeed.specs.Reading.{LinesLeadOver, TextIsReadInOneWay};
 ghost use Rattle.pgfeed.specs.Texts.{commit_line};
+ghost use Rattle.pgfeed.specs.Whole.{LinesTellWholeRows};
 
 /// The line of a commit has 256 bytes, whatever numbers of 64 bits it tells.
 pub fn lines_of_commits_fit()
@@ -22,4 +23,11 @@ pub fn lines_lead_over_entries()
 /// A text is read in one way up to an LSN: its commits have these ends and lengths, and no others.
 pub fn text_is_read_in_one_way()
     ensures { TextIsReadInOneWay }
+{}
+
+/// Rows that are told have all their cells: one that wasn't sent stands in what was sent for a
+/// change that found no row, and nowhere else. `pgledger::laws::lines_lead` says that the lines of
+/// commits lead from the rows before to those after.
+pub fn lines_tell_whole_rows()
+    ensures { LinesTellWholeRows }
 {}
