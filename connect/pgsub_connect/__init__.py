@@ -12,6 +12,7 @@
 | copies for readers | `snapshots`, `resting`, `taking`, `exporting`, `stored`, `values`, `naming`, `placing` |
 | copy and server compared | `verifying`, `digests`, `meeting`, `holding` |
 | other subcommands | `checking`, `dropping`, `probing` |
+| readers of a feed of commits | the package `feed` |
 """
 
 VERSION = "0.1.0"

@@ -1,0 +1,7 @@
+"""Readers of a feed: a folder of segments, lines of JSON that have each commit with the rows before and after its changes.
+
+| What | Modules |
+|---|---|
+| what it consists of | `parts`, `decoding`, `faults` |
+| reading it | `reading`, `polling` |
+"""

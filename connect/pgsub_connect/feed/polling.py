@@ -1,0 +1,58 @@
+"""Waits for what a feed has next."""
+
+from __future__ import annotations
+
+import time
+from collections.abc import Iterator
+
+from ..postgres import Check
+from .faults import Damaged
+from .parts import Commit
+from .reading import Reader
+
+# How long to wait at first and at most until the feed is looked at again, in seconds.
+SHORT, LONG = 0.01, 0.1
+# For how long a line that can't be read may be one that the filter is about to cut off, in seconds.
+PATIENCE = 3.0
+
+
+class Poll:
+    """Asks a reader again and again. Not following: what is there has to be readable at once."""
+
+    def __init__(self, reader: Reader, is_following: bool, check: Check) -> None:
+        self.reader, self.is_following, self.check = reader, is_following, check
+        self.pause = SHORT
+        self.damaged: float | None = None
+
+    def next(self) -> Commit | None:
+        """The next commit that is there, None where there is none."""
+        try:
+            commit = self.reader.next()
+        except Damaged as damaged:
+            self.bear(damaged)
+            return None
+        self.damaged = None
+        self.pause = SHORT if commit else self.pause
+        return commit
+
+    def bear(self, damaged: Damaged) -> None:
+        """Waits for a line to become readable, or raises."""
+        now = time.monotonic()
+        self.damaged = now if self.damaged is None else self.damaged
+        if not self.is_following or now - self.damaged > PATIENCE:
+            raise damaged
+        self.reader.close()
+
+    def rest(self) -> None:
+        """Waits until it is time to look again."""
+        self.check()
+        time.sleep(self.pause)
+        self.pause = min(self.pause * 1.5, LONG)
+
+    def commits(self) -> Iterator[Commit]:
+        """All of them; where it isn't following, those that are there."""
+        while (commit := self.next()) or self.is_following:
+            if commit:
+                yield commit
+            else:
+                self.rest()
