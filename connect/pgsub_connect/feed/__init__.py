@@ -4,4 +4,5 @@
 |---|---|
 | what it consists of | `parts`, `decoding`, `faults` |
 | reading it | `reading`, `polling` |
+| tables of SQLite that follow it | `tabling`, `awaiting`, `applying`, `rowsfile`, `kept`, `carrying`, `initial` |
 """

@@ -1,0 +1,80 @@
+"""`pgsub-connect wait`: until the tables of a file have all that was committed up to an LSN."""
+
+from __future__ import annotations
+
+import argparse
+import contextlib
+import os
+import sqlite3
+import time
+import urllib.parse
+from typing import TYPE_CHECKING
+
+from ..errors import FileError, Passing, Stopped
+from ..naming import POSITION
+from ..postgres import Check
+from ..texts import lsn_text, parse_lsn
+from .reading import Reader, read_confirmed
+from .rowsfile import FEED
+from .tabling import is_tables
+
+if TYPE_CHECKING:
+    from ..cli import Options
+
+ABOUT = """\
+wait until tables that follow a feed have all that was committed up to an LSN
+
+Who has written reads it by: SELECT pg_current_wal_insert_lsn(). It ends with status 0, or with 7 where that took too long.
+"""
+LOOK = 0.02
+
+
+def add_options(parser: argparse.ArgumentParser) -> None:
+    add = parser.add_argument
+    add("--tables", metavar="FILE", required=True, help="the file with the tables")
+    add("--feed", metavar="FOLDER", help="the feed (default: the one that the file follows)")
+    add("--within", metavar="N", type=float, default=60.0, help="give up after N seconds (default: 60)")
+
+
+def read_file(path: str) -> tuple[int, str]:
+    """The LSN of a file of tables, and the folder of its feed."""
+    name = f"file:{urllib.parse.quote(os.fsencode(os.path.abspath(path)))}?mode=ro"
+    with contextlib.closing(sqlite3.connect(name, uri=True, timeout=5.0, isolation_level=None)) as db:
+        return parse_lsn(db.execute(f"SELECT lsn FROM {POSITION}").fetchone()[0]), str(db.execute(f"SELECT folder FROM {FEED}").fetchone()[0])
+
+
+def has_all(path: str, feed: str | None, lsn: int) -> bool:
+    """Whether the file has all that was committed up to an LSN."""
+    at, folder = read_file(path)
+    if at >= lsn:
+        return True
+    folder = feed or folder
+    # (looked at before the lines are: all commits up to it are among these)
+    confirmed = read_confirmed(folder)
+    if confirmed is None or confirmed < lsn:
+        return False
+    with contextlib.closing(Reader(folder, at)) as reader:
+        commit = reader.next()
+    return commit is None or commit.end > lsn
+
+
+def run(options: Options, check: Check) -> int:
+    """Waits; the exit status."""
+    path, lsn = options.tables, options.lsn
+    if not os.path.isfile(path):
+        raise FileError(f"there is no file {path}")
+    if not is_tables(path):
+        raise FileError(f"{path} has no tables that follow a feed")
+    until = time.monotonic() + options.within
+    try:
+        while not has_all(path, options.feed, lsn):
+            try:
+                check()
+            except Stopped:
+                raise Passing(f"ended before {path} has reached {lsn_text(lsn)}") from None
+            if time.monotonic() > until:
+                raise Passing(f"{path} is at {lsn_text(read_file(path)[0])}, and {lsn_text(lsn)} wasn't reached in {options.within:g} seconds")
+            time.sleep(LOOK)
+    except sqlite3.Error as error:
+        raise FileError(f"{path}: {error}") from None
+    return 0
