@@ -129,6 +129,7 @@ class Options:
     init: str | None = None
     reader: str | None = None
     once: bool = False
+    at: int | None = None
     tables: str = ""
     lsn: int = 0
     within: float = 60.0
@@ -321,6 +322,7 @@ def add_verifying(parser: argparse.ArgumentParser) -> None:
 
 def add_tabling(parser: argparse.ArgumentParser) -> None:
     tabling.add_options(parser)
+    parser.add_argument("--at", type=lsn, metavar="LSN", help="the tables as of this LSN: end before the first commit above it")
     parser.add_argument("--mode", type=mode, default=0o600, metavar="OCTAL", help="mode of a file that is made (default: 600)")
 
 
@@ -403,6 +405,7 @@ def check(parser: argparse.ArgumentParser, options: Options) -> None:
         parser.error("of a publication for all tables no table can be left out: --keyless needs a list")
     if options.command == "follow":
         options.streaming = options.proto == 2
+    options.once = options.once or options.at is not None
 
 
 def settle_options(options: Options) -> None:

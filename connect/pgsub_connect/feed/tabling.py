@@ -23,7 +23,7 @@ from .faults import Damaged
 from .initial import Init
 from .parts import Commit
 from .polling import Poll
-from .reading import Reader
+from .reading import Reader, read_confirmed
 from .rowsfile import APPLICATION, Rows, prepare
 
 if TYPE_CHECKING:
@@ -57,7 +57,7 @@ def add_options(parser: argparse.ArgumentParser) -> None:
     add("--table", action="append", default=[], help="keep this table, may be repeated (default: all)")
     add("--reader", metavar="NAME", type=plain_name, help="keep the LSN as FOLDER/readers/NAME too, once the disk has the rows")
     whole = parser.add_mutually_exclusive_group().add_argument
-    whole("--follow", dest="once", action="store_false", help="follow the feed until a signal asks for the end (default)")
+    whole("--follow", dest="once", action="store_false", default=False, help="follow the feed until a signal asks for the end (default)")
     whole("--once", dest="once", action="store_true", help="end once all that is there is in the file")
 
 
@@ -78,6 +78,8 @@ class Tables:
         self.reader = Reader(options.feed, self.rows.at)
         try:
             self.check_chosen()
+            if options.at is not None and self.rows.at > options.at:
+                raise Unfit(f"{options.into} is at {lsn_text(self.rows.at)} already: make another file")
             self.initialize()
             with contextlib.suppress(Stopped):
                 self.follow()
@@ -138,9 +140,10 @@ class Tables:
         self.begun, self.changes, self.seen = 0.0, 0, False
         while True:
             commit = poll.next()
-            if commit is None:
+            if commit is None or self.is_above(commit):
                 self.settle()
-                if self.options.once:
+                if self.options.once or commit:
+                    self.check_reached(commit)
                     return
                 poll.rest()
                 continue
@@ -153,6 +156,17 @@ class Tables:
                 poll.rest()
             if self.changes >= MOST or time.monotonic() - self.begun > LONGEST:
                 self.settle()
+
+    def is_above(self, commit: Commit) -> bool:
+        """Whether a commit ends above the LSN at which to end."""
+        return self.options.at is not None and commit.end > self.options.at
+
+    def check_reached(self, above: Commit | None) -> None:
+        """Rejects an end below the LSN at which to end, where the feed may still get commits up to it."""
+        until = self.options.at
+        if until is None or above or self.rows.at >= until or (read_confirmed(self.options.feed) or 0) >= until:
+            return
+        raise Passing(f"{self.options.feed}: the feed has reached {lsn_text(self.rows.at)}, and {lsn_text(until)} not yet")
 
     def take(self, commit: Commit) -> None:
         """Makes the changes of a commit."""
