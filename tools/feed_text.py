@@ -36,7 +36,7 @@ class Column:
 
 @dataclass(frozen=True)
 class Definition:
-    """What a Relation message says."""
+    """What a Relation message says; an empty schema is pg_catalog."""
 
     oid: int
     schema: str
@@ -119,7 +119,7 @@ def row_text(row: Row | None) -> str:
 def table_line(it: Definition) -> bytes:
     key = [column.name for column in it.columns if column.key] if it.is_keyed() else None
     columns = [[column.name, column.type_oid, column.modifier] for column in it.columns]
-    named = f'"schema":{compact(it.schema)},"table":{compact(it.table)},"identity":{compact(it.letter)}'
+    named = f'"schema":{compact(it.schema or "pg_catalog")},"table":{compact(it.table)},"identity":{compact(it.letter)}'
     return f'{{"op":"table","oid":{it.oid},{named},"key":{compact(key)},"columns":{compact(columns)}}}\n'.encode()
 
 

@@ -599,9 +599,18 @@ RUNS: dict[str, Callable[[Options], Any]] = {
 
 def main(words: Sequence[str]) -> int:
     options = arguments(words)
-    try:
+
+    def call() -> int:
         settle_options(options)
         return int(RUNS[options.command](options) or 0)
+
+    return guarded(call)
+
+
+def guarded(call: Callable[[], int]) -> int:
+    """The exit status of what is called, or of the error that it raises, which is told."""
+    try:
+        return call()
     except Stopped:
         return 0
     except FilterEnded as ended:

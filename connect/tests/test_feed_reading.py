@@ -307,6 +307,6 @@ class Damage(Case):
 
 class Modules(FeedCase):
     def test_each_is_listed_once(self) -> None:
-        listed = re.findall(r"`(\w+)`", (pgsub_connect.feed.__doc__ or "").partition("|---|")[2])
+        listed = re.findall(r"`(\w+)`[,| ]", (pgsub_connect.feed.__doc__ or "").partition("|---|")[2])
         there = {it.stem for it in Path(pgsub_connect.feed.__file__ or "").parent.glob("*.py")} - {"__init__"}
         self.assertEqual(sorted(listed), sorted(there))

@@ -38,18 +38,54 @@ def rows_index(oid: int) -> str:
     return f"rows of table {oid}"
 
 
-class Kept:
+class Valued:
+    """A relation as a table of SQLite: what a row's cells are there."""
+
+    def __init__(self, name: str, relation: Relation) -> None:
+        self.relation, self.oid, self.name = relation, relation.oid, name
+        self.target = Target(name, with_columns(relation), False)
+        self.width = len(self.target.columns)
+        # the columns whose values aren't what their cells are
+        self.read = [at for at, (kind, _, _) in enumerate(self.target.kinds) if kind != "TEXT"]
+
+    def row(self, cells: Sequence[Cell]) -> list[Bound]:
+        """A row's cells as SQLite takes them."""
+        if not cells:
+            return [None]
+        values: list[Bound] = list(cells)
+        if bytes in map(type, cells):
+            return [self.value(at, cell) for at, cell in enumerate(cells)]
+        for at in self.read:
+            if cells[at] is not None:
+                values[at] = self.value(at, cells[at])
+        return values
+
+    def unlike(self, at: int, cell: Bound) -> Unfit:
+        shown = cell if isinstance(cell, bytes) else str(cell).encode()
+        return Unfit(f"{unlike_text(self.relation, Unlike(at, shown))}. Begin anew from an export")
+
+    def value(self, at: int, cell: Cell) -> Bound:
+        kind, read, read_binary = self.target.kinds[at]
+        try:
+            if isinstance(cell, bytes):
+                value: Bound = read_binary(cell)
+            elif cell is None or kind == "TEXT":
+                return cell
+            else:
+                value = read(cell.encode())
+        except ValueError:
+            raise self.unlike(at, cell) from None
+        return value.decode() if isinstance(value, bytes) and kind == "ANY" else value
+
+
+class Kept(Valued):
     """A table. Rows of a keyed one are found by the key, and any other's by all of their values, one of several equal rows."""
 
     def __init__(self, name: str, relation: Relation, is_loose: bool = False) -> None:
-        self.relation, self.oid, self.name = relation, relation.oid, name
-        self.target = Target(name, with_columns(relation), False)
+        super().__init__(name, relation)
         if is_loose:
             self.target.is_keyed = False
-        self.width = len(self.target.columns)
         self.has_index = False
-        # the columns whose values aren't what their cells are
-        self.read = [at for at, (kind, _, _) in enumerate(self.target.kinds) if kind != "TEXT"]
         self.write_statements()
 
     def rename(self, name: str) -> None:
@@ -92,40 +128,11 @@ class Kept:
                 return it
         raise Unfit(f"{self.relation.text()}: a table without a key whose columns have the names {', '.join(ROW_IDS)} can't be kept")
 
-    def row(self, cells: Sequence[Cell]) -> list[Bound]:
-        """A row's cells as SQLite takes them."""
-        if not cells:
-            return [None]
-        values: list[Bound] = list(cells)
-        if bytes in map(type, cells):
-            return [self.value(at, cell) for at, cell in enumerate(cells)]
-        for at in self.read:
-            if cells[at] is not None:
-                values[at] = self.value(at, cells[at])
-        return values
-
-    def unlike(self, at: int, cell: Bound) -> Unfit:
-        shown = cell if isinstance(cell, bytes) else str(cell).encode()
-        return Unfit(f"{unlike_text(self.relation, Unlike(at, shown))}. Begin anew from an export")
-
     def searched(self, cells: Sequence[Cell]) -> list[Bound]:
         """The values that find a row: of a keyed one only its key is looked at."""
         if not self.target.is_keyed:
             return self.row(cells)
         return [self.value(at, cells[at]) for at in self.found]
-
-    def value(self, at: int, cell: Cell) -> Bound:
-        kind, read, read_binary = self.target.kinds[at]
-        try:
-            if isinstance(cell, bytes):
-                value: Bound = read_binary(cell)
-            elif cell is None or kind == "TEXT":
-                return cell
-            else:
-                value = read(cell.encode())
-        except ValueError:
-            raise self.unlike(at, cell) from None
-        return value.decode() if isinstance(value, bytes) and kind == "ANY" else value
 
     def keeps_key(self, before: Sequence[Cell], after: Sequence[Cell]) -> bool:
         return self.target.is_keyed and all(before[at] == after[at] for at in self.target.key)

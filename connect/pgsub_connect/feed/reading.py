@@ -225,6 +225,11 @@ class Reader:
         if segment.size() < self.offset or not segment.is_there():
             self.close()
 
+    def own_line(self, commit: Commit) -> bytes:
+        """The line of the commit that was taken last."""
+        assert self.segment
+        return self.segment.read(self.body - COMMIT_SIZE, COMMIT_SIZE)
+
     def raw(self, commit: Commit) -> Iterator[list[bytes]]:
         """The lines of the commit that was taken last, without their ends, some at a time."""
         assert self.segment
