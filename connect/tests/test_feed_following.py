@@ -14,15 +14,15 @@ from collections.abc import Callable
 from typing import Any
 from unittest import mock
 
-from feed_text import Line, entry_text
+from feed_text import Column, Line, entry_text
 from pgsub_connect.cli import Options, Start, stop_by_signals
-from pgsub_connect.errors import Passing
+from pgsub_connect.errors import Passing, Unfit
 from pgsub_connect.feed import awaiting, tabling
 from pgsub_connect.feed.faults import Damaged
 from pgsub_connect.feed.rowsfile import Rows
 from pgsub_connect.postgres import never
 
-from .feeds import FeedCase, delete, insert, table, truncate, update
+from .feeds import ID, NAME, FeedCase, delete, insert, table, truncate, update
 from .vectors import logged
 
 KEYED, BAG = table(1, "keyed"), table(2, "bag", letter="f")
@@ -187,7 +187,6 @@ class Following(FollowingCase):
         for end in range(0x100, 0x10000, 0x100):
             self.feed.commit(end, [insert(str(end), "x", of=KEYED)])
         self.options.once = True
-        tables = tabling.Tables(self.options, never)
         settled = list[int]()
         settle = Rows.settle
 
@@ -196,7 +195,7 @@ class Following(FollowingCase):
             settled.append(at)
 
         with logged(), mock.patch.object(Rows, "settle", note):
-            tables.run()
+            tabling.run(self.options, never)
         self.assertLess(len(settled), 10)
         self.assertEqual(read(self.into)[0], 0xFF00)
 
@@ -236,3 +235,66 @@ class Definitions(FollowingCase):
             tabling.run(self.options, never)
         with contextlib.closing(rows.db), self.assertRaisesRegex(Exception, "another process has written it meanwhile"):
             rows.begin()
+
+
+class Back(FollowingCase):
+    """Files that are taken back to an LSN."""
+
+    def copied(self, at: int, **more: Any) -> str:
+        """A copy of the file, as of an LSN."""
+        into = f"{self.folder}/back-{at}.db"
+        with logged():
+            tabling.run(Options(command="tables", feed=str(self.path), into=into, base=self.into, once=True, at=at, **more), never)
+        return into
+
+    def run_it(self) -> None:
+        self.options.once = True
+        with logged():
+            tabling.run(self.options, never)
+
+    def test_to_each_lsn(self) -> None:
+        history = History(random.Random(30), 60)
+        for end, lines in history.commits:
+            self.feed.commit(end, lines)
+        self.run_it()
+        truncated = max((end for end, lines in history.commits if any(it.op == "t" for it in lines)), default=0)
+        self.assertEqual(truncated, 0x1E00)
+        for at in range(0, self.feed.at + 1, 0x300):
+            if at < truncated:
+                with self.assertRaisesRegex(Unfit, r"truncates public.keyed \(1\)"):
+                    self.copied(at)
+            else:
+                self.assertEqual(read(self.copied(at)), (at, history.rows[at]), hex(at))
+        self.assertEqual(read(self.into)[0], self.feed.at)
+
+    def test_there_and_back(self) -> None:
+        self.feed.commit(0x100, [insert("1", "a", of=KEYED)])
+        self.feed.commit(0x200, [insert("2", "b", of=BAG)])
+        self.run_it()
+        self.options.at = 0x1FF
+        self.run_it()
+        self.assertEqual(read(self.into), (0x100, (Counter([(1, "a")]), Counter())))
+        self.options.at = None
+        self.run_it()
+        self.assertEqual(read(self.into), (0x200, (Counter([(1, "a")]), Counter([(2, "b")]))))
+
+    def test_shapes_and_names(self) -> None:
+        wider = table(1, "renamed", [ID, NAME, Column("more", 23)])
+        self.feed.commit(0x100, [insert("1", "a", of=KEYED)])
+        self.feed.commit(0x200, [update(["1", "a", None], ["1", "b", "7"], of=wider)])
+        self.run_it()
+        self.assertEqual(read(self.copied(0x100)), (0x100, (Counter([(1, "a")]), Counter())))
+        self.feed.commit(0x300, [insert("2", of=table(1, "keyed", [ID]))])
+        self.run_it()
+        with self.assertRaisesRegex(Unfit, r"public.renamed \(1\): the column name was dropped or altered since, and its values are lost"):
+            self.copied(0x180)
+
+    def test_what_the_feed_doesnt_have(self) -> None:
+        for end in (0x100, 0x200):
+            self.feed.commit(end, [insert(str(end), "a", of=KEYED)])
+            self.feed.end()
+        self.run_it()
+        (self.path / f"{0:016X}").unlink()
+        self.assertEqual(read(self.copied(0x100)), (0x100, (Counter([(256, "a")]), Counter())))
+        with self.assertRaisesRegex(Unfit, "the feed doesn't have the commits after 0/50: begin from an export before it"):
+            self.copied(0x50)

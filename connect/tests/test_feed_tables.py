@@ -379,7 +379,7 @@ class Beginning(TablesCase):
         self.path.joinpath(f"{0:016X}").unlink()
         self.take(insert("99", "before"))
         self.take(update(["1", "a"], ["1", "b"]), delete("5", None, of=bag), insert("2", "c", "7", of=wider))
-        with self.assertRaisesRegex(FileError, "it isn't an export"):
+        with self.assertRaisesRegex(FileError, "it is no export"):
             self.run_it(base=str(self.folder / "copy.db"))
         self.run_it(base=base, table=["stock", "bag"])
         self.assertEqual(self.rows("SELECT * FROM stock"), [(1, "b", None), (2, "c", 7)])

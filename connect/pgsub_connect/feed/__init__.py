@@ -5,5 +5,5 @@
 | what it consists of | `parts`, `decoding`, `faults` |
 | reading it | `reading`, `polling` |
 | `pgsub-feed` | `printing`, `formats`, `undoing` |
-| tables of SQLite that follow it | `tabling`, `awaiting`, `applying`, `rowsfile`, `kept`, `carrying`, `initial` |
+| tables of SQLite that follow it | `tabling`, `beginning`, `noting`, `awaiting`, `applying`, `rowsfile`, `kept`, `carrying`, `back`, `initial` |
 """

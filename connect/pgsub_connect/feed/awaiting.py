@@ -7,16 +7,15 @@ import contextlib
 import os
 import sqlite3
 import time
-import urllib.parse
 from typing import TYPE_CHECKING
 
 from ..errors import FileError, Passing, Stopped
 from ..naming import POSITION
 from ..postgres import Check
 from ..texts import lsn_text, parse_lsn
+from .beginning import is_tables, opened
 from .reading import Reader, read_confirmed
 from .rowsfile import FEED
-from .tabling import is_tables
 
 if TYPE_CHECKING:
     from ..cli import Options
@@ -38,8 +37,7 @@ def add_options(parser: argparse.ArgumentParser) -> None:
 
 def read_file(path: str) -> tuple[int, str]:
     """The LSN of a file of tables, and the folder of its feed."""
-    name = f"file:{urllib.parse.quote(os.fsencode(os.path.abspath(path)))}?mode=ro"
-    with contextlib.closing(sqlite3.connect(name, uri=True, timeout=5.0, isolation_level=None)) as db:
+    with contextlib.closing(opened(path)) as db:
         return parse_lsn(db.execute(f"SELECT lsn FROM {POSITION}").fetchone()[0]), str(db.execute(f"SELECT folder FROM {FEED}").fetchone()[0])
 
 

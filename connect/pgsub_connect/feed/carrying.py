@@ -18,7 +18,7 @@ from ..exporting import Bound, key_index
 from ..naming import OLD
 from ..texts import identifier
 from ..values import BOOL, FLOAT4
-from .kept import Kept, rows_index, with_columns
+from .kept import Kept, Valued, rows_index, with_columns
 from .parts import Cell
 
 
@@ -59,7 +59,7 @@ def shortest(value: float) -> str:
     return f"{value:.9g}"
 
 
-def sources(old: Kept, new: Kept) -> list[int | None]:
+def sources(old: Valued, new: Valued) -> list[int | None]:
     """For each column of a shape the number of the old shape's that has its name."""
     named = dict[str, int]()
     for at, column in enumerate(with_columns(old.relation).shape.columns):

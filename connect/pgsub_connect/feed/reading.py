@@ -128,6 +128,19 @@ class Reader:
         """Where it is: after the commit that was taken last, None where there is no segment yet."""
         return Cursor(self.segment.base, self.offset, self.last) if self.segment else None
 
+    def before(self, commit: Commit) -> Cursor:
+        """Where the commit begins that was taken last."""
+        assert self.segment
+        return Cursor(self.segment.base, self.body - COMMIT_SIZE, commit.prev)
+
+    def go_to(self, cursor: Cursor) -> None:
+        """Goes where it has been before."""
+        if self.segment is None or self.segment.base != cursor.segment:
+            name = dict(segments(self.folder)).get(cursor.segment)
+            if name is None or self.open(cursor.segment, name) is None:
+                raise Unfit(f"{self.folder}: the segment that begins at {lsn_text(cursor.segment)} is gone")
+        self.offset, self.last, self.at = cursor.offset, cursor.at, cursor.at
+
     def next(self) -> Commit | None:
         """The next commit, None where there is none yet. What it has, `parts` reads.
 

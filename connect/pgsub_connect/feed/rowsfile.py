@@ -17,6 +17,7 @@ import json
 import sqlite3
 from collections.abc import Iterable
 
+from .. import log
 from ..catalog import Column, Shape
 from ..errors import FileError, Unfit
 from ..exporting import key_index
@@ -29,7 +30,7 @@ from .initial import Init
 from .kept import Kept, rows_index
 from .parts import Head
 
-APPLICATION = 0x70677374
+APPLICATION, FORMAT = 0x70677374, 1
 RELATIONS, FEED = "pgsub_relations", "pgsub_feed"
 OWN = {POSITION, TABLES, OLD, RELATIONS, FEED}
 ASIDE = OLD + " "
@@ -44,6 +45,7 @@ MORE = (
     f"CREATE TABLE {RELATIONS} (oid INTEGER PRIMARY KEY, name TEXT, definition TEXT) STRICT",
     f"CREATE TABLE {FEED} (folder TEXT NOT NULL, system TEXT, database TEXT, slot TEXT, chosen TEXT NOT NULL) STRICT",
     f"PRAGMA application_id = {APPLICATION}",
+    f"PRAGMA user_version = {FORMAT}",
 )
 
 
@@ -88,6 +90,8 @@ class Rows:
             raise
 
     def set_up(self) -> None:
+        if self.db.execute("PRAGMA user_version").fetchone()[0] != FORMAT:
+            raise FileError(f"{self.path}: another version of {log.PROGRAM} has made the file")
         if self.db.execute("PRAGMA journal_mode = WAL").fetchone()[0] != "wal":
             raise FileError(f"{self.path}: SQLite can't keep a log beside the file there")
         # (what a power cut takes, the feed still has)
@@ -240,11 +244,15 @@ class Rows:
         self.note(kept)
         return kept
 
+    def drop(self, kept: Kept) -> None:
+        self.db.execute(f"DROP TABLE {identifier(kept.name)}")
+        self.db.execute(f"DELETE FROM {RELATIONS} WHERE oid = ?", (kept.oid,))
+        self.forget(kept)
+        del self.kept[kept.oid]
+
     def leave_out(self, relation: Relation, kept: Kept | None) -> None:
         if kept:
-            self.db.execute(f"DROP TABLE {identifier(kept.name)}")
-            self.forget(kept)
-            del self.kept[kept.oid]
+            self.drop(kept)
         if relation.oid not in self.left_out:
             self.left_out.add(relation.oid)
             self.db.execute(f"INSERT OR REPLACE INTO {RELATIONS} VALUES (?, NULL, NULL)", (relation.oid,))

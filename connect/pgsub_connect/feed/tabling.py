@@ -12,19 +12,18 @@ from typing import TYPE_CHECKING
 from .. import log
 from ..errors import FileError, Passing, Stopped, Unfit
 from ..exporting import OLDEST
-from ..placing import placed
 from ..postgres import Check
-from ..remembered import replace_file
-from ..snapshots import LOG, copy, remove
-from ..stored import APPLICATION_AT, MAGIC, is_export
 from ..texts import lsn_text
 from .applying import Applier
+from .back import walk
+from .beginning import check_file, make
 from .faults import Damaged
 from .initial import Init
+from .noting import Noted
 from .parts import Commit
 from .polling import Poll
 from .reading import Reader, read_confirmed
-from .rowsfile import APPLICATION, Rows, prepare
+from .rowsfile import Rows
 
 if TYPE_CHECKING:
     from ..cli import Options
@@ -38,8 +37,6 @@ the rows of an export.
 """
 # How many changes one transaction takes where more commits are there, and for how long it takes more, in seconds.
 MOST, LONGEST = 20000, 0.5
-# How often a reader's LSN is noted at most, in seconds.
-NOTED = 1.0
 
 
 def plain_name(text: str) -> str:
@@ -52,7 +49,7 @@ def add_options(parser: argparse.ArgumentParser) -> None:
     add = parser.add_argument
     add("--feed", metavar="FOLDER", required=True, help="the feed")
     add("--into", metavar="FILE", required=True, help="the file with the tables")
-    add("--base", metavar="EXPORT", help="begin with the rows of this export; where FILE is there, it goes on from its own")
+    add("--base", metavar="FILE", help="begin with the rows of this export, or file of tables; unless --into is there: it goes on from its own")
     add("--init", metavar="FILE", help="run this SQL after a table was made or altered, for indexes and views: CREATE INDEX IF NOT EXISTS ..")
     add("--table", action="append", default=[], help="keep this table, may be repeated (default: all)")
     add("--reader", metavar="NAME", type=plain_name, help="keep the LSN as FOLDER/readers/NAME too, once the disk has the rows")
@@ -62,103 +59,32 @@ def add_options(parser: argparse.ArgumentParser) -> None:
 
 
 class Tables:
-    """Follows a feed into a file."""
+    """Follows a feed into a file that is open."""
 
-    def __init__(self, options: Options, check: Check) -> None:
-        self.options, self.check = options, check
-        self.init = Init(options.init) if options.init else None
-        self.noted, self.noted_at = -1, 0.0
-
-    def run(self) -> None:
-        options = self.options
-        if not os.path.exists(options.into):
-            self.make()
-        is_orderly = False
-        self.rows = Rows(options.into, self.init)
-        self.reader = Reader(options.feed, self.rows.at)
-        try:
-            self.check_chosen()
-            if options.at is not None and self.rows.at > options.at:
-                raise Unfit(f"{options.into} is at {lsn_text(self.rows.at)} already: make another file")
-            self.initialize()
-            with contextlib.suppress(Stopped):
-                self.follow()
-            is_orderly = True
-            self.note(is_last=True)
-        finally:
-            self.reader.close()
-            self.rows.close(is_orderly)
-
-    def make(self) -> None:
-        """Makes a new file."""
-        options, base = self.options, self.options.base
-        if base and not (os.path.isfile(base) and is_export(base)):
-            raise FileError(f"--base {base}: it isn't an export")
-        if not base:
-            self.check_begin()
-        with placed(options.into, options.mode) as new:
-            if base:
-                remove(new)
-                copy(base, new, 0o600, self.check)
-            with contextlib.closing(sqlite3.connect(new, isolation_level=None)) as db:
-                prepare(db, os.path.abspath(options.feed), options.table, bool(base))
-
-    def check_begin(self) -> None:
-        """Waits for the feed's first segment, which has to be that of a copy that was empty."""
-        poll = Poll(Reader(self.options.feed), not self.options.once, self.check)
-        try:
-            while poll.next() is None and poll.reader.segment is None and not self.options.once:
-                poll.rest()
-            segment = poll.reader.segment
-            if segment is None:
-                raise Passing(f"{self.options.feed}: the feed has no segment yet")
-            if segment.base:
-                raise Unfit(
-                    f"{self.options.feed}: the feed begins at {lsn_text(segment.base)}, and there may be rows from before: name an export"
-                    " since then by --base (`pgsub-connect export`)"
-                )
-        finally:
-            poll.reader.close()
-
-    def check_chosen(self) -> None:
-        chosen = set(self.options.table)
-        if chosen != self.rows.chosen:
-            was = ", ".join(sorted(self.rows.chosen)) or "all"
-            raise Unfit(f"{self.options.into} was made for these tables: {was}. For others make another file")
-
-    def initialize(self) -> None:
-        if self.init:
-            self.rows.begin()
-            self.rows.is_init_due = True
-            self.rows.initialize()
-            self.rows.settle(self.rows.at)
+    def __init__(self, options: Options, rows: Rows, check: Check) -> None:
+        self.options, self.rows, self.check = options, rows, check
+        self.reader = Reader(options.feed, rows.at)
+        self.poll = Poll(self.reader, not options.once, check)
+        self.applier = Applier(rows, check)
+        self.noted = Noted(options.feed, options.reader, options.into, options.mode) if options.reader else None
+        # of the open transaction: since when, how many changes it has, and where the last commit of it ends
+        self.begun, self.changes, self.end = 0.0, 0, rows.at
+        self.is_checked = False
 
     def follow(self) -> None:
-        """Takes commit after commit, several in one transaction where they are there."""
-        poll = Poll(self.reader, not self.options.once, self.check)
-        self.applier = Applier(self.rows, self.check)
-        self.begun, self.changes, self.seen = 0.0, 0, False
-        while True:
-            commit = poll.next()
-            if commit is None or self.is_above(commit):
-                self.settle()
-                if self.options.once or commit:
-                    self.check_reached(commit)
-                    return
-                poll.rest()
-                continue
-            try:
+        """Takes commit after commit, several in one transaction where they are there, up to the end that was asked for."""
+        while not self.is_at_end(commit := self.poll.next()):
+            if commit:
                 self.take(commit)
-            except Damaged as damaged:
-                self.rows.roll_back()
-                poll.bear(damaged)
-                self.reader.at = self.rows.at
-                poll.rest()
-            if self.changes >= MOST or time.monotonic() - self.begun > LONGEST:
+            else:
                 self.settle()
+                self.poll.rest()
+        self.settle()
+        self.check_reached(commit)
 
-    def is_above(self, commit: Commit) -> bool:
-        """Whether a commit ends above the LSN at which to end."""
+    def is_at_end(self, commit: Commit | None) -> bool:
+        if commit is None:
+            return self.options.once
         return self.options.at is not None and commit.end > self.options.at
 
     def check_reached(self, above: Commit | None) -> None:
@@ -169,52 +95,70 @@ class Tables:
         raise Passing(f"{self.options.feed}: the feed has reached {lsn_text(self.rows.at)}, and {lsn_text(until)} not yet")
 
     def take(self, commit: Commit) -> None:
-        """Makes the changes of a commit."""
-        head = self.reader.head
-        if head and not self.seen:
-            self.rows.check_source(head)
-            self.seen = True
+        """Makes the changes of a commit. Where its lines can't be read nothing is kept of what isn't settled."""
+        self.begin()
+        try:
+            self.applier.apply(commit, self.reader.parts(commit))
+        except Damaged as damaged:
+            self.rows.roll_back()
+            self.poll.bear(damaged)
+            self.reader.at = self.rows.at
+            self.poll.rest()
+            return
+        self.changes += commit.changes + 1
+        self.end = commit.end
+        if self.changes >= MOST or time.monotonic() - self.begun > LONGEST:
+            self.settle()
+
+    def begin(self) -> None:
+        if self.reader.head and not self.is_checked:
+            self.rows.check_source(self.reader.head)
+            self.is_checked = True
         if not self.rows.db.in_transaction:
             self.check()
             self.begun, self.changes = time.monotonic(), 0
             self.rows.begin()
-        self.applier.apply(commit, self.reader.parts(commit))
-        self.changes += commit.changes + 1
-        self.taken = commit.end
 
     def settle(self) -> None:
-        if self.rows.db.in_transaction:
-            self.rows.settle(self.taken)
-        self.note()
+        self.rows.settle(self.end)
+        if self.noted:
+            self.noted.note(self.rows.at)
 
-    def note(self, is_last: bool = False) -> None:
-        """Notes the LSN among those of the feed's readers, once the disk has the rows."""
-        at, now = self.rows.at, time.monotonic()
-        if not self.options.reader or at == self.noted or not is_last and now - self.noted_at < NOTED:
-            return
-        self.noted, self.noted_at = at, now
-        with contextlib.suppress(FileNotFoundError):
-            file = os.open(self.options.into + LOG, os.O_RDONLY | os.O_CLOEXEC)
-            try:
-                os.fsync(file)
-            finally:
-                os.close(file)
-        folder = os.path.join(self.options.feed, "readers")
-        os.makedirs(folder, exist_ok=True)
-        replace_file(os.path.join(folder, self.options.reader), f"{lsn_text(at)}\n".encode(), self.options.mode)
+    def finish(self) -> None:
+        self.reader.close()
+        if self.noted:
+            self.noted.note(self.rows.at, is_last=True)
 
 
-def is_tables(path: str) -> bool:
-    """Whether a file is one that follows a feed."""
-    with open(path, "rb") as file:
-        head = file.read(100)
-    return head.startswith(MAGIC) and int.from_bytes(head[APPLICATION_AT : APPLICATION_AT + 4], "big") == APPLICATION
+def keep(options: Options, check: Check) -> int:
+    """Keeps the tables of a file. Returns its LSN at the end."""
+    init = Init(options.init) if options.init else None
+    if not os.path.exists(options.into):
+        make(options, check)
+    rows, is_orderly = Rows(options.into, init), False
+    try:
+        check_chosen(options, rows)
+        if options.at is not None and rows.at > options.at:
+            walk(options.feed, rows, options.at, check)
+        if init:
+            rows.begin()
+            rows.is_init_due = True
+            rows.initialize()
+            rows.settle(rows.at)
+        tables = Tables(options, rows, check)
+        with contextlib.suppress(Stopped):
+            tables.follow()
+        tables.finish()
+        is_orderly = True
+    finally:
+        rows.close(is_orderly)
+    return rows.at
 
 
-def check_file(path: str) -> None:
-    """Rejects a file that is there and isn't one that follows a feed."""
-    if os.path.lexists(path) and not (os.path.isfile(path) and is_tables(path)):
-        raise FileError(f"{path} is there and has no tables that follow a feed: remove it, or name another file")
+def check_chosen(options: Options, rows: Rows) -> None:
+    if set(options.table) != rows.chosen:
+        was = ", ".join(sorted(rows.chosen)) or "all"
+        raise Unfit(f"{options.into} was made for these tables: {was}. For others make another file")
 
 
 def run(options: Options, check: Check) -> int:
@@ -223,12 +167,9 @@ def run(options: Options, check: Check) -> int:
         wanted = ".".join(map(str, OLDEST[:2]))
         raise FileError(f"SQLite {wanted} or later is needed for STRICT tables, and this is {sqlite3.sqlite_version}")
     check_file(options.into)
-    if not os.path.isdir(os.path.dirname(os.path.realpath(options.into))):
-        raise FileError(f"--into {options.into}: there is no folder {os.path.dirname(os.path.realpath(options.into))}")
     try:
-        tables = Tables(options, check)
-        tables.run()
+        at = keep(options, check)
     except sqlite3.Error as error:
         raise FileError(f"{options.into}: {error}") from None
-    log.info(f"{options.into}: the rows at {lsn_text(tables.rows.at)}")
+    log.info(f"{options.into}: the rows at {lsn_text(at)}")
     return 0
