@@ -64,6 +64,7 @@ class Maker(history.Maker):
 
     few = 8
     bad_share = 0
+    truncates, alters = 0.004, 0.03
 
     def make_values(self):
         return Values(self.rng)
