@@ -223,7 +223,23 @@ class Following(FollowingCase):
         self.assertEqual(read(self.into)[1][0], Counter([(1, "a"), (2, "b"), (3, "c")]))
 
 
-class Definitions(FollowingCase):
+class Transactions(FollowingCase):
+    def test_the_lsn_is_in_that_of_the_rows(self) -> None:
+        told = list[str]()
+        set_up = Rows.set_up
+
+        def traced(rows: Rows) -> None:
+            set_up(rows)
+            rows.db.set_trace_callback(told.append)
+
+        self.feed.commit(0x100, [insert("1", "a", of=KEYED)])
+        self.feed.commit(0x200, [insert("2", "b", of=KEYED)])
+        self.options.once = True
+        with logged(), mock.patch.object(Rows, "set_up", traced):
+            tabling.run(self.options, never)
+        words = [it.split()[0] for it in told if it.startswith(("BEGIN", "INSERT INTO \"keyed\"", "UPDATE pgsub_position", "COMMIT"))]
+        self.assertEqual(words, ["BEGIN", "UPDATE", "COMMIT", "BEGIN", "INSERT", "INSERT", "UPDATE", "COMMIT"])
+
     def test_another_process_has_written(self) -> None:
         self.feed.commit(0x100, [insert("1", "a", of=KEYED)])
         self.options.once = True

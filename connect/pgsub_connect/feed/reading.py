@@ -234,8 +234,8 @@ class Reader:
         return False
 
     def look_after(self, segment: Segment) -> None:
-        """Lets go of a segment that was cut or replaced, or is gone."""
-        if segment.size() < self.offset or not segment.is_there():
+        """Lets go of a segment that was replaced or is gone. (Of one that was cut the same bytes come again, or others, which is seen.)"""
+        if not segment.is_there():
             self.close()
 
     def own_line(self, commit: Commit) -> bytes:
