@@ -9,6 +9,7 @@ import sqlite3
 import stat
 from collections.abc import Sequence
 from typing import Any
+from unittest import mock
 
 from feed_text import Cell, Column, Definition, Line
 from pgsub_connect.cli import FILE, UNFIT, USAGE, Options, main
@@ -310,7 +311,7 @@ class Beginning(TablesCase):
         self.take(insert("1", "a"))
         self.feed.end()
         self.path.joinpath(f"{0:016X}").unlink()
-        with self.assertRaisesRegex(Unfit, "the feed begins at 0/100, and there may be rows from before: name an export"):
+        with self.assertRaisesRegex(Unfit, "the feed begins at 0/100, and there may be rows from before: name the store"):
             self.run_it()
         self.assertFalse(os.path.exists(self.into))
         with logged() as told:
@@ -359,6 +360,19 @@ class Beginning(TablesCase):
         self.take(insert("1", "a"))
         self.run_it(reader="rows")
         self.assertEqual((self.path / "readers/rows").read_text(), "0/100\n")
+
+    def test_a_store(self) -> None:
+        store = Store(str(self.folder / "copy.db"), 0x100)
+        store.table(1, "stock", [(1, "id", 23, -1), (0, "name", 25, -1)])
+        store.row(1, "1", "a")
+        store.close()
+        self.take(insert("1", "a"))
+        self.feed.end()
+        self.path.joinpath(f"{0:016X}").unlink()
+        self.take(update(["1", "a"], ["2", "b"]))
+        with mock.patch("pgsub_connect.exporting.log"):
+            self.run_it(store=str(self.folder / "copy.db"))
+        self.assertEqual((self.rows("SELECT * FROM stock"), self.rows("SELECT lsn FROM pgsub_position")), ([(2, "b")], [("0/200",)]))
 
     def test_an_export(self) -> None:
         store = Store(str(self.folder / "copy.db"), 0x300)

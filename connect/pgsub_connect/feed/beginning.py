@@ -3,14 +3,17 @@
 from __future__ import annotations
 
 import contextlib
+import dataclasses
 import os
 import sqlite3
 import urllib.parse
 from typing import TYPE_CHECKING
 
 from ..errors import FileError, Passing, Unfit
+from ..exporting import run as export
 from ..placing import placed
 from ..postgres import Check
+from ..resting import own_name
 from ..snapshots import copy, remove
 from ..stored import APPLICATION_AT, MAGIC, is_export
 from ..texts import lsn_text
@@ -46,11 +49,25 @@ def check_file(path: str) -> None:
 
 def make(options: Options, check: Check) -> None:
     """Makes the file."""
-    base, folder = options.base, os.path.abspath(options.feed)
+    if options.base:
+        make_from(options.base, options, check)
+    elif options.store:
+        base = own_name(options.into + ".base")
+        try:
+            export(dataclasses.replace(options, command="export", into=base), check)
+            make_from(base, options, check)
+        finally:
+            remove(base)
+    else:
+        check_begin(options, check)
+        make_from(None, options, check)
+
+
+def make_from(base: str | None, options: Options, check: Check) -> None:
+    """Makes the file with the rows of another one, or empty."""
+    folder = os.path.abspath(options.feed)
     if base and not (os.path.isfile(base) and (is_export(base) or is_tables(base))):
         raise FileError(f"--base {base}: it is no export, nor a file of tables that follow a feed")
-    if not base:
-        check_begin(options, check)
     with placed(options.into, options.mode) as new:
         if base and is_tables(base):
             clone(base, new, folder)
@@ -80,6 +97,6 @@ def check_begin(options: Options, check: Check) -> None:
             raise Passing(f"{options.feed}: the feed has no segment yet")
         if reader.segment.base:
             raise Unfit(
-                f"{options.feed}: the feed begins at {lsn_text(reader.segment.base)}, and there may be rows from before: name an export"
-                " since then by --base (`pgsub-connect export`)"
+                f"{options.feed}: the feed begins at {lsn_text(reader.segment.base)}, and there may be rows from before: name the store"
+                " by --store, or an export since then by --base"
             )

@@ -49,7 +49,9 @@ def add_options(parser: argparse.ArgumentParser) -> None:
     add = parser.add_argument
     add("--feed", metavar="FOLDER", required=True, help="the feed")
     add("--into", metavar="FILE", required=True, help="the file with the tables")
-    add("--base", metavar="FILE", help="begin with the rows of this export, or file of tables; unless --into is there: it goes on from its own")
+    begin = parser.add_mutually_exclusive_group().add_argument
+    begin("--base", metavar="FILE", help="begin with the rows of this export, or file of tables, where the file isn't there yet")
+    begin("--store", metavar="FILE", default="", help="begin with the rows of this store; its follower is asked for a copy")
     add("--init", metavar="FILE", help="run this SQL after a table was made or altered, for indexes and views: CREATE INDEX IF NOT EXISTS ..")
     add("--table", action="append", default=[], help="keep this table, may be repeated (default: all)")
     add("--reader", metavar="NAME", type=plain_name, help="keep the LSN as FOLDER/readers/NAME too, once the disk has the rows")
