@@ -3,6 +3,7 @@
 import sqlite3
 from collections import Counter
 
+import feed_replay
 import feed_text
 
 from . import history
@@ -51,7 +52,8 @@ class Values(history.Values):
         taken, columns = set(), []
         for place, column in enumerate(it.columns):
             name = column.name or b"empty"
-            name += b" %d" % place if name in taken else b""
+            while name in taken:
+                name += b" %d" % place
             taken.add(name)
             kind = column.type_oid if column.type_oid in self.types else self.rng.choice(self.types)
             columns.append(Column(column.flag, name, kind, column.modifier))
@@ -125,12 +127,11 @@ class Fed:
             self.rows[at] = rows_in(tables)
 
 
-def value_of(column, cell):
-    if cell == NULL:
+def value_of(type_oid, cell):
+    """A cell as SQLite has it."""
+    if cell is None:
         return None
-    if column.type_oid in INTEGERS:
-        return int(cell[5:])
-    return float(cell[5:]) if column.type_oid in FLOATS else cell[5:].decode()
+    return int(cell) if type_oid in INTEGERS else float(cell) if type_oid in FLOATS else cell
 
 
 def rows_in(tables):
@@ -139,9 +140,22 @@ def rows_in(tables):
     for oid, (definition, rows) in tables.items():
         counted = Counter()
         for cells, copies in rows.values():
-            counted[tuple(value_of(*it) for it in zip(definition.columns, cells)) or (None,)] += copies
+            values = [value_of(column.type_oid, cell_of(cell)) for column, cell in zip(definition.columns, cells)]
+            counted[tuple(values) or (None,)] += copies
         found[oid] = counted
     return found
+
+
+def replayed(folder):
+    """The LSN that a feed's folder leads to, and its rows, by what the format says."""
+    state = feed_replay.replay(folder)
+    found = {}
+    for oid, rows in state.rows.items():
+        types = [it[1] for it in state.definitions[oid]["columns"]]
+        found[oid] = Counter()
+        for row, copies in (+rows).items():
+            found[oid][tuple(map(value_of, types, row)) or (None,)] += copies
+    return state.at, found
 
 
 def read_file(path):
