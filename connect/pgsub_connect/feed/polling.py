@@ -5,6 +5,7 @@ from __future__ import annotations
 import time
 from collections.abc import Iterator
 
+from ..errors import Unfit
 from ..postgres import Check
 from .faults import Damaged
 from .parts import Commit
@@ -12,7 +13,7 @@ from .reading import Reader
 
 # How long to wait at first and at most until the feed is looked at again, in seconds.
 SHORT, LONG = 0.01, 0.1
-# For how long a line that can't be read may be one that the filter is about to cut off, in seconds.
+# For how long what can't be read, or doesn't go on, may be what the filter is about to cut off, in seconds.
 PATIENCE = 3.0
 
 
@@ -22,25 +23,26 @@ class Poll:
     def __init__(self, reader: Reader, is_following: bool, check: Check) -> None:
         self.reader, self.is_following, self.check = reader, is_following, check
         self.pause = SHORT
-        self.damaged: float | None = None
+        # since when something is wrong
+        self.wrong: float | None = None
 
     def next(self) -> Commit | None:
         """The next commit that is there, None where there is none."""
         try:
             commit = self.reader.next()
-        except Damaged as damaged:
-            self.bear(damaged)
+        except (Damaged, Unfit) as wrong:
+            self.bear(wrong)
             return None
-        self.damaged = None
+        self.wrong = None
         self.pause = SHORT if commit else self.pause
         return commit
 
-    def bear(self, damaged: Damaged) -> None:
-        """Waits for a line to become readable, or raises."""
+    def bear(self, wrong: Damaged | Unfit) -> None:
+        """Lets what is wrong pass for now, or raises it."""
         now = time.monotonic()
-        self.damaged = now if self.damaged is None else self.damaged
-        if not self.is_following or now - self.damaged > PATIENCE:
-            raise damaged
+        self.wrong = now if self.wrong is None else self.wrong
+        if not self.is_following or now - self.wrong > PATIENCE:
+            raise wrong
         self.reader.close()
 
     def rest(self) -> None:
