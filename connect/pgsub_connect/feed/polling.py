@@ -23,24 +23,26 @@ class Poll:
     def __init__(self, reader: Reader, is_following: bool, check: Check) -> None:
         self.reader, self.is_following, self.check = reader, is_following, check
         self.pause = SHORT
-        # since when something is wrong
+        # since when something is wrong, and at which LSN
         self.wrong: float | None = None
+        self.wrong_at = 0
 
     def next(self) -> Commit | None:
         """The next commit that is there, None where there is none."""
         try:
             commit = self.reader.next()
         except (Damaged, Unfit) as wrong:
-            self.bear(wrong)
+            self.bear(wrong, self.reader.at or 0)
             return None
-        self.wrong = None
+        if commit and commit.prev >= self.wrong_at:
+            self.wrong = None
         self.pause = SHORT if commit else self.pause
         return commit
 
-    def bear(self, wrong: Damaged | Unfit) -> None:
-        """Lets what is wrong pass for now, or raises it."""
+    def bear(self, wrong: Damaged | Unfit, at: int) -> None:
+        """Lets what is wrong pass for now, or raises it. It is right again once a commit that begins at this LSN is there, or a later one."""
         now = time.monotonic()
-        self.wrong = now if self.wrong is None else self.wrong
+        self.wrong, self.wrong_at = now if self.wrong is None else self.wrong, at
         if not self.is_following or now - self.wrong > PATIENCE:
             raise wrong
         self.reader.close()

@@ -103,7 +103,7 @@ class Tables:
             self.applier.apply(commit, self.reader.parts(commit))
         except Damaged as damaged:
             self.rows.roll_back()
-            self.poll.bear(damaged)
+            self.poll.bear(damaged, commit.end)
             self.reader.at = self.rows.at
             self.poll.rest()
             return
