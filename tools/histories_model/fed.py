@@ -8,6 +8,7 @@ import feed_text
 
 from . import history
 from . import tables as model
+from .reader import Reader
 from .wire import NULL, UNSENT, Column, Definition, binary, text
 
 # types of which each number is a value, and a type that isn't known
@@ -125,6 +126,30 @@ class Fed:
             self.commits.append((transaction.end, lines, about))
             at = transaction.end
             self.rows[at] = rows_in(tables)
+
+
+class Feeding(Reader):
+    """A subscriber that writes the feed of what it stores."""
+
+    def __init__(self, version, writer):
+        super().__init__(version)
+        self.writer, self.about, self.lines = writer, None, []
+
+    def step(self, letter, fields, length):
+        if letter in b"Cc":
+            self.about = feed_text.About(fields[1], self.top if letter == b"C" else fields[0], fields[3])
+        super().step(letter, fields, length)
+
+    def commit(self, xid, end):
+        before, self.lines = self.position, []
+        super().commit(xid, end)
+        if self.position > before:
+            self.writer.commit(end, self.lines, self.about)
+
+    def apply(self, tables, it):
+        lines = lines_of(tables, it)
+        self.lines += lines
+        self.trial_missed += [line.definition.oid for line in lines if line.op == "x"]
 
 
 def value_of(type_oid, cell):
