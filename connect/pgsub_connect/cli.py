@@ -322,7 +322,7 @@ def add_verifying(parser: argparse.ArgumentParser) -> None:
 
 def add_tabling(parser: argparse.ArgumentParser) -> None:
     tabling.add_options(parser)
-    parser.add_argument("--at", type=lsn, metavar="LSN", help="the tables as of this LSN: end before the first commit above it")
+    parser.add_argument("--at", type=lsn, metavar="LSN", help="the tables as of this LSN: end before the first commit above it, or go back to there")
     parser.add_argument("--mode", type=mode, default=0o600, metavar="OCTAL", help="mode of a file that is made (default: 600)")
 
 

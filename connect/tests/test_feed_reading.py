@@ -203,6 +203,23 @@ class Segments(Case):
         for at, ends in ((0, [0x100, 0x200, 0x300]), (0x200, [0x300]), (0x300, [])):
             self.assertEqual(self.ends(at), ends)
 
+    def test_one_that_lost_its_last_line(self) -> None:
+        self.feed.commit(0x100, [insert("1", "a")])
+        size = self.feed.size
+        self.feed.end()
+        self.feed.commit(0x200, [insert("2", "b")])
+        os.truncate(self.file(), size)
+        self.assertEqual(self.ends(), [0x100, 0x200])
+
+    def test_lines_of_commits_in_another_order(self) -> None:
+        self.feed.commit(0x100, [], About(0xF0, 7, 0))
+        text = self.file().read_bytes()
+        old, new = b'{"end":"0/100","prev":"0/0",', b'{"prev":"0/0","end":"0/100",'
+        self.file().write_bytes(text.replace(old, new))
+        commit = self.reader().next()
+        assert commit
+        self.assertEqual((commit.end, commit.prev, commit.lsn, commit.xid, commit.ts_us), (0x100, 0, 0xF0, 7, 946684800000000))
+
     def test_old_ones_are_gone(self) -> None:
         for end in (0x100, 0x200):
             self.feed.commit(end)

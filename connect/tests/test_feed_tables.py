@@ -16,7 +16,7 @@ from pgsub_connect.cli import FILE, UNFIT, USAGE, Options, main
 from pgsub_connect.errors import FileError, Passing, Unfit
 from pgsub_connect.exporting import run as export
 from pgsub_connect.feed import tabling
-from pgsub_connect.feed.awaiting import has_all
+from pgsub_connect.feed.awaiting import Awaited
 from pgsub_connect.postgres import never
 
 from .feeds import ID, NAME, STOCK, FeedCase, delete, insert, table, truncate, update
@@ -445,12 +445,20 @@ class Waiting(TablesCase):
     def test_what_is_there(self) -> None:
         self.take(insert("1", "a"))
         self.run_it()
-        self.assertEqual([has_all(self.into, None, it) for it in (0x50, 0x100, 0x101)], [True, True, False])
+        self.assertEqual([self.has_all(it) for it in (0x50, 0x100, 0x101)], [True, True, False])
         self.feed.confirm(0x180)
-        self.assertEqual([has_all(self.into, None, it) for it in (0x180, 0x181)], [True, False])
+        self.assertEqual([self.has_all(it) for it in (0x180, 0x181)], [True, False])
         self.take(insert("2", "a"))
         self.feed.confirm(0x280)
-        self.assertEqual([has_all(self.into, str(self.path), it) for it in (0x180, 0x200)], [True, False])
+        self.assertEqual([self.has_all(it, str(self.path)) for it in (0x180, 0x200)], [True, False])
+        awaited = Awaited(self.into, None, 0x280)
+        self.take(insert("3", "a"))
+        self.assertFalse(awaited.is_there())
+        self.run_it()
+        self.assertTrue(awaited.is_there())
+
+    def has_all(self, lsn: int, feed: str | None = None) -> bool:
+        return Awaited(self.into, feed, lsn).is_there()
 
     def test_command(self) -> None:
         self.take(insert("1", "a"))

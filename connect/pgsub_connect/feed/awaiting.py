@@ -41,19 +41,28 @@ def read_file(path: str) -> tuple[int, str]:
         return parse_lsn(db.execute(f"SELECT lsn FROM {POSITION}").fetchone()[0]), str(db.execute(f"SELECT folder FROM {FEED}").fetchone()[0])
 
 
-def has_all(path: str, feed: str | None, lsn: int) -> bool:
-    """Whether the file has all that was committed up to an LSN."""
-    at, folder = read_file(path)
-    if at >= lsn:
-        return True
-    folder = feed or folder
-    # (looked at before the lines are: all commits up to it are among these)
-    confirmed = read_confirmed(folder)
-    if confirmed is None or confirmed < lsn:
-        return False
-    with contextlib.closing(Reader(folder, at)) as reader:
-        commit = reader.next()
-    return commit is None or commit.end > lsn
+class Awaited:
+    """All that was committed up to an LSN. A feed says that it has all of it, and then where the last commit of it ends."""
+
+    def __init__(self, path: str, feed: str | None, lsn: int) -> None:
+        self.path, self.feed, self.lsn = path, feed, lsn
+        self.end: int | None = None
+
+    def is_there(self) -> bool:
+        at, folder = read_file(self.path)
+        if at < self.lsn and self.end is None:
+            self.look(self.feed or folder, at)
+        return at >= (self.lsn if self.end is None else self.end)
+
+    def look(self, folder: str, at: int) -> None:
+        # (before the lines are looked at: all commits up to it are among these)
+        confirmed = read_confirmed(folder)
+        if confirmed is None or confirmed < self.lsn:
+            return
+        self.end = at
+        with contextlib.closing(Reader(folder, at)) as reader:
+            while (commit := reader.next()) and commit.end <= self.lsn:
+                self.end = commit.end
 
 
 def run(options: Options, check: Check) -> int:
@@ -65,7 +74,8 @@ def run(options: Options, check: Check) -> int:
         raise FileError(f"{path} has no tables that follow a feed")
     until = time.monotonic() + options.within
     try:
-        while not has_all(path, options.feed, lsn):
+        awaited = Awaited(path, options.feed, lsn)
+        while not awaited.is_there():
             try:
                 check()
             except Stopped:

@@ -4,6 +4,7 @@ from __future__ import annotations
 
 import binascii
 import json
+import re
 from collections.abc import Callable, Iterator, Sequence
 from typing import Any
 
@@ -18,6 +19,12 @@ FORMAT = 1
 HEAD_SIZE, COMMIT_SIZE = 1024, 256
 # How many definitions are kept read.
 MOST_DEFINITIONS = 10000
+# The line of a commit as it is written.
+LSN = rb'"([0-9A-F]{1,8}/[0-9A-F]{1,8})"'
+PLAIN = re.compile(
+    rb'\{"end":%b,"prev":%b,"bytes":(\d+),"changes":(\d+),"lsn":(?:%b,"xid":(\d+),"ts_us":(-?\d+)|null,"xid":null,"ts_us":null)\} *\n'
+    % (LSN, LSN, LSN)
+)
 SENT = {str, type(None)}
 # Of which rows each change has: the one before it, and the one after it.
 ROWS = {"c": (False, True), "u": (True, True), "d": (True, False), "t": (False, False)}
@@ -64,6 +71,20 @@ def read_head(line: bytes) -> Head:
 
 def read_commit(line: bytes) -> Commit | Closing:
     """The line of a commit, or that which closes a segment. A ValueError says that it is neither."""
+    if plain := PLAIN.fullmatch(line):
+        end, prev, size, changes, final, xid, time = plain.groups()
+        about = (lsn_of(final), int(xid), int(time)) if final else (None, None, None)
+        return Commit(lsn_of(end), lsn_of(prev), int(size), int(changes), *about)
+    return read_commit_object(line)
+
+
+def lsn_of(text: bytes) -> int:
+    high, low = text.split(b"/")
+    return (int(high, 16) << 32) + int(low, 16)
+
+
+def read_commit_object(line: bytes) -> Commit | Closing:
+    """The same of a line that isn't as it is written today: with more fields, or in another order."""
     found = read_object(line)
     try:
         if "last" in found:

@@ -159,14 +159,12 @@ class Reader:
     def step(self) -> Commit | None:
         while (segment := self.segment or self.find()) is not None:
             found = segment.commit(self.offset)
-            if isinstance(found, Closing):
-                if not self.go_on(segment, found):
-                    return None
-            elif found is None or self.offset + COMMIT_SIZE + found.bytes > segment.size():
+            if isinstance(found, Commit) and self.offset + COMMIT_SIZE + found.bytes <= segment.size():
+                if self.takes(segment, found):
+                    return found
+            elif not self.go_on(segment, found if isinstance(found, Closing) else None):
                 self.look_after(segment)
                 return None
-            elif self.takes(segment, found):
-                return found
         return None
 
     def takes(self, segment: Segment, commit: Commit) -> bool:
@@ -217,20 +215,19 @@ class Reader:
         self.offset, self.last = HEAD_SIZE, base
         return segment
 
-    def go_on(self, segment: Segment, closing: Closing) -> bool:
-        """Opens the segment after a closed one. Returns false where it isn't there yet."""
-        if closing.last != self.last:
+    def go_on(self, segment: Segment, closing: Closing | None) -> bool:
+        """Opens the segment that begins where this one ends. Returns false where it isn't there yet."""
+        if closing and closing.last != self.last:
             text = f"the segment says that it ends at {lsn_text(closing.last)}, and its last commit at {lsn_text(self.last)}"
             raise Damaged(ORDER, segment.path, self.offset, text)
         for base, name in segments(self.folder):
-            if base == closing.last:
+            if base == self.last and base != segment.base:
                 return self.open(base, name) is not None
-            if base > closing.last:
+            if base > self.last and closing:
                 raise Unfit(
-                    f"{self.folder}: the segment that begins at {lsn_text(closing.last)} is gone, and the next one begins at"
+                    f"{self.folder}: the segment that begins at {lsn_text(self.last)} is gone, and the next one begins at"
                     f" {lsn_text(base)}: commits are missing. Begin anew from an export"
                 )
-        self.look_after(segment)
         return False
 
     def look_after(self, segment: Segment) -> None:

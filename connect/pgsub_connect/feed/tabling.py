@@ -3,7 +3,6 @@
 from __future__ import annotations
 
 import argparse
-import contextlib
 import os
 import sqlite3
 import time
@@ -148,10 +147,15 @@ def keep(options: Options, check: Check) -> int:
             rows.initialize()
             rows.settle(rows.at)
         tables = Tables(options, rows, check)
-        with contextlib.suppress(Stopped):
+        is_stopped = False
+        try:
             tables.follow()
+        except Stopped:
+            is_stopped = True
         tables.finish()
         is_orderly = True
+        if is_stopped and options.once:
+            raise Passing(f"ended before {options.into} had all of it")
     finally:
         rows.close(is_orderly)
     return rows.at
