@@ -206,7 +206,7 @@ class Following(FollowingCase):
         self.feed.put(text.replace(b'"n":1', b'"n":2'))
         for once in (True, False):
             self.options.once = once
-            with logged(), self.assertRaisesRegex(Damaged, "feed 6 Counts"), mock.patch("pgsub_connect.feed.polling.PATIENCE", 0.1):
+            with logged(), self.assertRaisesRegex(Damaged, "reading 6 Counts"), mock.patch("pgsub_connect.feed.polling.PATIENCE", 0.1):
                 tabling.run(self.options, never)
             self.assertEqual(read(self.into), (0, (Counter(), Counter())))
 

@@ -300,13 +300,13 @@ class Damage(Case):
     def test_of_another_server(self) -> None:
         self.feed.end()
         self.file(0x200).write_bytes(segment_head(0x200, "8", "shop", "pgsub"))
-        with self.assertRaisesRegex(Damaged, "feed 2 OtherFeed"):
+        with self.assertRaisesRegex(Damaged, "reading 2 OtherFeed"):
             self.ends()
 
     def test_a_segment_ends_elsewhere(self) -> None:
         with open(self.file(), "ab") as file:
             file.write(closing_line(0x201))
-        with self.assertRaisesRegex(Damaged, "feed 4 Order"):
+        with self.assertRaisesRegex(Damaged, "reading 4 Order"):
             self.ends()
 
     def test_any_byte(self) -> None:

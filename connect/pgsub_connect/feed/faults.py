@@ -33,5 +33,5 @@ class Damaged(FileError):
     """
 
     def __init__(self, number: int, path: str, offset: int, what: str) -> None:
-        super().__init__(f"{path}, byte {offset}: feed {number} {NAMES[number]}: {what}")
+        super().__init__(f"{path}, byte {offset}: reading {number} {NAMES[number]}: {what}")
         self.number, self.path, self.offset = number, path, offset
