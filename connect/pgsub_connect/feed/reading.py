@@ -89,15 +89,18 @@ class Segment:
 
     def lines(self, offset: int, size: int) -> Iterator[list[bytes]]:
         """The lines of these bytes without their ends, some at a time."""
-        end, rest = offset + size, b""
+        end, begun = offset + size, list[bytes]()
         while offset < end:
             piece = self.read(offset, min(CHUNK, end - offset))
             if not piece:
                 raise Damaged(COUNTS, self.path, offset, "the segment was cut while it was read")
             offset += len(piece)
-            *lines, rest = (rest + piece).split(b"\n")
-            yield lines
-        if rest:
+            first, *more = piece.split(b"\n")
+            begun.append(first)
+            if more:
+                yield [b"".join(begun), *more[:-1]]
+                begun = more[-1:]
+        if any(begun):
             raise Damaged(COUNTS, self.path, end, "the commit's last line has no end where its bytes end")
 
     def is_there(self) -> bool:
@@ -123,6 +126,8 @@ class Reader:
         self.decoder = Decoder()
         # where the next commit begins, and where the one before it ends
         self.offset = self.last = 0
+        # where the lines of the commit begin that was taken last
+        self.body = 0
 
     def cursor(self) -> Cursor | None:
         """Where it is: after the commit that was taken last, None where there is no segment yet."""
