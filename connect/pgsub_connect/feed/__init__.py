@@ -3,7 +3,7 @@
 | What | Modules |
 |---|---|
 | what it consists of | `parts`, `decoding`, `faults` |
-| reading it | `reading`, `polling` |
+| reading it | `reading`, `polling`, `retaining` |
 | `pgsub-feed` | `printing`, `formats`, `undoing` |
 | tables of SQLite that follow it | `tabling`, `beginning`, `noting`, `awaiting`, `applying`, `rowsfile`, `kept`, `carrying`, `back`, `initial` |
 """
