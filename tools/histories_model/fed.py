@@ -5,6 +5,7 @@ from collections import Counter
 
 import feed_replay
 import feed_text
+from stores.contents import make_tables
 
 from . import history
 from . import tables as model
@@ -118,6 +119,8 @@ class Fed:
     def __init__(self, rng):
         tables, at = {}, 0
         self.commits, self.rows = [], {0: {}}
+        # what a store has at an LSN, which an export gives whole
+        self.stores = {}
         for transaction in Maker(rng).history():
             if transaction.end <= at:
                 continue
@@ -126,6 +129,27 @@ class Fed:
             self.commits.append((transaction.end, lines, about))
             at = transaction.end
             self.rows[at] = rows_in(tables)
+            if rng.random() < 0.2 and can_be_exported(tables):
+                self.stores[at] = model.contents(tables, at)
+
+
+def can_be_exported(tables):
+    """Whether an export has all rows: each table has another name, and columns."""
+    names = {(it.namespace or b"pg_catalog", it.name) for it, _ in tables.values()}
+    return len(names) == len(tables) and all(it.columns for it, _ in tables.values())
+
+
+def write_store(path, contents):
+    """Makes the file of a store."""
+    base = sqlite3.connect(path)
+    make_tables(base)
+    for oid, it in contents.relations.items():
+        base.execute("INSERT INTO rel VALUES (?, ?, ?, ?, ?)", (oid, it.namespace, it.name, it.letter, it.columns))
+    for (oid, identity), row in contents.rows.items():
+        base.execute("INSERT INTO held VALUES (?, ?, ?, ?)", (oid, identity, row.body, row.copies))
+    base.execute("UPDATE pos SET lsn = ?", (contents.position.to_bytes(8, "big"),))
+    base.commit()
+    base.close()
 
 
 class Feeding(Reader):
