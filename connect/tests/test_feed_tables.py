@@ -348,6 +348,14 @@ class Beginning(TablesCase):
             main([*words, "--reader", "a/b"])
         self.assertEqual(ended.exception.code, USAGE)
 
+    def test_a_file_that_is_locked(self) -> None:
+        self.after(insert("1", "a"))
+        self.take(insert("2", "b"))
+        with contextlib.closing(sqlite3.connect(self.into, isolation_level=None)) as base:
+            base.execute("BEGIN IMMEDIATE")
+            with mock.patch("pgsub_connect.feed.rowsfile.BUSY", 0.05), self.assertRaisesRegex(Passing, "database is locked"):
+                self.run_it()
+
     def test_another_feed(self) -> None:
         self.after(insert("1", "a"))
         path = self.path.joinpath(self.feed.path.name)

@@ -34,6 +34,8 @@ APPLICATION, FORMAT = 0x70677374, 1
 RELATIONS, FEED = "pgsub_relations", "pgsub_feed"
 OWN = {POSITION, TABLES, OLD, RELATIONS, FEED}
 ASIDE = OLD + " "
+# How long to wait for others that write the file or read it, in seconds.
+BUSY = 60.0
 # A type for each kind of column, of a table whose definition isn't known.
 TYPES = {"INTEGER": 20, "BLOB": 17, "ANY": 701}
 SCHEMA = (
@@ -81,7 +83,7 @@ class Rows:
 
     def __init__(self, path: str, init: Init | None = None) -> None:
         self.path, self.init = path, init
-        self.db = sqlite3.connect(path, timeout=60.0, isolation_level=None, cached_statements=2000)
+        self.db = sqlite3.connect(path, timeout=BUSY, isolation_level=None, cached_statements=2000)
         try:
             self.set_up()
             self.reload()

@@ -36,6 +36,8 @@ the rows of an export.
 """
 # How many changes one transaction takes where more commits are there, and for how long it takes more, in seconds.
 MOST, LONGEST = 20000, 0.5
+# What SQLite says of a file that only for now can't be written.
+PASSING = ("is locked", "is full")
 
 
 def plain_name(text: str) -> str:
@@ -148,6 +150,8 @@ def keep(options: Options, check: Check) -> int:
             rows.settle(rows.at)
         tables = Tables(options, rows, check)
         is_stopped = False
+        if not options.once:
+            log.info(f"{options.into} follows {options.feed} from {lsn_text(rows.at)}")
         try:
             tables.follow()
         except Stopped:
@@ -176,6 +180,7 @@ def run(options: Options, check: Check) -> int:
     try:
         at = keep(options, check)
     except sqlite3.Error as error:
-        raise FileError(f"{options.into}: {error}") from None
+        is_passing = any(it in str(error) for it in PASSING)
+        raise (Passing if is_passing else FileError)(f"{options.into}: {error}") from None
     log.info(f"{options.into}: the rows at {lsn_text(at)}")
     return 0
