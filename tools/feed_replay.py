@@ -1,7 +1,7 @@
 """Replays a feed by what its format says and nothing else: the rows of each table, as the server prints them.
 
-It shares no code with the connector's readers. Each commit has to go on where the one before it ends, its lines have to be as many bytes and
-changes as it says, and the row before each change has to be there.
+It shares no code with the connector's readers. Each commit has to go on where the one before it ends, its lines have to be as many
+bytes and changes as it says, and the row before each change has to be there.
 """
 
 from __future__ import annotations

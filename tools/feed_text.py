@@ -1,4 +1,4 @@
-"""A feed's text as crates/pgfeed/specs/Texts.antt says it, to the byte: what readers are tried on, and what the program's is compared with."""
+"""A feed's text to the byte: what readers are tried on, and what the program's is compared with."""
 
 from __future__ import annotations
 

@@ -17,7 +17,8 @@ from .feeds import ID, NAME, STOCK, FeedCase, delete, insert, table, truncate, u
 from .vectors import logged
 
 MANY = table(
-    2, "many", [ID, Column("b", 16), Column("y", 17), Column("f", 701), Column("n", 1700), Column("t", 1184), Column("x", 99999)], schema="s"
+    2, "many", [ID, Column("b", 16), Column("y", 17), Column("f", 701), Column("n", 1700), Column("t", 1184), Column("x", 99999)],
+    schema="s",
 )
 BEFORE = ["1", "t", "\\x00ff", "1.5", "1.50", "2026-11-26 10:00:00+00", "{1}"]
 AFTER = ["2", "f", None, "NaN", None, None, "é"]
@@ -95,7 +96,8 @@ class Formats(PrintingCase):
 
     def test_words(self) -> None:
         for words in (
-            ["--undo", "0/0", "0/1", "--follow"], ["--undo", "0/0", "0/1", "--from", "0/0"], ["--format", "lines", "--table", "t"], ["--from", "x"],
+            ["--undo", "0/0", "0/1", "--follow"], ["--undo", "0/0", "0/1", "--from", "0/0"], ["--format", "lines", "--table", "t"],
+            ["--from", "x"],
         ):
             with self.assertRaises(SystemExit) as ended, contextlib.redirect_stderr(io.StringIO()):
                 self.print(*words)
@@ -136,8 +138,8 @@ class Undoing(PrintingCase):
                 'DELETE FROM "public"."bag" WHERE ctid = (SELECT ctid FROM "public"."bag" WHERE '
                 "pg_catalog.format('%s', \"id\") = '1' AND "
                 "pg_catalog.format('%s', \"name\") = 'a' LIMIT 1)",
-                "IF EXISTS (SELECT FROM \"public\".\"stock\" WHERE \"id\" = '1') THEN RAISE EXCEPTION 'there is a row'; END IF; INSERT INTO "
-                '"public"."stock" ("id", "name") OVERRIDING SYSTEM VALUE VALUES (\'1\', \'a\')',
+                "IF EXISTS (SELECT FROM \"public\".\"stock\" WHERE \"id\" = '1') THEN RAISE EXCEPTION 'there is a row'; END IF; "
+                'INSERT INTO "public"."stock" ("id", "name") OVERRIDING SYSTEM VALUE VALUES (\'1\', \'a\')',
                 'UPDATE "public"."stock" SET "id" = \'1\' WHERE "id" = \'2\' AND pg_catalog.format(\'%s\', "name") = \'b\'',
                 'UPDATE "public"."stock" SET "name" = \'o\'\'x\' WHERE "id" = \'1\' AND pg_catalog.format(\'%s\', "name") = E\'b\\\\\'',
                 'DELETE FROM "public"."stock" WHERE "id" = \'1\' AND "name" IS NULL',
@@ -148,9 +150,10 @@ class Undoing(PrintingCase):
         with logged() as told:
             self.assertEqual(self.undone(truncate(), status=UNFIT), [])
         self.assertRegex(told[0], r"0/200 truncates public.stock \(1\)")
-        for words, text in ((("0/200", "0/300"), "no commit ends up to 0/300 after 0/200"), (("0/150", "0/300"), "no commit ends at 0/150")):
+        wrong = (("0/200", "no commit ends up to 0/300 after 0/200"), ("0/150", "no commit ends at 0/150"))
+        for begin, text in wrong:
             with logged() as told:
-                self.print("--undo", *words, status=UNFIT)
+                self.print("--undo", begin, "0/300", status=UNFIT)
             self.assertRegex(told[0], text)
 
     def test_a_change_that_found_no_row(self) -> None:

@@ -128,7 +128,9 @@ class Types(TablesCase):
         types = [21, 23, 20, 16, 17, 700, 701, 1700, 99999, 25]
         nothing: list[Cell] = [None] * len(types)
         text: list[Cell] = ["-32768", "2147483647", "-9223372036854775808", "t", "\\x00ff", "1.5", "NaN", "1.0", "{1}", "é"]
-        binary: list[Cell] = [b"\0\1", b"\0\0\0\2", bytes(8), b"\0", b"\0", b"\x3f\xc0\0\0", b"\x7f\xf0" + bytes(6), "1", "x", "é".encode()]
+        binary: list[Cell] = [
+            b"\0\1", b"\0\0\0\2", bytes(8), b"\0", b"\0", b"\x3f\xc0\0\0", b"\x7f\xf0" + bytes(6), "1", "x", "é".encode()
+        ]
         of = table(columns=[Column(f"c{at}", it) for at, it in enumerate(types)], letter="f")
         self.take(*(insert(*it, of=of) for it in (text, binary, nothing)))
         self.run_it()
@@ -219,14 +221,16 @@ class Shapes(TablesCase):
 
     def test_within_a_commit(self) -> None:
         wider = table(columns=[ID, NAME, Column("more", 23)])
-        self.assertEqual(self.after(update(["1", "a"], ["1", "x"]), update(["1", "x", None], ["1", "x", "7"], of=wider), delete("2", "b", None, of=wider)),
-                         [(1, "x", 7)])
+        changes = update(["1", "a"], ["1", "x"]), update(["1", "x", None], ["1", "x", "7"], of=wider), delete("2", "b", None, of=wider)
+        self.assertEqual(self.after(*changes), [(1, "x", 7)])
 
 
 class Names(TablesCase):
     def test_each(self) -> None:
-        named = [("public", "stock"), ("other", "stock"), ("public", 'a"b c'), ("", "x"), ("public", "sqlite_x"), ("public", "pgsub_position"),
-                 ("public", "select"), ("public", "pgsub_old 7")]
+        named = [
+            ("public", "stock"), ("other", "stock"), ("public", 'a"b c'), ("", "x"), ("public", "sqlite_x"), ("public", "pgsub_position"),
+            ("public", "select"), ("public", "pgsub_old 7"),
+        ]
         self.take(*(insert("1", str(at), of=table(at + 1, name, schema=schema)) for at, (schema, name) in enumerate(named)))
         self.run_it()
         self.assertEqual(sorted(self.tables()), sorted(
@@ -236,7 +240,8 @@ class Names(TablesCase):
 
     def test_columns_that_sqlite_cant_tell_apart(self) -> None:
         of = table(columns=[ID, Column("ID", 25), Column("select", 25), Column('a"b', 25)])
-        self.assertEqual(self.after(insert("1", "a", "b", "c", of=of), update(["1", "a", "b", "c"], ["1", "x", "y", "z"], of=of)), [(1, "x", "y", "z")])
+        changes = insert("1", "a", "b", "c", of=of), update(["1", "a", "b", "c"], ["1", "x", "y", "z"], of=of)
+        self.assertEqual(self.after(*changes), [(1, "x", "y", "z")])
         self.assertEqual([row[1] for row in self.rows("PRAGMA table_info(stock)")], ["id", "ID 2", "select", 'a"b'])
 
     def test_equal_but_for_case(self) -> None:

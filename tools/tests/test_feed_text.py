@@ -1,4 +1,4 @@
-"""The text of a feed: the examples that crates/pgfeed computes from its definitions, and segments."""
+"""The text of a feed: examples that its definitions give, and segments."""
 
 from __future__ import annotations
 
@@ -13,10 +13,14 @@ WIDER = Definition(16384, "public", "stock", "d", (*STOCK.columns, Column("price
 NOTES = Definition(16390, "", 'no"tes', "f", (Column("text", 25), Column("data", 17)))
 ABOUT = About(622870840, 739, 753000000123456)
 ABOUT_TEXT = '"lsn":"0/25204138","xid":739,"ts_us":1699684800123456}'
-STOCK_TEXT = '{"op":"table","oid":16384,"schema":"public","table":"stock","identity":"d","key":["sku"],"columns":[["sku",25,-1],["quantity",23,-1]]}'
+STOCK_TEXT = (
+    '{"op":"table","oid":16384,"schema":"public","table":"stock","identity":"d","key":["sku"],'
+    '"columns":[["sku",25,-1],["quantity",23,-1]]}'
+)
 WIDER_TEXT = STOCK_TEXT.replace("]]", '],["price",1700,655366]]')
 NOTES_TEXT = (
-    '{"op":"table","oid":16390,"schema":"pg_catalog","table":"no\\"tes","identity":"f","key":null,"columns":[["text",25,-1],["data",17,-1]]}'
+    '{"op":"table","oid":16390,"schema":"pg_catalog","table":"no\\"tes","identity":"f","key":null,'
+    '"columns":[["text",25,-1],["data",17,-1]]}'
 )
 
 
@@ -70,8 +74,8 @@ class Texts(unittest.TestCase):
         self.check(
             622872000, 622873000,
             [
-                Line(STOCK, "x", None, ["A", UNSENT]), Line(STOCK, "x", ["A", None], ["B", "1"], "K"), Line(STOCK, "x", ["A", None], None, "K"),
-                Line(NOTES, "x", ["a", b"\x10"], None, "O"),
+                Line(STOCK, "x", None, ["A", UNSENT]), Line(STOCK, "x", ["A", None], ["B", "1"], "K"),
+                Line(STOCK, "x", ["A", None], None, "K"), Line(NOTES, "x", ["a", b"\x10"], None, "O"),
             ],
             ABOUT,
             commit("0/252049A8", "0/252045C0", 587, 4),

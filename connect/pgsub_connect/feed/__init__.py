@@ -5,5 +5,6 @@
 | what it consists of | `parts`, `decoding`, `faults` |
 | reading it | `reading`, `polling`, `retaining` |
 | `pgsub-feed` | `printing`, `formats`, `undoing` |
-| tables of SQLite that follow it | `tabling`, `beginning`, `noting`, `awaiting`, `applying`, `rowsfile`, `kept`, `carrying`, `back`, `initial` |
+| tables of SQLite that follow it | `tabling`, `beginning`, `noting`, `awaiting`, `applying`, `back` |
+| .. and the file that they are in | `rowsfile`, `kept`, `carrying`, `initial` |
 """

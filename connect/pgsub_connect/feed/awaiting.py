@@ -38,7 +38,8 @@ def add_options(parser: argparse.ArgumentParser) -> None:
 def read_file(path: str) -> tuple[int, str]:
     """The LSN of a file of tables, and the folder of its feed."""
     with contextlib.closing(opened(path)) as db:
-        return parse_lsn(db.execute(f"SELECT lsn FROM {POSITION}").fetchone()[0]), str(db.execute(f"SELECT folder FROM {FEED}").fetchone()[0])
+        lsn, folder = db.execute(f"SELECT lsn, folder FROM {POSITION}, {FEED}").fetchone()
+    return parse_lsn(lsn), str(folder)
 
 
 class Awaited:
@@ -81,7 +82,8 @@ def run(options: Options, check: Check) -> int:
             except Stopped:
                 raise Passing(f"ended before {path} has reached {lsn_text(lsn)}") from None
             if time.monotonic() > until:
-                raise Passing(f"{path} is at {lsn_text(read_file(path)[0])}, and {lsn_text(lsn)} wasn't reached in {options.within:g} seconds")
+                at = lsn_text(read_file(path)[0])
+                raise Passing(f"{path} is at {at}, and {lsn_text(lsn)} wasn't reached in {options.within:g} seconds")
             time.sleep(LOOK)
     except sqlite3.Error as error:
         raise FileError(f"{path}: {error}") from None

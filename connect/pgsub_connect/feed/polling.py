@@ -40,7 +40,7 @@ class Poll:
         return commit
 
     def bear(self, wrong: Damaged | Unfit, at: int) -> None:
-        """Lets what is wrong pass for now, or raises it. It is right again once a commit that begins at this LSN is there, or a later one."""
+        """Lets what is wrong pass for now, or raises it. It is right again once a commit is there that begins at this LSN or later."""
         now = time.monotonic()
         self.wrong, self.wrong_at = now if self.wrong is None else self.wrong, at
         if not self.is_following or now - self.wrong > PATIENCE:

@@ -1,7 +1,7 @@
 """Which segments of a feed are kept: old ones go, by their size, by their age, or once all readers have them.
 
-A reader is known by its file `FOLDER/readers/NAME`. What it hasn't read stays, unless the feed would get larger than it may. The last segment
-stays, and whatever has commits above the store's position, as opening the feed needs it.
+A reader is known by its file `FOLDER/readers/NAME`. What it hasn't read stays, unless the feed would get larger than it may. The last
+segment stays, and whatever has commits above the store's position, as opening the feed needs it.
 """
 
 from __future__ import annotations

@@ -53,7 +53,7 @@ def add_options(parser: argparse.ArgumentParser) -> None:
     begin = parser.add_mutually_exclusive_group().add_argument
     begin("--base", metavar="FILE", help="begin with the rows of this export, or file of tables, where the file isn't there yet")
     begin("--store", metavar="FILE", default="", help="begin with the rows of this store; its follower is asked for a copy")
-    add("--init", metavar="FILE", help="run this SQL after a table was made or altered, for indexes and views: CREATE INDEX IF NOT EXISTS ..")
+    add("--init", metavar="FILE", help="run this SQL once a table was made or altered, for indexes and views: CREATE INDEX IF NOT EXISTS ..")
     add("--table", action="append", default=[], help="keep this table, may be repeated (default: all)")
     add("--reader", metavar="NAME", type=plain_name, help="keep the LSN as FOLDER/readers/NAME too, once the disk has the rows")
     whole = parser.add_mutually_exclusive_group().add_argument

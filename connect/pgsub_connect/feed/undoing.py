@@ -74,7 +74,8 @@ def insertion(relation: Relation, before: Cells) -> str:
     if not is_keyed(relation):
         return f"{text} VALUES ({values})"
     # (a constant in a SELECT would be a text, and not of its column's type)
-    return f"IF EXISTS (SELECT FROM {table} WHERE {' AND '.join(keys)}) THEN RAISE EXCEPTION 'there is a row'; END IF; {text} VALUES ({values})"
+    none = f"IF EXISTS (SELECT FROM {table} WHERE {' AND '.join(keys)}) THEN RAISE EXCEPTION 'there is a row'; END IF"
+    return f"{none}; {text} VALUES ({values})"
 
 
 def taken_back(commit: Commit, it: Change) -> str:
