@@ -11,6 +11,7 @@ import pgsub_connect.feed
 from feed_text import UNSENT, About, Column, Line, closing_line, segment_head
 from pgsub_connect.errors import FileError, Unfit
 from pgsub_connect.feed import parts
+from pgsub_connect.feed.decoding import oid, parsed
 from pgsub_connect.feed.faults import Damaged
 from pgsub_connect.feed.parts import Change, Missed, Part, TableLine
 from pgsub_connect.feed.polling import Poll
@@ -280,6 +281,7 @@ class Damage(Case):
             (b'["1","abc"]', b'["1",12345]', (5, insert_at)),
             (b'["1","abc"]', b'["1","ab\0"]', (5, insert_at)),
             (b'["1","abc"]', b'["1","a\xff\xfe"]', (5, insert_at)),
+            (b'"key":["id"]', b'"key":["iz"', (5, first)),
             (b'"key":["id"]', b'"key":1', (5, first)),
             (b'"columns":[["id"', b'"columns":[[1', (5, first)),
             (b'"changes":2', b'"changes":3', (6, len(self.text[: self.text.index(b'{"end":"0/200"')]))),
@@ -290,6 +292,15 @@ class Damage(Case):
         ):
             with self.subTest(old=old, new=new):
                 self.assertEqual(self.told(old, new), told)
+
+    def test_what_isnt_json_here(self) -> None:
+        for content in (b"[" * 100000, b'"\\ud800"', b'"\\uDC00x"', b'"\xff"', b"1e"):
+            with self.assertRaises(ValueError):
+                parsed(content)
+        self.assertEqual(parsed(b'"\\\\ud800 \\ud834\\udd1e"'), "\\ud800 𝄞")
+        for wrong in (-1, 1 << 32, True, "1"):
+            with self.assertRaises(ValueError):
+                oid(wrong)
 
     def test_wrong_bytes(self) -> None:
         # (the end of the commit is then within its last line)

@@ -25,16 +25,31 @@ PLAIN = re.compile(
     rb'\{"end":%b,"prev":%b,"bytes":(\d+),"changes":(\d+),"lsn":(?:%b,"xid":(\d+),"ts_us":(-?\d+)|null,"xid":null,"ts_us":null)\} *\n'
     % (LSN, LSN, LSN)
 )
+# What may be the escape of half of a pair.
+SURROGATE = re.compile(r"\\u[dD]")
 SENT = {str, type(None)}
 # Of which rows each change has: the one before it, and the one after it.
 ROWS = {"c": (False, True), "u": (True, True), "d": (True, False), "t": (False, False)}
+
+
+def parsed(content: bytes) -> Any:
+    """A text in JSON, whose strings are UTF-8. A ValueError says that it is none."""
+    text = content.decode()
+    try:
+        found = json.loads(text)
+    except RecursionError:
+        raise ValueError from None
+    if SURROGATE.search(text):
+        # (half of a pair has no encoding)
+        json.dumps(found, ensure_ascii=False).encode()
+    return found
 
 
 def read_object(line: bytes) -> dict[str, Any]:
     """The object that a padded line has. A ValueError says that it is none."""
     if not line.endswith(b"\n"):
         raise ValueError
-    found = json.loads(line.decode())
+    found = parsed(line)
     if not isinstance(found, dict):
         raise ValueError
     return found
@@ -50,6 +65,12 @@ def natural(value: object) -> int:
     if number(value) < 0:
         raise ValueError
     return number(value)
+
+
+def oid(value: object) -> int:
+    if natural(value) >= 1 << 32:
+        raise ValueError
+    return natural(value)
 
 
 def text(value: object) -> str:
@@ -103,9 +124,9 @@ def read_relation(found: dict[str, Any]) -> Relation:
     """The line of a definition. A column is one of the key where the line lists its name, in a table that has a key."""
     listed = found["key"]
     keys = {text(it) for it in listed} if listed is not None else set[str]()
-    columns = tuple(Column(text(name), natural(oid), number(modifier), name in keys) for name, oid, modifier in found["columns"])
+    columns = tuple(Column(text(name), oid(kind), number(modifier), name in keys) for name, kind, modifier in found["columns"])
     shape = Shape(text(found["identity"]), columns)
-    return Relation(natural(found["oid"]), text(found["schema"]), text(found["table"]), shape)
+    return Relation(oid(found["oid"]), text(found["schema"]), text(found["table"]), shape)
 
 
 def read_cell(cell: object) -> str | bytes | Unsent | None:
@@ -150,7 +171,7 @@ class Decoder:
         """What the next lines say, which have lost their ends."""
         try:
             # (no line has one in it: those of a text are escaped)
-            objects = json.loads((b"[" + b",".join(lines) + b"]").decode())
+            objects = parsed(b"[" + b",".join(lines) + b"]")
             if len(objects) != len(lines):
                 raise ValueError
         except ValueError:
@@ -167,7 +188,7 @@ class Decoder:
         """Raises for the first line that is no JSON."""
         for line in lines:
             try:
-                json.loads(line.decode())
+                parsed(line)
             except ValueError:
                 break
             self.offset += len(line) + 1
