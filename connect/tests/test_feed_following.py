@@ -123,6 +123,13 @@ class FollowingCase(FeedCase):
         os.kill(self.child, number)
         return os.waitstatus_to_exitcode(os.waitpid(self.child, 0)[1])
 
+    def wait_for(self, lsn: int) -> None:
+        """Waits until the process that follows has reached an LSN."""
+        while not os.path.exists(self.into):
+            time.sleep(0.01)
+        with logged():
+            self.assertEqual(awaiting.run(Options(command="wait", tables=self.into, lsn=lsn, within=50), never), 0)
+
     def write(self, end: int, lines: list[Line], rng: random.Random) -> None:
         """Writes a commit in pieces; sometimes it is cut off, and written again."""
         prev = self.feed.at
@@ -154,19 +161,15 @@ class Following(FollowingCase):
                 time.sleep(rng.random() * 0.03)
                 self.assertEqual(self.end(signal.SIGKILL), -signal.SIGKILL, number)
                 self.start()
-        options = Options(command="wait", tables=self.into, lsn=self.feed.at, within=20)
-        while not os.path.exists(self.into):
-            time.sleep(0.01)
-        self.assertEqual(awaiting.run(options, never), 0)
-        self.assertEqual(self.end(signal.SIGTERM), 0)
+        self.wait_for(self.feed.at)
         done.touch()
         self.assertEqual(os.waitpid(watching, 0)[1], 0)
         seen, wrong = pickle.loads(noted.read_bytes())
         self.assertEqual(wrong, [])
         self.assertIn(self.feed.at, seen)
-        done.unlink()
+        self.assertEqual(self.end(signal.SIGTERM), 0)
         self.assertEqual(read(self.into), (self.feed.at, history.rows[self.feed.at]))
-        self.assertEqual(sorted(it for it in os.listdir(self.folder) if it.startswith("rows")), ["rows.db"])
+        self.assertEqual([it for it in os.listdir(self.folder) if it.startswith("rows.db-")], [])
 
     def test_as_of_an_lsn(self) -> None:
         history = History(random.Random(5), 40)
@@ -220,8 +223,7 @@ class Following(FollowingCase):
         time.sleep(0.1)
         os.truncate(self.feed.path, size)
         self.feed.put(text)
-        with logged():
-            self.assertEqual(awaiting.run(Options(command="wait", tables=self.into, lsn=0x200, within=20), never), 0)
+        self.wait_for(0x200)
         self.assertEqual(self.end(signal.SIGTERM), 0)
         self.assertEqual(read(self.into)[1][0], Counter([(1, "a"), (2, "b"), (3, "c")]))
 

@@ -161,6 +161,12 @@ class Undoing(PrintingCase):
             self.assertEqual(len(self.undone(Line(STOCK, "x", ["7", None], None, "K"), insert("1", "a"))), 1)
         self.assertRegex(told[0], r"0/200:0: a change of public.stock \(1\) isn't taken back")
 
+    def test_the_last_commit_first(self) -> None:
+        for end in (0x100, 0x200, 0x300):
+            self.feed.commit(end, [insert(str(end), "a"), insert(str(end + 1), "b")])
+        text = self.print("--undo", "0/0", "0/200")
+        self.assertEqual([it.split("'")[0] for it in text.split('WHERE "id" = \'')[1:]], ["513", "512", "257", "256"])
+
     def test_tags(self) -> None:
         self.feed.commit(0x100, [insert("1", "$pgsub$"), insert("2", NAME.name)])
         text = self.print("--undo", "0/0", "0/100")

@@ -293,6 +293,16 @@ class Damage(Case):
             with self.subTest(old=old, new=new):
                 self.assertEqual(self.told(old, new), told)
 
+    def test_a_commit_without_definitions(self) -> None:
+        described = self.text[self.text.index(b'{"op":"table"') : self.text.index(b'{"op":"c"')]
+        before, line, after = self.text.rpartition(b'{"end":"0/200"')
+        found = re.search(rb'"bytes":(\d+)', line + after)
+        assert found
+        shorter = (line + after).replace(found[0], b'"bytes":%d' % (int(found[1]) - len(described)))[:255].rstrip().ljust(255) + b"\n"
+        self.file().write_bytes(before + shorter + after[256 - len(line) :].replace(described, b""))
+        with self.assertRaisesRegex(Damaged, "the relation 1 isn't described in this commit"):
+            self.parts()
+
     def test_what_isnt_json_here(self) -> None:
         for content in (b"[" * 100000, b'"\\ud800"', b'"\\uDC00x"', b'"\xff"', b"1e"):
             with self.assertRaises(ValueError):

@@ -212,6 +212,23 @@ class Shapes(TablesCase):
         self.assertEqual(self.after(delete("7", "8", of=of)), [(1, 4)])
         self.assertEqual(self.rows("SELECT name FROM sqlite_schema WHERE type = 'index' AND tbl_name = 'stock'"), [("key of table 1",)])
 
+    def test_a_key_that_comes_with_null(self) -> None:
+        self.assertEqual(self.after(insert(None, "x"), update(["1", "a"], [None, "a"])), [(None, "a"), (None, "x"), (2, "b")])
+
+    def test_rows_without_a_key_are_found_by_an_index(self) -> None:
+        bag, wider = table(2, "bag", letter="f"), table(2, "bag", [NAME, ID, Column("more", 25)], letter="f")
+        self.take(insert("1", "a", of=bag), insert("1", "b", of=bag), delete("1", "a", of=bag))
+        self.run_it()
+        self.assertEqual(self.after(insert("c", "2", "x", of=wider), delete("b", "1", None, of=wider), of="bag"), [("c", 2, "x")])
+        plan = self.rows("EXPLAIN QUERY PLAN SELECT rowid FROM bag WHERE (name, id, more) IS ('c', 2, 'x')")
+        self.assertIn("rows of table 2", plan[0][3])
+
+    def test_names_that_are_the_same_here(self) -> None:
+        was, now = (table(2, "t", [ID, Column("a", 25), Column(name, 25)]) for name in ("A", "A 3"))
+        self.take(insert("1", "x", "y", of=was))
+        self.assertEqual(self.after(insert("2", "x", "y", of=now), of="t"), [(1, "x", None), (2, "x", "y")])
+        self.assertEqual([row[1] for row in self.rows("PRAGMA table_info(t)")], ["id", "a", "A 3"])
+
     def test_keys_that_are_equal_here(self) -> None:
         of = table(columns=[ID, NAME], oid=2, name="t")
         self.take(insert("1", "a", of=of), insert(b"\0\0\0\1", "b", of=of), insert("3", "c", of=of))
