@@ -295,6 +295,8 @@ class Back(FollowingCase):
         self.options.at = 0x1FF
         self.run_it()
         self.assertEqual(read(self.into), (0x100, (Counter([(1, "a")]), Counter())))
+        with contextlib.closing(sqlite3.connect(self.into)) as base:
+            self.assertEqual(base.execute("SELECT name FROM pgsub_tables").fetchall(), [("keyed",)])
         self.options.at = None
         self.run_it()
         self.assertEqual(read(self.into), (0x200, (Counter([(1, "a")]), Counter([(2, "b")]))))
@@ -309,6 +311,13 @@ class Back(FollowingCase):
         self.run_it()
         with self.assertRaisesRegex(Unfit, r"public.renamed \(1\): the column name was dropped or altered since, and its values are lost"):
             self.copied(0x180)
+
+    def test_a_column_that_a_change_without_a_row_dropped(self) -> None:
+        self.feed.commit(0x100, [insert("1", "a", of=KEYED)])
+        self.feed.commit(0x200, [Line(table(1, "keyed", [ID]), "x", ["9"], None, "K")])
+        self.run_it()
+        with self.assertRaisesRegex(Unfit, r"the column name was dropped or altered since"):
+            self.copied(0x100)
 
     def test_what_the_feed_doesnt_have(self) -> None:
         for end in (0x100, 0x200):

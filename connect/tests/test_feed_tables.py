@@ -210,7 +210,15 @@ class Shapes(TablesCase):
         self.assertRegex(told[0], "the table has an index in place of a primary key")
         self.assertEqual(self.after(update(["1", None], ["1", "4"], of=of)), [(1, 4), (7, 8)])
         self.assertEqual(self.after(delete("7", "8", of=of)), [(1, 4)])
-        self.assertEqual(self.rows("SELECT name FROM sqlite_schema WHERE type = 'index' AND tbl_name = 'stock'"), [("key of table 1",)])
+        indexes = "SELECT name FROM sqlite_schema WHERE type = 'index' AND tbl_name = 'stock'"
+        self.assertEqual(self.rows(indexes), [("key of table 1",)])
+        self.take(insert("3", "3", "c", of=table(columns=[Column("new", 23, -1, True), Column("id", 23), NAME])), insert("1", "1", of=of))
+        self.run_it()
+        self.take(insert(None, "1", of=of))
+        self.run_it()
+        self.take(insert("3", "3", "c", of=table(columns=[Column("new", 23, -1, True), Column("id", 23), NAME])))
+        self.run_it()
+        self.assertEqual(self.rows(indexes), [("key of table 1",)])
 
     def test_a_key_that_comes_with_null(self) -> None:
         self.assertEqual(self.after(insert(None, "x"), update(["1", "a"], [None, "a"])), [(None, "a"), (None, "x"), (2, "b")])
