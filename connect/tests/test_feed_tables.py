@@ -495,6 +495,15 @@ class Waiting(TablesCase):
         self.run_it()
         self.assertTrue(awaited.is_there())
 
+    def test_a_feed_that_was_moved(self) -> None:
+        self.take(insert("1", "a"))
+        self.run_it()
+        self.path = self.path.rename(self.folder / "moved.feed")
+        self.feed.folder, self.feed.path = self.path, self.path / self.feed.path.name
+        self.feed.confirm(0x180)
+        self.run_it()
+        self.assertTrue(self.has_all(0x180))
+
     def has_all(self, lsn: int, feed: str | None = None) -> bool:
         return Awaited(self.into, feed, lsn).is_there()
 

@@ -19,7 +19,7 @@ from ..stored import APPLICATION_AT, MAGIC, is_export
 from ..texts import lsn_text
 from .polling import Poll
 from .reading import Reader
-from .rowsfile import APPLICATION, FEED, prepare
+from .rowsfile import APPLICATION, prepare
 
 if TYPE_CHECKING:
     from ..cli import Options
@@ -70,7 +70,7 @@ def make_from(base: str | None, options: Options, check: Check) -> None:
         raise FileError(f"--base {base}: it is no export, nor a file of tables that follow a feed")
     with placed(options.into, options.mode) as new:
         if base and is_tables(base):
-            clone(base, new, folder)
+            clone(base, new)
             return
         if base:
             remove(new)
@@ -79,12 +79,11 @@ def make_from(base: str | None, options: Options, check: Check) -> None:
             prepare(db, folder, options.table, bool(base))
 
 
-def clone(base: str, new: str, folder: str) -> None:
+def clone(base: str, new: str) -> None:
     """Copies a file that may be in use."""
     with contextlib.closing(opened(base)) as source, contextlib.closing(sqlite3.connect(new, isolation_level=None)) as db:
         source.backup(db)
         db.execute("PRAGMA journal_mode = DELETE")
-        db.execute(f"UPDATE {FEED} SET folder = ?", (folder,))
 
 
 def check_begin(options: Options, check: Check) -> None:

@@ -169,6 +169,13 @@ class Rows:
 
     # ---- what it is kept of
 
+    def note_folder(self, folder: str) -> None:
+        """Notes where the feed is, for those who wait."""
+        if self.db.execute(f"SELECT folder FROM {FEED}").fetchone()[0] != folder:
+            self.begin()
+            self.db.execute(f"UPDATE {FEED} SET folder = ?", (folder,))
+            self.settle(self.at)
+
     def check_source(self, head: Head) -> None:
         """Notes what the feed is a feed of, or rejects one of something else."""
         system, database, slot = self.db.execute(f"SELECT system, database, slot FROM {FEED}").fetchone()

@@ -141,6 +141,7 @@ def keep(options: Options, check: Check) -> int:
     rows, is_orderly = Rows(options.into, init), False
     try:
         check_chosen(options, rows)
+        rows.note_folder(os.path.abspath(options.feed))
         if options.at is not None and rows.at > options.at:
             walk(options.feed, rows, options.at, check)
         if init:
