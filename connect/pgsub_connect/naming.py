@@ -46,6 +46,16 @@ def unused(name: str, second: str, taken: set[str]) -> str:
     return found
 
 
+def told_columns(names: Iterable[str]) -> list[str]:
+    """The names that columns may have at the publisher whose names here are these, as `name_columns` gave them."""
+    taken, found = set[str](), []
+    for number, name in enumerate(names, 1):
+        first = name.rstrip("_").removesuffix(f" {number}")
+        found.append(first if folded(first) in taken else name)
+        taken.add(folded(name))
+    return found
+
+
 def name_columns(columns: Iterable[str]) -> list[str]:
     """The names of a table's columns, with a number where SQLite has the name already."""
     taken = set[str]()

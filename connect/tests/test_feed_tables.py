@@ -412,6 +412,17 @@ class Beginning(TablesCase):
             self.run_it(store=str(self.folder / "copy.db"))
         self.assertEqual((self.rows("SELECT * FROM stock"), self.rows("SELECT lsn FROM pgsub_position")), ([(2, "b")], [("0/200",)]))
 
+    def test_a_store_with_names_that_sqlite_cant_tell_apart(self) -> None:
+        store = Store(str(self.folder / "copy.db"), 0x100)
+        store.table(1, "stock", [(1, "id", 23, -1), (0, "ID", 25, -1), (0, "Id", 25, -1)])
+        store.row(1, "1", "a", "b")
+        store.close()
+        self.take()
+        self.take(update(["b", "1", "a"], ["c", "1", "a"], of=table(columns=[Column("Id", 25), ID, Column("ID", 25)])))
+        with mock.patch("pgsub_connect.exporting.log"):
+            self.run_it(store=str(self.folder / "copy.db"))
+        self.assertEqual(self.rows("SELECT * FROM stock"), [("c", 1, "a")])
+
     def test_an_export(self) -> None:
         store = Store(str(self.folder / "copy.db"), 0x300)
         described = [(1, "id", 23, -1), (0, "name", 25, -1)]

@@ -64,6 +64,8 @@ def sources(old: Valued, new: Valued) -> list[int | None]:
     named = dict[str, int]()
     for at, column in enumerate(with_columns(old.relation).shape.columns):
         named.setdefault(column.name, at)
+    for name, at in old.others.items():
+        named.setdefault(name, at)
     return [named.get(column.name) for column in with_columns(new.relation).shape.columns]
 
 

@@ -45,6 +45,8 @@ class Valued:
         self.relation, self.oid, self.name = relation, relation.oid, name
         self.target = Target(name, with_columns(relation), False)
         self.width = len(self.target.columns)
+        # numbers of columns by names that they may have at the publisher beside their own, of a table of an export
+        self.others: dict[str, int] = {}
         # the columns whose values aren't what their cells are
         self.read = [at for at, (kind, _, _) in enumerate(self.target.kinds) if kind != "TEXT"]
 

@@ -21,7 +21,7 @@ from .. import log
 from ..catalog import Column, Shape
 from ..errors import FileError, Unfit
 from ..exporting import key_index
-from ..naming import OLD, POSITION, TABLES, folded, usable_name
+from ..naming import OLD, POSITION, TABLES, folded, told_columns, usable_name
 from ..remembered import Relation
 from ..texts import identifier, lsn_text, parse_lsn
 from .carrying import carry, loosen, sources
@@ -127,6 +127,9 @@ class Rows:
         kept = Kept(name, relation, is_loose=not keys)
         indexes = [key_index(relation.oid), rows_index(relation.oid)]
         kept.has_index = bool(self.db.execute("SELECT 1 FROM sqlite_schema WHERE type = 'index' AND name IN (?, ?)", indexes).fetchone())
+        if relation.oid in self.untold:
+            names = told_columns(it.name for it in relation.shape.columns)
+            kept.others = {it: at for at, it in enumerate(names)}
         self.kept[relation.oid] = kept
         if not name.startswith(ASIDE):
             self.names[folded(name)] = kept
