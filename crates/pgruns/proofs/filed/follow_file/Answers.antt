@@ -27,4 +27,4 @@ returns-in-Ok-clause-ran g c =
     )
 
 pub returns-in-Err-clause-unopened : goal.returns-in-Err-clause-unopened
-returns-in-Err-clause-unopened g c = (c.fault.result, c.tell_unfollowed.ensures.status, refl, c.tell_unfollowed.ensures.tells, c.in-Err.ensures.unchanged)
+returns-in-Err-clause-unopened g c = (c.fault-fault.result, c.tell_unfollowed.ensures.status, refl, c.tell_unfollowed.ensures.tells, c.in-Err.ensures.unchanged)
