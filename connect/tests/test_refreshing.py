@@ -186,13 +186,14 @@ class Adds(Case):
 
     def test_an_end_while_it_waits(self) -> None:
         """The follower goes on with it, or the next start does."""
-        calls = 0
+        is_taken = False
 
         def check() -> None:
-            nonlocal calls
-            calls += 1
-            if self.wanted():
+            # (the call that sees it taken may still be of asking)
+            nonlocal is_taken
+            if is_taken:
                 raise Stopped
+            is_taken = bool(self.wanted()) and not os.path.exists(self.store + ".request")
 
         with self.followed(why=None):
             self.assertEqual(requesting.run(self.options("one"), check), 0)
