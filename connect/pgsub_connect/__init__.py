@@ -13,6 +13,7 @@
 | copy and server compared | `verifying`, `sides`, `digests`, `meeting`, `holding` |
 | rows that differ are mended | `mending`, `repairing` |
 | other subcommands | `checking`, `dropping`, `probing` |
+| readers of a feed of commits | the package `feed` |
 """
 
 VERSION = "0.1.0"

@@ -21,6 +21,7 @@ from .checkpoint import Checkpoint
 from .comparing import require_published
 from .copying import Copier, create_slot, maker_of
 from .errors import FileError, FilterFault, NoSlot, Passing, ServerError, Stopped, Unfit, UsageError
+from .feed import awaiting, tabling
 from .filtering import Filter, FilterEnded
 from .following import Follower
 from .limits import LONGEST_FRAME, MOST_PAGES, default_buffered
@@ -61,7 +62,11 @@ exit status: 0 equal, or repaired; 1 the copy differs; 8 the server made no slot
 ADDED = """\
 exit status: 0 done, or left to the next start; 1 a table is left as it was; 2 to 7 as those of `follow`
 """
-ENDINGS = {"follow": ENDS, "record": ENDS, "verify": COMPARED, "add": ADDED, "refresh": ADDED}
+FED = """\
+exit status: 0 ended as asked; 2 usage error; 3 a file can't be used; 5 the feed lacks commits after those that the file has; 6 a bug; 7
+something is in the way only for now
+"""
+ENDINGS = {"follow": ENDS, "record": ENDS, "verify": COMPARED, "add": ADDED, "refresh": ADDED, "tables": FED, "wait": FED}
 TOP = os.path.dirname(os.path.dirname(os.path.dirname(os.path.realpath(__file__))))
 REJECTED, USAGE, FILE, SERVER, UNFIT, BUG, PASSING, NO_SLOT, MISSED = 1, 2, 3, 4, 5, 6, 7, 8, 9
 KINDS = ("history", "slot", "names", "publication", "values", "missing", "gap", "all")
@@ -119,6 +124,15 @@ class Options:
     show: int = 20
     hold: float = 10.0
     repair: bool = False
+    feed: str = ""
+    base: str | None = None
+    init: str | None = None
+    reader: str | None = None
+    once: bool = False
+    at: int | None = None
+    tables: str = ""
+    lsn: int = 0
+    within: float = 60.0
 
     def accepts(self, kind: str) -> bool:
         """Whether what may be wrong in this way was said to be taken as it is."""
@@ -306,6 +320,17 @@ def add_verifying(parser: argparse.ArgumentParser) -> None:
         help="hold the stream for at most N seconds until the server has made a slot (default: 10)")
 
 
+def add_tabling(parser: argparse.ArgumentParser) -> None:
+    tabling.add_options(parser)
+    parser.add_argument("--at", type=lsn, metavar="LSN", help="the tables as of this LSN: end before the first commit above it, or go back to there")
+    parser.add_argument("--mode", type=mode, default=0o600, metavar="OCTAL", help="mode of a file that is made (default: 600)")
+
+
+def add_awaiting(parser: argparse.ArgumentParser) -> None:
+    parser.add_argument("lsn", type=lsn, metavar="LSN", help="what is waited for")
+    awaiting.add_options(parser)
+
+
 def add_requesting(parser: argparse.ArgumentParser) -> None:
     add = parser.add_argument
     add("--store", metavar="FILE", required=True, help="the store; its follower adds them, or does so at its next start")
@@ -331,6 +356,8 @@ COMMANDS: dict[str, tuple[str, Sequence[Callable[[argparse.ArgumentParser], None
     "refresh": ("tell which tables lack rows, were altered, or left the publication, and mend it", (add_server, add_refreshing)),
     "names": ("tell which OID each name of a table has now, and which ones had it before", (add_names,)),
     "status": (probing.ABOUT, (probing.add_options,)),
+    "tables": (tabling.ABOUT, (add_tabling,)),
+    "wait": (awaiting.ABOUT, (add_awaiting,)),
 }
 
 
@@ -364,7 +391,7 @@ def check(parser: argparse.ArgumentParser, options: Options) -> None:
         ("table", "create"), ("all_tables", "create"), ("failover", "create"), ("append", "record"), ("snapshot", "store"),
         ("snapshot_every", "snapshot"), ("skip", "store"), ("strict", "store"),
     ):
-        if options.command not in ("check", "status", "verify", "add") and getattr(options, given) and not getattr(options, needed):
+        if options.command not in ("check", "status", "verify", "add", "tables") and getattr(options, given) and not getattr(options, needed):
             parser.error(f"--{given.replace('_', '-')} needs --{needed}")
     if options.command == "follow" and not options.store:
         parser.error("--store is needed")
@@ -378,11 +405,12 @@ def check(parser: argparse.ArgumentParser, options: Options) -> None:
         parser.error("of a publication for all tables no table can be left out: --keyless needs a list")
     if options.command == "follow":
         options.streaming = options.proto == 2
+    options.once = options.once or options.at is not None
 
 
 def settle_options(options: Options) -> None:
     """Fills in what stands elsewhere: the connection string of a file, the program, the limits."""
-    if options.command == "status":
+    if options.command in ("status", "wait"):
         return
     if options.dsn_file:
         with open(options.dsn_file, encoding="utf-8") as file:
@@ -565,14 +593,24 @@ RUNS: dict[str, Callable[[Options], Any]] = {
     "follow": follow, "record": record, "check": stoppable(checking.run), "drop": stoppable(dropping.run),
     "export": stoppable(exporting.run), "snapshot": stoppable(taking.run),
     "verify": stoppable(verifying.run), "add": stoppable(requesting.run), "refresh": stoppable(refreshing.run), "names": lambda options: print_names(options.store), "status": probing.run,
+    "tables": stoppable(tabling.run), "wait": stoppable(awaiting.run),
 }
 
 
 def main(words: Sequence[str]) -> int:
     options = arguments(words)
-    try:
+
+    def call() -> int:
         settle_options(options)
         return int(RUNS[options.command](options) or 0)
+
+    return guarded(call)
+
+
+def guarded(call: Callable[[], int]) -> int:
+    """The exit status of what is called, or of the error that it raises, which is told."""
+    try:
+        return call()
     except Stopped:
         return 0
     except FilterEnded as ended:
@@ -583,7 +621,7 @@ def main(words: Sequence[str]) -> int:
         return SERVER if error.is_lasting() else PASSING
     except (Unfit, FileError, FilterFault, Passing, NoSlot, UsageError) as error:
         log.error(str(error))
-        return STATUSES[type(error)]
+        return next(status for kind, status in STATUSES.items() if isinstance(error, kind))
     except OSError as error:
         log.error(f"{error.filename or 'a file'}: {error.strerror}")
         return PASSING if error.errno in PASSING_ERRORS else FILE

@@ -133,19 +133,14 @@ class Export:
         self.write()
         for target in self.targets.values():
             if target.key and not target.is_keyed:
-                index = identifier(f"key of table {target.relation.oid}")
+                index = identifier(key_index(target.relation.oid))
                 self.into.execute(f"CREATE INDEX {index} ON {identifier(target.name)} ({target.keys()})")
 
     def values(self, target: Target, body: bytes) -> list[Bound]:
         try:
             return target.row(read_row(body, target.kinds))
         except Unlike as unlike:
-            column = target.relation.shape.columns[unlike.index].name
-            shown = unlike.value[:100].decode(errors="backslashreplace")
-            raise Unfit(
-                f"{target.text()}: the column {column} has a value that isn't one of its type, {shown!r}: the type was altered, and"
-                " the server doesn't send what it made of the rows. Copy anew, or export each value as a text by --text"
-            ) from None
+            raise Unfit(f"{unlike_text(target.relation, unlike)}. Copy anew, or export each value as a text by --text") from None
 
     def write(self) -> None:
         """Writes the rows that wait."""
@@ -176,6 +171,20 @@ class Export:
         self.into.execute(target.definition())
         self.into.execute(f"INSERT INTO {identifier(target.name)} SELECT * FROM {OLD} ORDER BY rowid")
         self.into.execute(f"DROP TABLE {OLD}")
+
+
+def unlike_text(relation: Relation, unlike: Unlike) -> str:
+    column = relation.shape.columns[unlike.index].name
+    shown = unlike.value[:100].decode(errors="backslashreplace")
+    return (
+        f"{relation.text()}: the column {column} has a value that isn't one of its type, {shown!r}: the type was altered, and"
+        " the server doesn't send what it made of the rows"
+    )
+
+
+def key_index(oid: int) -> str:
+    """The name of the index on the key of a table whose key can't be a primary key."""
+    return f"key of table {oid}"
 
 
 def repeated(rows: Iterable[tuple[list[Bound], int]]) -> Iterator[list[Bound]]:

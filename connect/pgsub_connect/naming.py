@@ -22,12 +22,17 @@ def table_name(schema: str, table: str) -> str:
     return table if schema == "public" else f"{schema or 'pg_catalog'}.{table}"
 
 
+def usable_name(schema: str, table: str) -> str:
+    """The same, where SQLite keeps it for itself with something before it."""
+    name = table_name(schema, table)
+    return f"_{name}" if folded(name).startswith(RESERVED) else name
+
+
 def name_tables(tables: Iterable[tuple[int, str, str]]) -> dict[int, str]:
     """By OID the name of each table, given with schema and name. The OID is added where SQLite has the name already."""
     taken, names = {POSITION, TABLES, OLD}, dict[int, str]()
     for oid, schema, table in sorted(tables, key=lambda it: (it[1] != "public", it[1], it[2], it[0])):
-        name = table_name(schema, table)
-        name = f"_{name}" if folded(name).startswith(RESERVED) else name
+        name = usable_name(schema, table)
         names[oid] = unused(name, f"{name} {oid}", taken)
     return names
 
@@ -38,6 +43,16 @@ def unused(name: str, second: str, taken: set[str]) -> str:
     while folded(found) in taken:
         found += "_"
     taken.add(folded(found))
+    return found
+
+
+def told_columns(names: Iterable[str]) -> list[str]:
+    """The names that columns may have at the publisher whose names here are these, as `name_columns` gave them."""
+    taken, found = set[str](), []
+    for number, name in enumerate(names, 1):
+        first = name.rstrip("_").removesuffix(f" {number}")
+        found.append(first if folded(first) in taken else name)
+        taken.add(folded(name))
     return found
 
 

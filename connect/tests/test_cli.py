@@ -32,5 +32,6 @@ class Modes(Quiet):
 class Modules(unittest.TestCase):
     def test_each_is_listed_once(self) -> None:
         listed = re.findall(r"`(\w+)`", (pgsub_connect.__doc__ or "").partition("|---|")[2])
-        there = {it.stem for it in Path(pgsub_connect.__file__).parent.glob("*.py")} - {"__init__", "__main__"}
+        folder = Path(pgsub_connect.__file__).parent
+        there = {it.stem for it in folder.glob("*.py")} - {"__init__", "__main__"} | {it.parent.name for it in folder.glob("*/__init__.py")}
         self.assertEqual(sorted(listed), sorted(there))

@@ -42,7 +42,7 @@ class Case(unittest.TestCase):
 
     def test_all_of_it(self) -> None:
         found = self.files()
-        copied = {f"lib/pgsub/pgsub_connect/{it.name}" for it in (TOP / "connect/pgsub_connect").glob("*.py")}
+        copied = {f"lib/pgsub/{it.relative_to(TOP / 'connect')}" for it in (TOP / "connect/pgsub_connect").rglob("*.py")}
         copied |= {f"share/doc/pgsub/{it.relative_to(TOP)}" for folder in ("docs", "examples") for it in (TOP / folder).rglob("*") if it.is_file()}
         self.assertTrue(copied <= found)
         self.assertEqual(

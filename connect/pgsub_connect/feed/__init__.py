@@ -1,0 +1,10 @@
+"""Readers of a feed: a folder of segments, lines of JSON that have each commit with the rows before and after its changes.
+
+| What | Modules |
+|---|---|
+| what it consists of | `parts`, `decoding`, `faults` |
+| reading it | `reading`, `polling`, `retaining` |
+| `pgsub-feed` | `printing`, `formats`, `undoing` |
+| tables of SQLite that follow it | `tabling`, `beginning`, `noting`, `awaiting`, `applying`, `back` |
+| .. and the file that they are in | `rowsfile`, `kept`, `carrying`, `initial` |
+"""

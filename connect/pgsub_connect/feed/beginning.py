@@ -1,0 +1,101 @@
+"""A new file of tables: empty, with the rows of an export, or a copy of another such file."""
+
+from __future__ import annotations
+
+import contextlib
+import dataclasses
+import os
+import sqlite3
+import urllib.parse
+from typing import TYPE_CHECKING
+
+from ..errors import FileError, Passing, Unfit
+from ..exporting import run as export
+from ..placing import placed
+from ..postgres import Check
+from ..resting import own_name
+from ..snapshots import copy, remove
+from ..stored import APPLICATION_AT, MAGIC, is_export
+from ..texts import lsn_text
+from .polling import Poll
+from .reading import Reader
+from .rowsfile import APPLICATION, prepare
+
+if TYPE_CHECKING:
+    from ..cli import Options
+
+
+def is_tables(path: str) -> bool:
+    """Whether a file is one of tables that follow a feed."""
+    with open(path, "rb") as file:
+        head = file.read(100)
+    return head.startswith(MAGIC) and int.from_bytes(head[APPLICATION_AT : APPLICATION_AT + 4], "big") == APPLICATION
+
+
+def opened(path: str) -> sqlite3.Connection:
+    """Opens a file of tables for reading."""
+    name = f"file:{urllib.parse.quote(os.fsencode(os.path.abspath(path)))}?mode=ro"
+    return sqlite3.connect(name, uri=True, timeout=10.0, isolation_level=None)
+
+
+def check_file(path: str) -> None:
+    """Rejects a file that can't be made, or is there and isn't one of tables that follow a feed."""
+    folder = os.path.dirname(os.path.realpath(path))
+    if not os.path.isdir(folder):
+        raise FileError(f"--into {path}: there is no folder {folder}")
+    if os.path.lexists(path) and not (os.path.isfile(path) and is_tables(path)):
+        raise FileError(f"{path} is there and has no tables that follow a feed: remove it, or name another file")
+
+
+def make(options: Options, check: Check) -> None:
+    """Makes the file."""
+    if options.base:
+        make_from(options.base, options, check)
+    elif options.store:
+        base = own_name(options.into + ".base")
+        try:
+            export(dataclasses.replace(options, command="export", into=base), check)
+            make_from(base, options, check)
+        finally:
+            remove(base)
+    else:
+        check_begin(options, check)
+        make_from(None, options, check)
+
+
+def make_from(base: str | None, options: Options, check: Check) -> None:
+    """Makes the file with the rows of another one, or empty."""
+    folder = os.path.abspath(options.feed)
+    if base and not (os.path.isfile(base) and (is_export(base) or is_tables(base))):
+        raise FileError(f"--base {base}: it is no export, nor a file of tables that follow a feed")
+    with placed(options.into, options.mode) as new:
+        if base and is_tables(base):
+            clone(base, new)
+            return
+        if base:
+            remove(new)
+            copy(base, new, 0o600, check)
+        with contextlib.closing(sqlite3.connect(new, isolation_level=None)) as db:
+            prepare(db, folder, options.table, bool(base))
+
+
+def clone(base: str, new: str) -> None:
+    """Copies a file that may be in use."""
+    with contextlib.closing(opened(base)) as source, contextlib.closing(sqlite3.connect(new, isolation_level=None)) as db:
+        source.backup(db)
+        db.execute("PRAGMA journal_mode = DELETE")
+
+
+def check_begin(options: Options, check: Check) -> None:
+    """Waits for the feed's first segment, which has to be that of a copy that was empty."""
+    with contextlib.closing(Reader(options.feed)) as reader:
+        poll = Poll(reader, not options.once, check)
+        while poll.next() is None and reader.segment is None and not options.once:
+            poll.rest()
+        if reader.segment is None:
+            raise Passing(f"{options.feed}: the feed has no segment yet")
+        if reader.segment.base:
+            raise Unfit(
+                f"{options.feed}: the feed begins at {lsn_text(reader.segment.base)}, and there may be rows from before: name the store"
+                " by --store, or an export since then by --base"
+            )

@@ -1,0 +1,143 @@
+"""A table's rows in another shape: each column has the values of the one that had its name, and a new one null.
+
+The server says how it altered a table, and not what it made of the rows. Where a column's type in SQLite is another one, each value
+is printed as the server prints those of the old type, and read as one of the new.
+"""
+
+from __future__ import annotations
+
+import contextlib
+import sqlite3
+import struct
+from collections.abc import Iterator
+from decimal import Decimal
+
+from .. import log
+from ..catalog import Column
+from ..exporting import Bound, key_index
+from ..naming import OLD
+from ..texts import identifier
+from ..values import BOOL, FLOAT4
+from .kept import Kept, Valued, rows_index, with_columns
+from .parts import Cell
+
+
+def printed(column: Column, value: Bound) -> Cell:
+    """A value of SQLite as the server prints it."""
+    if value is None or isinstance(value, str):
+        return value
+    if isinstance(value, bytes):
+        return "\\x" + value.hex()
+    if isinstance(value, float):
+        return printed_float(value, column.type_oid == FLOAT4)
+    return ("t" if value else "f") if column.type_oid == BOOL else str(value)
+
+
+def printed_float(value: float, is_short: bool) -> str:
+    """The shortest digits that give the number again; with an exponent below -4, and from 15 on, or 6."""
+    sign, digits, last = Decimal(shortest(value) if is_short else repr(value)).normalize().as_tuple()
+    assert isinstance(last, int)
+    text, power = "".join(map(str, digits)), len(digits) + last - 1
+    if not -5 < power < (6 if is_short else 15):
+        text = f"{text[0]}{'.' * (len(text) > 1)}{text[1:]}e{'-' if power < 0 else '+'}{abs(power):02d}"
+    elif power < 0:
+        text = "0." + "0" * (-power - 1) + text
+    else:
+        text = text.ljust(power + 1, "0")
+        text = text[: power + 1] + "." * (len(text) > power + 1) + text[power + 1 :]
+    return "-" * sign + text
+
+
+def shortest(value: float) -> str:
+    """The shortest digits that give a number of 4 bytes again."""
+    packed = struct.pack(">f", value)
+    for digits in range(1, 9):
+        text = f"{value:.{digits}g}"
+        with contextlib.suppress(OverflowError):
+            if struct.pack(">f", float(text)) == packed:
+                return text
+    return f"{value:.9g}"
+
+
+def sources(old: Valued, new: Valued) -> list[int | None]:
+    """For each column of a shape the number of the old shape's that has its name."""
+    named = dict[str, int]()
+    for at, column in enumerate(with_columns(old.relation).shape.columns):
+        named.setdefault(column.name, at)
+    for name, at in old.others.items():
+        named.setdefault(name, at)
+    return [named.get(column.name) for column in with_columns(new.relation).shape.columns]
+
+
+def carry(db: sqlite3.Connection, old: Kept, new: Kept) -> Kept:
+    """Makes a table that is there into one of another shape, with its rows. Returns it."""
+    if extend(db, old, new):
+        return new
+    for index in (key_index(old.oid), rows_index(old.oid)):
+        db.execute(f"DROP INDEX IF EXISTS {identifier(index)}")
+    db.execute(f"ALTER TABLE {identifier(old.name)} RENAME TO {OLD}")
+    with contextlib.closing(db.cursor()) as cursor:
+        if not has_null_keys(db, old, new):
+            new.make(db)
+            try:
+                put(cursor, old, new)
+                return finish(db, new)
+            except sqlite3.IntegrityError:
+                db.execute(f"DROP TABLE {identifier(new.name)}")
+        log.warning(f"{new.relation.text()}: rows have null in the key, or equal keys: the table has an index in place of a primary key")
+        new = Kept(new.name, new.relation, is_loose=True)
+        new.make(db)
+        put(cursor, old, new)
+    return finish(db, new)
+
+
+def finish(db: sqlite3.Connection, new: Kept) -> Kept:
+    db.execute(f"DROP TABLE {OLD}")
+    return new
+
+
+def loosen(db: sqlite3.Connection, kept: Kept) -> Kept:
+    """Makes a table anew whose key can't be a primary key."""
+    return carry(db, kept, Kept(kept.name, kept.relation, is_loose=True))
+
+
+def extend(db: sqlite3.Connection, old: Kept, new: Kept) -> bool:
+    """Adds columns to the table that is there, where nothing else was altered; whether that was so."""
+    was, now, count = old.target, new.target, old.width
+    if (was.columns, was.key, was.is_keyed) != (now.columns[:count], now.key, now.is_keyed):
+        return False
+    if [it[0] for it in was.kinds] != [it[0] for it in now.kinds[:count]] or sources(old, new)[:count] != list(range(count)):
+        return False
+    for column, (kind, _, _) in list(zip(now.columns, now.kinds, strict=True))[count:]:
+        db.execute(f"ALTER TABLE {identifier(new.name)} ADD COLUMN {column} {kind}")
+    new.has_index = old.has_index
+    return True
+
+
+def has_null_keys(db: sqlite3.Connection, old: Kept, new: Kept) -> bool:
+    """Whether a row has null in the key of the new shape."""
+    if not new.target.is_keyed:
+        return False
+    places = sources(old, new)
+    nulls = [f"{old.target.columns[at]} IS NULL" if (at := places[key]) is not None else "TRUE" for key in new.target.key]
+    return bool(db.execute(f"SELECT EXISTS (SELECT 1 FROM {OLD} WHERE {' OR '.join(nulls[:500])})").fetchone()[0])
+
+
+def put(cursor: sqlite3.Cursor, old: Kept, new: Kept) -> None:
+    """Puts the old table's rows into the new one."""
+    places = sources(old, new)
+    chosen = ", ".join("NULL" if at is None else old.target.columns[at] for at in places)
+    query = f"SELECT {chosen} FROM {OLD} ORDER BY {old.row_id()}"
+    kinds = [(None if at is None else old.target.kinds[at][0], kind) for at, (kind, _, _) in zip(places, new.target.kinds, strict=True)]
+    if all(was in (None, now) for was, now in kinds):
+        cursor.execute(f"INSERT INTO {identifier(new.name)} {query}")
+    else:
+        cursor.executemany(new.insertion, converted(cursor.connection, query, old, new))
+
+
+def converted(db: sqlite3.Connection, query: str, old: Kept, new: Kept) -> Iterator[list[Bound]]:
+    """The rows with what their values are in the new shape."""
+    columns = [None if at is None else with_columns(old.relation).shape.columns[at] for at in sources(old, new)]
+    for row in db.execute(query):
+        cells = [None if column is None else printed(column, value) for column, value in zip(columns, row, strict=True)]
+        yield new.row(cells)

@@ -1,0 +1,164 @@
+"""One table of a file of tables: what a row's cells are there, and the statements that change it."""
+
+from __future__ import annotations
+
+import dataclasses
+import sqlite3
+from collections.abc import Sequence
+
+from ..catalog import Column, Shape
+from ..errors import Unfit
+from ..exporting import Bound, Target, key_index, unlike_text
+from ..naming import folded, name_columns
+from ..remembered import Relation
+from ..texts import identifier
+from ..values import Unlike
+from .parts import Cell
+
+# The column of a table that has none, since SQLite has no such tables.
+NONE = Column("pgsub_none", 25, -1, False)
+# How many columns the index has by which a row without a key is found.
+INDEXED = 4
+ROW_IDS = ("rowid", "_rowid_", "oid")
+
+
+def with_columns(relation: Relation) -> Relation:
+    if relation.shape.columns:
+        return relation
+    return dataclasses.replace(relation, shape=Shape(relation.shape.identity, (NONE,)))
+
+
+def listed(columns: Sequence[str], values: Sequence[str]) -> str:
+    """A comparison that null is equal to null in."""
+    return f"({', '.join(columns)}) IS ({', '.join(values)})" if len(columns) > 1 else f"{columns[0]} IS {values[0]}"
+
+
+def rows_index(oid: int) -> str:
+    """The name of the index by which the rows of a table without a key are found."""
+    return f"rows of table {oid}"
+
+
+class Valued:
+    """A relation as a table of SQLite: what a row's cells are there."""
+
+    def __init__(self, name: str, relation: Relation) -> None:
+        self.relation, self.oid, self.name = relation, relation.oid, name
+        self.target = Target(name, with_columns(relation), False)
+        self.width = len(self.target.columns)
+        # numbers of columns by names that they may have at the publisher beside their own, of a table of an export
+        self.others: dict[str, int] = {}
+        # the columns whose values aren't what their cells are
+        self.read = [at for at, (kind, _, _) in enumerate(self.target.kinds) if kind != "TEXT"]
+
+    def row(self, cells: Sequence[Cell]) -> list[Bound]:
+        """A row's cells as SQLite takes them."""
+        if not cells:
+            return [None]
+        values: list[Bound] = list(cells)
+        if bytes in map(type, cells):
+            return [self.value(at, cell) for at, cell in enumerate(cells)]
+        for at in self.read:
+            if cells[at] is not None:
+                values[at] = self.value(at, cells[at])
+        return values
+
+    def unlike(self, at: int, cell: Bound) -> Unfit:
+        shown = cell if isinstance(cell, bytes) else str(cell).encode()
+        return Unfit(f"{unlike_text(self.relation, Unlike(at, shown))}. Begin anew from an export")
+
+    def value(self, at: int, cell: Cell) -> Bound:
+        kind, read, read_binary = self.target.kinds[at]
+        try:
+            if isinstance(cell, bytes):
+                value: Bound = read_binary(cell)
+            elif cell is None or kind == "TEXT":
+                return cell
+            else:
+                value = read(cell.encode())
+        except ValueError:
+            raise self.unlike(at, cell) from None
+        return value.decode() if isinstance(value, bytes) and kind == "ANY" else value
+
+
+class Kept(Valued):
+    """A table. Rows of a keyed one are found by the key, and any other's by all of their values, one of several equal rows."""
+
+    def __init__(self, name: str, relation: Relation, is_loose: bool = False) -> None:
+        super().__init__(name, relation)
+        if is_loose:
+            self.target.is_keyed = False
+        self.has_index = False
+        self.write_statements()
+
+    def rename(self, name: str) -> None:
+        self.name = self.target.name = name
+        self.write_statements()
+
+    def write_statements(self) -> None:
+        target, name = self.target, identifier(self.name)
+        columns = target.columns
+        self.insertion = target.insertion()
+        everything = list(range(self.width))
+        self.found = target.key if target.is_keyed else everything
+        rest = [at for at in everything if at not in self.found] if target.is_keyed else everything
+        changes = [f"{column} = {value}" for column, value in zip(columns, self.values(everything, 0), strict=True)]
+        # (the values of the new row, and then those that find the old one)
+        where = self.where(self.width)
+        self.update = f"UPDATE {name} SET {', '.join(changes)} WHERE {where}"
+        # of a row whose key stays
+        self.change = f"UPDATE {name} SET {', '.join(changes[at] for at in rest)} WHERE {where}" if rest else ""
+        self.deletion = f"DELETE FROM {name} WHERE {self.where(0)}"
+        self.truncation = f"DELETE FROM {name}"
+
+    def values(self, places: Sequence[int], first: int) -> list[str]:
+        """The values of these columns as they are bound."""
+        kinds = [self.target.kinds[at][0] for at in places]
+        return [f"CAST(?{at} AS TEXT)" if kind == "TEXT" else f"?{at}" for at, kind in enumerate(kinds, first + 1)]
+
+    def where(self, first: int) -> str:
+        """What finds a row, by values that are bound from a number on."""
+        where = listed([self.target.columns[at] for at in self.found], self.values(self.found, first))
+        if self.target.is_keyed:
+            return where
+        row_id = self.row_id()
+        return f"{row_id} = (SELECT {row_id} FROM {identifier(self.name)} WHERE {where} LIMIT 1)"
+
+    def row_id(self) -> str:
+        taken = {folded(it) for it in self.target.columns}
+        for it in ROW_IDS:
+            if identifier(it) not in taken:
+                return it
+        raise Unfit(f"{self.relation.text()}: a table without a key whose columns have the names {', '.join(ROW_IDS)} can't be kept")
+
+    def searched(self, cells: Sequence[Cell]) -> list[Bound]:
+        """The values that find a row: of a keyed one only its key is looked at."""
+        if not self.target.is_keyed:
+            return self.row(cells)
+        return [self.value(at, cells[at]) for at in self.found]
+
+    def keeps_key(self, before: Sequence[Cell], after: Sequence[Cell]) -> bool:
+        return self.target.is_keyed and all(before[at] == after[at] for at in self.target.key)
+
+    def has_null_key(self, cells: Sequence[Cell]) -> bool:
+        return self.target.is_keyed and any(cells[at] is None for at in self.target.key)
+
+    def is_of_key(self, error: sqlite3.IntegrityError) -> bool:
+        """Whether the values of a key are there already."""
+        names = name_columns(it.name for it in self.target.relation.shape.columns)
+        return str(error) == "UNIQUE constraint failed: " + ", ".join(f"{self.name}.{names[at]}" for at in self.target.key)
+
+    def make(self, db: sqlite3.Connection) -> None:
+        """Makes the table, empty."""
+        db.execute(self.target.definition())
+        if self.target.key and not self.target.is_keyed:
+            self.index(db, key_index(self.oid), self.target.keys())
+            self.has_index = True
+
+    def find_rows(self, db: sqlite3.Connection) -> None:
+        """Sees to it that rows without a key are found without looking at all of them."""
+        if not (self.has_index or self.target.is_keyed):
+            self.index(db, rows_index(self.oid), ", ".join(self.target.columns[:INDEXED]))
+            self.has_index = True
+
+    def index(self, db: sqlite3.Connection, name: str, columns: str) -> None:
+        db.execute(f"CREATE INDEX IF NOT EXISTS {identifier(name)} ON {identifier(self.name)} ({columns})")

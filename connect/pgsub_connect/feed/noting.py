@@ -1,0 +1,39 @@
+"""Where the readers of a feed are: `FOLDER/readers/NAME` has a reader's LSN, whose commits aren't needed any more up to there."""
+
+from __future__ import annotations
+
+import contextlib
+import os
+import time
+
+from ..remembered import replace_file
+from ..snapshots import LOG
+from ..texts import lsn_text
+
+READERS = "readers"
+# How often an LSN is noted at most, in seconds.
+OFTEN = 1.0
+
+
+class Noted:
+    """The LSN of a reader whose rows are in a file of SQLite's with a log beside it."""
+
+    def __init__(self, feed: str, name: str, rows: str, mode: int) -> None:
+        self.folder, self.rows, self.mode = os.path.join(feed, READERS), rows, mode
+        self.path = os.path.join(self.folder, name)
+        self.at, self.when = -1, 0.0
+
+    def note(self, at: int, is_last: bool = False) -> None:
+        """Notes an LSN once the disk has the rows, unless another one was noted just now."""
+        now = time.monotonic()
+        if at == self.at or not is_last and now - self.when < OFTEN:
+            return
+        self.at, self.when = at, now
+        with contextlib.suppress(FileNotFoundError):
+            file = os.open(self.rows + LOG, os.O_RDONLY | os.O_CLOEXEC)
+            try:
+                os.fsync(file)
+            finally:
+                os.close(file)
+        os.makedirs(self.folder, exist_ok=True)
+        replace_file(self.path, f"{lsn_text(at)}\n".encode(), self.mode)

@@ -1,0 +1,117 @@
+"""`pgsub-feed`: prints what a feed has, for people and for other programs."""
+
+from __future__ import annotations
+
+import argparse
+import contextlib
+import dataclasses
+import signal
+import sys
+from collections.abc import Callable, Sequence
+
+from .. import log
+from ..cli import Start, TellVersion, guarded, lsn, stop_by_signals
+from ..errors import Stopped
+from ..postgres import Check
+from ..remembered import Relation
+from .formats import FORMATS
+from .polling import Poll
+from .reading import Reader
+from .rowsfile import names_of
+from .undoing import undo
+
+ABOUT = """\
+Prints the commits of a feed.
+
+  pgsub-feed --feed copy.feed --from 0/25504168 --follow                    those after an LSN, and the ones that come
+  pgsub-feed --feed copy.feed --undo 0/25504168 0/25504300 --table stock    SQL that takes commits back at the publisher
+"""
+FORMATS_ABOUT = """\
+formats: `lines` are the feed's own, whole commits. `objects` has an object for each change: its id, made of the LSN at which the commit
+ends and the number of the change, xid and time, op (c, u, d or t; x of one that found no row), schema, table, and the row before and
+after it by the names of the columns. `debezium` has the fields of its envelope. Values are numbers, true and false, or as the server
+prints them.
+
+exit status: 0 ended as asked; 2 usage error; 3 a file can't be used; 5 the feed lacks commits after that LSN; 6 a bug; 7 something is in
+the way only for now
+"""
+
+
+@dataclasses.dataclass
+class Options:
+    """The words of the command line."""
+
+    feed: str
+    begin: int | None = None
+    end: int | None = None
+    follow: bool = False
+    format: str = "objects"
+    table: list[str] = dataclasses.field(default_factory=list)
+    undo: list[int] | None = None
+
+
+def arguments(words: Sequence[str]) -> Options:
+    parser = argparse.ArgumentParser(
+        prog="pgsub-feed", description=ABOUT, epilog=FORMATS_ABOUT, formatter_class=argparse.RawDescriptionHelpFormatter
+    )
+    add = parser.add_argument
+    add("--feed", metavar="FOLDER", required=True, help="the feed")
+    add("--from", dest="begin", type=lsn, metavar="LSN", help="commits after this one, which must be the end of one (default: all)")
+    add("--to", dest="end", type=lsn, metavar="LSN", help="end before the first commit that ends above this LSN")
+    add("--follow", action="store_true", help="go on with the commits that come")
+    add("--format", choices=list(FORMATS), default="objects", help="default: objects")
+    add("--table", action="append", default=[], help="changes of this table, may be repeated (default: of all)")
+    add("--undo", nargs=2, type=lsn, metavar=("FROM", "TO"), help="print the SQL that takes the commits after FROM, up to TO, back")
+    add("--version", action=TellVersion, nargs=0, default=argparse.SUPPRESS, help="show the version, and the commit of a checkout")
+    options = Options(**vars(parser.parse_args(words)))
+    if options.undo and (options.follow or options.begin is not None or options.end is not None):
+        parser.error("--undo has its own LSNs, and doesn't follow")
+    if options.table and options.format == "lines" and not options.undo:
+        parser.error("the lines of a commit are printed whole: --table needs another format")
+    return options
+
+
+def chooser(names: list[str]) -> Callable[[Relation], bool]:
+    chosen = set(names)
+    return lambda relation: not chosen or bool(chosen & names_of(relation))
+
+
+def run(options: Options, check: Check) -> int:
+    reader = Reader(options.feed, options.undo[0] if options.undo else options.begin)
+    is_chosen = chooser(options.table)
+    with contextlib.closing(reader), contextlib.suppress(Stopped):
+        if options.undo:
+            undo(reader, options.undo[1], is_chosen, check, put)
+        else:
+            print_commits(reader, options, FORMATS[options.format](is_chosen).print, check)
+    return 0
+
+
+def put(text: bytes) -> None:
+    sys.stdout.buffer.write(text)
+
+
+def print_commits(reader: Reader, options: Options, form: Callable[..., object], check: Check) -> None:
+    poll = Poll(reader, options.follow, check)
+    for commit in poll.commits():
+        if options.end is not None and commit.end > options.end:
+            break
+        check()
+        for line in form(reader, commit):  # type: ignore[attr-defined]
+            put(line)
+        sys.stdout.buffer.flush()
+    sys.stdout.buffer.flush()
+
+
+def main(words: Sequence[str]) -> int:
+    options = arguments(words)
+    start = Start()
+    stop_by_signals(start)
+    return guarded(lambda: run(options, start.check))
+
+
+def start() -> None:
+    log.PROGRAM = "pgsub-feed"
+    # (who reads it may end first)
+    signal.signal(signal.SIGPIPE, signal.SIG_DFL)
+    sys.exit(main(sys.argv[1:]))

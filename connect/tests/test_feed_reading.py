@@ -1,0 +1,350 @@
+"""A reader of a feed: what it takes, what it waits for, what it says of damaged lines, and how it goes on where bytes were cut."""
+
+from __future__ import annotations
+
+import os
+import random
+import re
+from pathlib import Path
+
+import pgsub_connect.feed
+from feed_text import UNSENT, About, Column, Line, closing_line, segment_head
+from pgsub_connect.errors import FileError, Unfit
+from pgsub_connect.feed import parts
+from pgsub_connect.feed.decoding import oid, parsed
+from pgsub_connect.feed.faults import Damaged
+from pgsub_connect.feed.parts import Change, Missed, Part, TableLine
+from pgsub_connect.feed.polling import Poll
+from pgsub_connect.feed.reading import Reader, read_confirmed, segments
+from pgsub_connect.postgres import never
+
+from .feeds import ID, NAME, STOCK, FeedCase, delete, insert, table, truncate, update
+
+
+class Case(FeedCase):
+    def reader(self, at: int | None = 0) -> Reader:
+        reader = Reader(str(self.path), at)
+        self.addCleanup(reader.close)
+        return reader
+
+    def ends(self, at: int | None = 0) -> list[int]:
+        return [it.end for it in Poll(self.reader(at), False, never).commits()]
+
+    def parts(self) -> list[Part]:
+        reader = self.reader()
+        return [part for commit in Poll(reader, False, never).commits() for part in reader.parts(commit)]
+
+    def file(self, at: int = 0) -> Path:
+        return self.path / dict(segments(str(self.path)))[at]
+
+
+class Lines(Case):
+    def test_each(self) -> None:
+        sent = Line(STOCK, "x", ["1", None], ["1", UNSENT], "K")
+        self.feed.commit(
+            0x100, [insert("1", "é\n\x1f\x7f\"\\𝄞"), update(["1", None], ["1", b"\0\xff"]), delete("1", ""), truncate(), sent],
+            About(0xF0, 700, -946684800000001),
+        )
+        reader = self.reader()
+        commit = reader.next()
+        assert commit
+        self.assertEqual((commit.end, commit.prev, commit.changes), (0x100, 0, 5))
+        self.assertEqual((commit.lsn, commit.xid, commit.ts_us), (0xF0, 700, -1))
+        described, *changes, missed = reader.parts(commit)
+        assert isinstance(described, TableLine)
+        relation = described.relation
+        self.assertEqual((relation.oid, relation.namespace, relation.name, relation.shape.identity), (1, "public", "stock", "d"))
+        self.assertEqual([(it.name, it.type_oid, it.modifier, it.key) for it in relation.shape.columns],
+                         [("id", 23, -1, True), ("name", 25, -1, False)])
+        self.assertEqual([it[0:1] + it[2:] for it in changes if isinstance(it, Change)], [
+            ("c", 0, None, ["1", "é\n\x1f\x7f\"\\𝄞"]), ("u", 1, ["1", None], ["1", b"\0\xff"]), ("d", 2, ["1", ""], None),
+            ("t", 3, None, None),
+        ])
+        self.assertEqual(missed, Missed(relation, 4, "u", "K", ["1", None], ["1", parts.UNSENT]))
+
+    def test_of_a_commit_without_any(self) -> None:
+        self.feed.commit(0x100)
+        self.assertEqual(self.parts(), [])
+        self.assertEqual(self.ends(), [0x100])
+
+    def test_definitions(self) -> None:
+        keyless, wider = table(letter="f"), table(columns=(ID, NAME, Column("more", 16)))
+        self.feed.commit(0x100, [insert("1", "a"), insert("1", "b", of=keyless), insert("2", "c", None, of=wider), delete("1", "a")])
+        self.feed.commit(0x200, [insert("3", "a")])
+        found = [it.relation for it in self.parts() if isinstance(it, TableLine)]
+        self.assertEqual([len(it.shape.columns) for it in found], [2, 2, 3, 2, 2])
+        self.assertEqual([[column.key for column in it.shape.columns] for it in found[:2]], [[True, False], [False, False]])
+        self.assertIs(found[0], found[-1])
+
+    def test_long_ones(self) -> None:
+        rows = [["1", "x" * length] for length in (1 << 20, 3 << 20, (1 << 20) - 60, 1)]
+        self.feed.commit(0x100, [insert(*it) for it in rows])
+        self.assertEqual([it.after for it in self.parts() if isinstance(it, Change)], rows)
+
+
+class Taking(Case):
+    def test_what_is_above_the_lsn(self) -> None:
+        for end in (0x100, 0x200, 0x300):
+            self.feed.commit(end, [insert(str(end), "a")])
+        for at, ends in ((0, [0x100, 0x200, 0x300]), (0x100, [0x200, 0x300]), (0x300, []), (0x400, []), (None, [0x100, 0x200, 0x300])):
+            self.assertEqual(self.ends(at), ends)
+
+    def test_an_lsn_that_no_commit_ends_at(self) -> None:
+        self.feed.commit(0x100)
+        self.feed.commit(0x200)
+        for at in (0x50, 0x150):
+            with self.assertRaisesRegex(Unfit, "no commit ends at"):
+                self.ends(at)
+
+    def test_a_commit_that_another_server_has_not(self) -> None:
+        """Whoever has read it finds out by the first commit above it, whatever was read before."""
+        self.feed.commit(0x100)
+        before = self.file().read_bytes()
+        self.feed.commit(0x200)
+        reader = self.reader()
+        self.assertEqual([reader.next() is not None for _ in range(3)], [True, True, False])
+        self.file().write_bytes(before)
+        self.assertIsNone(reader.next())
+        self.feed.at = 0x100
+        self.feed.commit(0x180, [insert("1", "of another")])
+        self.assertIsNone(reader.next())
+        self.feed.commit(0x280)
+        with self.assertRaisesRegex(Unfit, "no commit ends at 0/200"):
+            reader.next()
+
+    def test_each_prefix_of_a_feed(self) -> None:
+        """Bytes that aren't all there are waited for, wherever they end."""
+        self.feed.commit(0x100, [insert("1", "a")])
+        self.feed.end()
+        self.feed.commit(0x200, [insert("2", "b"), truncate()])
+        texts = [(it.name, it.read_bytes()) for it in sorted(self.path.iterdir())]
+        for path in self.path.iterdir():
+            path.unlink()
+        reader, got, total = self.reader(), list[int](), 0
+        self.assertIsNone(reader.next())
+        for name, text in texts:
+            for at in range(0, len(text), 7):
+                with open(self.path / name, "ab") as file:
+                    file.write(text[at : at + 7])
+                total += 1
+                while commit := reader.next():
+                    got.append(commit.end)
+                    self.assertTrue(list(reader.parts(commit)))
+        self.assertEqual(got, [0x100, 0x200])
+
+    def test_zeros_at_the_end_are_waited_for(self) -> None:
+        self.feed.commit(0x100)
+        with open(self.file(), "ab") as file:
+            file.write(bytes(4096))
+        self.assertEqual(self.ends(), [0x100])
+
+
+class Cutting(Case):
+    """The filter writes the feed anew behind the store's position."""
+
+    def test_the_same_commit_comes_again(self) -> None:
+        self.feed.commit(0x100, [insert("1", "a")])
+        before = self.file().stat().st_size
+        self.feed.commit(0x200, [insert("2", "b")])
+        reader = self.reader()
+        while reader.next():
+            pass
+        os.truncate(self.file(), before)
+        self.assertIsNone(reader.next())
+        self.feed.at = 0x100
+        self.feed.commit(0x200, [insert("2", "b")])
+        self.feed.commit(0x300)
+        commit = reader.next()
+        assert commit
+        self.assertEqual((commit.end, list(reader.parts(commit))), (0x300, []))
+
+    def test_unseen(self) -> None:
+        """Other bytes lie where the reader was, and it has seen neither the cut nor the end of the file."""
+        self.feed.commit(0x100, [insert("1", "a")])
+        before = self.file().stat().st_size
+        self.feed.commit(0x200, [insert("2", "bbbb")])
+        reader = self.reader()
+        while reader.next():
+            pass
+        os.truncate(self.file(), before)
+        self.feed.at = 0x100
+        self.feed.commit(0x200, [insert("2", "b")])
+        self.feed.commit(0x300, [insert("3", "c" * 1000)])
+        commit = reader.next()
+        assert commit
+        self.assertEqual(commit.end, 0x300)
+
+    def test_a_closing_line_and_the_next_segment_go(self) -> None:
+        self.feed.commit(0x100, [insert("1", "a")])
+        size = self.file().stat().st_size
+        self.feed.end()
+        reader = self.reader()
+        while reader.next():
+            pass
+        self.assertEqual(reader.cursor(), parts.Cursor(0x100, 1024, 0x100))
+        self.file(0x100).unlink()
+        os.truncate(self.file(), size)
+        self.assertIsNone(reader.next())
+        self.feed.path = self.file()
+        self.feed.commit(0x200, [insert("2", "b")])
+        commit = reader.next()
+        assert commit
+        self.assertEqual(commit.end, 0x200)
+
+
+class Segments(Case):
+    def test_by_their_bases(self) -> None:
+        for end in (0x100, 0x200, 0x300):
+            self.feed.commit(end, [insert("1", "a")])
+            self.feed.end()
+        (self.path / "confirmed").write_text("0/300\n")
+        (self.path / "readers").mkdir()
+        self.assertEqual([base for base, _ in segments(str(self.path))], [0, 0x100, 0x200, 0x300])
+        self.assertEqual(read_confirmed(str(self.path)), 0x300)
+        for at, ends in ((0, [0x100, 0x200, 0x300]), (0x200, [0x300]), (0x300, [])):
+            self.assertEqual(self.ends(at), ends)
+
+    def test_one_that_lost_its_last_line(self) -> None:
+        self.feed.commit(0x100, [insert("1", "a")])
+        size = self.feed.size
+        self.feed.end()
+        self.feed.commit(0x200, [insert("2", "b")])
+        os.truncate(self.file(), size)
+        self.assertEqual(self.ends(), [0x100, 0x200])
+
+    def test_lines_of_commits_in_another_order(self) -> None:
+        self.feed.commit(0x100, [], About(0xF0, 7, 0))
+        text = self.file().read_bytes()
+        old, new = b'{"end":"0/100","prev":"0/0",', b'{"prev":"0/0","end":"0/100",'
+        self.file().write_bytes(text.replace(old, new))
+        commit = self.reader().next()
+        assert commit
+        self.assertEqual((commit.end, commit.prev, commit.lsn, commit.xid, commit.ts_us), (0x100, 0, 0xF0, 7, 946684800000000))
+
+    def test_old_ones_are_gone(self) -> None:
+        for end in (0x100, 0x200):
+            self.feed.commit(end)
+            self.feed.end()
+        self.feed.commit(0x300)
+        reader = self.reader()
+        reader.next()
+        self.file(0).unlink()
+        self.assertEqual(self.ends(0x100), [0x200, 0x300])
+        with self.assertRaisesRegex(Unfit, "the feed begins at 0/100, and the commits after 0/50 aren't in it"):
+            self.ends(0x50)
+        # (who has it open goes on)
+        self.assertEqual([getattr(reader.next(), "end", None) for _ in range(3)], [0x200, 0x300, None])
+        slow = self.reader(0x100)
+        slow.next()
+        self.file(0x100).unlink()
+        self.file(0x200).rename(self.path / f"{0x250:016X}")
+        with self.assertRaisesRegex(Unfit, "the segment that begins at 0/200 is gone"):
+            slow.next()
+
+    def test_no_folder(self) -> None:
+        with self.assertRaisesRegex(FileError, "there is no feed"):
+            Reader(str(self.folder / "none"), 0).next()
+        self.assertIsNone(read_confirmed(str(self.folder / "none")))
+
+
+class Damage(Case):
+    def setUp(self) -> None:
+        super().setUp()
+        self.feed.commit(0x100, [insert("1", "abc"), delete("1", "abc")], About(0xF0, 7, 0))
+        self.feed.commit(0x200, [insert("1", "abc")])
+        self.text = self.file().read_bytes()
+
+    def told(self, old: bytes, new: bytes, count: int = 1) -> tuple[int, int]:
+        """The number and the offset of the error that a change of the first segment gives."""
+        padded = new + b" " * (len(old) - len(new)) if len(new) < len(old) else new
+        self.assertIn(old, self.text)
+        self.file().write_bytes(self.text.replace(old, padded, count))
+        with self.assertRaises(Damaged) as raised:
+            self.parts()
+        return raised.exception.number, raised.exception.offset
+
+    def test_each(self) -> None:
+        first = self.text.index(b'{"op":"table"')
+        insert_at = self.text.index(b'{"op":"c"')
+        delete_at = self.text.index(b'{"op":"d"')
+        for old, new, told in (
+            (b'"feed":1', b'"feed":2', (1, 0)),
+            (b'"slot":"pgsub"', b'"slot":1', (1, 0)),
+            (b'"base":"0/0"', b'"base":"0/1"', (2, 0)),
+            (b'{"end":"0/100"', b'["end":"0/100"', (3, 1024)),
+            (b'"prev":"0/0"', b'"prev":0', (3, 1024)),
+            (b'"xid":7', b'"xid":a', (3, 1024)),
+            (b'"prev":"0/0"', b'"prev":"0/1"', (4, 1024)),
+            (b'"end":"0/100"', b'"end":"0/0"', (4, 1024)),
+            (b'"op":"c"', b'"op":"q"', (5, insert_at)),
+            (b'"before":null', b'"before":[]', (5, insert_at)),
+            (b'["1","abc"]', b'["1",12345]', (5, insert_at)),
+            (b'["1","abc"]', b'["1","ab\0"]', (5, insert_at)),
+            (b'["1","abc"]', b'["1","a\xff\xfe"]', (5, insert_at)),
+            (b'"key":["id"]', b'"key":["iz"', (5, first)),
+            (b'"key":["id"]', b'"key":1', (5, first)),
+            (b'"columns":[["id"', b'"columns":[[1', (5, first)),
+            (b'"changes":2', b'"changes":3', (6, len(self.text[: self.text.index(b'{"end":"0/200"')]))),
+            (b'"n":0', b'"n":1', (6, insert_at)),
+            (b'"n":1', b'"n":7', (6, delete_at)),
+            (b'"oid":1,"n":0', b'"oid":2,"n":0', (7, insert_at)),
+            (b'["1","abc"]', b'["1"]', (8, insert_at)),
+        ):
+            with self.subTest(old=old, new=new):
+                self.assertEqual(self.told(old, new), told)
+
+    def test_a_commit_without_definitions(self) -> None:
+        described = self.text[self.text.index(b'{"op":"table"') : self.text.index(b'{"op":"c"')]
+        before, line, after = self.text.rpartition(b'{"end":"0/200"')
+        found = re.search(rb'"bytes":(\d+)', line + after)
+        assert found
+        shorter = (line + after).replace(found[0], b'"bytes":%d' % (int(found[1]) - len(described)))[:255].rstrip().ljust(255) + b"\n"
+        self.file().write_bytes(before + shorter + after[256 - len(line) :].replace(described, b""))
+        with self.assertRaisesRegex(Damaged, "the relation 1 isn't described in this commit"):
+            self.parts()
+
+    def test_what_isnt_json_here(self) -> None:
+        for content in (b"[" * 100000, b'"\\ud800"', b'"\\uDC00x"', b'"\xff"', b"1e"):
+            with self.assertRaises(ValueError):
+                parsed(content)
+        self.assertEqual(parsed(b'"\\\\ud800 \\ud834\\udd1e"'), "\\ud800 𝄞")
+        for wrong in (-1, 1 << 32, True, "1"):
+            with self.assertRaises(ValueError):
+                oid(wrong)
+
+    def test_wrong_bytes(self) -> None:
+        # (the end of the commit is then within its last line)
+        found = re.search(rb'"bytes":(\d+)', self.text)
+        assert found
+        self.assertEqual(self.told(found[0], b'"bytes":%d' % (int(found[1]) - 1))[0], 6)
+
+    def test_of_another_server(self) -> None:
+        self.feed.end()
+        self.file(0x200).write_bytes(segment_head(0x200, "8", "shop", "pgsub"))
+        with self.assertRaisesRegex(Damaged, "reading 2 OtherFeed"):
+            self.ends()
+
+    def test_a_segment_ends_elsewhere(self) -> None:
+        with open(self.file(), "ab") as file:
+            file.write(closing_line(0x201))
+        with self.assertRaisesRegex(Damaged, "reading 4 Order"):
+            self.ends()
+
+    def test_any_byte(self) -> None:
+        """Whatever byte is another, what is read is the same, or it is told."""
+        rng = random.Random(7)
+        for _ in range(300):
+            text = bytearray(self.text)
+            text[rng.randrange(len(text))] ^= 1 << rng.randrange(8)
+            self.file().write_bytes(text)
+            try:
+                self.parts()
+            except (Damaged, Unfit):
+                pass
+
+
+class Modules(FeedCase):
+    def test_each_is_listed_once(self) -> None:
+        listed = re.findall(r"`(\w+)`[,| ]", (pgsub_connect.feed.__doc__ or "").partition("|---|")[2])
+        there = {it.stem for it in Path(pgsub_connect.feed.__file__ or "").parent.glob("*.py")} - {"__init__"}
+        self.assertEqual(sorted(listed), sorted(there))

@@ -1,0 +1,74 @@
+"""Which segments of a feed go: by size, by age, by what readers have, and never what the store may need."""
+
+from __future__ import annotations
+
+import os
+
+from pgsub_connect.errors import FileError
+from pgsub_connect.feed.noting import Noted
+from pgsub_connect.feed.reading import segments
+from pgsub_connect.feed.retaining import Limits, feed_bytes, read_readers, retire
+
+from .feeds import FeedCase, insert
+
+SIZE, NOW = 5000, 1000.0
+
+
+class Retaining(FeedCase):
+    """Segments that begin at 0, 0x100 .. 0x500, the last one without a commit."""
+
+    def setUp(self) -> None:
+        super().setUp()
+        for end in range(0x100, 0x600, 0x100):
+            path = self.feed.path
+            self.feed.commit(end, [insert("1", "x")])
+            self.feed.end()
+            os.truncate(path, SIZE)
+            os.utime(path, (NOW - end, NOW - end))
+
+    def read(self, **lsns: int) -> None:
+        for name, lsn in lsns.items():
+            Noted(str(self.path), name, str(self.folder / "rows.db"), 0o600).note(lsn, is_last=True)
+
+    def left(self, limits: Limits, position: int = 0x500) -> tuple[list[int], set[str]]:
+        """The bases of the segments that are left, and the readers that hadn't read the others."""
+        before = len(segments(str(self.path)))
+        retired = retire(str(self.path), limits, position, NOW)
+        bases = [base for base, _ in segments(str(self.path))]
+        self.assertEqual(retired.segments, before - len(bases))
+        return bases, retired.readers
+
+    def test_nobody_reads_it(self) -> None:
+        self.assertEqual(self.left(Limits()), ([0, 0x100, 0x200, 0x300, 0x400, 0x500], set()))
+
+    def test_what_all_have(self) -> None:
+        self.read(one=0x300, two=0x250)
+        self.assertEqual(read_readers(str(self.path)), {"one": 0x300, "two": 0x250})
+        self.assertEqual(self.left(Limits()), ([0x200, 0x300, 0x400, 0x500], set()))
+        self.read(two=0x600)
+        self.assertEqual(self.left(Limits()), ([0x300, 0x400, 0x500], set()))
+
+    def test_by_age(self) -> None:
+        # (the oldest one was written last, so nothing goes before it is old enough)
+        self.assertEqual(self.left(Limits(oldest=0x100)), ([0, 0x100, 0x200, 0x300, 0x400, 0x500], set()))
+        self.assertEqual(self.left(Limits(oldest=0xFF)), ([0x500], set()))
+
+    def test_by_age_and_readers(self) -> None:
+        self.read(slow=0x200)
+        self.assertEqual(self.left(Limits(oldest=0)), ([0x200, 0x300, 0x400, 0x500], set()))
+
+    def test_by_size(self) -> None:
+        self.assertEqual(feed_bytes(str(self.path)), 5 * SIZE + 1024)
+        self.read(slow=0x100, quick=0x500)
+        self.assertEqual(self.left(Limits(most_bytes=3 * SIZE)), ([0x300, 0x400, 0x500], {"slow"}))
+        self.assertEqual(self.left(Limits(most_bytes=0)), ([0x500], {"slow"}))
+
+    def test_what_the_store_needs(self) -> None:
+        self.read(one=0x500)
+        self.assertEqual(self.left(Limits(most_bytes=0, oldest=0), 0x280), ([0x200, 0x300, 0x400, 0x500], set()))
+
+    def test_a_reader_without_an_lsn(self) -> None:
+        self.read(one=0x500)
+        (self.path / "readers/one").write_text("x")
+        with self.assertRaisesRegex(FileError, "readers/one: 'x' is not an LSN"):
+            self.left(Limits())

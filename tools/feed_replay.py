@@ -1,0 +1,121 @@
+"""Replays a feed by what its format says and nothing else: the rows of each table, as the server prints them.
+
+It shares no code with the connector's readers. Each commit has to go on where the one before it ends, its lines have to be as many
+bytes and changes as it says, and the row before each change has to be there.
+"""
+
+from __future__ import annotations
+
+import json
+from collections import Counter
+from collections.abc import Iterator
+from pathlib import Path
+from typing import Any
+
+HEAD, COMMIT = 1024, 256
+Row = tuple[str | bytes | None, ...]
+
+
+class Wrong(Exception):
+    """A feed isn't one, or its changes don't fit the rows."""
+
+
+def lsn_of(text: str) -> int:
+    high, low = text.split("/")
+    return (int(high, 16) << 32) + int(low, 16)
+
+
+def row_of(cells: list[Any]) -> Row:
+    return tuple(bytes.fromhex(it["hex"]) if isinstance(it, dict) else it for it in cells)
+
+
+def need(is_so: bool, what: str) -> None:
+    if not is_so:
+        raise Wrong(what)
+
+
+class Replay:
+    """The rows at an LSN. `definitions` and `rows` are by OID; a row is there as often as it is counted."""
+
+    def __init__(self, at: int = 0) -> None:
+        self.at = at
+        self.definitions: dict[int, dict[str, Any]] = {}
+        self.rows: dict[int, Counter[Row]] = {}
+        self.missed = self.changes = 0
+
+    def begin(self, definition: dict[str, Any], rows: Counter[Row]) -> None:
+        """Gives a table the rows that it has at the LSN."""
+        self.definitions[definition["oid"]], self.rows[definition["oid"]] = definition, rows
+
+    def describe(self, definition: dict[str, Any]) -> None:
+        """A definition: the rows of another shape are carried by the names of the columns, and a new one is null."""
+        oid = definition["oid"]
+        old, rows = self.definitions.get(oid, definition), self.rows.get(oid, Counter())
+        places = {name: at for at, (name, _, _) in reversed(list(enumerate(old["columns"])))}
+        chosen = [places.get(name) for name, _, _ in definition["columns"]]
+        carried = Counter[Row]()
+        for row, copies in rows.items():
+            carried[tuple(None if at is None else row[at] for at in chosen)] += copies
+        self.begin(definition, carried)
+
+    def change(self, change: dict[str, Any]) -> None:
+        rows, op = self.rows[change["oid"]], change["op"]
+        if op == "t":
+            rows.clear()
+        elif op == "x":
+            self.missed += 1
+        else:
+            before, after = change["before"], change["after"]
+            need((before is not None, after is not None) == {"c": (False, True), "u": (True, True), "d": (True, False)}[op], f"{change}")
+            if before is not None:
+                need(rows[row_of(before)] > 0, f"the row before isn't there: {change}")
+                rows[row_of(before)] -= 1
+            if after is not None:
+                rows[row_of(after)] += 1
+
+    def commit(self, commit: dict[str, Any], body: bytes) -> None:
+        """A commit that isn't above the LSN is passed over; the first one that is has to be the next."""
+        end = lsn_of(commit["end"])
+        if end <= self.at:
+            return
+        need(lsn_of(commit["prev"]) == self.at, f"{commit['end']} doesn't go on at {self.at:X}")
+        lines, told, n = body.splitlines(), set[int](), 0
+        for it in map(json.loads, lines):
+            if it["op"] == "table":
+                self.describe(it)
+                told.add(it["oid"])
+                continue
+            need(it["oid"] in told and it["n"] == n, f"{commit['end']}: {it}")
+            self.change(it)
+            n += 1
+        need(n == commit["changes"], f"{commit['end']} has {n} changes")
+        self.at, self.changes = end, self.changes + n
+
+
+def commits(path: Path) -> Iterator[tuple[dict[str, Any], bytes]]:
+    """The commits of a segment, with their lines. What isn't all there is left."""
+    text = path.read_bytes()
+    at, last = HEAD, lsn_of(json.loads(text[:HEAD])["base"])
+    need(last == int(path.name, 16), f"{path}: another base")
+    while len(line := text[at : at + COMMIT]) == COMMIT:
+        commit = json.loads(line)
+        if "end" not in commit:
+            need(at + COMMIT == len(text), f"{path}: lines after its end")
+            return
+        need(lsn_of(commit["prev"]) == last, f"{path}: {commit['end']} doesn't go on at {last:X}")
+        body = text[at + COMMIT : at + COMMIT + commit["bytes"]]
+        if len(body) < commit["bytes"]:
+            return
+        yield commit, body
+        at, last = at + COMMIT + len(body), lsn_of(commit["end"])
+
+
+def replay(folder: Path, state: Replay | None = None, until: int | None = None) -> Replay:
+    """Replays all of a feed's folder, or up to an LSN."""
+    state = state or Replay()
+    for path in sorted(it for it in folder.iterdir() if it.is_file() and len(it.name) == 16):
+        for commit, body in commits(path):
+            if until is not None and lsn_of(commit["end"]) > until:
+                return state
+            state.commit(commit, body)
+    return state

@@ -1,0 +1,124 @@
+"""The text of a feed: examples that its definitions give, and segments."""
+
+from __future__ import annotations
+
+import tempfile
+import unittest
+from pathlib import Path
+
+from feed_text import UNSENT, About, Column, Definition, Line, Writer, entry_text, segment_head
+
+STOCK = Definition(16384, "public", "stock", "d", (Column("sku", 25, -1, True), Column("quantity", 23)))
+WIDER = Definition(16384, "public", "stock", "d", (*STOCK.columns, Column("price", 1700, 655366)))
+NOTES = Definition(16390, "", 'no"tes', "f", (Column("text", 25), Column("data", 17)))
+ABOUT = About(622870840, 739, 753000000123456)
+ABOUT_TEXT = '"lsn":"0/25204138","xid":739,"ts_us":1699684800123456}'
+STOCK_TEXT = (
+    '{"op":"table","oid":16384,"schema":"public","table":"stock","identity":"d","key":["sku"],'
+    '"columns":[["sku",25,-1],["quantity",23,-1]]}'
+)
+WIDER_TEXT = STOCK_TEXT.replace("]]", '],["price",1700,655366]]')
+NOTES_TEXT = (
+    '{"op":"table","oid":16390,"schema":"pg_catalog","table":"no\\"tes","identity":"f","key":null,'
+    '"columns":[["text",25,-1],["data",17,-1]]}'
+)
+
+
+def commit(end: str, prev: str, size: int, changes: int, about: str = ABOUT_TEXT) -> str:
+    return f'{{"end":"{end}","prev":"{prev}","bytes":{size},"changes":{changes},{about}'.ljust(255)
+
+
+class Texts(unittest.TestCase):
+    def check(self, prev: int, end: int, lines: list[Line], about: About | None, *wanted: str) -> None:
+        self.assertEqual(entry_text(prev, end, lines, about).decode().splitlines(), list(wanted))
+
+    def test_of_one_table(self) -> None:
+        self.check(
+            622870584, 622870888,
+            [Line(STOCK, "c", None, ["A-1", "5"]), Line(STOCK, "u", ["A-1", "5"], ["A-1", None]), Line(STOCK, "d", ["A-1", None])], ABOUT,
+            commit("0/25204168", "0/25204038", 333, 3),
+            STOCK_TEXT,
+            '{"op":"c","oid":16384,"n":0,"before":null,"after":["A-1","5"]}',
+            '{"op":"u","oid":16384,"n":1,"before":["A-1","5"],"after":["A-1",null]}',
+            '{"op":"d","oid":16384,"n":2,"before":["A-1",null],"after":null}',
+        )
+
+    def test_definitions(self) -> None:
+        self.check(
+            622870888, 622871000,
+            [
+                Line(STOCK, "c", None, ["A", "1"]), Line(NOTES, "c", None, ['é "x"\n', b"\0\xff"]), Line(STOCK, "d", ["A", "1"]),
+                Line(WIDER, "c", None, ["A", "1", "0.50"]), Line(NOTES, "c", None, ["", None]),
+                Line(WIDER, "u", ["A", "1", "0.50"], ["B", "1", "0.50"]),
+            ],
+            ABOUT,
+            commit("0/252041D8", "0/25204168", 839, 6),
+            STOCK_TEXT,
+            '{"op":"c","oid":16384,"n":0,"before":null,"after":["A","1"]}',
+            NOTES_TEXT,
+            '{"op":"c","oid":16390,"n":1,"before":null,"after":["é \\"x\\"\\n",{"hex":"00ff"}]}',
+            '{"op":"d","oid":16384,"n":2,"before":["A","1"],"after":null}',
+            WIDER_TEXT,
+            '{"op":"c","oid":16384,"n":3,"before":null,"after":["A","1","0.50"]}',
+            '{"op":"c","oid":16390,"n":4,"before":null,"after":["",null]}',
+            '{"op":"u","oid":16384,"n":5,"before":["A","1","0.50"],"after":["B","1","0.50"]}',
+        )
+
+    def test_a_truncation(self) -> None:
+        self.check(
+            622871000, 622872000, [Line(NOTES, "t")], ABOUT,
+            commit("0/252045C0", "0/252041D8", 191, 1), NOTES_TEXT, '{"op":"t","oid":16390,"n":0,"before":null,"after":null}',
+        )
+
+    def test_changes_that_found_no_row(self) -> None:
+        self.check(
+            622872000, 622873000,
+            [
+                Line(STOCK, "x", None, ["A", UNSENT]), Line(STOCK, "x", ["A", None], ["B", "1"], "K"),
+                Line(STOCK, "x", ["A", None], None, "K"), Line(NOTES, "x", ["a", b"\x10"], None, "O"),
+            ],
+            ABOUT,
+            commit("0/252049A8", "0/252045C0", 587, 4),
+            STOCK_TEXT,
+            '{"op":"x","oid":16384,"n":0,"sent":"u","old":null,"new":["A",{"unchanged":true}]}',
+            '{"op":"x","oid":16384,"n":1,"sent":"u","old":["K",["A",null]],"new":["B","1"]}',
+            '{"op":"x","oid":16384,"n":2,"sent":"d","old":["K",["A",null]],"new":null}',
+            NOTES_TEXT,
+            '{"op":"x","oid":16390,"n":3,"sent":"d","old":["O",["a",{"hex":"10"}]],"new":null}',
+        )
+
+    def test_commits_without_changes(self) -> None:
+        most = 2**64 - 1
+        nothing = '"lsn":null,"xid":null,"ts_us":null}'
+        self.check(622873000, 4294967312, [], ABOUT, commit("1/10", "0/252049A8", 0, 0))
+        self.check(622873000, 622874000, [], None, commit("0/25204D90", "0/252049A8", 0, 0, nothing))
+        for prev, text, time, told in (
+            (0, "0/0", -(2**63), -9222425352054775808), (most - 1, "FFFFFFFF/FFFFFFFE", 2**63 - 1, 9224318721654775807),
+        ):
+            about = f'"lsn":"FFFFFFFF/FFFFFFFF","xid":4294967295,"ts_us":{told}}}'
+            self.check(prev, most, [], About(most, 2**32 - 1, time), commit("FFFFFFFF/FFFFFFFF", text, 0, 0, about))
+
+    def test_head(self) -> None:
+        text = segment_head(622870584, "7231", 'pu"b', "copy").decode()
+        self.assertEqual(text, '{"feed":1,"base":"0/25204038","system":"7231","database":"pu\\"b","slot":"copy"}'.ljust(1023) + "\n")
+
+
+class Segments(unittest.TestCase):
+    def test_each_ends_before_the_commit_that_would_pass_its_size(self) -> None:
+        with tempfile.TemporaryDirectory() as folder:
+            writer = Writer(Path(folder), 0x10, 3000)
+            for end in range(0x100, 0x1000, 0x100):
+                writer.commit(end, [Line(STOCK, "c", None, ["x" * end, None])])
+            found = sorted((int(it.name, 16), it.read_bytes()) for it in Path(folder).iterdir())
+        for (base, text), (following, more) in zip(found, found[1:]):
+            *_, last, closing = text.rpartition(b'{"last":')
+            self.assertEqual(closing.rstrip(), b'"0/%X"}' % following)
+            body = text[: -len(last + closing)]
+            next_size = len(more.split(b'{"last":')[0].split(b'{"end":')[1]) + len(b'{"end":')
+            self.assertGreater(len(body) + next_size, 3000, base)
+            self.assertTrue(len(body) <= 3000 or body.count(b'"end":') == 1, base)
+        self.assertEqual([base for base, _ in found][:3], [0x10, 0x200, 0x300])
+
+
+if __name__ == "__main__":
+    unittest.main()
