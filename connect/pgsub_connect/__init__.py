@@ -13,6 +13,7 @@
 | copy and server compared | `verifying`, `sides`, `digests`, `meeting`, `holding` |
 | rows that differ are mended | `mending`, `repairing` |
 | other subcommands | `checking`, `dropping`, `probing` |
+| the feed of a follower, and tables that follow it | `feeding`, `beside` |
 | readers of a feed of commits | the package `feed` |
 """
 

@@ -14,7 +14,7 @@ import traceback
 from collections.abc import Callable, Sequence
 from typing import Any, Protocol
 
-from . import VERSION, builds, checking, dropping, exporting, log, probing, refreshing, requesting, taking, verifying
+from . import VERSION, beside, builds, checking, dropping, exporting, log, probing, refreshing, requesting, taking, verifying
 from . import checkpoint as known_of
 from .asking import Asker
 from .checkpoint import Checkpoint
@@ -22,6 +22,7 @@ from .comparing import require_published
 from .copying import Copier, create_slot, maker_of
 from .errors import FileError, FilterFault, NoSlot, Passing, ServerError, Stopped, Unfit, UsageError
 from .feed import awaiting, tabling
+from .feeding import Feeding
 from .filtering import Filter, FilterEnded
 from .following import Follower
 from .limits import LONGEST_FRAME, MOST_PAGES, default_buffered
@@ -38,6 +39,7 @@ Follows a PostgreSQL server: carries the change stream of a slot to `pgsub follo
 
   pgsub-connect follow --dsn 'dbname=shop' --create --table stock --store copy.db     makes publication, slot and copy, and follows
   pgsub-connect follow --dsn 'dbname=shop' --store copy.db                            goes on with a store that is there
+  pgsub-connect follow --dsn 'dbname=shop' --create --table stock --store copy.db --tables rows.db     keeps tables of SQLite, too
   pgsub-connect record --dsn 'dbname=shop' --slot s --publication p --record shop.pgx --until now     only records
 """
 MORE = """\
@@ -125,6 +127,12 @@ class Options:
     hold: float = 10.0
     repair: bool = False
     feed: str = ""
+    without_feed: bool = False
+    feed_segment_bytes: int = 0
+    feed_segment_seconds: int = 0
+    feed_max_bytes: int = 0
+    feed_max_age: float | None = None
+    while_input: bool = False
     base: str | None = None
     init: str | None = None
     reader: str | None = None
@@ -233,9 +241,27 @@ def add_following(parser: argparse.ArgumentParser) -> None:
     add("--snapshot", metavar="FILE",
         help="copy the store to this file for readers, which can't open the store itself: at SIGUSR1, and as --snapshot-every says")
     add("--snapshot-every", type=float, default=0.0, metavar="N", help="replace the snapshot each N seconds (default: at SIGUSR1 alone)")
+    add_feeding(parser)
     add = parser.add_argument_group("recording").add_argument
     add("--record", metavar="FILE", help="add the sessions to this recording, a .pgx file")
     add_longest(add)
+
+
+def add_feeding(parser: argparse.ArgumentParser) -> None:
+    """Options on the feed of commits, and on the tables that follow it."""
+    add = parser.add_argument_group("the feed").add_argument
+    add("--feed", metavar="FOLDER", default="", help="keep a feed of all commits in this folder, as lines of JSON with each row before and after")
+    add("--without-feed", action="store_true", help="leave the feed that the store has had; it ends for good")
+    add("--feed-segment-bytes", type=within(1 << 12, 1 << 40), default=0, metavar="BYTES",
+        help="begin another segment before one gets larger (default: 67108864)")
+    add("--feed-segment-seconds", type=within(1, 1 << 31), default=0, metavar="N", help="begin another segment after N seconds (default: never)")
+    add("--feed-max-bytes", type=probing.size, default=0, metavar="SIZE",
+        help="remove the oldest segments of a feed that gets larger, as 10GB, whoever hasn't read them")
+    add("--feed-max-age", type=probing.duration, metavar="TIME",
+        help="remove segments that are older, as 7d, and that all readers have read (default: as soon as all readers have, where there are any)")
+    add("--tables", metavar="FILE", default="",
+        help="keep ordinary tables in this file of SQLite, by `pgsub-connect tables` beside the follower; the feed is STORE.feed by default")
+    add("--init", metavar="FILE", help="with --tables: run this SQL once a table was made or altered, for indexes and views")
 
 
 def add_publishing(add: Callable[..., object]) -> None:
@@ -322,6 +348,7 @@ def add_verifying(parser: argparse.ArgumentParser) -> None:
 
 def add_tabling(parser: argparse.ArgumentParser) -> None:
     tabling.add_options(parser)
+    parser.add_argument("--while-input", action="store_true", help="end once standard input ends, too")
     parser.add_argument("--at", type=lsn, metavar="LSN", help="the tables as of this LSN: end before the first commit above it, or go back to there")
     parser.add_argument("--mode", type=mode, default=0o600, metavar="OCTAL", help="mode of a file that is made (default: 600)")
 
@@ -387,9 +414,13 @@ def arguments(words: Sequence[str]) -> Options:
 
 def check(parser: argparse.ArgumentParser, options: Options) -> None:
     """Rejects words that don't go together."""
+    if options.command == "follow":
+        options.streaming = options.proto == 2
+        options.feed = options.feed or (options.store + ".feed" if options.tables else "")
     for given, needed in (
         ("table", "create"), ("all_tables", "create"), ("failover", "create"), ("append", "record"), ("snapshot", "store"),
-        ("snapshot_every", "snapshot"), ("skip", "store"), ("strict", "store"),
+        ("snapshot_every", "snapshot"), ("skip", "store"), ("strict", "store"), ("init", "tables"), ("feed_segment_bytes", "feed"),
+        ("feed_segment_seconds", "feed"), ("feed_max_bytes", "feed"), ("feed_max_age", "feed"),
     ):
         if options.command not in ("check", "status", "verify", "add", "tables") and getattr(options, given) and not getattr(options, needed):
             parser.error(f"--{given.replace('_', '-')} needs --{needed}")
@@ -403,8 +434,6 @@ def check(parser: argparse.ArgumentParser, options: Options) -> None:
         parser.error("--table and --all-tables exclude each other")
     if options.all_tables and options.keyless != "refuse":
         parser.error("of a publication for all tables no table can be left out: --keyless needs a list")
-    if options.command == "follow":
-        options.streaming = options.proto == 2
     options.once = options.once or options.at is not None
 
 
@@ -505,12 +534,14 @@ def follow(options: Options) -> int:
         raise no_store(options)
     checkpoint = Checkpoint(options.store, options.mode, start.check)
     progress = Progress()
-    recording = Aside(Recording(options.record, True, options.bytes, options.mode)) if options.record else None
     remembered = Remembered(options.store, options.mode)
+    feeding = Feeding(options, checkpoint, progress, remembered)
+    feeding.check()
+    recording = Aside(Recording(options.record, True, options.bytes, options.mode)) if options.record else None
     copier = Copier(options, checkpoint, make_filter(options, checkpoint, options.store + ".copying"), progress, remembered)
     child = make_filter(options, checkpoint, options.store)
     snapshots = Snapshots(options.store, options.snapshot, options.snapshot_every, options.mode)
-    follower = Follower(options, checkpoint, child, progress, recording, snapshots, remembered)
+    follower = Follower(options, checkpoint, child, progress, recording, snapshots, remembered, feeding)
     snapshot_by_signal(snapshots)
     stop_by_signals(copier, follower)
     copier.stop_asked = follower.stop_asked = start.stop_asked
@@ -525,6 +556,7 @@ def follow(options: Options) -> int:
             follower.was_connected = copier.was_connected
         elif options.table or options.all_tables:
             require_published(options, follower.check_stop)
+        feeding.begin(child, follower.stored, follower.check_stop)
         follower.run()
         progress.state = "stopped"
     except Stopped:
@@ -534,6 +566,7 @@ def follow(options: Options) -> int:
         raise
     finally:
         child.kill()
+        feeding.finish()
         if recording:
             recording.flush()
         asker.finish()

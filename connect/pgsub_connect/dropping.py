@@ -208,6 +208,8 @@ class Dropper:
             except OSError as error:
                 raise FileError(f"{path}: {error.strerror}") from None
         log.info(f"removed {', '.join(files)}")
+        if (feed := self.remembered.get("feed")) and os.path.isdir(str(feed)):
+            log.info(f"the feed {feed} stays: remove the folder once nobody reads it")
 
 
 def run(options: Options, check: Check = never) -> int:

@@ -14,6 +14,7 @@ from . import log, sizes
 from .adding import Adder
 from .checkpoint import Checkpoint, check_gap
 from .errors import FileError, FilterFault, Passing, ServerError, Stopped, Unfit
+from .feeding import Feeding, Reached
 from .filtering import MISSED, PIECE, Filter, FilterEnded, asking, confirming, flushed
 from .missing import Misses
 from .noting import Noting, final_lsn
@@ -59,11 +60,11 @@ class Follower:
 
     def __init__(
         self, options: Options, checkpoint: Checkpoint, child: Filter, progress: Progress, recording: Aside | None,
-        snapshots: Snapshots, remembered: Remembered,
+        snapshots: Snapshots, remembered: Remembered, feeding: Feeding | None = None,
     ) -> None:
         self.options = options
         self.checkpoint, self.filter, self.progress, self.recording = checkpoint, child, progress, recording
-        self.snapshots = snapshots
+        self.snapshots, self.feeding = snapshots, feeding
         self.stop_asked = False
         self.connection = None
         self.was_connected = False
@@ -146,6 +147,8 @@ class Follower:
             largest = self.noting.largest()
             if text := sizes.text_of(ended, self.options, largest, self.noting.longest):
                 log.error(text)
+            if self.feeding and (text := self.feeding.text_of(ended.said)):
+                log.error(text)
             if ended.is_rejection():
                 self.tell_rejected(ended)
                 raise ended
@@ -208,6 +211,8 @@ class Follower:
             return
         self.progress.state = "opening the store"
         self.position = self.open_store()
+        if self.feeding:
+            self.feeding.note_opened()
         if self.misses.begin_filter(self.position, self.filter.has_told_all):
             self.watch.show()
         self.noting.begin_store()
@@ -479,7 +484,7 @@ class Follower:
 
     def is_over(self) -> bool:
         """Whether the end was asked for, or what was asked for is stored."""
-        if self.until is not None and self.filter.confirmed() >= self.until:
+        if self.until is not None and self.filter.confirmed() >= self.until and (not self.feeding or self.feeding.is_read(self.position)):
             self.stop_asked = True
         return self.stop_asked
 
@@ -506,6 +511,10 @@ class Follower:
             self.forward(self.serve(0)[2])
             self.misses.tell()
         self.keep_alive(0.0)
+
+    def stored(self) -> Reached:
+        """What the store has, for another thread. (Each of the two is at most what it has, whenever it is looked at.)"""
+        return Reached(max(self.checkpoint.known.confirmed, self.filter.confirmed()), self.position)
 
     def is_stored(self) -> bool:
         """Whether the store has all commits that were passed on."""

@@ -57,6 +57,13 @@ def metrics(progress: Progress, now: float) -> Iterator[Metric]:
         yield one("pgsub_missing_total", COUNTER, "Changes that found no row, until they are accepted.", counted.count)
         yield one("pgsub_counted_lsn", GAUGE, "LSN up to which changes that found no row are counted.", counted.upto)
         yield one("pgsub_not_counted_bytes", GAUGE, "Log in which such changes weren't counted, until that is accepted.", upto - after)
+    if progress.feed_bytes is not None:
+        yield one("pgsub_feed_bytes", GAUGE, "How large the feed is.", progress.feed_bytes)
+        readers = sorted(progress.readers.items())
+        lags: list[Sample] = [({"reader": name}, progress.lag_of(lsn)) for name, lsn in readers]
+        yield Metric("pgsub_reader_lag_bytes", GAUGE, "How much of the server's log a reader of the feed lacks that the store has.", lags)
+        yield Metric("pgsub_reader_lsn", GAUGE, "LSN up to which a reader of the feed has all.", [({"reader": name}, lsn) for name, lsn in readers])
+        yield one("pgsub_tables_failed", GAUGE, "Whether the tables that follow the feed have ended by a fault.", int(bool(progress.tables_error)))
     yield one("pgsub_changes_total", COUNTER, "Changes that were passed on.", progress.passed_changes)
     yield one("pgsub_commits_total", COUNTER, "Commits that were passed on.", progress.passed_commits)
     yield one("pgsub_sessions_total", COUNTER, "Sessions with the server.", progress.sessions)

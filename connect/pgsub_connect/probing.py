@@ -28,6 +28,7 @@ SECONDS = {"s": 1.0, "min": 60.0, "h": 3600.0, "d": 86400.0}
 BYTES = {"B": 1, "kB": 1 << 10, "MB": 1 << 20, "GB": 1 << 30, "TB": 1 << 40}
 LAG = re.compile(rf"(\d+(?:\.\d+)?)({'|'.join([*SECONDS, *BYTES])})")
 TIME = re.compile(rf"(\d+(?:\.\d+)?)({'|'.join(SECONDS)})?")
+SIZE = re.compile(rf"(\d+)({'|'.join(BYTES)})?")
 # states in which nothing follows any more
 ENDED = ("stopped", "failed")
 
@@ -54,6 +55,13 @@ def duration(text: str) -> float:
     if not found:
         raise argparse.ArgumentTypeError(f"{text!r} is no time, as 30s or 5min")
     return float(found[1]) * SECONDS[found[2] or "s"]
+
+
+def size(text: str) -> int:
+    found = SIZE.fullmatch(text)
+    if not found or not int(found[1]):
+        raise argparse.ArgumentTypeError(f"{text!r} is no size, as 500MB or 10GB")
+    return int(found[1]) * BYTES[found[2] or "B"]
 
 
 def add_options(parser: argparse.ArgumentParser) -> None:
@@ -94,6 +102,8 @@ def faults(status: dict[str, Any], age: float, options: Options) -> list[str]:
             wrong.append(f"more than {limit.text} behind")
     if status.get("wal_status") == "lost":
         wrong.append("the slot is lost")
+    if status.get("tables_error"):
+        wrong.append("the tables don't follow any more")
     if options.strict and status.get("found"):
         wrong.append(f"found: {', '.join(sorted(status['found']))}")
     return list(dict.fromkeys(wrong))

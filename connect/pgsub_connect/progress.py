@@ -54,6 +54,11 @@ class Progress:
         self.is_standby = self.was_promoted = False
         # the session's name at the server, and whether commits there may wait for it
         self.name, self.is_waited_for = "", False
+        # of the feed: how many bytes its segments have, None where there is no feed, and the LSN of each reader; and what ended the
+        # tables that follow it
+        self.feed_bytes: int | None = None
+        self.readers: dict[str, int] = {}
+        self.tables_error = ""
         # what `pgsub --version` says
         self.program = ""
         self.heartbeat = time.time()
@@ -114,6 +119,9 @@ class Progress:
             **self.shown_missing(),
             "skipped": self.skipped or None,
             "adding": self.adding or None,
+            "feed_bytes": self.feed_bytes,
+            "readers": self.shown_readers() or None,
+            "tables_error": self.tables_error or None,
             "server_version": self.version or None,
             "timeline": self.timeline or None,
             "connector_version": VERSION,
@@ -121,6 +129,13 @@ class Progress:
             "pid": os.getpid(),
         }
         return {name: value for name, value in shown.items() if value is not None}
+
+    def lag_of(self, reader: int) -> int:
+        """How much of the server's log is between what a reader has and the store's position, in bytes."""
+        return max(self.position - reader, 0)
+
+    def shown_readers(self) -> dict[str, object]:
+        return {name: {"lsn": lsn_text(lsn), "lag_bytes": self.lag_of(lsn)} for name, lsn in sorted(self.readers.items())}
 
     def shown_missing(self) -> dict[str, object]:
         """The status file's fields of changes that found no row."""

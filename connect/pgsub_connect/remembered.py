@@ -3,12 +3,13 @@
 The file is `STORE.tables`, one object of JSON. It is replaced as a whole: written to a new file, which gets the name once the disk
 has it. So a reader (`pgsub-connect names`) may look at it at any time.
 
-As long as nothing was copied it has the first two fields alone.
+As long as nothing was copied it has the first three fields alone.
 
 | Field | Means |
 |---|---|
 | `format` | 1 |
 | `made` | the publications that were made for this store, with their OIDs |
+| `feed` | the folder of the feed that has all commits of the store up to its position, "" where none has |
 | `lsn`, `highest` | when the server was looked at last: nothing that was committed above that LSN was seen, nor an OID above that one |
 | `followed`, `publications` | the names that are followed, and the options of those that were there |
 | `tables`, `partitions`, `types` | what the server had then, changed by what Relation messages said since |
@@ -84,6 +85,8 @@ class Remembered:
         self.catalog: Catalog | None = None
         # the publications that --create has made, and their OIDs
         self.made: dict[str, int] = {}
+        # the folder of the store's feed
+        self.feed = ""
         self.sent: dict[int, Sent] = {}
         self.names: dict[tuple[str, str], Name] = {}
         # the name that an OID has
@@ -141,9 +144,9 @@ class Remembered:
 
     def begin(self, catalog: Catalog, copied: int | None = None) -> None:
         """Remembers what a server has, and nothing else. `copied`: as of which LSN all rows of it are in the store."""
-        made = self.made
+        made, feed = self.made, self.feed
         self.forget()
-        self.catalog, self.made = catalog, made
+        self.catalog, self.made, self.feed = catalog, made, feed
         for oid, table in catalog.tables.items():
             if copied is not None:
                 self.sent[oid] = Sent(copied, table.shape)
@@ -155,6 +158,12 @@ class Remembered:
         if made:
             self.made = {**self.made, **made}
             self.is_urgent = self.is_changed = True
+
+    def note_feed(self, folder: str) -> None:
+        """Notes durably which folder has the store's feed, "" where it has none any more."""
+        if folder != self.feed:
+            self.feed = folder
+            self.save()
 
     def keep_made(self, made: dict[str, int]) -> None:
         """Notes publications before they are there for others, and durably: so a later run knows what one that was killed has left."""
@@ -416,6 +425,8 @@ class Remembered:
         if said["format"] != FORMAT:
             raise FileError(f"{self.path}: of a later version of this program (format {said['format']})")
         self.made = {str(name): int(oid) for name, oid in said["made"].items()}
+        # (an earlier version of this program had no feeds)
+        self.feed = text_of(said.get("feed", ""))
         if "followed" not in said:
             # (nothing was copied yet)
             return
@@ -439,10 +450,11 @@ class Remembered:
 
     def written(self) -> dict[str, Any]:
         if self.catalog is None:
-            return {"format": FORMAT, "made": self.made}
+            return {"format": FORMAT, "made": self.made, "feed": self.feed}
         return {
             "format": FORMAT,
             "made": self.made,
+            "feed": self.feed,
             **catalog_written(self.catalog),
             "sent": {oid: [lsn_text(it.lsn), it.shape and [it.shape.identity, it.shape.columns]] for oid, it in self.sent.items()},
             "names": [[*key, it.oid, lsn_text(it.since), it.before] for key, it in sorted(self.names.items())],
@@ -461,8 +473,9 @@ class Remembered:
 
     def save(self) -> None:
         """Replaces the file. The disk has it before this returns."""
-        if self.catalog is None and not self.made:
+        if self.catalog is None and not (self.made or self.feed):
             self.is_urgent = self.is_changed = False
+            self.remove_file()
             return
         text = json.dumps(self.written(), ensure_ascii=False, separators=(",", ":")) + "\n"
         replace_file(self.path, text.encode(), self.mode)
@@ -481,6 +494,9 @@ class Remembered:
     def remove(self) -> None:
         """Forgets all, and the file goes."""
         self.forget()
+        self.remove_file()
+
+    def remove_file(self) -> None:
         try:
             with contextlib.suppress(FileNotFoundError):
                 os.unlink(self.path)
@@ -507,6 +523,12 @@ def print_names(store: str) -> None:
 def texts_of(said: dict[str, Any] | list[str]) -> dict[str, About]:
     """The texts of a kind; an earlier version of this program didn't keep what they are about."""
     return {str(it): NOTHING for it in said} if isinstance(said, list) else {text: about_of(it) for text, it in said.items()}
+
+
+def text_of(it: object) -> str:
+    if not isinstance(it, str):
+        raise TypeError
+    return it
 
 
 def names_text(key: tuple[str, str], oid: int, before: int) -> str:

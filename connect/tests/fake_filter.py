@@ -1,9 +1,9 @@
 #!/usr/bin/python3
 """A filter in the place of `pgsub follow`: it stores nothing but its position, and says what the tests ask it to.
 
-usage: fake_filter follow --store FILE [--proto N] ..
+usage: fake_filter follow --store FILE [--proto N] [--feed FOLDER --feed-system TEXT --feed-database TEXT --feed-slot TEXT] ..
 
-The file holds the position as text. A Delete finds no row, and anything else does. FAKE_FILTER in its first line's place: a file
+The file holds the position as text. Of a commit the feed has the line alone. A Delete finds no row, and anything else does. FAKE_FILTER in its first line's place: a file
 FILE.says may hold one of these words:
   `status N TEXT`    ends at the first frame, with this status and this line on standard error
   `bytes HEX`        writes these bytes in place of its first status
@@ -23,7 +23,13 @@ import struct
 import sys
 import time
 from collections.abc import Iterator
+from pathlib import Path
+from typing import TYPE_CHECKING
 
+if TYPE_CHECKING:
+    from feed_text import Writer
+
+TOOLS = Path(__file__).resolve().parent.parent.parent / "tools"
 BEGIN, COMMIT, STREAM_COMMIT, DELETE = ord("B"), ord("C"), ord("c"), ord("D")
 MISSED = 16
 
@@ -49,6 +55,21 @@ class Fake:
             with open(store, encoding="ascii") as file:
                 self.position = int(file.read() or 0)
         self.confirmed, self.inside, self.received = self.position, False, 0
+        self.feed: Writer | None = None
+
+    def open_feed(self, folder: Path, named: tuple[str, str, str]) -> bool:
+        """Begins a feed, or goes on with one whose last commit is the store's. Returns false where it isn't that of the store."""
+        sys.path.append(str(TOOLS))
+        from feed_text import COMMIT_SIZE, Writer, lsn_text
+
+        there = sorted(it for it in folder.iterdir() if len(it.name) == 16)
+        if there:
+            last = there[-1].read_bytes()
+            commit = last[-COMMIT_SIZE:].decode() if len(last) > 1024 else ""
+            if f'"end":"{lsn_text(self.position)}"' not in commit and int(there[-1].name, 16) != self.position:
+                return False
+        self.feed = Writer(folder, self.position, named=named)
+        return True
 
     def status(self) -> None:
         values = struct.pack(">cQQQqB", b"r", self.received, self.confirmed, self.confirmed, 0, 0)
@@ -62,6 +83,10 @@ class Fake:
             status, line = self.says[2].split(" ", 1)
             print(line, file=sys.stderr, flush=True)
             sys.exit(int(status))
+        if self.feed and end > self.position:
+            from feed_text import commit_line
+
+            self.feed.put(commit_line(end, self.position, 0, 0, None))
         self.position = max(self.position, end)
         self.confirmed = max(self.confirmed, end)
         with open(self.store, "w", encoding="ascii") as file:
@@ -117,6 +142,11 @@ def main(words: list[str]) -> int:
     store = words[words.index("--store") + 1]
     says = said(store)
     fake = Fake(store, says)
+    if "--feed" in words:
+        folder, *named = (words[words.index(f"--feed{it}") + 1] for it in ("", "-system", "-database", "-slot"))
+        if not fake.open_feed(Path(folder), (named[0], named[1], named[2])):
+            print("pgsub: feed 1 NotAFeed", file=sys.stderr, flush=True)
+            return 3
     if says[:1] == ["slow"]:
         time.sleep(float(says[1]))
     if says[:1] == ["bytes"]:

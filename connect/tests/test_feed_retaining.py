@@ -30,7 +30,7 @@ class Retaining(FeedCase):
         for name, lsn in lsns.items():
             Noted(str(self.path), name, str(self.folder / "rows.db"), 0o600).note(lsn, is_last=True)
 
-    def left(self, limits: Limits, position: int = 0x500) -> tuple[list[int], set[str]]:
+    def left(self, limits: Limits, position: int = 0x510) -> tuple[list[int], set[str]]:
         """The bases of the segments that are left, and the readers that hadn't read the others."""
         before = len(segments(str(self.path)))
         retired = retire(str(self.path), limits, position, NOW)
@@ -66,6 +66,8 @@ class Retaining(FeedCase):
     def test_what_the_store_needs(self) -> None:
         self.read(one=0x500)
         self.assertEqual(self.left(Limits(most_bytes=0, oldest=0), 0x280), ([0x200, 0x300, 0x400, 0x500], set()))
+        # (the commit at the position is the last one of the segment that begins at 0x200)
+        self.assertEqual(self.left(Limits(most_bytes=0, oldest=0), 0x300), ([0x200, 0x300, 0x400, 0x500], set()))
 
     def test_a_reader_without_an_lsn(self) -> None:
         self.read(one=0x500)

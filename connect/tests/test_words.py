@@ -49,6 +49,8 @@ class Words(Quiet):
             "record --record f --no-copy", "record --record f --strict", "record --record f --table t", "record --create --until now",
             "verify", "verify --store s --hold 0", "verify --store s --hold 601", "verify --store s --show -1", "verify --store s --create",
             "follow --store s --jobs 0", "follow --store s --jobs 65", "follow --store s --repair", "add --store s --table t --jobs 2",
+            "follow --store s --init f", "follow --store s --feed-max-bytes 5", "follow --store s --feed f --feed-max-bytes 0",
+            "follow --store s --feed f --feed-max-age x", "follow --store s --feed-segment-seconds 5", "tables --into r", "wait 0/5",
         ):
             self.assertIn("usage: ", self.rejected(words), words)
 

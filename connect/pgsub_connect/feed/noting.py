@@ -7,12 +7,24 @@ import os
 import time
 
 from ..remembered import replace_file
-from ..snapshots import LOG
+from ..snapshots import LOG, sync_folder
 from ..texts import lsn_text
 
 READERS = "readers"
 # How often an LSN is noted at most, in seconds.
 OFTEN = 1.0
+
+
+def make_folder(path: str, mode: int) -> None:
+    """Makes a folder, which whoever may read a file of this mode may look into, unless it is there."""
+    try:
+        os.mkdir(path, 0o700)
+    except FileExistsError:
+        if os.path.isdir(path):
+            return
+        raise
+    os.chmod(path, mode | (mode & 0o444) >> 2)
+    sync_folder(path)
 
 
 class Noted:
@@ -35,5 +47,5 @@ class Noted:
                 os.fsync(file)
             finally:
                 os.close(file)
-        os.makedirs(self.folder, exist_ok=True)
+        make_folder(self.folder, self.mode)
         replace_file(self.path, f"{lsn_text(at)}\n".encode(), self.mode)

@@ -1,7 +1,7 @@
 """Which segments of a feed are kept: old ones go, by their size, by their age, or once all readers have them.
 
 A reader is known by its file `FOLDER/readers/NAME`. What it hasn't read stays, unless the feed would get larger than it may. The last
-segment stays, and whatever has commits above the store's position, as opening the feed needs it.
+segment stays, and whatever has the commit at the store's position or one above it, as opening the feed needs it.
 """
 
 from __future__ import annotations
@@ -78,13 +78,13 @@ def feed_bytes(folder: str) -> int:
 
 
 def retire(folder: str, limits: Limits, position: int, now: float) -> Retired:
-    """Removes old segments. Nothing is removed of a feed whose last segments begin at or above the store's position."""
+    """Removes old segments: of those before the one that has the commit at the store's position."""
     readers, total, retired = read_readers(folder), feed_bytes(folder), Retired()
     for it in complete(folder):
         behind = {name for name, lsn in readers.items() if lsn < it.end}
         is_too_much = limits.most_bytes is not None and total > limits.most_bytes
         is_done = not behind and (bool(readers) if limits.oldest is None else now - it.written > limits.oldest)
-        if it.end > position or not (is_too_much or is_done):
+        if it.end >= position or not (is_too_much or is_done):
             break
         os.unlink(it.path)
         total -= it.size

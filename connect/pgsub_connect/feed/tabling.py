@@ -4,6 +4,7 @@ from __future__ import annotations
 
 import argparse
 import os
+import select
 import sqlite3
 import time
 from typing import TYPE_CHECKING
@@ -70,6 +71,8 @@ class Tables:
         self.poll = Poll(self.reader, not options.once, check)
         self.applier = Applier(rows, check)
         self.noted = Noted(options.feed, options.reader, options.into, options.mode) if options.reader else None
+        if self.noted:
+            self.noted.note(rows.at, is_last=True)
         # of the open transaction: since when, how many changes it has, and where the last commit of it ends
         self.begun, self.changes, self.end = 0.0, 0, rows.at
         self.is_checked = False
@@ -166,6 +169,17 @@ def keep(options: Options, check: Check) -> int:
     return rows.at
 
 
+def ending_with_input(check: Check) -> Check:
+    """Ends as by a signal, too, once standard input has ended."""
+
+    def look() -> None:
+        check()
+        if select.select([0], [], [], 0)[0] and not os.read(0, 1 << 12):
+            raise Stopped
+
+    return look
+
+
 def check_chosen(options: Options, rows: Rows) -> None:
     if set(options.table) != rows.chosen:
         was = ", ".join(sorted(rows.chosen)) or "all"
@@ -174,6 +188,8 @@ def check_chosen(options: Options, rows: Rows) -> None:
 
 def run(options: Options, check: Check) -> int:
     """Follows a feed; the exit status."""
+    if options.while_input:
+        check = ending_with_input(check)
     if sqlite3.sqlite_version_info < OLDEST:
         wanted = ".".join(map(str, OLDEST[:2]))
         raise FileError(f"SQLite {wanted} or later is needed for STRICT tables, and this is {sqlite3.sqlite_version}")

@@ -1,0 +1,139 @@
+"""The tables that `follow --tables` keeps: `pgsub-connect tables` as a process beside the follower, from whose feed it reads.
+
+It begins with a copy of the store, for which it asks the follower as any other program does. It is a reader of the feed with a name,
+so that the feed has what it lacks. It ends with the follower: a signal ends it, and where the follower is killed, the end of its input.
+"""
+
+from __future__ import annotations
+
+import os
+import signal
+import subprocess
+import sys
+import threading
+import time
+from typing import TYPE_CHECKING
+
+from . import log
+from .errors import FileError, Unfit
+from .feed.beginning import is_tables
+from .feed.retaining import read_lsn
+from .feed.noting import READERS
+from .filtering import KEPT
+from .progress import Progress
+
+if TYPE_CHECKING:
+    from .cli import Options
+
+READER = "tables"
+# The statuses that another try doesn't mend; one that was killed by a signal has none above 0.
+LASTING = (1, 2, 3, 5, 6)
+# After how many seconds it is started again, at first and at most, and how long it has to run until that is forgotten.
+FIRST_DELAY, LONGEST_DELAY, FORGET = 1.0, 60.0, 60.0
+# How long it may take to end, in seconds: it ends between two transactions.
+PATIENCE = 60.0
+TOP = os.path.dirname(os.path.dirname(os.path.realpath(__file__)))
+CODE = f"import sys; sys.path.insert(0, {TOP!r}); from pgsub_connect.cli import run; run()"
+
+
+def check(options: Options) -> None:
+    """Rejects a file that can't be one of tables that follow this store's feed, before anything is made."""
+    path = options.tables
+    if not os.path.lexists(path):
+        if not os.path.isdir(os.path.dirname(os.path.abspath(path))):
+            raise FileError(f"--tables {path}: there is no folder {os.path.dirname(os.path.abspath(path))}")
+    elif not (os.path.isfile(path) and is_tables(path)):
+        raise FileError(f"{path} is there and has no tables that follow a feed: remove it, or name another file by --tables")
+    elif not os.path.exists(options.store):
+        raise Unfit(f"{path} has the tables of an older copy, and a new one begins: remove it, or name another file by --tables")
+
+
+def words_of(options: Options, feed: str) -> list[str]:
+    """How it is started."""
+    words = [sys.executable, "-c", CODE, "tables", "--feed", feed, "--into", os.path.abspath(options.tables)]
+    words += ["--store", os.path.abspath(options.store), "--reader", READER, "--mode", f"{options.mode:o}", "--while-input"]
+    return words + (["--init", os.path.abspath(options.init)] if options.init else [])
+
+
+class Beside(threading.Thread):
+    """Starts it, again and again where that may help, and tells how it ended."""
+
+    child: subprocess.Popen[bytes] | None
+
+    def __init__(self, options: Options, feed: str, progress: Progress) -> None:
+        super().__init__(daemon=True)
+        self.path, self.progress, self.words = options.tables, progress, words_of(options, feed)
+        self.reader = os.path.join(feed, READERS, READER)
+        self.child = None
+        self.lock, self.ended = threading.Lock(), threading.Event()
+        self.said = ""
+
+    def run(self) -> None:
+        delay = FIRST_DELAY
+        while True:
+            began = time.monotonic()
+            status = self.run_once()
+            if self.ended.is_set():
+                return
+            if status in LASTING:
+                self.progress.tables_error = self.said or f"status {status}"
+                log.error(f"{self.path} follows no more, status {status}: {self.progress.tables_error}")
+                return
+            delay = FIRST_DELAY if time.monotonic() - began > FORGET else delay
+            log.warning(f"{self.path}: what follows has ended with status {status}: it is started again in {delay:.0f} s")
+            if self.ended.wait(delay):
+                return
+            delay = min(2 * delay, LONGEST_DELAY)
+
+    def run_once(self) -> int:
+        """Starts it, passes on what it says, and returns the status with which it ends."""
+        self.said = ""
+        with self.lock:
+            if self.ended.is_set():
+                return 0
+            environment = {name: value for name, value in os.environ.items() if name in KEPT or name.startswith("PYTHON")}
+            # (a session of its own: an interrupt at the terminal is for the follower, which ends it)
+            child = subprocess.Popen(
+                self.words, stdin=subprocess.PIPE, stdout=subprocess.DEVNULL, stderr=subprocess.PIPE, start_new_session=True, env=environment,
+            )
+            self.child = child
+        assert child.stderr and child.stdin
+        for line in child.stderr:
+            self.hear(line.decode(errors="replace").rstrip("\n"))
+        status = child.wait()
+        child.stdin.close()
+        child.stderr.close()
+        return status
+
+    def hear(self, line: str) -> None:
+        """Passes a line on, without its time and the name of this program."""
+        head, _, text = line.partition(f" {log.PROGRAM}: ")
+        level, _, rest = text.partition(": ")
+        if head and level in ("info", "warning", "error"):
+            log.line(level, f"tables: {rest}")
+        else:
+            log.info(f"tables: {line}")
+        if level == "error":
+            self.said = rest
+
+    def has(self, lsn: int) -> bool:
+        """Whether the disk has the tables at this LSN, or they don't follow any more."""
+        if self.progress.tables_error or not self.is_alive():
+            return True
+        try:
+            return read_lsn(self.reader) >= lsn
+        except FileError:
+            return False
+
+    def finish(self) -> None:
+        """Ends it."""
+        self.ended.set()
+        with self.lock:
+            child = self.child
+        if child and child.poll() is None:
+            child.send_signal(signal.SIGTERM)
+        if self.is_alive():
+            self.join(PATIENCE)
+        if child and child.poll() is None:
+            log.warning(f"{self.path}: what follows doesn't end, and is killed")
+            child.kill()

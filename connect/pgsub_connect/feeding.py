@@ -1,0 +1,238 @@
+"""The feed that a follower keeps beside its store: which folder has it, what the filter is told of it, and what is done in that folder.
+
+The filter writes the segments. Beside these is `confirmed`, the LSN up to which the feed has all commits, also where a publication has
+had none for long; and `readers/NAME`, by which readers say how far they are. A thread writes the first, reads the others, and removes
+old segments: the main loop only sets what is confirmed.
+
+| The store | The feed |
+|---|---|
+| is made by an initial copy, or without one | begins where the store does, in an empty folder; the copied rows are no part of it |
+| gets rows of a table that is added or copied anew, or rows that are repaired | has these commits as any other |
+| goes on behind a gap that was accepted | goes on as the store does: what the store lacks, it lacks |
+| was put back from a backup | is cut to where the store is, by the filter; one that begins later is no feed of that store |
+| is followed without its feed, as was said by --without-feed | has a gap: the filter takes it for no feed of that store |
+"""
+
+from __future__ import annotations
+
+import dataclasses
+import os
+import threading
+import time
+from collections.abc import Callable
+from typing import TYPE_CHECKING
+
+from . import log
+from .beside import Beside
+from .beside import check as check_tables
+from .checkpoint import Checkpoint
+from .errors import FileError, Passing, Unfit
+from .feed.noting import make_folder
+from .feed.reading import CONFIRMED, read_confirmed, segments
+from .feed.retaining import Limits, feed_bytes, read_readers, retire
+from .filtering import Filter
+from .postgres import Check, Connection
+from .remembered import Remembered, replace_file
+from .server import identify, settle
+from .texts import counted, lsn_text
+
+if TYPE_CHECKING:
+    from .cli import Options
+    from .progress import Progress
+
+# How often what is confirmed is written where a keepalive alone has moved it, and else; how often the readers are looked at, and how
+# often old segments are looked for, in seconds.
+QUIET, BUSY, LOOK, RETIRE = 0.25, 1.0, 1.0, 10.0
+# What the filter says of a feed that doesn't fit its store.
+NOT_A_FEED = "pgsub: feed 1 NotAFeed"
+
+
+@dataclasses.dataclass(frozen=True)
+class Reached:
+    """What a store has: the LSN up to which all commits are stored, and the end of the last of them."""
+
+    confirmed: int
+    position: int
+
+
+def has_segments(folder: str) -> bool:
+    return os.path.isdir(folder) and bool(segments(folder))
+
+
+class Feeding:
+    """The folder. Nothing is written there before a filter has opened the feed."""
+
+    def __init__(self, options: Options, checkpoint: Checkpoint, progress: Progress, remembered: Remembered) -> None:
+        self.options, self.checkpoint, self.progress, self.remembered = options, checkpoint, progress, remembered
+        self.folder = os.path.abspath(options.feed) if options.feed else ""
+        self.keeper: Keeper | None = None
+        self.beside: Beside | None = None
+        # what the tables are to have before the follower ends by itself
+        self.wanted: int | None = None
+
+    def check(self) -> None:
+        """Rejects a folder that can't have the store's feed, before anything is made; and makes the folder."""
+        if os.path.exists(self.options.store):
+            self.check_followed()
+        elif self.folder:
+            self.check_empty()
+        if self.options.tables:
+            check_tables(self.options)
+        if self.folder:
+            self.make_folder()
+
+    def check_followed(self) -> None:
+        """Rejects to leave the feed that the store has had behind."""
+        was, now = self.remembered.feed, self.folder
+        if not was or self.options.without_feed or now and (os.path.realpath(was) == os.path.realpath(now) or has_segments(now)):
+            return
+        other = f", and {now} has none of its commits: move its files there, or" if now else f": say --feed {was}, or"
+        raise Unfit(
+            f"the feed {was} has all commits of {self.options.store}, and following without it would leave a gap in it{other}"
+            " --without-feed, which ends that feed for good"
+        )
+
+    def check_empty(self) -> None:
+        """Rejects a folder with files: the feed of a new store has nothing of an older one's, nor have its readers."""
+        if os.path.isdir(self.folder) and os.listdir(self.folder):
+            raise Unfit(
+                f"a new store begins a new feed, and the folder {self.folder} isn't empty: name another one by --feed, or remove it"
+                " if nobody reads it any more"
+            )
+
+    def make_folder(self) -> None:
+        try:
+            make_folder(self.folder, self.options.mode)
+        except OSError as error:
+            raise FileError(f"--feed {self.options.feed}: {error.strerror}") from None
+
+    def begin(self, child: Filter, reached: Callable[[], Reached], check: Check) -> None:
+        """Notes the folder with the copy, and tells the filter of it."""
+        if not self.folder:
+            if self.remembered.feed:
+                log.warning(f"the feed {self.remembered.feed} ends here: whoever reads it begins anew, from an export and another feed")
+            self.remembered.note_feed("")
+            return
+        if self.remembered.feed and not has_segments(self.folder):
+            log.warning(f"the feed {self.folder} has no segment any more, or is another one: a new one begins")
+        self.remembered.note_feed(self.folder)
+        child.words += self.words(check)
+        self.keeper = Keeper(self.options, self.folder, self.progress, reached)
+        if self.options.tables:
+            self.beside = Beside(self.options, self.folder, self.progress)
+
+    def words(self, check: Check) -> list[str]:
+        """What the filter is told."""
+        options = self.options
+        system, database, slot = self.source(check)
+        words = ["--feed", self.folder, "--feed-system", system, "--feed-database", database, "--feed-slot", slot]
+        if options.feed_segment_bytes:
+            words += ["--feed-segment-bytes", str(options.feed_segment_bytes)]
+        if options.feed_segment_seconds:
+            words += ["--feed-segment-seconds", str(options.feed_segment_seconds)]
+        return words
+
+    def source(self, check: Check) -> tuple[str, str, str]:
+        """Of what it is a feed. Of a store that was never followed the server says it."""
+        known, options = self.checkpoint.known, self.options
+        if known.system:
+            return known.system, known.database, known.slot
+        connection = Connection(options.dsn, replication=True, name=f"{options.slot} feed", check=check)
+        try:
+            settle(connection)
+            server = identify(connection)
+        finally:
+            connection.close()
+        return server.system, server.database, options.slot
+
+    def note_opened(self) -> None:
+        """A filter has opened the feed, so what looks after it and follows it may begin."""
+        for it in (self.keeper, self.beside):
+            if it and it.ident is None:
+                it.start()
+
+    def is_read(self, position: int) -> bool:
+        """Whether the tables have what the store had when this was asked first. One that is to end by itself waits for that."""
+        self.wanted = position if self.wanted is None else self.wanted
+        return self.beside is None or self.beside.has(self.wanted)
+
+    def text_of(self, said: str) -> str:
+        """What to do where the filter has ended with these words; "" where they aren't about a feed that doesn't fit."""
+        if not self.folder or said != NOT_A_FEED:
+            return ""
+        return (
+            f"{self.folder} isn't the feed of {self.options.store}: it was followed without it, is that of another copy, or begins after"
+            " this copy's last commit. Name an empty folder by --feed, with --without-feed: whoever reads the feed begins anew there, from"
+            " an export"
+        )
+
+    def finish(self) -> None:
+        for it in (self.beside, self.keeper):
+            if it and it.ident is not None:
+                it.finish()
+
+
+class Keeper(threading.Thread):
+    """Writes what is confirmed, looks after the readers, and removes old segments."""
+
+    def __init__(self, options: Options, folder: str, progress: Progress, reached: Callable[[], Reached]) -> None:
+        super().__init__(daemon=True)
+        self.folder, self.progress, self.reached, self.mode = folder, progress, reached, options.mode
+        self.limits = Limits(options.feed_max_bytes or None, options.feed_max_age)
+        self.ended = threading.Event()
+        self.cause = ""
+        # what was written last, and when; when the readers were looked at, and segments looked for
+        self.confirmed, self.written = -1, 0.0
+        self.looked = self.retired = 0.0
+
+    def run(self) -> None:
+        while not self.ended.wait(QUIET):
+            self.tend(time.monotonic())
+
+    def finish(self) -> None:
+        """Ends the thread, and notes what is there at the end."""
+        self.ended.set()
+        self.join()
+        self.written = self.looked = -BUSY
+        self.tend(time.monotonic())
+
+    def tend(self, now: float) -> None:
+        """Does what it is time for. What can't be done is told, once for each cause, and is tried again."""
+        try:
+            reached = self.reached()
+            self.confirm(reached, now)
+            if now - self.looked >= LOOK:
+                self.looked = now
+                self.look(reached)
+            if now - self.retired >= RETIRE:
+                self.retired = now
+                self.retire(reached)
+            self.cause = ""
+        except (FileError, Passing, OSError) as error:
+            cause = str(error)
+            if cause != self.cause:
+                log.warning(f"the feed can't be looked after: {cause}")
+            self.cause = cause
+
+    def confirm(self, reached: Reached, now: float) -> None:
+        """Tells readers up to where the feed has all commits: the disk has these since before the filter said so."""
+        if self.confirmed < 0:
+            self.confirmed = read_confirmed(self.folder) or 0
+        wait = QUIET if reached.confirmed > reached.position else BUSY
+        if reached.confirmed == self.confirmed or now - self.written < wait:
+            return
+        self.written = now
+        replace_file(os.path.join(self.folder, CONFIRMED), f"{lsn_text(reached.confirmed)}\n".encode(), self.mode)
+        self.confirmed = reached.confirmed
+
+    def look(self, reached: Reached) -> None:
+        """Shows how far behind each reader is, and how large the feed."""
+        self.progress.readers = read_readers(self.folder)
+        self.progress.feed_bytes = feed_bytes(self.folder)
+
+    def retire(self, reached: Reached) -> None:
+        gone = retire(self.folder, self.limits, reached.position, time.time())
+        if gone.segments:
+            log.info(f"removed {counted(gone.segments, 'segment')} of the feed {self.folder}")
+        for name in sorted(gone.readers):
+            log.warning(f"the reader {name} hadn't read all of that, and has to begin anew: the feed may have {self.limits.most_bytes} bytes")

@@ -1,0 +1,366 @@
+"""The feed of a follower: what the filter is told of it, what is confirmed, who reads it, and when it is refused."""
+
+from __future__ import annotations
+
+import json
+import os
+import stat
+import sys
+import time
+from collections.abc import Callable
+from pathlib import Path
+from unittest import mock
+
+from feed_text import lsn_text
+from pgsub_connect import beside, feeding
+from pgsub_connect.beside import Beside, words_of
+from pgsub_connect.checkpoint import Checkpoint
+from pgsub_connect.cli import Options, arguments
+from pgsub_connect.errors import FileError, Unfit
+from pgsub_connect.feed.noting import Noted, make_folder
+from pgsub_connect.feed.reading import CONFIRMED, Reader, read_confirmed, segments
+from pgsub_connect.feeding import Feeding, Keeper, Reached
+from pgsub_connect.filtering import FilterEnded
+from pgsub_connect.following import Follower
+from pgsub_connect.metrics import metrics_text
+from pgsub_connect.progress import Progress
+from pgsub_connect.remembered import Remembered, replace_file
+
+from .fake_server import Quiet
+from .feeds import FeedCase, insert
+from .test_following import Case
+from .vectors import begin, commit, insert as inserted, keepalive
+
+
+def wait_until(holds: Callable[[], object], seconds: float = 20.0) -> bool:
+    until = time.monotonic() + seconds
+    while not holds() and time.monotonic() < until:
+        time.sleep(0.01)
+    return bool(holds())
+
+
+class Followed(Case):
+    """A follower that keeps a feed."""
+
+    def setUp(self) -> None:
+        super().setUp()
+        self.feed = self.store + ".feed"
+        self.patch(feeding, "QUIET", 0.02)
+        self.patch(feeding, "BUSY", 0.02)
+
+    def fed(self, feed: str | None = None, **options: object) -> Follower:
+        """A follower whose feed is checked, and that is about to run."""
+        follower = self.follower(feed=self.feed if feed is None else feed, **options)
+        kept = Remembered(self.store)
+        follower.feeding = it = Feeding(follower.options, self.checkpoint, self.progress, kept)
+        it.check()
+        self.addCleanup(it.finish)
+        it.begin(follower.filter, follower.stored, follower.check_stop)
+        return follower
+
+    def follower(self, **options: object) -> Follower:
+        # (what is remembered lasts from run to run)
+        if os.path.exists(self.store + ".tables"):
+            remembered = Remembered(self.store)
+            with mock.patch.object(Remembered, "begin_copy", lambda *_: None):
+                follower = super().follower(**options)
+            self.assertEqual(follower.watch.remembered.feed, remembered.feed)
+            return follower
+        follower = super().follower(**options)
+        follower.watch.remembered.save()
+        return follower
+
+    def ends(self) -> list[int]:
+        reader, found = Reader(self.feed, None), []
+        while it := reader.next():
+            found.append(it.end)
+        reader.close()
+        return found
+
+    def test_all_that_is_confirmed_is_told(self) -> None:
+        self.server.to_send = [begin(0x100, 7), inserted(1), commit(0x100, 0x108), keepalive(0x400)]
+        follower = self.fed()
+        self.run_until(follower, lambda: os.path.exists(f"{self.feed}/{CONFIRMED}") and read_confirmed(self.feed) == 0x400)
+        self.assertEqual(self.ends(), [0x108])
+        self.assertEqual((self.progress.readers, self.progress.feed_bytes), ({}, 1024 + 256))
+        self.assertEqual(Remembered(self.store).feed, self.feed)
+        self.assertEqual(oct(stat.S_IMODE(os.stat(self.feed).st_mode)), "0o700")
+
+    def test_what_the_end_confirms_is_told(self) -> None:
+        self.patch(feeding, "QUIET", 30.0)
+        self.server.to_send = [begin(0x100, 7), inserted(1), commit(0x100, 0x108)]
+        follower = self.fed()
+        self.run_until(follower, lambda: self.confirmed() == 0x108)
+        assert follower.feeding
+        follower.feeding.finish()
+        self.assertEqual(read_confirmed(self.feed), 0x108)
+
+    def let_go(self, has: mock.Mock) -> bool:
+        """Has the tables have all, once it was asked for some times; whether the follower ends then."""
+        has.return_value = has.call_count > 3
+        return self.progress.state == "stopping"
+
+    def test_the_end_waits_for_the_tables(self) -> None:
+        self.server.to_send = [begin(0x100, 7), inserted(1), commit(0x100, 0x108), keepalive(0x400)]
+        follower, has = self.fed(until=0x108), mock.Mock(return_value=False)
+        assert follower.feeding
+        follower.feeding.beside = mock.Mock(has=has)
+        self.run_until(follower, lambda: self.let_go(has))
+        self.assertEqual({it.args for it in has.call_args_list}, {(0x108,)})
+
+    def test_whose_feed_it_is(self) -> None:
+        words = ["--feed", self.feed, "--feed-system", "77", "--feed-database", "shop", "--feed-slot", "pgsub"]
+        follower = self.fed(feed_segment_bytes=5000, feed_segment_seconds=60)
+        self.assertEqual(follower.filter.words[-12:], [*words, "--feed-segment-bytes", "5000", "--feed-segment-seconds", "60"])
+        # (of a store that was followed, the checkpoint knows it)
+        self.server.to_send = [keepalive(0x400)]
+        self.run_until(follower, lambda: self.confirmed() == 0x400)
+        os.close(os.dup(self.checkpoint.file))
+        self.brain.answer("IDENTIFY_SYSTEM", [["88", "1", "0/1000000", "other"]])
+        known = Feeding(follower.options, self.checkpoint, self.progress, follower.watch.remembered)
+        self.assertEqual(known.source(lambda: None), ("77", "shop", "pgsub"))
+
+    def follow_once(self) -> None:
+        self.server.to_send = [begin(0x100, 7), inserted(1), commit(0x100, 0x108)]
+        follower = self.fed()
+        self.run_until(follower, lambda: self.confirmed() == 0x108)
+        assert follower.feeding
+        follower.feeding.finish()
+        self.unlock()
+
+    def unlock(self) -> None:
+        """Lets another follower begin."""
+        os.close(self.checkpoint.file)
+        # (the number is closed once more when the test ends)
+        self.checkpoint.file = os.open(os.devnull, os.O_RDONLY)
+
+    def test_following_without_it(self) -> None:
+        self.follow_once()
+        with self.assertRaisesRegex(Unfit, f"the feed {self.feed} has all commits .* --feed {self.feed}, or --without-feed"):
+            self.fed(feed="")
+        self.unlock()
+        with self.assertRaisesRegex(Unfit, "/other has none of its commits"):
+            self.fed(feed=self.folder + "/other")
+        self.unlock()
+        self.assertFalse(os.path.exists(self.folder + "/other"))
+        follower = self.fed(feed="", without_feed=True)
+        self.assertIn(f"warning: the feed {self.feed} ends here: whoever reads it begins anew, from an export and another feed", self.said)
+        self.server.to_send = [begin(0x200, 8), inserted(1), commit(0x200, 0x208)]
+        self.run_until(follower, lambda: self.confirmed() == 0x208)
+        self.assertEqual(Remembered(self.store).feed, "")
+        self.unlock()
+        follower = self.fed()
+        with self.assertRaises(FilterEnded) as ended:
+            self.run_until(follower, lambda: False)
+        self.assertEqual((ended.exception.status, ended.exception.said), (3, feeding.NOT_A_FEED))
+        self.assertTrue(any("Name an empty folder by --feed, with --without-feed" in it for it in self.said), self.said)
+        self.unlock()
+        follower = self.fed(feed=self.folder + "/other", without_feed=True)
+        self.server.to_send = [begin(0x300, 9), inserted(1), commit(0x300, 0x308)]
+        self.run_until(follower, lambda: self.confirmed() == 0x308)
+        self.feed = self.folder + "/other"
+        self.assertEqual(self.ends(), [0x308])
+
+    def test_a_feed_that_was_moved(self) -> None:
+        self.follow_once()
+        moved = self.folder + "/moved"
+        os.rename(self.feed, moved)
+        follower = self.fed(feed=moved)
+        self.server.to_send = [begin(0x200, 8), inserted(1), commit(0x200, 0x208)]
+        self.run_until(follower, lambda: self.confirmed() == 0x208)
+        self.feed = moved
+        self.assertEqual((self.ends(), Remembered(self.store).feed), ([0x108, 0x208], moved))
+
+
+class Refused(Quiet):
+    """What a start refuses before anything is made."""
+
+    def feeding(self, **options: object) -> Feeding:
+        chosen = Options(store=self.store, feed=self.store + ".feed", **options)  # type: ignore[arg-type]
+        return Feeding(chosen, mock.Mock(), Progress(), Remembered(self.store))
+
+    def setUp(self) -> None:
+        super().setUp()
+        self.folder = self.make_folder()
+        self.store = self.folder + "/copy.db"
+
+    def test_a_new_store_and_an_old_feed(self) -> None:
+        os.makedirs(self.store + ".feed/readers")
+        with self.assertRaisesRegex(Unfit, "a new store begins a new feed, and the folder .*copy.db.feed isn't empty"):
+            self.feeding().check()
+        os.rmdir(self.store + ".feed/readers")
+        self.feeding().check()
+
+    def test_a_folder_that_cant_be_made(self) -> None:
+        Path(self.store + ".feed").write_text("")
+        with self.assertRaisesRegex(FileError, "--feed .*copy.db.feed: File exists"):
+            self.feeding().check()
+
+    def test_tables_of_an_older_copy(self) -> None:
+        rows = self.folder + "/rows.db"
+        Path(rows).write_text("x")
+        with self.assertRaisesRegex(FileError, "rows.db is there and has no tables that follow a feed"):
+            self.feeding(tables=rows).check()
+        with mock.patch.object(beside, "is_tables", lambda _: True), self.assertRaisesRegex(Unfit, "has the tables of an older copy"):
+            self.feeding(tables=rows).check()
+        self.assertFalse(os.path.exists(self.store + ".feed"))
+
+    def test_a_folder_for_whoever_may_read_its_files(self) -> None:
+        before = os.umask(0o177)
+        self.addCleanup(os.umask, before)
+        for mode, made in ((0o600, 0o700), (0o640, 0o750), (0o644, 0o755), (0o660, 0o770)):
+            make_folder(f"{self.folder}/{mode:o}", mode)
+            self.assertEqual(stat.S_IMODE(os.stat(f"{self.folder}/{mode:o}").st_mode), made)
+
+    def test_words(self) -> None:
+        options = arguments("follow --store s --tables rows.db --feed-max-bytes 10GB --feed-max-age 7d".split())
+        self.assertEqual((options.feed, options.feed_max_bytes, options.feed_max_age), ("s.feed", 10 << 30, 7 * 86400.0))
+        self.assertEqual(arguments("follow --store s --feed f --feed-max-bytes 500".split()).feed_max_bytes, 500)
+        self.assertEqual(arguments("follow --store s".split()).feed, "")
+
+
+class Kept(FeedCase):
+    """The thread that looks after a feed: what it shows, and what it removes."""
+
+    def setUp(self) -> None:
+        super().setUp()
+        self.said: list[str] = []
+        patched = mock.patch("pgsub_connect.log.line", lambda level, text: self.said.append(f"{level}: {text}"))
+        patched.start()
+        self.addCleanup(patched.stop)
+        for end in range(0x100, 0x600, 0x100):
+            self.feed.commit(end, [insert("1", "x")])
+            self.feed.end()
+        self.feed.commit(0x600, [])
+        self.progress = Progress()
+        self.progress.position = 0x600
+
+    def keeper(self, confirmed: int = 0x600, **options: object) -> Keeper:
+        chosen = Options(feed=str(self.path), **options)  # type: ignore[arg-type]
+        return Keeper(chosen, str(self.path), self.progress, lambda: Reached(confirmed, 0x600))
+
+    def read(self, name: str, lsn: int) -> None:
+        Noted(str(self.path), name, str(self.folder / "rows.db"), 0o600).note(lsn, is_last=True)
+
+    def test_readers_and_size(self) -> None:
+        self.read("index", 0x250)
+        self.keeper().tend(100.0)
+        shown = self.progress.shown(0.0, 0.0)
+        self.assertEqual(shown["readers"], {"index": {"lsn": "0/250", "lag_bytes": 0x3B0}})
+        self.assertEqual([base for base, _ in segments(str(self.path))], [0x200, 0x300, 0x400, 0x500])
+        self.keeper().tend(100.0)
+        self.assertEqual(self.progress.feed_bytes, sum(it.stat().st_size for it in self.path.iterdir() if len(it.name) == 16))
+        text = metrics_text(self.progress, 0.0, {"slot": "s"})
+        self.assertIn('pgsub_reader_lag_bytes{slot="s",reader="index"} 944\n', text)
+        self.assertIn(f'pgsub_feed_bytes{{slot="s"}} {self.progress.feed_bytes}\n', text)
+        self.assertIn('pgsub_tables_failed{slot="s"} 0\n', text)
+
+    def test_a_reader_that_loses_segments_is_named(self) -> None:
+        self.read("slow", 0x100)
+        self.keeper(feed_max_bytes=4000).tend(100.0)
+        self.assertEqual([base for base, _ in segments(str(self.path))][-1], 0x500)
+        self.assertIn("warning: the reader slow hadn't read all of that, and has to begin anew: the feed may have 4000 bytes", self.said)
+
+    def test_confirmed_is_written_so_often(self) -> None:
+        keeper = self.keeper(confirmed=0x600)
+        with mock.patch.object(feeding, "replace_file", wraps=replace_file) as written:
+            keeper.tend(100.0)
+            keeper.tend(100.3)
+            self.assertEqual(written.call_count, 1)
+            keeper.reached = lambda: Reached(0x700, 0x700)
+            keeper.tend(100.6)
+            self.assertEqual(read_confirmed(str(self.path)), 0x600)
+            keeper.tend(101.1)
+            self.assertEqual(read_confirmed(str(self.path)), 0x700)
+            # (by a keepalive alone)
+            keeper.reached = lambda: Reached(0x800, 0x700)
+            keeper.tend(101.4)
+            self.assertEqual(read_confirmed(str(self.path)), 0x800)
+            # a server that was promoted: less is confirmed than was
+            keeper.reached = lambda: Reached(0x700, 0x700)
+            keeper.tend(103.0)
+            self.assertEqual(read_confirmed(str(self.path)), 0x700)
+
+    def test_a_disk_that_is_full_is_told_once(self) -> None:
+        keeper = self.keeper()
+        with mock.patch("os.replace", side_effect=OSError(28, "No space left on device")):
+            keeper.tend(100.0)
+            keeper.tend(200.0)
+        self.assertEqual(self.said, [f"warning: the feed can't be looked after: {self.path}/confirmed: No space left on device"])
+
+
+class Tables(FeedCase):
+    """Tables that are kept by a process beside the follower."""
+
+    def setUp(self) -> None:
+        super().setUp()
+        self.said: list[str] = []
+        delay = mock.patch.object(beside, "FIRST_DELAY", 0.02)
+        delay.start()
+        self.addCleanup(delay.stop)
+        patch = mock.patch("pgsub_connect.log.line", lambda level, text: self.said.append(f"{level}: {text}"))
+        patch.start()
+        self.addCleanup(patch.stop)
+        self.into, self.progress = str(self.folder / "rows.db"), Progress()
+        self.options = Options(store=str(self.folder / "copy.db"), feed=str(self.path), tables=self.into)
+
+    def kept(self, code: str | None = None) -> Beside:
+        """One that runs this in the place of `pgsub-connect tables`; by default that itself, from the beginning of the feed."""
+        it = Beside(self.options, str(self.path), self.progress)
+        if code is not None:
+            it.words = [sys.executable, "-c", code]
+        else:
+            at = it.words.index("--store")
+            it.words = [*it.words[:at], *it.words[at + 2 :]]
+        self.addCleanup(it.finish)
+        it.start()
+        return it
+
+    def test_they_follow_and_end_with_it(self) -> None:
+        self.feed.commit(0x100, [insert("1", "x")])
+        kept = self.kept()
+        self.assertTrue(wait_until(lambda: kept.has(0x100)), self.said)
+        self.assertFalse(kept.has(0x101))
+        assert kept.child
+        kept.child.kill()
+        self.feed.commit(0x200, [insert("2", "y")])
+        self.assertTrue(wait_until(lambda: kept.has(0x200)), self.said)
+        self.assertTrue(any("ended with status -9: it is started again" in it for it in self.said), self.said)
+        kept.finish()
+        self.assertEqual(kept.child.returncode, 0)
+        self.assertFalse(os.path.exists(self.into + "-wal"))
+        self.assertEqual(self.progress.tables_error, "")
+        self.assertTrue(any(it.startswith("info: tables: ") and it.endswith(f"from {lsn_text(0x100)}") for it in self.said), self.said)
+
+    def test_they_end_where_the_follower_is_killed(self) -> None:
+        kept = self.kept()
+        self.assertTrue(wait_until(lambda: os.path.exists(self.into) and any("from 0/0" in it for it in self.said)), self.said)
+        kept.ended.set()
+        assert kept.child and kept.child.stdin
+        kept.child.stdin.close()
+        self.assertTrue(wait_until(lambda: kept.child and kept.child.poll() is not None))
+        self.assertEqual(kept.child.returncode, 0)
+
+    def test_a_fault_is_told(self) -> None:
+        self.feed.commit(0x100, [insert("1", "x")])
+        self.feed.path.write_bytes(b"x" * 2000)
+        kept = self.kept()
+        kept.join(20)
+        self.assertIn("reading 1 NotAFeed", self.progress.tables_error)
+        self.assertEqual(self.progress.shown(0.0, 0.0)["tables_error"], self.progress.tables_error)
+        self.assertTrue(any(it.startswith(f"error: {self.into} follows no more, status 3: ") for it in self.said), self.said)
+        self.assertTrue(kept.has(0x500))
+
+    def test_what_passes_is_tried_again(self) -> None:
+        tried = self.folder / "tried"
+        self.kept(f"open({str(tried)!r}, 'a').write('x'); raise SystemExit(7)")
+        self.assertTrue(wait_until(lambda: tried.exists() and len(tried.read_text()) >= 3))
+        self.assertEqual(self.progress.tables_error, "")
+
+    def test_how_it_is_started(self) -> None:
+        self.options.init, self.options.mode = "my.sql", 0o640
+        words = words_of(self.options, "/feed")
+        options = arguments(words[3:])
+        self.assertEqual((options.command, options.feed, options.into, options.store), ("tables", "/feed", self.into, self.options.store))
+        self.assertEqual((options.reader, options.mode, options.while_input, options.once), ("tables", 0o640, True, False))
+        self.assertEqual(options.init, os.path.abspath("my.sql"))
