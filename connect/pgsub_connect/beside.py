@@ -48,11 +48,11 @@ def check(options: Options) -> None:
         raise Unfit(f"{path} has the tables of an older copy, and a new one begins: remove it, or name another file by --tables")
 
 
-def words_of(options: Options, feed: str) -> list[str]:
+def words_of(options: Options) -> list[str]:
     """How it is started."""
-    words = [sys.executable, "-c", CODE, "tables", "--feed", feed, "--into", os.path.abspath(options.tables)]
-    words += ["--store", os.path.abspath(options.store), "--reader", READER, "--mode", f"{options.mode:o}", "--while-input"]
-    return words + (["--init", os.path.abspath(options.init)] if options.init else [])
+    words = [sys.executable, "-c", CODE, "tables", "--feed", options.feed, "--into", options.tables, "--store", options.store]
+    words += ["--reader", READER, "--mode", f"{options.mode:o}", "--while-input"]
+    return words + (["--init", options.init] if options.init else [])
 
 
 class Beside(threading.Thread):
@@ -60,10 +60,10 @@ class Beside(threading.Thread):
 
     child: subprocess.Popen[bytes] | None
 
-    def __init__(self, options: Options, feed: str, progress: Progress) -> None:
+    def __init__(self, options: Options, progress: Progress) -> None:
         super().__init__(daemon=True)
-        self.path, self.progress, self.words = options.tables, progress, words_of(options, feed)
-        self.reader = os.path.join(feed, READERS, READER)
+        self.path, self.progress, self.words = options.tables, progress, words_of(options)
+        self.reader = os.path.join(options.feed, READERS, READER)
         self.child = None
         self.lock, self.ended = threading.Lock(), threading.Event()
         self.said = ""

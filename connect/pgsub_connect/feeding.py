@@ -9,12 +9,13 @@ old segments: the main loop only sets what is confirmed.
 | is made by an initial copy, or without one | begins where the store does, in an empty folder; the copied rows are no part of it |
 | gets rows of a table that is added or copied anew, or rows that are repaired | has these commits as any other |
 | goes on behind a gap that was accepted | goes on as the store does: what the store lacks, it lacks |
-| was put back from a backup | is cut to where the store is, by the filter; one that begins later is no feed of that store |
+| was put back from a backup | is left as it is, since opening both would cut off what the store lacks; where a gap is accepted, it is cut |
 | is followed without its feed, as was said by --without-feed | has a gap: the filter takes it for no feed of that store |
 """
 
 from __future__ import annotations
 
+import contextlib
 import dataclasses
 import os
 import threading
@@ -30,10 +31,12 @@ from .errors import FileError, Passing, Unfit
 from .feed.noting import make_folder
 from .feed.reading import CONFIRMED, read_confirmed, segments
 from .feed.retaining import Limits, feed_bytes, read_readers, retire
-from .filtering import Filter
+from .filtering import Filter, FilterEnded
 from .postgres import Check, Connection
 from .remembered import Remembered, replace_file
+from .resting import has_log
 from .server import identify, settle
+from .snapshots import position_in
 from .texts import counted, lsn_text
 
 if TYPE_CHECKING:
@@ -43,6 +46,8 @@ if TYPE_CHECKING:
 # How often what is confirmed is written where a keepalive alone has moved it, and else; how often the readers are looked at, and how
 # often old segments are looked for, in seconds.
 QUIET, BUSY, LOOK, RETIRE = 0.25, 1.0, 1.0, 10.0
+# How long a filter that is to end is waited for, before it is looked whether the end was asked for.
+STEP = 0.5
 # What the filter says of a feed that doesn't fit its store.
 NOT_A_FEED = "pgsub: feed 1 NotAFeed"
 
@@ -115,11 +120,24 @@ class Feeding:
             return
         if self.remembered.feed and not has_segments(self.folder):
             log.warning(f"the feed {self.folder} has no segment any more, or is another one: a new one begins")
+        self.check_position(child, check)
         self.remembered.note_feed(self.folder)
         child.words += self.words(check)
         self.keeper = Keeper(self.options, self.folder, self.progress, reached)
         if self.options.tables:
-            self.beside = Beside(self.options, self.folder, self.progress)
+            self.beside = Beside(self.options, self.progress)
+
+    def check_position(self, child: Filter, check: Check) -> None:
+        """Rejects an older store, before a filter cuts off what the feed has above the store's position."""
+        known, options = self.checkpoint.known, self.options
+        if not (known.position and has_segments(self.folder)) or options.accepts("gap") or options.without_feed:
+            return
+        position = opened_at(child, check) if has_log(options.store) else position_in(options.store)
+        if position is not None and position < known.position:
+            raise Unfit(
+                f"the store is at {lsn_text(position)}, and was at {lsn_text(known.position)} before, so this is an older one; by opening it"
+                f" the feed {self.folder} would lose the commits between. Put the right one back, or say --accept gap, or --without-feed"
+            )
 
     def words(self, check: Check) -> list[str]:
         """What the filter is told."""
@@ -170,6 +188,18 @@ class Feeding:
         for it in (self.beside, self.keeper):
             if it and it.ident is not None:
                 it.finish()
+
+
+def opened_at(child: Filter, check: Check) -> int | None:
+    """The position of a store of which only a filter can say it, since its log isn't empty; None where that can't be opened now."""
+    position = None
+    with contextlib.suppress(FilterEnded):
+        position = child.start(check)
+        child.finish()
+        while True:
+            check()
+            child.serve(STEP)
+    return position
 
 
 class Keeper(threading.Thread):

@@ -82,6 +82,8 @@ class Followed(Case):
         follower = self.fed()
         self.run_until(follower, lambda: os.path.exists(f"{self.feed}/{CONFIRMED}") and read_confirmed(self.feed) == 0x400)
         self.assertEqual(self.ends(), [0x108])
+        assert follower.feeding
+        follower.feeding.finish()
         self.assertEqual((self.progress.readers, self.progress.feed_bytes), ({}, 1024 + 256))
         self.assertEqual(Remembered(self.store).feed, self.feed)
         self.assertEqual(oct(stat.S_IMODE(os.stat(self.feed).st_mode)), "0o700")
@@ -160,6 +162,22 @@ class Followed(Case):
         self.run_until(follower, lambda: self.confirmed() == 0x308)
         self.feed = self.folder + "/other"
         self.assertEqual(self.ends(), [0x308])
+
+    def test_an_older_store(self) -> None:
+        """Its feed isn't cut, whether the store's file says its position or, since there is a log, a filter alone."""
+        self.follow_once()
+        before = self.ends()
+        with open(self.store, "w", encoding="ascii") as file:
+            file.write(str(0x50))
+        with mock.patch.object(feeding, "position_in", lambda _: 0x50), self.assertRaisesRegex(Unfit, "0/50, and was at 0/108 before"):
+            self.fed()
+        self.unlock()
+        Path(self.store + "-wal").write_text("x")
+        with self.assertRaisesRegex(Unfit, "the store is at 0/50, and was at 0/108 before.*would lose the commits between"):
+            self.fed()
+        self.unlock()
+        self.assertEqual(self.ends(), before)
+        self.fed(accept=["gap"])
 
     def test_a_feed_that_was_moved(self) -> None:
         self.follow_once()
@@ -306,7 +324,7 @@ class Tables(FeedCase):
 
     def kept(self, code: str | None = None) -> Beside:
         """One that runs this in the place of `pgsub-connect tables`; by default that itself, from the beginning of the feed."""
-        it = Beside(self.options, str(self.path), self.progress)
+        it = Beside(self.options, self.progress)
         if code is not None:
             it.words = [sys.executable, "-c", code]
         else:
@@ -359,8 +377,8 @@ class Tables(FeedCase):
 
     def test_how_it_is_started(self) -> None:
         self.options.init, self.options.mode = "my.sql", 0o640
-        words = words_of(self.options, "/feed")
-        options = arguments(words[3:])
-        self.assertEqual((options.command, options.feed, options.into, options.store), ("tables", "/feed", self.into, self.options.store))
+        options = arguments(words_of(self.options)[3:])
+        self.assertEqual((options.command, options.feed, options.into), ("tables", str(self.path), self.into))
+        self.assertEqual(options.store, self.options.store)
         self.assertEqual((options.reader, options.mode, options.while_input, options.once), ("tables", 0o640, True, False))
-        self.assertEqual(options.init, os.path.abspath("my.sql"))
+        self.assertEqual(options.init, "my.sql")

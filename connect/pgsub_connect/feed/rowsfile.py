@@ -19,7 +19,7 @@ from collections.abc import Iterable
 
 from .. import log
 from ..catalog import Column, Shape
-from ..errors import FileError, Unfit
+from ..errors import FileError, Passing, Unfit
 from ..exporting import key_index
 from ..naming import OLD, POSITION, TABLES, folded, told_columns, usable_name
 from ..remembered import Relation
@@ -142,7 +142,8 @@ class Rows:
         if not self.db.in_transaction:
             self.db.execute("BEGIN IMMEDIATE")
             if self.position() != self.at:
-                raise Unfit(f"{self.path}: another process has written it meanwhile")
+                # (one that is about to end, since what has started it was killed)
+                raise Passing(f"{self.path}: another process has written it meanwhile")
 
     def settle(self, at: int) -> None:
         """Ends the transaction: the rows are those after the commit that ends there."""
