@@ -27,14 +27,25 @@ def nothing() -> None:
     """Checks nothing."""
 
 
-def filters_of(pid: int) -> list[int]:
-    """The filters that a connector runs. While it starts, it has other children, which look for libpq."""
+def children_of(pid: int, word: str) -> list[int]:
+    """The children that were started with a word. (Those of any thread: the file of one has its own alone.)"""
     found = []
     with contextlib.suppress(FileNotFoundError, ProcessLookupError):
-        for child in Path(f"/proc/{pid}/task/{pid}/children").read_text(encoding="ascii").split():
-            if b"\0follow\0" in Path(f"/proc/{child}/cmdline").read_bytes():
-                found.append(int(child))
+        for thread in os.listdir(f"/proc/{pid}/task"):
+            for child in Path(f"/proc/{pid}/task/{thread}/children").read_text(encoding="ascii").split():
+                if f"\0{word}\0".encode() in Path(f"/proc/{child}/cmdline").read_bytes():
+                    found.append(int(child))
     return found
+
+
+def filters_of(pid: int) -> list[int]:
+    """The filters that a connector runs. While it starts, it has other children, which look for libpq."""
+    return children_of(pid, "follow")
+
+
+def tables_of(pid: int) -> list[int]:
+    """What keeps tables of SQLite beside a connector."""
+    return children_of(pid, "tables")
 
 
 class Supervisor(threading.Thread):
@@ -76,8 +87,15 @@ class Supervisor(threading.Thread):
 
     def kill_filter(self) -> bool:
         """Kills the filter. Returns whether one ran."""
+        return self.kill_children(filters_of)
+
+    def kill_tables(self) -> bool:
+        """Kills what keeps tables of SQLite. Returns whether it ran."""
+        return self.kill_children(tables_of)
+
+    def kill_children(self, of: Callable[[int], list[int]]) -> bool:
         killed = False
-        for pid in filters_of(self.child.pid):
+        for pid in of(self.child.pid):
             with contextlib.suppress(ProcessLookupError):
                 os.kill(pid, signal.SIGKILL)
                 killed = True

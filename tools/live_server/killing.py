@@ -5,6 +5,7 @@ from __future__ import annotations
 import collections
 import contextlib
 import random
+import subprocess
 import time
 from collections.abc import Callable, Sequence
 from pathlib import Path
@@ -14,14 +15,16 @@ import psycopg
 
 from .cluster import Cluster
 from .errors import Failed
+from .feeds import base_of, check_images, compare_tables, log_changes, rows_of_feed, segments
 from .follower import Supervisor, checkpoint_of, is_adding, is_confirmed, wait_until
-from .load import SCHEMA, Mixed
+from .load import LOGGED, SCHEMA, Mixed
 from .options import Options
 from .rows import compare, rows_of_server, rows_of_store
 from .sessions import Session
 
 SLOT = "pgsub"
 VICTIMS = ("filter", "filter", "connector", "connector", "server", "session", "connection")
+FED_VICTIMS = (*VICTIMS, "tables", "tables")
 # All connections of the connector.
 CONNECTIONS = f"SELECT pid FROM pg_stat_activity WHERE application_name LIKE '{SLOT}%' ORDER BY pid"
 # The tables whose rows are read, for the first copy or because they are added.
@@ -55,13 +58,18 @@ class Run:
         self.store = options.folder / f"{self.cluster.folder.name}.db"
         words = options.words(self.cluster.dsn(), self.store, "--create", "--proto", str(proto))
         words += ["--status-file", f"{self.store}.status", "--jobs", str(self.rng.choice((1, 2, 4)))]
+        self.fed = Fed(self) if options.feed else None
+        words += self.fed.words() if self.fed else []
+        self.victims = FED_VICTIMS if self.fed else VICTIMS
         self.supervisor = Supervisor(words, Path(f"{self.store}.log"))
-        self.counts = dict.fromkeys(VICTIMS, 0)
+        self.counts = dict.fromkeys(self.victims, 0)
 
     def kill(self, victim: str) -> bool:
         """Kills one of the parts. Returns whether it was there."""
         if victim == "filter":
             there = self.supervisor.kill_filter()
+        elif victim == "tables":
+            there = self.supervisor.kill_tables()
         elif victim == "connector":
             there = self.supervisor.kill_connector()
         elif victim == "session":
@@ -87,7 +95,7 @@ class Run:
         for _ in range(kills):
             # often just after the last one, and often once all is running again
             time.sleep(self.rng.choice((0.1, 0.5, 1.5, 3.0, 5.0)) * self.rng.random())
-            victim = self.rng.choice(VICTIMS)
+            victim = self.rng.choice(self.victims)
             wait_until(lambda victim=victim: self.kill(victim), f"finding a {victim} that runs", 60, self.supervisor.check)  # type: ignore[misc]
 
     def kill_copying(self, kills: int, tables: Sequence[str]) -> str:
@@ -123,6 +131,8 @@ class Run:
     def wait_copied(self, seconds: float) -> None:
         """Waits until the rows of all tables have come."""
         wait_until(lambda: not is_adding(self.store), "copying all tables", seconds, self.supervisor.check)
+        if self.fed:
+            self.fed.take_base()
 
     def wait_for(self, lsn: str, seconds: float, what: str) -> None:
         wait_until(lambda: is_confirmed(self.cluster, SLOT, lsn), what, seconds, self.supervisor.check)
@@ -133,11 +143,14 @@ class Run:
         self.cluster.run("SELECT pg_logical_emit_message(true, 'live', 'end')")
         self.wait_for(end, 600, f"confirming {end}")
         waited = time.monotonic() - began
+        if self.fed:
+            self.fed.wait(end)
         self.supervisor.finish()
         rows, position = rows_of_store(self.options.program, self.store)
         count = compare(rows_of_server(self.cluster, "pgsub"), rows)
         self.check_left()
-        return f"{count} rows at {position}, caught up in {waited:.1f} s"
+        fed = self.fed.compare() if self.fed else ""
+        return f"{count} rows at {position}, caught up in {waited:.1f} s{fed}"
 
     def check_left(self) -> None:
         """Fails where a copy has left a slot or a file, or changes found no row."""
@@ -152,6 +165,41 @@ class Run:
         self.supervisor.kill()
         self.load.end()
         self.cluster.remove()
+
+
+class Fed:
+    """What a run with a feed has more, and what is compared of it."""
+
+    def __init__(self, run: Run) -> None:
+        self.run, self.feed = run, Path(f"{run.store}.feed")
+        self.rows, self.snapshot = Path(f"{run.store}.rows"), Path(f"{run.store}.snapshot")
+        self.logged: tuple[str, ...] = ()
+
+    def words(self) -> list[str]:
+        # (the segments that the tables have read stay, too, to be replayed)
+        return ["--tables", str(self.rows), "--feed-segment-bytes", "1000000", "--feed-max-age", "1d"]
+
+    def call(self, *words: str | Path) -> None:
+        """Runs a subcommand to its end, which has to be well."""
+        done = subprocess.run([self.run.options.connect, *words], capture_output=True, text=True, check=False)
+        if done.returncode:
+            raise Failed(f"{words[0]}: status {done.returncode}: {done.stderr}")
+
+    def take_base(self) -> None:
+        """Copies the rows from which the feed is replayed at the end."""
+        self.call("snapshot", "--store", self.run.store, "--into", self.snapshot)
+        self.base = base_of(self.run.cluster, self.run.options.program, self.snapshot, "pgsub")
+
+    def wait(self, end: str) -> None:
+        wait_until(self.rows.exists, "making the tables", 120, self.run.supervisor.check)
+        self.call("wait", end, "--tables", self.rows, "--within", "300")
+
+    def compare(self) -> str:
+        """Compares the feed and the tables with the server. Returns what there is to say."""
+        rows, state = rows_of_feed(self.feed, self.base)
+        compare(rows_of_server(self.run.cluster, "pgsub"), rows)
+        count, images = compare_tables(self.run.cluster, self.rows, "pgsub"), check_images(self.feed, *self.logged)
+        return f"; a feed of {len(segments(self.feed))} segments, {state.changes} changes replayed, {images} images, {count} rows in tables"
 
 
 def is_read(found: Sequence[str], tables: Sequence[str]) -> bool:
@@ -181,10 +229,14 @@ def mixed(options: Options, proto: int) -> tuple[Run, Mixed]:
 
     def load(cluster: Cluster) -> Mixed:
         cluster.run(*SCHEMA, "CREATE PUBLICATION pgsub FOR ALL TABLES")
+        if options.feed:
+            log_changes(cluster, *LOGGED)
         loads.append(Mixed(cluster, f"{options.seed} {proto}", options.workers, options.pause))
         return loads[0]
 
     run = Run(options, proto, load)
+    if run.fed:
+        run.fed.logged = LOGGED
     return run, loads[0]
 
 

@@ -38,6 +38,8 @@ TABLES = (
     "keyed", "wide", "indexed", "whole", "inserts", "bare", '"Größe, Maß"."a ""quoted"" name"', "parted", "altered",
 )
 QUOTED = TABLES[6]
+# Those that are published whole and that nobody alters, and each change of which a trigger of theirs sees.
+LOGGED = ("keyed", "wide", "indexed", "whole", "inserts", "bare", "kept")
 EXTERNAL = "(SELECT string_agg(md5(random()::text || it), '') FROM generate_series(1, {}) it)"
 
 

@@ -26,6 +26,8 @@ class Options:
     before: bool = False
     rows: int = 200_000
     keep: bool = False
+    # whether a feed is kept, and tables that follow it
+    feed: bool = False
 
     def versions(self) -> tuple[int, ...]:
         """The versions of the protocol that are tried."""

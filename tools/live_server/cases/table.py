@@ -11,7 +11,7 @@ from ..errors import Unusable
 from ..options import Options
 from ..place import Place, Shared
 from . import (
-    adding, altering, copying, missing, names, operating, privacy, publications, reaching, repairing, shapes, sideroads, silence, slots, standbys,
+    adding, altering, copying, feeding, missing, names, operating, privacy, publications, reaching, repairing, shapes, sideroads, silence, slots, standbys,
     starts, stops, timelines, values, verifying, versions,
 )
 from .case import Case
@@ -24,6 +24,7 @@ THEMES: dict[str, Sequence[Case]] = {
     "values": values.CASES,
     "missing": missing.CASES,
     "exports": EXPORTS,
+    "feeds": feeding.CASES,
     "verifying": verifying.CASES,
     "adding": adding.CASES,
     "repairing": repairing.CASES,

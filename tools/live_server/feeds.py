@@ -1,0 +1,199 @@
+"""The feed of a follower, and the tables that follow it, compared with the publisher. Nothing of the connector is used.
+
+What triggers on the publisher log of each change, as OLD and NEW, is published too: so each commit of the feed has the rows before and
+after by the program, and by the publisher.
+"""
+
+from __future__ import annotations
+
+import collections
+import contextlib
+import json
+import sqlite3
+from collections.abc import Callable, Iterator
+from pathlib import Path
+from typing import Any, Dict, List, Optional, Tuple, Union
+
+from feed_replay import Replay, commits, lsn_of, replay
+
+from .cluster import Cluster
+from .errors import Failed
+from .rows import SETTINGS, Row, Rows, published, quoted, rows_of_store
+from .sessions import Session
+
+# A value in a table of SQLite.
+Value = Union[int, float, bytes, str, None]
+FLOATS = ("NaN", "Infinity", "-Infinity")
+# By the name of a type what a table of SQLite has of a value that is printed so; any other is its text.
+HAS: Dict[str, Callable[[str], Value]] = {
+    "smallint": int, "integer": int, "bigint": int, "boolean": lambda it: int(it == "t"), "bytea": lambda it: bytes.fromhex(it[2:]),
+    "real": lambda it: it if it in FLOATS else float(it), "double precision": lambda it: it if it in FLOATS else float(it),
+}
+LOGGED = "CREATE TABLE logged (id bigserial PRIMARY KEY, tab text, op text, old text[], new text[])"
+LETTERS = {"INSERT": "c", "UPDATE": "u", "DELETE": "d"}
+# Of a change: its table, its letter, and the rows before and after.
+Change = Tuple[str, str, Optional[List[Optional[str]]], Optional[List[Optional[str]]]]
+
+
+def columns_of(session: Session, table: str) -> list[tuple[str, str]]:
+    """The published columns of a table, with the names of their types."""
+    found = session.rows(
+        "SELECT attname, format_type(atttypid, NULL) FROM pg_attribute"
+        f" WHERE attrelid = '{table}'::regclass AND attnum > 0 AND NOT attisdropped AND attgenerated = '' ORDER BY attnum"
+    )
+    return [(name or "", kind or "") for name, kind in found]
+
+
+def log_changes(cluster: Cluster, *tables: str) -> None:
+    """Has triggers log each change of these tables."""
+    with cluster.connect() as session:
+        session.run(LOGGED)
+        settings = " ".join(f"SET {name} = '{value}'" for name, value in SETTINGS.items() if name != "search_path")
+        for number, table in enumerate(tables):
+            old, new = (listed(session, table, it) for it in ("OLD", "NEW"))
+            session.run(
+                f"CREATE FUNCTION log_{number}() RETURNS trigger LANGUAGE plpgsql {settings} AS $$ BEGIN"
+                f" INSERT INTO public.logged (tab, op, old, new) VALUES (TG_TABLE_NAME, TG_OP,"
+                f" CASE WHEN TG_OP <> 'INSERT' THEN ARRAY[{old}] END, CASE WHEN TG_OP <> 'DELETE' THEN ARRAY[{new}] END);"
+                " RETURN NULL; END $$",
+                f"CREATE TRIGGER logs AFTER INSERT OR UPDATE OR DELETE ON {table} FOR EACH ROW EXECUTE FUNCTION log_{number}()",
+            )
+
+
+def listed(session: Session, table: str, row: str) -> str:
+    """The values of a row as their types print them (which for some isn't what a cast to text gives)."""
+    cells = [f"{row}.{quoted(name)}" for name, _ in columns_of(session, table)]
+    return ", ".join(f"CASE WHEN {it} IS DISTINCT FROM NULL THEN format('%s', {it}) END" for it in cells)
+
+
+def read_array(text: str | None) -> list[str | None] | None:
+    """An array of texts as the server prints it."""
+    if text is None:
+        return None
+    found, at = list[Optional[str]](), 1
+    while at < len(text) - 1:
+        if text[at] == '"':
+            cell, at = "", at + 1
+            while text[at] != '"':
+                at += text[at] == "\\"
+                cell, at = cell + text[at], at + 1
+            found.append(cell)
+            at += 1
+        else:
+            end = min(it for it in (text.find(",", at), len(text) - 1) if it > 0)
+            found.append(None if text[at:end] == "NULL" else text[at:end])
+            at = end
+        at += 1
+    return found
+
+
+class Images:
+    """Compares, in each commit, the changes of a table with what its trigger has logged."""
+
+    def __init__(self, *tables: str) -> None:
+        self.tables, self.count = set(tables), 0
+
+    def check(self, end: str, body: bytes) -> None:
+        names, changes, logged = dict[int, str](), list[Change](), list[Change]()
+        for it in map(json.loads, body.splitlines()):
+            if it["op"] == "table":
+                names[it["oid"]] = it["table"]
+            elif names[it["oid"]] == "logged" and it["op"] == "c":
+                _, table, op, old, new = it["after"]
+                logged.append((table, LETTERS[op], read_array(old), read_array(new)))
+            elif names[it["oid"]] in self.tables and it["op"] in "cud":
+                changes.append((names[it["oid"]], it["op"], it["before"], it["after"]))
+        for table in self.tables:
+            ours, theirs = ([it for it in some if it[0] == table] for some in (changes, logged))
+            if ours != theirs:
+                first = next((pair for pair in zip(ours, theirs) if pair[0] != pair[1]), (len(ours), len(theirs)))
+                raise Failed(f"commit {end}, table {table}: the feed has {str(first[0])[:600]}, and the trigger {str(first[1])[:600]}")
+            self.count += len(ours)
+
+
+def segments(feed: Path) -> list[Path]:
+    return sorted(it for it in feed.iterdir() if len(it.name) == 16)
+
+
+def base_of(cluster: Cluster, program: Path, snapshot: Path, *publications: str, database: str = "shop") -> Replay:
+    """The rows of a copy of the store, from which a feed is replayed."""
+    rows, position = rows_of_store(program, snapshot)
+    state = Replay(lsn_of(position))
+    with cluster.connect(database) as session:
+        for schema, table, _ in list(published(session, publications)):
+            name = f"{quoted(schema)}.{quoted(table)}"
+            oid = int(session.value(f"SELECT '{name.replace(chr(39), chr(39) * 2)}'::regclass::oid"))
+            columns = [[it, 0, -1] for it, _ in columns_of(session, name.replace("'", "''"))]
+            definition = {"oid": oid, "schema": schema, "table": table, "columns": columns}
+            state.begin(definition, collections.Counter(rows.get((schema, table), {})))
+    return state
+
+
+def rows_of_feed(feed: Path, state: Replay | None = None) -> tuple[Rows, Replay]:
+    """The rows to which a feed leads, from its beginning or a base. Fails where a change found no row."""
+    state = replay(feed, state or Replay(int(segments(feed)[0].name, 16)))
+    if state.missed:
+        raise Failed(f"{state.missed} changes of the feed found no row")
+    found: Rows = {}
+    for oid, rows in state.rows.items():
+        if counted := +rows:
+            definition = state.definitions[oid]
+            found[definition["schema"], definition["table"]] = counted  # type: ignore[assignment]
+    return found, state
+
+
+def check_images(feed: Path, *tables: str) -> int:
+    """Compares all images of a feed. Returns how many changes that were."""
+    images = Images(*tables)
+    for path in segments(feed):
+        for commit, body in commits(path):
+            images.check(commit["end"], body)
+    return images.count
+
+
+@contextlib.contextmanager
+def reading(path: Path) -> Iterator[sqlite3.Connection]:
+    """A file of tables, in one transaction."""
+    with contextlib.closing(sqlite3.connect(f"file:{path}?mode=ro", uri=True, timeout=30, isolation_level=None)) as base:
+        base.execute("BEGIN")
+        yield base
+
+
+def rows_of_tables(path: Path) -> tuple[dict[tuple[str, str], collections.Counter[Any]], str]:
+    """The rows of each table of a file that has any, and the file's LSN."""
+    found = {}
+    with reading(path) as base:
+        (lsn,) = base.execute("SELECT lsn FROM pgsub_position").fetchone()
+        for name, schema, table, _ in base.execute("SELECT * FROM pgsub_tables").fetchall():
+            if rows := collections.Counter(base.execute(f"SELECT * FROM {quoted(name)}")):
+                found[schema, table] = rows
+    return found, lsn
+
+
+def values_of_server(cluster: Cluster, *publications: str, database: str = "shop") -> dict[tuple[str, str], collections.Counter[Any]]:
+    """The rows of each published table that has any, as tables of SQLite have their values."""
+    found = {}
+    with cluster.connect(database) as session:
+        session.run(*(f"SET {name} = '{value}'" for name, value in SETTINGS.items()))
+        for schema, table, query in list(published(session, publications)):
+            name = f"{quoted(schema)}.{quoted(table)}".replace("'", "''")
+            reads = [HAS.get(kind, str) for _, kind in columns_of(session, name)]
+            if rows := collections.Counter(valued(reads, row) for row in session.copied(query)):
+                found[schema, table] = rows
+    return found
+
+
+def valued(reads: list[Callable[[str], Value]], row: Row) -> tuple[Value, ...]:
+    return tuple(None if cell is None else read(cell) for read, cell in zip(reads, row))
+
+
+def compare_tables(cluster: Cluster, path: Path, *publications: str, database: str = "shop") -> int:
+    """Fails where the tables of a file don't have the server's rows. Returns how many rows there are."""
+    ours, lsn = rows_of_tables(path)
+    theirs = values_of_server(cluster, *publications, database=database)
+    for table in sorted({*ours, *theirs}):
+        here, there = ours.get(table, collections.Counter()), theirs.get(table, collections.Counter())
+        if here != there:
+            lacks, has = list((there - here).items())[:3], list((here - there).items())[:3]
+            raise Failed(f"{path} at {lsn}, {'.'.join(table)}: it lacks {str(lacks)[:600]}, and has {str(has)[:600]} instead")
+    return sum(sum(rows.values()) for rows in ours.values())
