@@ -14,6 +14,7 @@ HEADING = re.compile(r"^([A-Za-z][\w ]*):$")
 ABOUT = {
     "pgsub": "applies logical replication of PostgreSQL to a store, proved",
     "pgsub-connect": "follows a PostgreSQL server into a store of pgsub",
+    "pgsub-feed": "prints the commits of a feed of pgsub",
 }
 
 

@@ -205,7 +205,7 @@ def unpack_tar() -> None:
 
 
 def check_installed() -> None:
-    for page in ("pgsub", "pgsub-connect"):
+    for page in ("pgsub", "pgsub-connect", "pgsub-feed"):
         run("man", "-w", page)
     run("systemd-analyze", "verify", "--man=no", "/usr/lib/systemd/system/pgsub@.service")
     if run("getent", "passwd", "pgsub").split(":")[6] != "/usr/sbin/nologin":
@@ -214,7 +214,7 @@ def check_installed() -> None:
 
 def removed() -> None:
     run("apt-get", "-y", "-qq", "remove", "pgsub")
-    left = [it for it in ("/usr/lib/pgsub", "/usr/bin/pgsub", "/usr/bin/pgsub-connect") if os.path.lexists(it)]
+    left = [it for it in ("/usr/lib/pgsub", "/usr/bin/pgsub", "/usr/bin/pgsub-connect", "/usr/bin/pgsub-feed") if os.path.lexists(it)]
     if left:
         raise Wrong(f"left are {', '.join(left)}")
 

@@ -48,7 +48,8 @@ class Case(unittest.TestCase):
         self.assertEqual(
             found - copied,
             {
-                "bin/pgsub", "bin/pgsub-connect", "lib/pgsub/pgsub", "lib/pgsub/pgsub-connect", "lib/pgsub/BUILD",
+                "bin/pgsub", "bin/pgsub-connect", "bin/pgsub-feed", "lib/pgsub/pgsub", "lib/pgsub/pgsub-connect", "lib/pgsub/BUILD",
+                "lib/pgsub/pgsub-feed", "share/man/man1/pgsub-feed.1.gz",
                 "lib/pgsub/pgsub_connect/BUILD", "lib/systemd/system/pgsub@.service", "share/man/man1/pgsub.1.gz",
                 "share/man/man1/pgsub-connect.1.gz", "share/doc/pgsub/README.md", "share/doc/pgsub/CHANGELOG.md",
                 "share/doc/pgsub/SECURITY.md", "share/doc/pgsub/KITS", "share/doc/pgsub/first.pgx", "share/doc/pgsub/LICENSE",
@@ -72,7 +73,7 @@ class Case(unittest.TestCase):
         """Modules that are gone go, a program that runs goes on, and the connector runs no other build's."""
         (self.root / "lib/pgsub/pgsub_connect/old.py").write_text("")
         before = os.stat(self.root / "lib/pgsub/pgsub").st_ino
-        for name in ("pgsub.1", "pgsub-connect.1"):
+        for name in ("pgsub.1", "pgsub-connect.1", "pgsub-feed.1"):
             (self.room / name).write_text("page")
         self.install("--pages", self.room)
         self.assertNotIn("lib/pgsub/pgsub_connect/old.py", self.files())
