@@ -21,6 +21,7 @@ SHARES = {
     "docs/DECISIONS.md": 1300,
     "docs/PERFORMANCE.md": 1000,
     "docs/CONTRIBUTING.md": 1200,
+    "docs/FEED.md": 600,
 }
 WHOLE = 15000
 # folders that no commit has, or that have no document's paths
@@ -178,7 +179,7 @@ def sources_of(tree: Tree, command: str) -> list[str] | None:
     name = Path(command).name
     if name == "pgsub":
         return [it for it in tree.files if it.startswith("crates/pgcommand/src/") or it == "pgsub"]
-    if name == "pgsub-connect":
+    if name in ("pgsub-connect", "pgsub-feed"):
         return [it for it in tree.files if it.startswith(("connect/pgsub_connect/", "tools/connector/")) or Path(it).name == name]
     if command.startswith("bench/"):
         return [it for it in tree.files if it.startswith("bench/") and not it.endswith(".md")]
