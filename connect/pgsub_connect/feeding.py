@@ -193,12 +193,17 @@ class Feeding:
 def opened_at(child: Filter, check: Check) -> int | None:
     """The position of a store of which only a filter can say it, since its log isn't empty; None where that can't be opened now."""
     position = None
-    with contextlib.suppress(FilterEnded):
-        position = child.start(check)
-        child.finish()
-        while True:
-            check()
-            child.serve(STEP)
+    # (one of its own, so that nothing is known by it of what a killed one had stored)
+    other = Filter(child.words, child.kept_open, child.proto, child.mode)
+    try:
+        with contextlib.suppress(FilterEnded):
+            position = other.start(check)
+            other.finish()
+            while True:
+                check()
+                other.serve(STEP)
+    finally:
+        other.kill()
     return position
 
 

@@ -51,8 +51,7 @@ class Followed(Case):
     def fed(self, feed: str | None = None, **options: object) -> Follower:
         """A follower whose feed is checked, and that is about to run."""
         follower = self.follower(feed=self.feed if feed is None else feed, **options)
-        kept = Remembered(self.store)
-        follower.feeding = it = Feeding(follower.options, self.checkpoint, self.progress, kept)
+        follower.feeding = it = Feeding(follower.options, self.checkpoint, self.progress, follower.watch.remembered)
         it.check()
         self.addCleanup(it.finish)
         it.begin(follower.filter, follower.stored, follower.check_stop)
@@ -178,6 +177,12 @@ class Followed(Case):
         self.unlock()
         self.assertEqual(self.ends(), before)
         self.fed(accept=["gap"])
+        self.unlock()
+        with open(self.store, "w", encoding="ascii") as file:
+            file.write(str(0x108))
+        follower = self.fed()
+        # (what a killed filter had stored isn't taken for counted)
+        self.assertFalse(follower.filter.has_told_all or follower.filter.is_running())
 
     def test_a_feed_that_was_moved(self) -> None:
         self.follow_once()

@@ -30,10 +30,10 @@ ACCOUNTS = (
 
 
 class Moves:
-    """Moves between accounts, each with a row that tells it."""
+    """Moves between accounts, each with a row that tells it. `pause`: how many seconds there are between two of them."""
 
-    def __init__(self, place: Place) -> None:
-        self.place, self.ended, self.moves = place, threading.Event(), 0
+    def __init__(self, place: Place, pause: float = 0.03) -> None:
+        self.place, self.pause, self.ended, self.moves = place, pause, threading.Event(), 0
         self.thread = threading.Thread(target=self.run, daemon=True)
 
     def run(self) -> None:
@@ -49,7 +49,7 @@ class Moves:
                     f"UPDATE account SET amount = amount + 5 WHERE id = {target}",
                     f"INSERT INTO move VALUES ({self.moves}, {source}, {target}, {more})", "COMMIT",
                 )
-                time.sleep(0.03)
+                time.sleep(self.pause)
 
 
 @contextlib.contextmanager

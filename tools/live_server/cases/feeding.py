@@ -287,7 +287,7 @@ def whole_commits(place: Place) -> None:
     child = place.start(*words)
     place.catch_up(child)
     wait_until(rows_file(place).exists, "making the tables", check=child.check)
-    polling, load = Polling(rows_file(place), check_whole), Moves(place)
+    polling, load = Polling(rows_file(place), check_whole), Moves(place, 0.03 * Patience.factor)
     load.thread.start()
     polling.start()
     try:
