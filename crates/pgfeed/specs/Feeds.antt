@@ -1,17 +1,24 @@
 -- A feed: segments that follow each other, of which the last is open.
-use Rattle.std.specs.Prelude.{◌≡◌, ◌<◌, ◌≤◌, ◌++◌, ◌⊎◌, ℕ, List, []}
+use Rattle.std.specs.Prelude.{◌≡◌, ◌<◌, ◌≤◌, ◌-◌, ◌++◌, ◌⊎◌, ℕ, ℤ, pos, ◌+ℤ◌, ◌≤ℤ◌, List, [], Bool, IsTrue, Option, Some, None}
+use Rattle.pgapply.specs.declared.commit.About.{About}
 use Rattle.pgledger.specs.Entries.{Entry, last_end}
 use Rattle.pgfeed.specs.declared.segment.Segment.{Segment}
 use Rattle.pgfeed.specs.Reading.{AreEntries}
-use Rattle.pgfeed.specs.Segments.{IsCut, IsFound, KeepsEntries, Lasts, Reopens}
+use Rattle.pgfeed.specs.Segments.{IsCut, IsFinished, IsFound, KeepsEntries, Lasts, Reopens}
 
 -- up to this LSN all that the open segment has of the feed outlasts a crash
 abbrev pub LastsUpTo : {D : Type 0} → (D → List ℕ → Type 0) → Segment D → ℕ → Type 0
 LastsUpTo may_leave s p = (p ≤ s.last) × (s.base ≤ p → Lasts s.base s.size (may_leave s.disk) p)
 
--- The open segment is the one that it was, or one that begins where that one ends, and all was synced up to there.
-abbrev pub SegmentEnds : {D : Type 0} → ℕ → Segment D → Segment D → Type 0
-SegmentEnds synced old new = (new.base ≡ old.base) ⊎ ((new.base ≡ synced) × (synced ≡ old.last))
+-- it has a commit, and no room for so many bytes more
+abbrev pub IsFull : {D : Type 0} → ℕ → Segment D → ℕ → Type 0
+IsFull limit s bytes = (s.base < s.last) × (limit - s.size < bytes)
+
+-- a commit of that time comes so many microseconds, or more, after the first one
+abbrev pub IsLate : ℕ → Option ℤ → Option About → Type 0
+IsLate micros (Some first) (Some about) = (first +ℤ pos micros) ≤ℤ about.time
+IsLate micros (Some first) None = ⊥
+IsLate micros None about = ⊥
 
 module _ {D : Type 0} (seen : D → List ℕ) where
   -- The feed keeps the entries of the segments before the open one, which rise from where it begins to where that one begins, and then
@@ -62,3 +69,16 @@ module _ {D : Type 0} (seen : D → List ℕ) where
       pub text : List ℕ
       pub opened : IsOpened is_clean p text s
       pub reopens : is_clean → (old : Segment D) → IsLeft old text s → OpensAt old p s
+
+  -- A segment ends where all was synced, and the other one begins there. Some file, which was its own, has a head, its entries and the
+  -- line that ends it, and nothing else, also after a crash.
+  pub record Ends (may_leave : D → List ℕ → Type 0) (is_clean : D → Bool) (synced : ℕ) (old new : Segment D) : Type 0 where
+    pub next : new.base ≡ old.last
+    pub all_synced : synced ≡ old.last
+    pub file : D
+    pub finished : IsTrue (is_clean file) → (es : List Entry) → KeepsEntries old.base old.last old.size (seen old.disk) es
+        → IsFinished old.base old.last es (seen file) (may_leave file)
+
+  -- the segment is open yet, or it has ended
+  abbrev pub MayEnd : (D → List ℕ → Type 0) → (D → Bool) → ℕ → Segment D → Segment D → Type 0
+  MayEnd may_leave is_clean synced old new = (new.base ≡ old.base) ⊎ Ends may_leave is_clean synced old new

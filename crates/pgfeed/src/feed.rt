@@ -1,11 +1,12 @@
 //! A feed: segments that follow each other.
 
-ghost use Rattle.std.specs.Prelude.{◌≡◌, ◌<◌, ◌≤◌, ◌⊎◌, ◌+◌, ◌++◌, ◌∷◌, ◌^◌, ◌-◌, [], List, true, false};
-ghost use Rattle.std.specs.Prelude.{IsTrue, OnOk, OnErr, IfErr, length, string_bytes};
+ghost use Rattle.std.specs.Prelude.{◌≡◌, ◌⊎◌, ◌↔◌, ◌++◌, ◌∷◌, [], List, true, false};
+ghost use Rattle.std.specs.Prelude.{IsTrue, OnOk, OnErr, IfErr};
 ghost use Rattle.pgapply.specs.Stored.{IsOwnFault};
 ghost use Rattle.pgledger.specs.Entries.{Entry, entry_of};
 ghost use Rattle.pgledger.specs.Ledgers.{Appends, AppendsAtMost, Rests};
-ghost use Rattle.pgfeed.specs.Feeds.{Goes, KeepsAll, KeepsOn, LastsUpTo, OpensAt, SegmentEnds};
+ghost use Rattle.pgfeed.specs.Feeds.{Goes, KeepsAll, KeepsOn, LastsUpTo, MayEnd, OpensAt};
+ghost use Rattle.pgfeed.specs.Feeds.{IsFull, IsLate};
 
 use crate::fault::FeedFault;
 use crate::folder::{Folder, Names, SegmentLimits};
@@ -103,23 +104,29 @@ impl<F: Folder + Drop> Feed<F> {
         (self.folder, self.segment.into_disk())
     }
 
-    /// Whether so many bytes more would pass what a segment may have. One commit it takes always.
-    fn is_full(&self, bytes: usize) -> bool {
-        let size = (self.segment.size() as u64).saturating_add(bytes as u64);
-        self.segment.base() < self.segment.last() && self.limits.bytes < size
+    /// Whether the open segment has a commit, and no room for so many bytes more.
+    fn is_full(&self, bytes: usize) -> bool
+        ensures { IsTrue result ↔ IsFull self.now.limits.bytes self.now.segment bytes }
+    {
+        let room = self.limits.bytes.saturating_sub(self.segment.size() as u64);
+        self.segment.base() < self.segment.last() && room < bytes as u64
     }
 
     /// Whether a commit comes too late for the open segment.
-    fn is_late(&self, about: Option<About>) -> bool {
+    fn is_late(&self, about: Option<About>) -> bool
+        ensures { IsTrue result ↔ IsLate self.now.limits.micros self.now.first about }
+    {
         let (Some(first), Some(about)) = (self.first, about) else {
             return false;
         };
-        first < about.time && self.limits.micros <= about.time.abs_diff(first)
+        first <= about.time && self.limits.micros <= about.time.abs_diff(first)
     }
 
     /// Whether the open segment ends before a commit whose text has so many bytes.
     fn ends_before(&self, about: Option<About>, bytes: usize) -> bool
-        ensures synced { IsTrue result → self.now.synced ≡ self.now.segment.last }
+        ensures { IsTrue result ↔ ((self.now.synced ≡ self.now.segment.last)
+            × (IsFull self.now.limits.bytes self.now.segment bytes
+            ⊎ IsLate self.now.limits.micros self.now.first about)) }
     {
         self.synced == self.segment.last() && (self.is_full(bytes) || self.is_late(about))
     }
@@ -129,7 +136,8 @@ impl<F: Folder + Drop> Feed<F> {
         requires { self.old.synced ≡ self.old.segment.last }
         ensures goes { Goes F.File.seen F.File.may_leave self.old.segment self.new.segment }
         ensures kept { KeepsOn F.File.seen self.old.begins self.old.segment self.new.segment }
-        ensures ends { SegmentEnds self.old.synced self.old.segment self.new.segment }
+        ensures ends { MayEnd F.File.seen F.File.may_leave F.File.is_clean self.old.synced
+            self.old.segment self.new.segment }
         ensures last { self.new.segment.last ≡ self.old.segment.last }
         ensures free { OnOk result (self.new.segment.is_stuck ≡ false) }
         ensures begins { self.new.begins ≡ self.old.begins }
@@ -153,7 +161,8 @@ impl<F: Folder + Drop> Feed<F> {
     fn make_room(&mut self, about: Option<About>, bytes: usize) -> Result<(), StoreFault>
         ensures goes { Goes F.File.seen F.File.may_leave self.old.segment self.new.segment }
         ensures kept { KeepsOn F.File.seen self.old.begins self.old.segment self.new.segment }
-        ensures ends { SegmentEnds self.old.synced self.old.segment self.new.segment }
+        ensures ends { MayEnd F.File.seen F.File.may_leave F.File.is_clean self.old.synced
+            self.old.segment self.new.segment }
         ensures last { self.new.segment.last ≡ self.old.segment.last }
         ensures free { self.old.segment.is_stuck ≡ false →
             OnOk result (self.new.segment.is_stuck ≡ false) }
@@ -176,7 +185,8 @@ impl<F: Folder + Drop> Feed<F> {
             commit.now.about commit.now.work.now.changes images.now) ∷ [])) }
         ensures kept { OnErr result
             (KeepsOn F.File.seen self.old.begins self.old.segment self.new.segment) }
-        ensures ends { SegmentEnds self.old.synced self.old.segment self.new.segment }
+        ensures ends { MayEnd F.File.seen F.File.may_leave F.File.is_clean self.old.synced
+            self.old.segment self.new.segment }
         ensures free { self.old.segment.is_stuck ≡ false →
             OnOk result (self.new.segment.is_stuck ≡ false) }
         ensures begins { self.new.begins ≡ self.old.begins }
@@ -220,7 +230,8 @@ impl<F: Folder + Drop> Ledger for Feed<F> {
     /// Appends a commit. Where the open segment ends before it, the next one begins where the last
     /// commit ends, and all was synced up to there.
     fn append(&mut self, commit: &Commit<'_, '_>, images: &[Image<'_>]) -> Result<(), StoreFault>
-        ensures ends { SegmentEnds self.old.synced self.old.segment self.new.segment }
+        ensures ends { MayEnd F.File.seen F.File.may_leave F.File.is_clean self.old.synced
+            self.old.segment self.new.segment }
         ensures appended { OnOk result (Appends (λ (l : Feed F F.File) es.
             KeepsAll F.File.seen l.begins l.segment es) (entry_of commit.now.end commit.now.about
             commit.now.work.now.changes images.now) self.old self.new) }

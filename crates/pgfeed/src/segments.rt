@@ -1,6 +1,6 @@
 //! Opening a feed: its last segment is opened, and those above the position go.
 
-ghost use Rattle.std.specs.Prelude.{◌≡◌, [], false, IsTrue, IfOk};
+ghost use Rattle.std.specs.Prelude.{◌≡◌, ◌≤◌, [], false, IsTrue, IfOk};
 ghost use Rattle.pgfeed.specs.Feeds.{IsFresh, KeepsAll, LastsUpTo, OpensSome};
 
 use crate::fault::FeedFault;
@@ -98,6 +98,7 @@ fn last_segment<F: Folder>(
         (IsTrue (F.File.is_clean found.0.disk)) position found.0) }
     ensures last { IfOk result (λ found. found.0.last ≡ position) }
     ensures free { IfOk result (λ found. found.0.is_stuck ≡ false) }
+    ensures begins { IfOk result (λ found. found.1 ≤ found.0.base) }
 {
     let bases = folder.bases()?;
     if bases.is_empty() {
@@ -109,6 +110,9 @@ fn last_segment<F: Folder>(
     let (Some(first), Some(last)) = (below.first(), below.last()) else {
         return Err(FeedFault::NotAFeed);
     };
+    if last < first {
+        return Err(FeedFault::Refused);
+    }
     let segment = segment_at(alloc, folder, names, *last, position)?;
     remove_all(folder, above)?;
     Ok((segment, *first))
@@ -137,7 +141,7 @@ impl<F: Folder + Drop> Feed<F> {
         ensures last { IfOk result (λ f. f.segment.last ≡ position) }
         ensures synced { IfOk result (λ f. f.synced ≡ position) }
         ensures free { IfOk result (λ f. f.segment.is_stuck ≡ false) }
-        ensures begun { IfOk result (λ f. f.begins ≡ position → f.segment.base ≡ position →
+        ensures begun { IfOk result (λ f. f.begins ≡ position →
             KeepsAll F.File.seen f.begins f.segment []
             × LastsUpTo F.File.may_leave f.segment position) }
     {
@@ -161,6 +165,7 @@ fn open_in<F: Folder>(
         (IsTrue (F.File.is_clean found.0.disk)) position found.0) }
     ensures last { IfOk result (λ found. found.0.last ≡ position) }
     ensures free { IfOk result (λ found. found.0.is_stuck ≡ false) }
+    ensures begins { IfOk result (λ found. found.1 ≤ found.0.base) }
 {
     let names = Names::of(alloc, origin)?;
     // the head of a segment has room for the names wherever it begins
