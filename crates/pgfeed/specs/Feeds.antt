@@ -20,6 +20,10 @@ IsLate micros (Some first) (Some about) = (first +ℤ pos micros) ≤ℤ about.t
 IsLate micros (Some first) None = ⊥
 IsLate micros None about = ⊥
 
+-- it takes no commit of that time with a text of so many bytes
+abbrev pub IsOver : {D : Type 0} → ℕ → ℕ → Option ℤ → Segment D → Option About → ℕ → Type 0
+IsOver limit micros first s about bytes = IsFull limit s bytes ⊎ IsLate micros first about
+
 module _ {D : Type 0} (seen : D → List ℕ) where
   -- The feed keeps the entries of the segments before the open one, which rise from where it begins to where that one begins, and then
   -- those of the open one.

@@ -3,5 +3,6 @@ pub mod Fits
 pub mod Reading
 pub mod Segments
 pub mod Whole
+pub mod Naming
 pub mod Feeds
 pub mod Cutting

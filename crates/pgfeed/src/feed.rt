@@ -1,12 +1,14 @@
 //! A feed: segments that follow each other.
 
 ghost use Rattle.std.specs.Prelude.{◌≡◌, ◌⊎◌, ◌↔◌, ◌++◌, ◌∷◌, [], List, true, false};
-ghost use Rattle.std.specs.Prelude.{IsTrue, OnOk, OnErr, IfErr};
+ghost use Rattle.std.specs.Prelude.{IsTrue, OnOk, OnErr, IfErr, length};
 ghost use Rattle.pgapply.specs.Stored.{IsOwnFault};
 ghost use Rattle.pgledger.specs.Entries.{Entry, entry_of};
-ghost use Rattle.pgledger.specs.Ledgers.{Appends, AppendsAtMost, Rests};
+ghost use Rattle.pgledger.specs.Ledgers.{Appends, AppendsAtMost, Keeps, Rests, Syncs};
 ghost use Rattle.pgfeed.specs.Feeds.{Goes, KeepsAll, KeepsOn, LastsUpTo, MayEnd, OpensAt};
-ghost use Rattle.pgfeed.specs.Feeds.{IsFull, IsLate};
+ghost use Rattle.pgfeed.specs.Feeds.{IsFull, IsLate, IsOver};
+ghost use Rattle.pgfeed.specs.Naming.{head_of};
+ghost use Rattle.pgfeed.specs.Texts.{entry_text};
 
 use crate::fault::FeedFault;
 use crate::folder::{Folder, Names, SegmentLimits};
@@ -125,8 +127,8 @@ impl<F: Folder + Drop> Feed<F> {
     /// Whether the open segment ends before a commit whose text has so many bytes.
     fn ends_before(&self, about: Option<About>, bytes: usize) -> bool
         ensures { IsTrue result ↔ ((self.now.synced ≡ self.now.segment.last)
-            × (IsFull self.now.limits.bytes self.now.segment bytes
-            ⊎ IsLate self.now.limits.micros self.now.first about)) }
+            × IsOver self.now.limits.bytes self.now.limits.micros self.now.first
+            self.now.segment about bytes) }
     {
         self.synced == self.segment.last() && (self.is_full(bytes) || self.is_late(about))
     }
@@ -138,6 +140,9 @@ impl<F: Folder + Drop> Feed<F> {
         ensures kept { KeepsOn F.File.seen self.old.begins self.old.segment self.new.segment }
         ensures ends { MayEnd F.File.seen F.File.may_leave F.File.is_clean self.old.synced
             self.old.segment self.new.segment }
+        ensures next { OnOk result (self.new.segment.base ≡ self.old.segment.last) }
+        ensures told { OnOk result (F.File.seen self.new.segment.disk
+            ≡ head_of self.old.names self.old.segment.last) }
         ensures last { self.new.segment.last ≡ self.old.segment.last }
         ensures free { OnOk result (self.new.segment.is_stuck ≡ false) }
         ensures begins { self.new.begins ≡ self.old.begins }
@@ -163,6 +168,12 @@ impl<F: Folder + Drop> Feed<F> {
         ensures kept { KeepsOn F.File.seen self.old.begins self.old.segment self.new.segment }
         ensures ends { MayEnd F.File.seen F.File.may_leave F.File.is_clean self.old.synced
             self.old.segment self.new.segment }
+        ensures over { (self.new.segment.base ≡ self.old.segment.base) ⊎ IsOver self.old.limits.bytes self.old.limits.micros self.old.first
+            self.old.segment about bytes }
+        ensures next { OnOk result (self.old.synced ≡ self.old.segment.last →
+            IsOver self.old.limits.bytes self.old.limits.micros self.old.first
+            self.old.segment about bytes →
+            self.new.segment.base ≡ self.old.segment.last) }
         ensures last { self.new.segment.last ≡ self.old.segment.last }
         ensures free { self.old.segment.is_stuck ≡ false →
             OnOk result (self.new.segment.is_stuck ≡ false) }
@@ -187,6 +198,16 @@ impl<F: Folder + Drop> Feed<F> {
             (KeepsOn F.File.seen self.old.begins self.old.segment self.new.segment) }
         ensures ends { MayEnd F.File.seen F.File.may_leave F.File.is_clean self.old.synced
             self.old.segment self.new.segment }
+        ensures over { (self.new.segment.base ≡ self.old.segment.base) ⊎ IsOver self.old.limits.bytes self.old.limits.micros self.old.first
+            self.old.segment commit.now.about (length
+            (entry_text self.old.segment.last (entry_of commit.now.end commit.now.about
+            commit.now.work.now.changes images.now))) }
+        ensures next { OnOk result (self.old.synced ≡ self.old.segment.last →
+            IsOver self.old.limits.bytes self.old.limits.micros self.old.first
+            self.old.segment commit.now.about (length
+            (entry_text self.old.segment.last (entry_of commit.now.end commit.now.about
+            commit.now.work.now.changes images.now))) →
+            self.new.segment.base ≡ self.old.segment.last) }
         ensures free { self.old.segment.is_stuck ≡ false →
             OnOk result (self.new.segment.is_stuck ≡ false) }
         ensures begins { self.new.begins ≡ self.old.begins }
@@ -232,6 +253,17 @@ impl<F: Folder + Drop> Ledger for Feed<F> {
     fn append(&mut self, commit: &Commit<'_, '_>, images: &[Image<'_>]) -> Result<(), StoreFault>
         ensures ends { MayEnd F.File.seen F.File.may_leave F.File.is_clean self.old.synced
             self.old.segment self.new.segment }
+        ensures over { (self.new.segment.base ≡ self.old.segment.base) ⊎ IsOver self.old.limits.bytes self.old.limits.micros self.old.first
+            self.old.segment commit.now.about (length
+            (entry_text self.old.segment.last (entry_of commit.now.end commit.now.about
+            commit.now.work.now.changes images.now))) }
+        ensures next { OnOk result (self.old.synced ≡ self.old.segment.last →
+            IsOver self.old.limits.bytes self.old.limits.micros self.old.first
+            self.old.segment commit.now.about (length
+            (entry_text self.old.segment.last (entry_of commit.now.end commit.now.about
+            commit.now.work.now.changes images.now))) →
+            self.new.segment.base ≡ self.old.segment.last) }
+        ensures synced { self.new.synced ≡ self.old.synced }
         ensures appended { OnOk result (Appends (λ (l : Feed F F.File) es.
             KeepsAll F.File.seen l.begins l.segment es) (entry_of commit.now.end commit.now.about
             commit.now.work.now.changes images.now) self.old self.new) }
@@ -258,7 +290,27 @@ impl<F: Folder + Drop> Ledger for Feed<F> {
         }
     }
 
-    fn sync(&mut self) -> Result<(), StoreFault> {
+    /// Makes all that was appended outlast a crash.
+    fn sync(&mut self) -> Result<(), StoreFault>
+        ensures up_to { OnOk result (self.new.synced ≡ self.new.segment.last) }
+        ensures stays { OnErr result (self.new.synced ≡ self.old.synced) }
+        ensures base { self.new.segment.base ≡ self.old.segment.base }
+        ensures last { self.new.segment.last ≡ self.old.segment.last }
+        ensures synced { OnOk result (Syncs (λ (l : Feed F F.File) es.
+            KeepsAll F.File.seen l.begins l.segment es) (λ (l : Feed F F.File). l.begins)
+            (λ (l : Feed F F.File) p. LastsUpTo F.File.may_leave l.segment p)
+            self.old self.new) }
+        ensures kept { Keeps (λ (l : Feed F F.File) es.
+            KeepsAll F.File.seen l.begins l.segment es) self.old self.new }
+        ensures was_free { OnOk result (self.old.segment.is_stuck ≡ false) }
+        ensures free { OnOk result (self.new.segment.is_stuck ≡ false) }
+        ensures stuck { OnErr result (self.new.segment.is_stuck ≡ true) }
+        ensures fault { IfErr result IsOwnFault }
+        ensures rests { Rests (λ (l : Feed F F.File). l.begins) (λ (l : Feed F F.File). true)
+            (λ (l : Feed F F.File) p. LastsUpTo F.File.may_leave l.segment p)
+            (λ (l : Feed F F.File) p (other : Feed F F.File). (other.begins ≡ l.begins)
+            × OpensAt F.File.seen F.File.may_leave l.segment p other.segment) self.old self.new }
+    {
         self.segment.flush()?;
         self.synced = self.segment.last();
         Ok(())

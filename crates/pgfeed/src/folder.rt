@@ -1,6 +1,6 @@
 //! Where a feed keeps its segments, and what it is of.
 
-ghost use Rattle.std.specs.Prelude.{IfOk, IsTrue};
+ghost use Rattle.std.specs.Prelude.{◌≡◌, IfOk, IsTrue, string_bytes};
 
 use crate::fault::FeedFault;
 use pglsn::Lsn;
@@ -79,7 +79,12 @@ pub(crate) struct Names {
 }
 
 impl Names {
-    pub(crate) fn of(alloc: Global, origin: &Origin<'_>) -> Result<Names, AllocError> {
+    pub(crate) fn of(alloc: Global, origin: &Origin<'_>) -> Result<Names, AllocError>
+        ensures system { IfOk result (λ names. string_bytes names.system ≡ origin.now.system.now) }
+        ensures database { IfOk result (λ names.
+            string_bytes names.database ≡ origin.now.database.now) }
+        ensures slot { IfOk result (λ names. string_bytes names.slot ≡ origin.now.slot.now) }
+    {
         Ok(Names {
             system: String::from_str(alloc, origin.system)?,
             database: String::from_str(alloc, origin.database)?,

@@ -170,6 +170,8 @@ impl<D: Disk + Drop> Segment<D> {
         requires { IsTrue (D.is_usable disk) }
         ensures keeps { IfOk result (λ s. KeepsEntries s.base s.last s.size (D.seen s.disk) []) }
         ensures lasts { IfOk result (λ s. Lasts s.base s.size (D.may_leave s.disk) base) }
+        ensures told { IfOk result (λ s. D.seen s.disk
+            ≡ segment_head base system.now database.now slot.now) }
         ensures begins { IfOk result (λ s. (s.base ≡ base) × (s.is_stuck ≡ false)) }
     {
         let head = match segment_head(alloc, base, system, database, slot) {

@@ -218,10 +218,10 @@ impl<D: Disk + Drop> Segment<D> {
         let Ok(()) = self.disk.write_at(self.size, line.as_bytes()) else {
             return Err(StoreFault::Refused);
         };
-        let Ok(()) = self.disk.sync() else {
-            return Err(StoreFault::Refused);
-        };
-        Ok(())
+        match self.disk.sync() {
+            Ok(()) => Ok(()),
+            Err(_) => Err(StoreFault::Refused),
+        }
     }
 }
 

@@ -2,6 +2,7 @@
 
 ghost use Rattle.std.specs.Prelude.{◌≡◌, ◌≤◌, [], false, IsTrue, IfOk};
 ghost use Rattle.pgfeed.specs.Feeds.{IsFresh, KeepsAll, LastsUpTo, OpensSome};
+ghost use Rattle.pgfeed.specs.Naming.{head_of};
 
 use crate::fault::FeedFault;
 use crate::feed::Feed;
@@ -22,6 +23,7 @@ fn create_in<F: Folder>(
 ) -> Result<Segment<F::File>, FeedFault>
     requires { IsTrue (F.File.is_usable file) }
     ensures fresh { IfOk result (λ s. IsFresh F.File.seen F.File.may_leave s) }
+    ensures told { IfOk result (λ s. F.File.seen s.disk ≡ head_of names.now base) }
     ensures base { IfOk result (λ s. s.base ≡ base) }
     ensures free { IfOk result (λ s. s.is_stuck ≡ false) }
 {
@@ -44,6 +46,7 @@ pub(crate) fn begin_segment<F: Folder>(
     base: Lsn,
 ) -> Result<Segment<F::File>, FeedFault>
     ensures fresh { IfOk result (λ s. IsFresh F.File.seen F.File.may_leave s) }
+    ensures told { IfOk result (λ s. F.File.seen s.disk ≡ head_of names.now base) }
     ensures base { IfOk result (λ s. s.base ≡ base) }
     ensures free { IfOk result (λ s. s.is_stuck ≡ false) }
 {

@@ -4,8 +4,8 @@ use Rattle.pgfeed.specs.Texts.{closing_line}
 use Rattle.pgfeed.proofs.Calls.{finished}
 use Rattle.pgfeed.proofs.segment.Segment.finish.Goals as goal
 
-pub returns-clause-finished : goal.returns-clause-finished
-returns-clause-finished g c = λ clean es kept.
+pub returns-in-Ok-sync-clause-finished : goal.returns-in-Ok-sync-clause-finished
+returns-in-Ok-sync-clause-finished g c = λ clean es kept.
     let wrote = c.in-Ok-write_at.ensures in
     let synced = c.in-Ok-sync.ensures in
     let was_clean = wrote.clean (synced.clean clean) in
