@@ -10,7 +10,7 @@ use Rattle.pglogical.specs.declared.item.RelationDef.{RelationDef}
 use Rattle.pglogical.specs.declared.item.OldKind.TheVariants.{Key, Full}
 use Rattle.pgledger.specs.declared.image.Image.TheVariants.{Inserted, Updated, Deleted, Truncated, Missed}
 use Rattle.pgledger.specs.Entries.{Entry}
-use Rattle.pgfeed.specs.Texts.{body_text, entry_text, key_data, segment_head, table_front, table_rest}
+use Rattle.pgfeed.specs.Texts.{body_text, closing_object, entry_text, key_data, segment_head, table_front, table_rest}
 
 abbrev stock : RelationDef
 stock = record {
@@ -179,3 +179,8 @@ late_text = refl
 head : segment_head 622870584 (codes "7231") (codes "pu\"b") (codes "copy") ≡ codes "{\"feed\":1,\"base\":\"0/25204038\",\"system\":\"7231\",\"database\":\"pu\\\"b\",\"slot\":\"copy\"}                                                                                                                                                                                                                                                                                                                                                                                                                                                                                                                                                                                                                                                                                                                                                                                                                                                                                                                                                                                \n"
 unfolding lsn_text half_text digits escape_byte
 head = refl
+
+-- what ends a segment
+closing : closing_object 768 ≡ codes "{\"last\":\"0/300\"}"
+unfolding lsn_text half_text digits
+closing = refl

@@ -7,7 +7,7 @@ use Rattle.pgledger.specs.Entries.{Entry, last_end}
 use Rattle.pgfeed.specs.declared.segment.Segment.{Segment}
 use Rattle.pgfeed.specs.Fits.{FitsEntry}
 use Rattle.pgfeed.specs.Reading.{AreEntries}
-use Rattle.pgfeed.specs.Segments.{IsCut, IsFound, KeepsEntries, Lasts, Reopens, WritesBehind}
+use Rattle.pgfeed.specs.Segments.{IsCut, IsFound, Lasts, Reopens, WritesBehind}
 use Rattle.pgfeed.specs.Texts.{entry_text}
 use Rattle.pgfeed.specs.Feeds.{Goes, IsFresh, IsLeft, IsOpened, KeepsAll, KeepsOn, LastsUpTo, OpensAt, OpensSome}
 use Rattle.std.proofs.Math.Nat.{eq-or-lt_of_le}

@@ -1,10 +1,11 @@
 //! What a reader may rest on, as contracts of functions that do nothing.
 
-ghost use Rattle.std.specs.Prelude.{◌≡◌, ℕ, Option, length};
+ghost use Rattle.std.specs.Prelude.{◌≡◌, ◌<◌, ◌^◌, ◌++◌, ℕ, List, Option, length};
 ghost use Rattle.pgapply.specs.declared.commit.About.{About};
 ghost use Rattle.pgfeed.specs.Fits.{FitsLine};
-ghost use Rattle.pgfeed.specs.Reading.{LinesLeadOver, TextIsReadInOneWay};
-ghost use Rattle.pgfeed.specs.Texts.{commit_line};
+ghost use Rattle.pgfeed.specs.Reading.{BeginsWith, LinesLeadOver, TextIsReadInOneWay};
+ghost use Rattle.pgfeed.specs.Texts.{closing_line, commit_line};
+ghost use Rattle.pgfeed.specs.declared.mark.Mark.{Mark};
 ghost use Rattle.pgfeed.specs.Whole.{LinesTellWholeRows};
 
 /// The line of a commit has 256 bytes, whatever numbers of 64 bits it tells.
@@ -12,6 +13,13 @@ pub fn lines_of_commits_fit()
     ensures { (end prev bytes changes : ℕ) (about : Option About) →
         FitsLine end prev bytes changes about →
         length (commit_line end prev bytes changes about) ≡ 256 }
+{}
+
+/// The line that ends a segment has 256 bytes too, and doesn't begin as that of a commit.
+pub fn lines_that_end_segments()
+    ensures size { (last : ℕ) → last < 2 ^ 64 → length (closing_line last) ≡ 256 }
+    ensures apart { (last at : ℕ) (mark : Mark) (rest : List ℕ) →
+        BeginsWith at mark (closing_line last ++ rest) → ⊥ }
 {}
 
 /// The lines of commits lead from one entry to the next, whatever follows the entries. So who reads

@@ -13,12 +13,19 @@
 //! {"op":"c","oid":16384,"n":0,"before":null,"after":["A-1","5"]}
 //! ```
 //!
-//! [`Segment`] is a `pgledger::Ledger` over one file, so a store beside it keeps a feed:
+//! A segment that has ended has one line more, also of 256 bytes, that tells where its last commit
+//! ends. The next segment begins there.
 //!
 //! ```text
-//! let segment = Segment::create(alloc, file, base, system, database, slot)?;
-//! let segment = Segment::open(alloc, file, base, store.position())?;      // cuts what lies behind
-//! let mut store = Recorded::new(store, segment);
+//! {"last":"0/300"}
+//! ```
+//!
+//! [`Feed`] is a `pgledger::Ledger` over a [`Folder`] of segments, and [`Segment`] is one over a
+//! single file. So a store beside it keeps a feed:
+//!
+//! ```text
+//! let feed = Feed::open(alloc, folder, &origin, limits, store.position())?; // cuts what lies behind
+//! let mut store = Recorded::new(store, feed);
 //! ```
 //!
 //! PostgreSQL documentation, Logical Replication Message Formats; RFC 8259.

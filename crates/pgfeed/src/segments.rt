@@ -172,7 +172,13 @@ fn open_in<F: Folder>(
 {
     let names = Names::of(alloc, origin)?;
     // the head of a segment has room for the names wherever it begins
-    let _head = segment_head(alloc, Lsn(u64::MAX), origin.system, origin.database, origin.slot)?;
+    let _head = segment_head(
+        alloc,
+        Lsn(u64::MAX),
+        origin.system,
+        origin.database,
+        origin.slot,
+    )?;
     let (segment, begins) = last_segment(alloc, folder, &names, position)?;
     Ok((segment, begins, names))
 }

@@ -1,4 +1,4 @@
-use Rattle.std.proofs.Common.{ℕ, List, ◌<◌, ◌++◌, ◌≡◌, length, length-append, arith, string_bytes, ap, rules}
+use Rattle.std.proofs.Common.{◌≡◌, length, arith, string_bytes, ap, rules}
 use Rattle.pgfeed.specs.Cutting.Widths.{closing_length}
 use Rattle.pgfeed.specs.Texts.{closing_object}
 use Rattle.pgfeed.proofs.heads.closing_line.Goals as goal

@@ -1,4 +1,4 @@
-use Rattle.std.proofs.Common.{◌≡◌, ℕ, List, ap, ◌∙◌, string_bytes}
+use Rattle.std.proofs.Common.{◌≡◌, ℕ, List, ap, ◌∙◌}
 use Rattle.pgfeed.specs.Texts.{segment_head}
 use Rattle.pgfeed.proofs.segments.create_in.Goals as goal
 

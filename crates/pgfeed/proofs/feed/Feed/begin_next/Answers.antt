@@ -1,8 +1,6 @@
-use Rattle.std.proofs.Common.{◌≡◌, arith, sym, subst, ◌∙◌}
-use Rattle.pgfeed.specs.declared.segment.Segment.{Segment}
-use Rattle.pgfeed.specs.Feeds.{Goes, IsFresh, KeepsOn}
-use Rattle.pgfeed.specs.Segments.{WritesBehind}
-use Rattle.pgfeed.proofs.Following.{Writes, goes_behind, goes_next, keeps_behind, keeps_next, writes_line}
+use Rattle.std.proofs.Common.{◌≡◌, sym, subst, ◌∙◌}
+use Rattle.pgfeed.specs.Feeds.{Goes, KeepsOn}
+use Rattle.pgfeed.proofs.Following.{goes_behind, goes_next, keeps_behind, keeps_next, writes_line}
 use Rattle.pgfeed.proofs.feed.Feed.begin_next.Goals as goal
 
 pub returns-in_err-finish-clause-goes : goal.returns-in_err-finish-clause-goes

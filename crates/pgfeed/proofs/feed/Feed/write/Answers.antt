@@ -1,7 +1,6 @@
 use Rattle.std.proofs.Common.{◌≡◌, ◌<◌, ◌+◌, ℕ, List, ap, length, sym, subst, ◌∙◌, arith}
 use Rattle.sqlite_disk.specs.Disk.{Holds}
 use Rattle.pgledger.specs.Entries.{Entry, entry_of}
-use Rattle.pgfeed.specs.declared.segment.Segment.{Segment}
 use Rattle.pgfeed.specs.Fits.{FitsEntry}
 use Rattle.pgfeed.specs.Texts.{entry_text}
 use Rattle.pgfeed.specs.Cutting.Walking.{entry_length}

@@ -1,6 +1,5 @@
-use Rattle.std.proofs.Common.{refl, arith}
-use Rattle.pgfeed.specs.Feeds.{Goes}
-use Rattle.pgfeed.proofs.Following.{Writes, all_lasts, goes_behind, writes_nothing}
+use Rattle.std.proofs.Common.{refl}
+use Rattle.pgfeed.proofs.Following.{all_lasts, goes_behind, writes_nothing}
 use Rattle.pgfeed.proofs.feed.FeedLedger.sync.Goals as goal
 
 pub returns-in_err-flush-clause-rests : goal.returns-in_err-flush-clause-rests

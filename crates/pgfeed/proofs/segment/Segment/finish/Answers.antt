@@ -1,4 +1,4 @@
-use Rattle.std.proofs.Common.{◌≡◌, ℕ, List, length, ap, subst, sym, ◌∙◌, arith}
+use Rattle.std.proofs.Common.{◌≡◌, ℕ, List, length, subst, sym, ◌∙◌, arith}
 use Rattle.sqlite_disk.specs.Disk.{Only, Torn}
 use Rattle.pgfeed.specs.Texts.{closing_line}
 use Rattle.pgfeed.proofs.Calls.{finished}
