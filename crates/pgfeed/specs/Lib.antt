@@ -1,0 +1,8 @@
+pub mod Texts
+pub mod Fits
+pub mod Reading
+pub mod Segments
+pub mod Whole
+pub mod Naming
+pub mod Feeds
+pub mod Cutting

@@ -1,0 +1,328 @@
+//! A feed: segments that follow each other.
+
+ghost use Rattle.std.specs.Prelude.{◌≡◌, ◌⊎◌, ◌↔◌, ◌++◌, ◌∷◌, [], List, true, false};
+ghost use Rattle.std.specs.Prelude.{IsTrue, OnOk, OnErr, IfErr, length};
+ghost use Rattle.pgapply.specs.Stored.{IsOwnFault};
+ghost use Rattle.pgledger.specs.Entries.{Entry, entry_of};
+ghost use Rattle.pgledger.specs.Ledgers.{Appends, AppendsAtMost, Keeps, Rests, Syncs};
+ghost use Rattle.pgfeed.specs.Feeds.{Goes, KeepsAll, KeepsOn, LastsUpTo, MayEnd, OpensAt};
+ghost use Rattle.pgfeed.specs.Feeds.{IsFull, IsLate, IsOver};
+ghost use Rattle.pgfeed.specs.Naming.{head_of};
+ghost use Rattle.pgfeed.specs.Texts.{entry_text};
+
+use crate::fault::FeedFault;
+use crate::folder::{Folder, Names, SegmentLimits};
+use crate::segment::Segment;
+use crate::segments::begin_segment;
+use pgapply::{About, Commit, StoreFault};
+use pgledger::{Image, Ledger};
+use pglsn::Lsn;
+use std::alloc::Global;
+
+/// A feed: a ledger over a folder of segments that follow each other. The last one is open; the
+/// others have ended, each with a line that tells the LSN at which it ends and the next one begins.
+///
+/// A segment ends before a commit that it doesn't take by its limits. It ends only where nothing was
+/// appended since the last sync, so that the position of the store beside it, at which a crash opens
+/// the feed again, is never below where the open segment begins. So commits that the store settles
+/// at once stand in one segment, also where their bytes pass its limits.
+///
+/// The time of a commit is compared with that of the first commit that was appended to the segment
+/// since the feed was opened, of those whose time is known.
+#[derive(Drop)]
+pub struct Feed<F: Folder + Drop> {
+    alloc: Global,
+    folder: F,
+    segment: Segment<F::File>,
+    begins: Lsn,
+    synced: Lsn,
+    first: Option<i64>,
+    names: Names,
+    limits: SegmentLimits,
+}
+
+/// What a store is told of a segment that isn't made.
+fn store_fault(fault: FeedFault) -> StoreFault
+    ensures { IsOwnFault result }
+{
+    match fault {
+        FeedFault::Memory => StoreFault::Memory,
+        _ => StoreFault::Refused,
+    }
+}
+
+impl<F: Folder + Drop> Feed<F> {
+    /// A feed whose open segment is this one, of which all is synced.
+    pub(crate) fn of(
+        alloc: Global,
+        folder: F,
+        segment: Segment<F::File>,
+        begins: Lsn,
+        names: Names,
+        limits: SegmentLimits,
+    ) -> Feed<F>
+        ensures segment { result.segment ≡ segment }
+        ensures begins { result.begins ≡ begins }
+        ensures synced { result.synced ≡ segment.last }
+    {
+        let synced = segment.last();
+        Feed {
+            alloc,
+            folder,
+            segment,
+            begins,
+            synced,
+            first: None,
+            names,
+            limits,
+        }
+    }
+
+    /// The LSN at which its first segment begins, as it was opened.
+    pub fn begins(&self) -> Lsn
+        ensures { result ≡ self.now.begins }
+    {
+        self.begins
+    }
+
+    /// The LSN at which its open segment begins.
+    pub fn base(&self) -> Lsn
+        ensures { result ≡ self.now.segment.base }
+    {
+        self.segment.base()
+    }
+
+    /// The LSN at which its last commit ends, or at which it begins.
+    pub fn last(&self) -> Lsn
+        ensures { result ≡ self.now.segment.last }
+    {
+        self.segment.last()
+    }
+
+    /// The folder, and the file of the open segment.
+    pub fn into_parts(self) -> (F, F::File)
+        ensures { result ≡ (self.folder, self.segment.disk) }
+    {
+        (self.folder, self.segment.into_disk())
+    }
+
+    /// Whether the open segment has a commit, and no room for so many bytes more.
+    fn is_full(&self, bytes: usize) -> bool
+        ensures { IsTrue result ↔ IsFull self.now.limits.bytes self.now.segment bytes }
+    {
+        let room = self.limits.bytes.saturating_sub(self.segment.size() as u64);
+        self.segment.base() < self.segment.last() && room < bytes as u64
+    }
+
+    /// Whether a commit comes too late for the open segment.
+    fn is_late(&self, about: Option<About>) -> bool
+        ensures { IsTrue result ↔ IsLate self.now.limits.micros self.now.first about }
+    {
+        let (Some(first), Some(about)) = (self.first, about) else {
+            return false;
+        };
+        first <= about.time && self.limits.micros <= about.time.abs_diff(first)
+    }
+
+    /// Whether the open segment ends before a commit whose text has so many bytes.
+    fn ends_before(&self, about: Option<About>, bytes: usize) -> bool
+        ensures { IsTrue result ↔ ((self.now.synced ≡ self.now.segment.last)
+            × IsOver self.now.limits.bytes self.now.limits.micros self.now.first
+            self.now.segment about bytes) }
+    {
+        self.synced == self.segment.last() && (self.is_full(bytes) || self.is_late(about))
+    }
+
+    /// Ends the open segment, and begins the next one where it ends.
+    fn begin_next(&mut self) -> Result<(), StoreFault>
+        requires { self.old.synced ≡ self.old.segment.last }
+        ensures goes { Goes F.File.seen F.File.may_leave self.old.segment self.new.segment }
+        ensures kept { KeepsOn F.File.seen self.old.begins self.old.segment self.new.segment }
+        ensures ends { MayEnd F.File.seen F.File.may_leave F.File.is_clean self.old.synced
+            self.old.segment self.new.segment }
+        ensures next { OnOk result (self.new.segment.base ≡ self.old.segment.last) }
+        ensures told { OnOk result (F.File.seen self.new.segment.disk
+            ≡ head_of self.old.names self.old.segment.last) }
+        ensures last { self.new.segment.last ≡ self.old.segment.last }
+        ensures free { OnOk result (self.new.segment.is_stuck ≡ false) }
+        ensures begins { self.new.begins ≡ self.old.begins }
+        ensures synced { self.new.synced ≡ self.old.synced }
+        ensures fault { IfErr result IsOwnFault }
+    {
+        let base = self.segment.last();
+        self.segment.finish()?;
+        let segment = match begin_segment(self.alloc, &mut self.folder, &self.names, base) {
+            Ok(segment) => segment,
+            Err(fault) => return Err(store_fault(fault)),
+        };
+        let ended = std::mem::replace(&mut self.segment, segment);
+        self.folder.close(ended.base(), ended.into_disk());
+        self.first = None;
+        Ok(())
+    }
+
+    /// Goes on to the next segment where the open one ends before a commit whose text has so many
+    /// bytes.
+    fn make_room(&mut self, about: Option<About>, bytes: usize) -> Result<(), StoreFault>
+        ensures goes { Goes F.File.seen F.File.may_leave self.old.segment self.new.segment }
+        ensures kept { KeepsOn F.File.seen self.old.begins self.old.segment self.new.segment }
+        ensures ends { MayEnd F.File.seen F.File.may_leave F.File.is_clean self.old.synced
+            self.old.segment self.new.segment }
+        ensures over { (self.new.segment.base ≡ self.old.segment.base) ⊎ IsOver self.old.limits.bytes self.old.limits.micros self.old.first
+            self.old.segment about bytes }
+        ensures next { OnOk result (self.old.synced ≡ self.old.segment.last →
+            IsOver self.old.limits.bytes self.old.limits.micros self.old.first
+            self.old.segment about bytes →
+            self.new.segment.base ≡ self.old.segment.last) }
+        ensures last { self.new.segment.last ≡ self.old.segment.last }
+        ensures free { self.old.segment.is_stuck ≡ false →
+            OnOk result (self.new.segment.is_stuck ≡ false) }
+        ensures begins { self.new.begins ≡ self.old.begins }
+        ensures synced { self.new.synced ≡ self.old.synced }
+        ensures fault { IfErr result IsOwnFault }
+    {
+        if self.ends_before(about, bytes) {
+            return self.begin_next();
+        }
+        Ok(())
+    }
+
+    /// Writes the text of a commit behind the last one, or into the next segment.
+    fn write(&mut self, commit: &Commit<'_, '_>, images: &[Image<'_>]) -> Result<(), StoreFault>
+        ensures goes { Goes F.File.seen F.File.may_leave self.old.segment self.new.segment }
+        ensures appended { OnOk result ((es : List Entry) →
+            KeepsAll F.File.seen self.old.begins self.old.segment es →
+            KeepsAll F.File.seen self.old.begins self.new.segment (es ++ (entry_of commit.now.end
+            commit.now.about commit.now.work.now.changes images.now) ∷ [])) }
+        ensures kept { OnErr result
+            (KeepsOn F.File.seen self.old.begins self.old.segment self.new.segment) }
+        ensures ends { MayEnd F.File.seen F.File.may_leave F.File.is_clean self.old.synced
+            self.old.segment self.new.segment }
+        ensures over { (self.new.segment.base ≡ self.old.segment.base) ⊎ IsOver self.old.limits.bytes self.old.limits.micros self.old.first
+            self.old.segment commit.now.about (length
+            (entry_text self.old.segment.last (entry_of commit.now.end commit.now.about
+            commit.now.work.now.changes images.now))) }
+        ensures next { OnOk result (self.old.synced ≡ self.old.segment.last →
+            IsOver self.old.limits.bytes self.old.limits.micros self.old.first
+            self.old.segment commit.now.about (length
+            (entry_text self.old.segment.last (entry_of commit.now.end commit.now.about
+            commit.now.work.now.changes images.now))) →
+            self.new.segment.base ≡ self.old.segment.last) }
+        ensures free { self.old.segment.is_stuck ≡ false →
+            OnOk result (self.new.segment.is_stuck ≡ false) }
+        ensures begins { self.new.begins ≡ self.old.begins }
+        ensures synced { self.new.synced ≡ self.old.synced }
+        ensures fault { IfErr result IsOwnFault }
+    {
+        let text = self.segment.text(commit, images)?;
+        self.make_room(commit.about, text.len())?;
+        self.segment.put(commit.end, text.as_str())?;
+        self.first = self.first.or(commit.about.map(|about| about.time));
+        Ok(())
+    }
+}
+
+impl<F: Folder + Drop> Ledger for Feed<F> {
+    ghost use Rattle.pgfeed.specs.Feeds.{KeepsAll, LastsUpTo, OpensAt};
+    ghost use Rattle.pgfeed.specs.Cutting.Following.{cut_ledger};
+    ghost use Rattle.pgfeed.specs.Cutting.Opened.{wants_all};
+
+    ghost begins = { λ l. l.begins };
+
+    ghost keeps = { λ l es. KeepsAll F.File.seen l.begins l.segment es };
+
+    ghost outlasts = { λ l p. LastsUpTo F.File.may_leave l.segment p };
+
+    ghost is_stuck = { λ l. l.segment.is_stuck };
+
+    ghost is_wanting = { λ _. true };
+
+    ghost reopens = { λ l p other. (other.begins ≡ l.begins)
+        × OpensAt F.File.seen F.File.may_leave l.segment p other.segment };
+
+    fn is_stuck(&self) -> bool {
+        self.segment.is_stuck()
+    }
+
+    fn wants(&self) -> bool {
+        true
+    }
+
+    /// Appends a commit. Where the open segment ends before it, the next one begins where the last
+    /// commit ends, and all was synced up to there.
+    fn append(&mut self, commit: &Commit<'_, '_>, images: &[Image<'_>]) -> Result<(), StoreFault>
+        ensures ends { MayEnd F.File.seen F.File.may_leave F.File.is_clean self.old.synced
+            self.old.segment self.new.segment }
+        ensures over { (self.new.segment.base ≡ self.old.segment.base) ⊎ IsOver self.old.limits.bytes self.old.limits.micros self.old.first
+            self.old.segment commit.now.about (length
+            (entry_text self.old.segment.last (entry_of commit.now.end commit.now.about
+            commit.now.work.now.changes images.now))) }
+        ensures next { OnOk result (self.old.synced ≡ self.old.segment.last →
+            IsOver self.old.limits.bytes self.old.limits.micros self.old.first
+            self.old.segment commit.now.about (length
+            (entry_text self.old.segment.last (entry_of commit.now.end commit.now.about
+            commit.now.work.now.changes images.now))) →
+            self.new.segment.base ≡ self.old.segment.last) }
+        ensures synced { self.new.synced ≡ self.old.synced }
+        ensures appended { OnOk result (Appends (λ (l : Feed F F.File) es.
+            KeepsAll F.File.seen l.begins l.segment es) (entry_of commit.now.end commit.now.about
+            commit.now.work.now.changes images.now) self.old self.new) }
+        ensures was_free { OnOk result (self.old.segment.is_stuck ≡ false) }
+        ensures free { OnOk result (self.new.segment.is_stuck ≡ false) }
+        ensures refused { OnErr result (AppendsAtMost (λ (l : Feed F F.File) es.
+            KeepsAll F.File.seen l.begins l.segment es) commit.now.end self.old self.new) }
+        ensures stuck { OnErr result (self.new.segment.is_stuck ≡ true) }
+        ensures fault { IfErr result IsOwnFault }
+        ensures rests { Rests (λ (l : Feed F F.File). l.begins) (λ (l : Feed F F.File). true)
+            (λ (l : Feed F F.File) p. LastsUpTo F.File.may_leave l.segment p)
+            (λ (l : Feed F F.File) p (other : Feed F F.File). (other.begins ≡ l.begins)
+            × OpensAt F.File.seen F.File.may_leave l.segment p other.segment) self.old self.new }
+    {
+        if self.segment.is_stuck() {
+            return Err(StoreFault::Refused);
+        }
+        match self.write(commit, images) {
+            Ok(()) => Ok(()),
+            Err(fault) => {
+                self.segment.stop();
+                Err(fault)
+            }
+        }
+    }
+
+    /// Makes all that was appended outlast a crash.
+    fn sync(&mut self) -> Result<(), StoreFault>
+        ensures up_to { OnOk result (self.new.synced ≡ self.new.segment.last) }
+        ensures stays { OnErr result (self.new.synced ≡ self.old.synced) }
+        ensures base { self.new.segment.base ≡ self.old.segment.base }
+        ensures last { self.new.segment.last ≡ self.old.segment.last }
+        ensures synced { OnOk result (Syncs (λ (l : Feed F F.File) es.
+            KeepsAll F.File.seen l.begins l.segment es) (λ (l : Feed F F.File). l.begins)
+            (λ (l : Feed F F.File) p. LastsUpTo F.File.may_leave l.segment p)
+            self.old self.new) }
+        ensures kept { Keeps (λ (l : Feed F F.File) es.
+            KeepsAll F.File.seen l.begins l.segment es) self.old self.new }
+        ensures was_free { OnOk result (self.old.segment.is_stuck ≡ false) }
+        ensures free { OnOk result (self.new.segment.is_stuck ≡ false) }
+        ensures stuck { OnErr result (self.new.segment.is_stuck ≡ true) }
+        ensures fault { IfErr result IsOwnFault }
+        ensures rests { Rests (λ (l : Feed F F.File). l.begins) (λ (l : Feed F F.File). true)
+            (λ (l : Feed F F.File) p. LastsUpTo F.File.may_leave l.segment p)
+            (λ (l : Feed F F.File) p (other : Feed F F.File). (other.begins ≡ l.begins)
+            × OpensAt F.File.seen F.File.may_leave l.segment p other.segment) self.old self.new }
+    {
+        self.segment.flush()?;
+        self.synced = self.segment.last();
+        Ok(())
+    }
+
+    fn stick(&mut self) {
+        self.segment.stop();
+    }
+
+    ghost cuts = { λ old new p told later opened kept ends lasting above. cut_ledger F.File.seen
+        F.File.may_leave F.File.seen_may_stay old.begins new.begins old.segment p new.segment told
+        later opened kept ends lasting };
+
+    ghost unasked = { λ l no es. wants_all no };
+}

@@ -1,0 +1,281 @@
+//! A segment of a feed in a file.
+
+ghost use Rattle.std.specs.Prelude.{◌≡◌, ◌<◌, ◌+◌, ℕ, List, length, false, true, string_bytes};
+ghost use Rattle.std.specs.Prelude.{IsTrue, IfOk, OnOk, OnErr, IfErr};
+ghost use Rattle.pgapply.specs.Stored.{IsOwnFault};
+ghost use Rattle.pgapply.specs.declared.rows.StoreFault.TheVariants.{Refused};
+ghost use Rattle.pgledger.specs.Entries.{Entry, entry_of};
+ghost use Rattle.sqlite_disk.specs.Disk.{Holds, Only};
+ghost use Rattle.pgfeed.specs.Fits.{FitsEntry};
+ghost use Rattle.pgfeed.specs.Segments.{IsFinished, KeepsEntries, Lasts, WritesBehind};
+ghost use Rattle.pgfeed.specs.Texts.{entry_text};
+
+use crate::entries::entry_text;
+use crate::heads::closing_line;
+use pgapply::{Commit, StoreFault};
+use pgledger::{Image, Ledger};
+use pglsn::Lsn;
+use sqlite_disk::Disk;
+use std::alloc::Global;
+
+/// A segment of a feed: a ledger over one file, which has a head, and then the text of each commit.
+///
+/// A write that fails may leave a rest behind the commits. It is cut off where the segment is opened
+/// anew, at the position of the store.
+#[derive(Drop)]
+pub struct Segment<D: Disk + Drop> {
+    alloc: Global,
+    disk: D,
+    base: Lsn,
+    last: Lsn,
+    size: usize,
+    is_stuck: bool,
+}
+
+impl<D: Disk + Drop> Segment<D> {
+    pub(crate) fn of(alloc: Global, disk: D, base: Lsn, last: Lsn, size: usize) -> Segment<D>
+        ensures disk { result.disk ≡ disk }
+        ensures base { result.base ≡ base }
+        ensures last { result.last ≡ last }
+        ensures size { result.size ≡ size }
+        ensures free { result.is_stuck ≡ false }
+    {
+        Segment {
+            alloc,
+            disk,
+            base,
+            last,
+            size,
+            is_stuck: false,
+        }
+    }
+
+    /// The LSN at which it begins.
+    pub fn base(&self) -> Lsn
+        ensures { result ≡ self.now.base }
+    {
+        self.base
+    }
+
+    /// The LSN at which its last commit ends, or at which it begins.
+    pub fn last(&self) -> Lsn
+        ensures { result ≡ self.now.last }
+    {
+        self.last
+    }
+
+    /// How many bytes its head and its commits have.
+    pub fn size(&self) -> usize
+        ensures { result ≡ self.now.size }
+    {
+        self.size
+    }
+
+    /// The file.
+    pub fn into_disk(self) -> D
+        ensures { result ≡ self.disk }
+    {
+        self.disk
+    }
+
+    /// The text of a commit behind the last one.
+    ///
+    /// # Errors
+    ///
+    /// `Refused` where it doesn't end after the last one, and `Memory`.
+    pub(crate) fn text(
+        &self,
+        commit: &Commit<'_, '_>,
+        images: &[Image<'_>],
+    ) -> Result<String, StoreFault>
+        ensures above { OnOk result (self.now.last < commit.now.end) }
+        ensures fits { OnOk result (FitsEntry self.now.last (entry_of commit.now.end
+            commit.now.about commit.now.work.now.changes images.now)) }
+        ensures text { IfOk result (λ text. string_bytes text ≡ entry_text self.now.last
+            (entry_of commit.now.end commit.now.about commit.now.work.now.changes images.now)) }
+        ensures fault { IfErr result IsOwnFault }
+    {
+        if commit.end <= self.last {
+            return Err(StoreFault::Refused);
+        }
+        Ok(entry_text(self.alloc, self.last, commit, images)?)
+    }
+
+    /// Writes the text of a commit, which ends there, behind the last one.
+    pub(crate) fn put(&mut self, end: Lsn, text: &str) -> Result<(), StoreFault>
+        ensures written { OnOk result (0 < length text.now →
+            Holds (D.seen self.new.disk) self.old.size text.now) }
+        ensures size { OnOk result (self.new.size ≡ self.old.size + length text.now) }
+        ensures last { OnOk result (self.new.last ≡ end) }
+        ensures undone { OnErr result ((self.new.size ≡ self.old.size)
+            × (self.new.last ≡ self.old.last)) }
+        ensures behind { WritesBehind self.old.size (D.seen self.old.disk) (D.seen self.new.disk)
+            (D.may_leave self.old.disk) (D.may_leave self.new.disk) }
+        ensures base { self.new.base ≡ self.old.base }
+        ensures stuck { self.new.is_stuck ≡ self.old.is_stuck }
+        ensures fault { IfErr result (λ fault. fault ≡ Refused) }
+    {
+        if !self.disk.may_be_used() {
+            return Err(StoreFault::Refused);
+        }
+        let Some(size) = self.size.checked_add(text.len()) else {
+            return Err(StoreFault::Refused);
+        };
+        let Ok(()) = self.disk.write_at(self.size, text.as_bytes()) else {
+            return Err(StoreFault::Refused);
+        };
+        self.size = size;
+        self.last = end;
+        Ok(())
+    }
+
+    /// Writes the text of a commit behind the last one.
+    fn write(&mut self, commit: &Commit<'_, '_>, images: &[Image<'_>]) -> Result<(), StoreFault>
+        ensures above { OnOk result (self.old.last < commit.now.end) }
+        ensures fits { OnOk result (FitsEntry self.old.last (entry_of commit.now.end
+            commit.now.about commit.now.work.now.changes images.now)) }
+        ensures text { OnOk result (Holds (D.seen self.new.disk) self.old.size (entry_text
+            self.old.last (entry_of commit.now.end commit.now.about
+            commit.now.work.now.changes images.now))) }
+        ensures size { OnOk result (self.new.size ≡ self.old.size + length (entry_text
+            self.old.last (entry_of commit.now.end commit.now.about
+            commit.now.work.now.changes images.now))) }
+        ensures last { OnOk result (self.new.last ≡ commit.now.end) }
+        ensures undone { OnErr result ((self.new.size ≡ self.old.size)
+            × (self.new.last ≡ self.old.last)) }
+        ensures behind { WritesBehind self.old.size (D.seen self.old.disk) (D.seen self.new.disk)
+            (D.may_leave self.old.disk) (D.may_leave self.new.disk) }
+        ensures base { self.new.base ≡ self.old.base }
+        ensures stuck { self.new.is_stuck ≡ self.old.is_stuck }
+        ensures fault { IfErr result IsOwnFault }
+    {
+        let text = self.text(commit, images)?;
+        self.put(commit.end, text.as_str())
+    }
+
+    /// Makes all that was written outlast a crash.
+    pub(crate) fn flush(&mut self) -> Result<(), StoreFault>
+        ensures durable { OnOk result (Only (D.seen self.old.disk) (D.may_leave self.new.disk)) }
+        ensures seen { D.seen self.new.disk ≡ D.seen self.old.disk }
+        ensures crash { (c : List ℕ) → D.may_leave self.new.disk c → D.may_leave self.old.disk c }
+        ensures base { self.new.base ≡ self.old.base }
+        ensures last { self.new.last ≡ self.old.last }
+        ensures size { self.new.size ≡ self.old.size }
+        ensures was_free { OnOk result (self.old.is_stuck ≡ false) }
+        ensures free { OnOk result (self.new.is_stuck ≡ false) }
+        ensures stuck { OnErr result (self.new.is_stuck ≡ true) }
+        ensures fault { IfErr result (λ fault. fault ≡ Refused) }
+    {
+        if self.is_stuck || !self.disk.may_be_used() {
+            self.is_stuck = true;
+            return Err(StoreFault::Refused);
+        }
+        let Ok(()) = self.disk.sync() else {
+            self.is_stuck = true;
+            return Err(StoreFault::Refused);
+        };
+        Ok(())
+    }
+
+    /// Takes nothing more from now on.
+    pub(crate) fn stop(&mut self)
+        ensures { self.new ≡ record self.old { is_stuck = true } }
+    {
+        self.is_stuck = true;
+    }
+
+    /// Ends the segment: writes the line that tells where its last commit ends, and syncs it. The
+    /// segment takes nothing more, also where this fails.
+    ///
+    /// # Errors
+    ///
+    /// `Refused` where a call of the file fails, or it has more than the head and the commits, and
+    /// `Memory`.
+    pub fn finish(&mut self) -> Result<(), StoreFault>
+        ensures finished { OnOk result (IsTrue (D.is_clean self.new.disk) → (es : List Entry) →
+            KeepsEntries self.old.base self.old.last self.old.size (D.seen self.old.disk) es →
+            IsFinished self.old.base self.old.last es (D.seen self.new.disk)
+            (D.may_leave self.new.disk)) }
+        ensures behind { WritesBehind self.old.size (D.seen self.old.disk) (D.seen self.new.disk)
+            (D.may_leave self.old.disk) (D.may_leave self.new.disk) }
+        ensures base { self.new.base ≡ self.old.base }
+        ensures last { self.new.last ≡ self.old.last }
+        ensures size { self.new.size ≡ self.old.size }
+        ensures stuck { self.new.is_stuck ≡ true }
+        ensures fault { IfErr result IsOwnFault }
+    {
+        self.is_stuck = true;
+        let line = closing_line(self.alloc, self.last)?;
+        if !self.disk.may_be_used() {
+            return Err(StoreFault::Refused);
+        }
+        let Ok(len) = self.disk.len() else {
+            return Err(StoreFault::Refused);
+        };
+        if len != self.size {
+            return Err(StoreFault::Refused);
+        }
+        let Ok(()) = self.disk.write_at(self.size, line.as_bytes()) else {
+            return Err(StoreFault::Refused);
+        };
+        match self.disk.sync() {
+            Ok(()) => Ok(()),
+            Err(_) => Err(StoreFault::Refused),
+        }
+    }
+}
+
+impl<D: Disk + Drop> Ledger for Segment<D> {
+    ghost use Rattle.std.specs.Prelude.{true, false};
+    ghost use Rattle.pgfeed.specs.Segments.{KeepsEntries, Lasts, Reopens};
+    ghost use Rattle.pgfeed.specs.Cutting.Opened.{cut_at, wants_all};
+
+    ghost begins = { λ l. l.base };
+
+    ghost keeps = { λ l es. KeepsEntries l.base l.last l.size (D.Disk.seen l.disk) es };
+
+    ghost outlasts = { λ l p. Lasts l.base l.size (D.Disk.may_leave l.disk) p };
+
+    ghost is_stuck = { λ l. l.is_stuck };
+
+    ghost is_wanting = { λ _. true };
+
+    ghost reopens = { λ l p other. Reopens l.base l.size (D.Disk.may_leave l.disk) p other.base
+        other.last other.size (D.Disk.seen other.disk) (D.Disk.may_leave other.disk) };
+
+    fn is_stuck(&self) -> bool {
+        self.is_stuck
+    }
+
+    fn wants(&self) -> bool {
+        true
+    }
+
+    fn append(&mut self, commit: &Commit<'_, '_>, images: &[Image<'_>]) -> Result<(), StoreFault> {
+        if self.is_stuck {
+            return Err(StoreFault::Refused);
+        }
+        match self.write(commit, images) {
+            Ok(()) => Ok(()),
+            Err(fault) => {
+                self.is_stuck = true;
+                Err(fault)
+            }
+        }
+    }
+
+    fn sync(&mut self) -> Result<(), StoreFault> {
+        self.flush()
+    }
+
+    fn stick(&mut self) {
+        self.is_stuck = true;
+    }
+
+    ghost cuts = { λ old new p told later opened kept ends lasting above. cut_at old.base old.last
+        old.size p new.base new.last new.size (D.Disk.seen old.disk) (D.Disk.seen new.disk)
+        (D.Disk.may_leave old.disk) (D.Disk.may_leave new.disk) told later
+        (D.Disk.seen_may_stay old.disk) opened kept ends lasting };
+
+    ghost unasked = { λ l no es. wants_all no };
+}
