@@ -9,7 +9,7 @@ ghost use Rattle.pgjson.specs.Messages.{prior_data};
 ghost use Rattle.pgfeed.specs.Texts.{change_front, change_line, image_line, missed_line, row_data};
 ghost use Rattle.pgfeed.specs.Texts.{sent_op, sent_rows, sent_text};
 
-use crate::json::{cells_text, old_text};
+use crate::values::{cells_text, old_text};
 use pgledger::Image;
 use pglogical::OldKind;
 use pgtuple::TupleRef;

@@ -8,7 +8,7 @@ ghost use Rattle.pgfeed.specs.Texts.{about_text, closing_line, commit_front, com
 ghost use Rattle.pgfeed.specs.Texts.{segment_front, segment_head, segment_object, unix_micros};
 
 use crate::fault::FeedFault;
-use crate::json::quoted;
+use crate::values::quoted;
 use pgapply::About;
 use pglsn::Lsn;
 use std::alloc::{AllocError, Global};

@@ -37,13 +37,13 @@ pub mod fault;
 mod feed;
 mod folder;
 mod heads;
-mod json;
 pub mod laws;
 pub mod mark;
 mod opening;
 mod segment;
 mod segments;
 mod tables;
+mod values;
 
 pub use entries::entry_text;
 pub use fault::FeedFault;

@@ -10,7 +10,7 @@ ghost use Rattle.json.specs.Print.{quoted};
 ghost use Rattle.pgapply.specs.Dump.{shown_namespace};
 ghost use Rattle.pgfeed.specs.Texts.{column_data, columns_data, is_told, key_data, key_names, table_front, table_line, table_rest};
 
-use crate::json::{letter_text, quoted};
+use crate::values::{letter_text, quoted};
 use pglogical::{Column, RelationDef};
 use pgrel::keyed;
 use serde_json::{Value, json};
