@@ -1,0 +1,99 @@
+-- What the calls of a segment leave.
+use Rattle.std.proofs.Common.{◌≡◌, ◌<◌, ◌≤◌, ◌+◌, ℕ, List, [], ◌∷◌, ◌++◌, length, append-nil, ap, ◌^◌, refl, sym, ◌∙◌, subst, arith}
+use Rattle.sqlite_disk.specs.Disk.{Holds, Only, Torn}
+use Rattle.pgledger.specs.Entries.{Entry, last_end}
+use Rattle.pgfeed.specs.Segments.{IsCut, IsFound, IsHead, KeepsEntries, Lasts, Reopens, WritesBehind}
+use Rattle.pgfeed.specs.Texts.{entries_text, entry_text, segment_head}
+use Rattle.pgfeed.specs.Fits.{FitsEntry}
+use Rattle.pgfeed.specs.Cutting.Kept.{kept_behind, kept_front, kept_more}
+use Rattle.pgfeed.specs.Cutting.Walking.{no_entry}
+use Rattle.pgfeed.specs.Cutting.Opened.{lasts_behind, reopens_before}
+
+torn_same : (at : ℕ) (file : List ℕ) → Torn at 0 file file
+torn_same at file = record { no_shorter = omega arith; no_longer = omega arith; below = λ i lt less. refl; above = λ i lt more. refl }
+
+-- nothing is written, and a crash leaves nothing else
+pub writes_none : (size : ℕ) (file : List ℕ) (before after : List ℕ → Type 0) → ((c : List ℕ) → after c → before c) → WritesBehind size file file before after
+writes_none size file before after less = (0, torn_same size file, λ c left. (c, less c left, torn_same size c))
+
+pub lasts_more : (base new_base size more place : ℕ) (old new : List ℕ) (before after : List ℕ → Type 0) → new_base ≡ base → size ≤ more → WritesBehind size old new before after → Lasts base size before place
+    → Lasts new_base more after place
+lasts_more base new_base size more place old new before after same up writes lasting =
+    subst (λ b. Lasts b more after place) (sym same) (lasts_behind base size more place old new before after up writes lasting)
+
+pub reopens_less : (base new_base size more place other_base other_last other_size : ℕ) (old new file : List ℕ) (before after outcomes : List ℕ → Type 0) → new_base ≡ base → size ≤ more
+    → WritesBehind size old new before after → Reopens new_base more after place other_base other_last other_size file outcomes → Reopens base size before place other_base other_last other_size file outcomes
+reopens_less base new_base size more place other_base other_last other_size old new file before after outcomes same up writes opened =
+    reopens_before base size more place other_base other_last other_size old new file before after outcomes up writes (subst (λ b. Reopens b more after place other_base other_last other_size file outcomes) same opened)
+
+-- what is synced lasts
+pub synced_lasts : (base last size : ℕ) (file : List ℕ) (after : List ℕ → Type 0) (es : List Entry) → KeepsEntries base last size file es → Only file after → Lasts base size after (last_end base es)
+synced_lasts base last size file after es k only =
+    let front = kept_front base last size file es k in (
+      k.head ++ entries_text base es,
+      record {
+        is_front = record { head = k.head; told = es; is_head = k.is_head; entries = k.entries; ends = refl; front_is = refl };
+        within = omega (arith, front.1);
+        each = λ c left. (k.rest, only c left ∙ front.0);
+      },
+    )
+
+-- an entry more, or as many where nothing is known of the write
+pub appended : (base new_base last new_last size more : ℕ) (old new : List ℕ) (before after : List ℕ → Type 0) (e : Entry) → new_base ≡ base → new_last ≡ e.end → more ≡ size + length (entry_text last e)
+    → last < e.end → FitsEntry last e → Holds new size (entry_text last e) → WritesBehind size old new before after
+    → (es : List Entry) → KeepsEntries base last size old es → KeepsEntries new_base new_last more new (es ++ e ∷ [])
+appended base new_base last new_last size more old new before after e same ends long above fits holds writes es k =
+    subst (λ b. KeepsEntries b new_last more new (es ++ e ∷ [])) (sym same) (subst (λ l. KeepsEntries base l more new (es ++ e ∷ [])) (sym ends)
+    (kept_more base last size more writes.0 old new es e k writes.1 holds above fits long))
+
+pub untold : (base new_base last new_last size more : ℕ) (old new : List ℕ) (before after : List ℕ → Type 0) → new_base ≡ base → more ≡ size → new_last ≡ last → WritesBehind size old new before after
+    → (es : List Entry) → KeepsEntries base last size old es → KeepsEntries new_base new_last more new es
+untold base new_base last new_last size more old new before after same stays ends writes es k =
+    subst (λ b. KeepsEntries b new_last more new es) (sym same) (subst (λ l. KeepsEntries base l more new es) (sym ends)
+    (subst (λ n. KeepsEntries base last n new es) (sym stays) (kept_behind base last size writes.0 old new es k writes.1)))
+
+-- a head alone
+head_of : (base : ℕ) (head system database slot : List ℕ) → head ≡ segment_head base system database slot → length head ≡ 1024 → base < 2 ^ 64 → IsHead base head
+head_of base head system database slot is size fits = record { system = system; database = database; slot = slot; head_is = is; size = size; base_fits = fits }
+
+pub head_keeps : (base b l n : ℕ) (head system database slot file : List ℕ) → head ≡ segment_head base system database slot → length head ≡ 1024 → base < 2 ^ 64 → b ≡ base → l ≡ base → n ≡ 1024 → file ≡ head
+    → KeepsEntries b l n file []
+head_keeps base b l n head system database slot file is size fits begins ends long whole = record {
+  head = head;
+  rest = [];
+  is_head = subst (λ at. IsHead at head) (sym begins) (head_of base head system database slot is size fits);
+  file_is = whole ∙ sym (append-nil head) ∙ ap (λ xs. head ++ xs) (sym (append-nil (entries_text b []) ∙ no_entry b));
+  size_is = omega (arith, ap length (no_entry b));
+  entries = tt;
+  last_is = ends ∙ sym begins;
+}
+
+pub head_lasts : (base b n : ℕ) (head system database slot : List ℕ) (after : List ℕ → Type 0) → head ≡ segment_head base system database slot → length head ≡ 1024 → base < 2 ^ 64 → b ≡ base → n ≡ 1024 → Only head after
+    → Lasts b n after base
+head_lasts base b n head system database slot after is size fits begins long only = (
+  head,
+  record {
+    is_front = record {
+      head = head;
+      told = [];
+      is_head = subst (λ at. IsHead at head) (sym begins) (head_of base head system database slot is size fits);
+      entries = tt;
+      ends = begins;
+      front_is = sym (append-nil head) ∙ ap (λ xs. head ++ xs) (sym (no_entry b));
+    };
+    within = omega arith;
+    each = λ c left. ([], only c left ∙ sym (append-nil head));
+  },
+)
+
+-- whichever segment a crash left this text of, what was found in it and cut reopens that one
+pub left_reopens : (base size place at new_base new_last new_size : ℕ) (text file : List ℕ) (outcomes after : List ℕ → Type 0) → base ≡ at → outcomes text → new_base ≡ at → new_last ≡ place
+    → IsFound at place text new_size → IsCut text new_size file after → Reopens base size outcomes place new_base new_last new_size file after
+left_reopens base size place at new_base new_last new_size text file outcomes after same left begins ends found cut = record {
+  text = text;
+  has = λ front lasting. lasting.each text left;
+  base_is = begins ∙ sym same;
+  last_is = ends;
+  found = subst (λ b. IsFound b place text new_size) (sym same) found;
+  cut = cut;
+}

@@ -1,0 +1,4 @@
+pub mod Examples
+pub mod Calls
+pub mod Bodies
+pub mod Plain

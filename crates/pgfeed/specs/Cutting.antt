@@ -1,0 +1,6 @@
+pub mod Widths
+pub mod Fronts
+pub mod Walking
+pub mod Files
+pub mod Kept
+pub mod Opened

@@ -1,0 +1,6 @@
+pub mod Texts
+pub mod Fits
+pub mod Reading
+pub mod Segments
+pub mod Whole
+pub mod Cutting

@@ -1,0 +1,204 @@
+//! The lines of changes.
+//!
+//! PostgreSQL documentation, Logical Replication Message Formats, Insert, Update, Delete, Truncate.
+
+ghost use Rattle.std.specs.Prelude.{◌≡◌, ◌++◌, OnOk, Some, None, codes, string_bytes};
+ghost use Rattle.serde_json.specs.Written.{compact_text};
+ghost use Rattle.pgjson.specs.Cells.{cells_data};
+ghost use Rattle.pgjson.specs.Messages.{prior_data};
+ghost use Rattle.pgfeed.specs.Texts.{change_front, change_line, image_line, missed_line, row_data};
+ghost use Rattle.pgfeed.specs.Texts.{sent_op, sent_rows, sent_text};
+
+use crate::json::{cells_text, old_text};
+use pgledger::Image;
+use pglogical::OldKind;
+use pgtuple::TupleRef;
+use std::alloc::{AllocError, Global};
+use std::fmt::Write;
+
+/// Appends the cells of a row.
+fn push_row(alloc: Global, row: &TupleRef<'_>, out: &mut String) -> Result<(), AllocError>
+    ensures { OnOk result (string_bytes out.new
+        ≡ string_bytes out.old ++ compact_text (cells_data row.now)) }
+{
+    let cells = cells_text(alloc, row)?;
+    out.push_str(cells.as_str())
+}
+
+/// Appends the cells of a row, or null.
+fn push_row_or_null(
+    alloc: Global,
+    row: &Option<TupleRef<'_>>,
+    out: &mut String,
+) -> Result<(), AllocError>
+    ensures { OnOk result (string_bytes out.new
+        ≡ string_bytes out.old ++ compact_text (row_data row.now)) }
+{
+    match row {
+        None => out.push_str("null"),
+        Some(row) => push_row(alloc, row, out),
+    }
+}
+
+/// Appends an old tuple, or null.
+fn push_prior(
+    alloc: Global,
+    prior: &Option<(OldKind, TupleRef<'_>)>,
+    out: &mut String,
+) -> Result<(), AllocError>
+    ensures { OnOk result (string_bytes out.new
+        ≡ string_bytes out.old ++ compact_text (prior_data prior.now)) }
+{
+    match prior {
+        None => out.push_str("null"),
+        Some((kind, row)) => {
+            let text = old_text(alloc, *kind, row)?;
+            out.push_str(text.as_str())
+        }
+    }
+}
+
+/// Appends how the line of a change begins.
+fn push_front(op: &str, oid: u32, n: usize, out: &mut String) -> Result<(), AllocError>
+    ensures { OnOk result (string_bytes out.new
+        ≡ string_bytes out.old ++ change_front op.now oid n) }
+{
+    write!(out, "{{\"op\":\"{op}\",\"oid\":{oid},\"n\":{n},")
+}
+
+/// Appends the line of a row that comes.
+fn push_inserted(
+    alloc: Global,
+    oid: u32,
+    n: usize,
+    row: &TupleRef<'_>,
+    out: &mut String,
+) -> Result<(), AllocError>
+    ensures { OnOk result (string_bytes out.new
+        ≡ string_bytes out.old ++ change_line (codes "c") oid n None (Some row.now)) }
+{
+    push_front("c", oid, n, out)?;
+    out.push_str("\"before\":null,\"after\":")?;
+    push_row(alloc, row, out)?;
+    out.push_str("}\n")
+}
+
+/// Appends the line of a row that takes another's place.
+fn push_updated(
+    alloc: Global,
+    oid: u32,
+    n: usize,
+    old: &TupleRef<'_>,
+    new: &TupleRef<'_>,
+    out: &mut String,
+) -> Result<(), AllocError>
+    ensures { OnOk result (string_bytes out.new
+        ≡ string_bytes out.old ++ change_line (codes "u") oid n (Some old.now) (Some new.now)) }
+{
+    push_front("u", oid, n, out)?;
+    out.push_str("\"before\":")?;
+    push_row(alloc, old, out)?;
+    out.push_str(",\"after\":")?;
+    push_row(alloc, new, out)?;
+    out.push_str("}\n")
+}
+
+/// Appends the line of a row that goes.
+fn push_deleted(
+    alloc: Global,
+    oid: u32,
+    n: usize,
+    row: &TupleRef<'_>,
+    out: &mut String,
+) -> Result<(), AllocError>
+    ensures { OnOk result (string_bytes out.new
+        ≡ string_bytes out.old ++ change_line (codes "d") oid n (Some row.now) None) }
+{
+    push_front("d", oid, n, out)?;
+    out.push_str("\"before\":")?;
+    push_row(alloc, row, out)?;
+    out.push_str(",\"after\":null}\n")
+}
+
+/// Appends the line of a truncation.
+fn push_truncated(oid: u32, n: usize, out: &mut String) -> Result<(), AllocError>
+    ensures { OnOk result (string_bytes out.new
+        ≡ string_bytes out.old ++ change_line (codes "t") oid n None None) }
+{
+    push_front("t", oid, n, out)?;
+    out.push_str("\"before\":null,\"after\":null}\n")
+}
+
+/// What was sent for a change that found no row.
+fn sent_op(new: &Option<TupleRef<'_>>) -> &'static str
+    ensures { result.now ≡ sent_op new.now }
+{
+    match new {
+        None => "d",
+        Some(_) => "u",
+    }
+}
+
+/// Appends which change found no row.
+fn push_sent(new: &Option<TupleRef<'_>>, out: &mut String) -> Result<(), AllocError>
+    ensures { OnOk result (string_bytes out.new ≡ string_bytes out.old ++ sent_text new.now) }
+{
+    let sent = sent_op(new);
+    write!(out, "\"sent\":\"{sent}\",")
+}
+
+/// Appends what was sent for a change that found no row.
+fn push_sent_rows(
+    alloc: Global,
+    old: &Option<(OldKind, TupleRef<'_>)>,
+    new: &Option<TupleRef<'_>>,
+    out: &mut String,
+) -> Result<(), AllocError>
+    ensures { OnOk result (string_bytes out.new
+        ≡ string_bytes out.old ++ sent_rows old.now new.now) }
+{
+    out.push_str("\"old\":")?;
+    push_prior(alloc, old, out)?;
+    out.push_str(",\"new\":")?;
+    push_row_or_null(alloc, new, out)?;
+    out.push_str("}\n")
+}
+
+/// Appends the line of a change that found no row.
+fn push_missed(
+    alloc: Global,
+    oid: u32,
+    n: usize,
+    old: &Option<(OldKind, TupleRef<'_>)>,
+    new: &Option<TupleRef<'_>>,
+    out: &mut String,
+) -> Result<(), AllocError>
+    ensures { OnOk result (string_bytes out.new
+        ≡ string_bytes out.old ++ missed_line oid n old.now new.now) }
+{
+    push_front("x", oid, n, out)?;
+    push_sent(new, out)?;
+    push_sent_rows(alloc, old, new, out)
+}
+
+/// Appends the line of a change, which is number `n` of its commit.
+pub(crate) fn push_image(
+    alloc: Global,
+    oid: u32,
+    n: usize,
+    image: &Image<'_>,
+    out: &mut String,
+) -> Result<(), AllocError>
+    ensures { OnOk result (string_bytes out.new
+        ≡ string_bytes out.old ++ image_line oid n image.now) }
+{
+    match image {
+        Image::Inserted { row } => push_inserted(alloc, oid, n, row, out),
+        Image::Updated { old, new } => {
+            push_updated(alloc, oid, n, &old.borrowed(), &new.borrowed(), out)
+        }
+        Image::Deleted { row } => push_deleted(alloc, oid, n, &row.borrowed(), out),
+        Image::Truncated => push_truncated(oid, n, out),
+        Image::Missed { old, new } => push_missed(alloc, oid, n, old, new, out),
+    }
+}

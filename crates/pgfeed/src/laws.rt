@@ -1,0 +1,33 @@
+//! What a reader may rest on, as contracts of functions that do nothing.
+
+ghost use Rattle.std.specs.Prelude.{◌≡◌, ℕ, Option, length};
+ghost use Rattle.pgapply.specs.declared.commit.About.{About};
+ghost use Rattle.pgfeed.specs.Fits.{FitsLine};
+ghost use Rattle.pgfeed.specs.Reading.{LinesLeadOver, TextIsReadInOneWay};
+ghost use Rattle.pgfeed.specs.Texts.{commit_line};
+ghost use Rattle.pgfeed.specs.Whole.{LinesTellWholeRows};
+
+/// The line of a commit has 256 bytes, whatever numbers of 64 bits it tells.
+pub fn lines_of_commits_fit()
+    ensures { (end prev bytes changes : ℕ) (about : Option About) →
+        FitsLine end prev bytes changes about →
+        length (commit_line end prev bytes changes about) ≡ 256 }
+{}
+
+/// The lines of commits lead from one entry to the next, whatever follows the entries. So who reads
+/// nothing else has each commit's end, and knows where its lines are.
+pub fn lines_lead_over_entries()
+    ensures { LinesLeadOver }
+{}
+
+/// A text is read in one way up to an LSN: its commits have these ends and lengths, and no others.
+pub fn text_is_read_in_one_way()
+    ensures { TextIsReadInOneWay }
+{}
+
+/// Rows that are told have all their cells: one that wasn't sent stands in what was sent for a
+/// change that found no row, and nowhere else. `pgledger::laws::lines_lead` says that the lines of
+/// commits lead from the rows before to those after.
+pub fn lines_tell_whole_rows()
+    ensures { LinesTellWholeRows }
+{}

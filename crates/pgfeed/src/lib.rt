@@ -1,0 +1,41 @@
+//! A feed of commits: lines of JSON that tell, for each commit, the whole row before and after each
+//! change.
+//!
+//! A segment of a feed is a file. Its head has 1,024 bytes, the line of each commit 256, padded by
+//! blanks; that line tells how many bytes follow, so a reader goes from commit to commit without
+//! reading more. Before the first change of a relation in a commit, and where it has another
+//! definition, stands a line with that; so a commit can be read alone.
+//!
+//! ```text
+//! {"feed":1,"base":"0/100","system":"7231","database":"shop","slot":"copy"}
+//! {"end":"0/200","prev":"0/100","bytes":198,"changes":1,"lsn":"0/1D8","xid":739,"ts_us":16996848..
+//! {"op":"table","oid":16384,"schema":"public","table":"stock","identity":"d","key":["sku"],"colum..
+//! {"op":"c","oid":16384,"n":0,"before":null,"after":["A-1","5"]}
+//! ```
+//!
+//! [`Segment`] is a `pgledger::Ledger` over one file, so a store beside it keeps a feed:
+//!
+//! ```text
+//! let segment = Segment::create(alloc, file, base, system, database, slot)?;
+//! let segment = Segment::open(alloc, file, base, store.position())?;      // cuts what lies behind
+//! let mut store = Recorded::new(store, segment);
+//! ```
+//!
+//! PostgreSQL documentation, Logical Replication Message Formats; RFC 8259.
+#![tactic(auto)]
+
+mod changes;
+mod entries;
+pub mod fault;
+mod heads;
+mod json;
+pub mod laws;
+pub mod mark;
+mod opening;
+mod segment;
+mod tables;
+
+pub use entries::entry_text;
+pub use fault::FeedFault;
+pub use mark::Mark;
+pub use segment::Segment;

@@ -1,0 +1,10 @@
+//! Tests of a feed by its public calls, and no code: the text of a commit, and a segment in memory that is written, stopped at each of
+//! its calls, and opened again.
+//!
+//! They are apart from `pgfeed` so that it isn't proved once more with them.
+#![tactic(auto)]
+
+#[cfg(test)]
+mod commits;
+#[cfg(test)]
+mod tests;
