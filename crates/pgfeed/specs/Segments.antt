@@ -4,7 +4,7 @@ use Rattle.sqlite_disk.specs.Disk.{Follows, Only, Torn}
 use Rattle.pgledger.specs.Entries.{Entry, last_end}
 use Rattle.pgfeed.specs.declared.mark.Mark.{Mark}
 use Rattle.pgfeed.specs.Reading.{AreEntries, Walks}
-use Rattle.pgfeed.specs.Texts.{entries_text, segment_front, segment_head}
+use Rattle.pgfeed.specs.Texts.{closing_line, entries_text, segment_front, segment_head}
 
 -- the head of a segment that begins at this LSN
 pub record IsHead (base : ℕ) (head : List ℕ) : Type 0 where
@@ -79,3 +79,12 @@ pub record Reopens (base size : ℕ) (outcomes : List ℕ → Type 0) (place new
   pub last_is : new_last ≡ place
   pub found : IsFound base place text new_size
   pub cut : IsCut text new_size file after
+
+-- A segment that has ended: a head, these entries and the line that ends it, also after a crash.
+pub record IsFinished (base last : ℕ) (es : List Entry) (file : List ℕ) (outcomes : List ℕ → Type 0) : Type 0 where
+  pub head : List ℕ
+  pub is_head : IsHead base head
+  pub file_is : file ≡ head ++ (entries_text base es ++ closing_line last)
+  pub entries : AreEntries base es
+  pub last_is : last ≡ last_end base es
+  pub synced : Only file outcomes

@@ -77,6 +77,15 @@ commit_object end prev bytes changes about = commit_front end prev bytes ++ comm
 abbrev pub commit_line : ℕ → ℕ → ℕ → ℕ → Option About → List ℕ
 commit_line end prev bytes changes about = padded commit_size (commit_object end prev bytes changes about)
 
+-- ---- the line that ends a segment
+
+-- where its last commit ends
+abbrev pub closing_object : ℕ → List ℕ
+closing_object last = codes "{\"last\":\"" ++ (lsn_text last ++ codes "\"}")
+
+abbrev pub closing_line : ℕ → List ℕ
+closing_line last = padded commit_size (closing_object last)
+
 -- ---- the line of a definition
 
 abbrev pub column_data : Column → Data

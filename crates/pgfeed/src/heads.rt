@@ -4,7 +4,7 @@ ghost use Rattle.std.specs.Prelude.{◌≡◌, ◌⊎◌, ◌<◌, ◌≤◌, If
 ghost use Rattle.std.specs.Fmt.{signed_decimal};
 ghost use Rattle.pgfeed.specs.declared.fault.FeedFault.TheVariants.{Memory, TooLong};
 ghost use Rattle.pgfeed.specs.Fits.{FitsLine};
-ghost use Rattle.pgfeed.specs.Texts.{about_text, commit_front, commit_line, commit_object, padded};
+ghost use Rattle.pgfeed.specs.Texts.{about_text, closing_line, commit_front, commit_line, commit_object, padded};
 ghost use Rattle.pgfeed.specs.Texts.{segment_front, segment_head, segment_object, unix_micros};
 
 use crate::fault::FeedFault;
@@ -155,5 +155,13 @@ pub(crate) fn commit_line(
     ensures fits { FitsLine end prev bytes changes about }
 {
     let object = commit_object(alloc, end, prev, bytes, changes, about)?;
+    padded(object, COMMIT_SIZE)
+}
+
+/// The line that ends a segment: where its last commit ends, and the next segment begins.
+pub(crate) fn closing_line(alloc: Global, last: Lsn) -> Result<String, AllocError>
+    ensures { IfOk result (λ line. string_bytes line ≡ closing_line last) }
+{
+    let object = format!(in alloc; "{{\"last\":\"{last}\"}}")?;
     padded(object, COMMIT_SIZE)
 }

@@ -27,15 +27,20 @@
 mod changes;
 mod entries;
 pub mod fault;
+mod feed;
+mod folder;
 mod heads;
 mod json;
 pub mod laws;
 pub mod mark;
 mod opening;
 mod segment;
+mod segments;
 mod tables;
 
 pub use entries::entry_text;
 pub use fault::FeedFault;
+pub use feed::Feed;
+pub use folder::{Folder, Origin, SegmentLimits};
 pub use mark::Mark;
 pub use segment::Segment;

@@ -1,14 +1,17 @@
 //! A segment of a feed in a file.
 
-ghost use Rattle.std.specs.Prelude.{◌≡◌, ◌<◌, ◌+◌, length, false, OnOk, OnErr, IfErr};
+ghost use Rattle.std.specs.Prelude.{◌≡◌, ◌<◌, ◌+◌, ℕ, List, length, false, true, string_bytes};
+ghost use Rattle.std.specs.Prelude.{IsTrue, IfOk, OnOk, OnErr, IfErr};
 ghost use Rattle.pgapply.specs.Stored.{IsOwnFault};
-ghost use Rattle.pgledger.specs.Entries.{entry_of};
-ghost use Rattle.sqlite_disk.specs.Disk.{Holds};
+ghost use Rattle.pgapply.specs.declared.rows.StoreFault.TheVariants.{Refused};
+ghost use Rattle.pgledger.specs.Entries.{Entry, entry_of};
+ghost use Rattle.sqlite_disk.specs.Disk.{Holds, Only};
 ghost use Rattle.pgfeed.specs.Fits.{FitsEntry};
-ghost use Rattle.pgfeed.specs.Segments.{KeepsEntries, Lasts, WritesBehind};
+ghost use Rattle.pgfeed.specs.Segments.{IsFinished, KeepsEntries, Lasts, WritesBehind};
 ghost use Rattle.pgfeed.specs.Texts.{entry_text};
 
 use crate::entries::entry_text;
+use crate::heads::closing_line;
 use pgapply::{Commit, StoreFault};
 use pgledger::{Image, Ledger};
 use pglsn::Lsn;
@@ -75,6 +78,57 @@ impl<D: Disk + Drop> Segment<D> {
         self.disk
     }
 
+    /// The text of a commit behind the last one.
+    ///
+    /// # Errors
+    ///
+    /// `Refused` where it doesn't end after the last one, and `Memory`.
+    pub(crate) fn text(
+        &self,
+        commit: &Commit<'_, '_>,
+        images: &[Image<'_>],
+    ) -> Result<String, StoreFault>
+        ensures above { OnOk result (self.now.last < commit.now.end) }
+        ensures fits { OnOk result (FitsEntry self.now.last (entry_of commit.now.end
+            commit.now.about commit.now.work.now.changes images.now)) }
+        ensures text { IfOk result (λ text. string_bytes text ≡ entry_text self.now.last
+            (entry_of commit.now.end commit.now.about commit.now.work.now.changes images.now)) }
+        ensures fault { IfErr result IsOwnFault }
+    {
+        if commit.end <= self.last {
+            return Err(StoreFault::Refused);
+        }
+        Ok(entry_text(self.alloc, self.last, commit, images)?)
+    }
+
+    /// Writes the text of a commit, which ends there, behind the last one.
+    pub(crate) fn put(&mut self, end: Lsn, text: &str) -> Result<(), StoreFault>
+        ensures written { OnOk result (0 < length text.now →
+            Holds (D.seen self.new.disk) self.old.size text.now) }
+        ensures size { OnOk result (self.new.size ≡ self.old.size + length text.now) }
+        ensures last { OnOk result (self.new.last ≡ end) }
+        ensures undone { OnErr result ((self.new.size ≡ self.old.size)
+            × (self.new.last ≡ self.old.last)) }
+        ensures behind { WritesBehind self.old.size (D.seen self.old.disk) (D.seen self.new.disk)
+            (D.may_leave self.old.disk) (D.may_leave self.new.disk) }
+        ensures base { self.new.base ≡ self.old.base }
+        ensures stuck { self.new.is_stuck ≡ self.old.is_stuck }
+        ensures fault { IfErr result (λ fault. fault ≡ Refused) }
+    {
+        if !self.disk.may_be_used() {
+            return Err(StoreFault::Refused);
+        }
+        let Some(size) = self.size.checked_add(text.len()) else {
+            return Err(StoreFault::Refused);
+        };
+        let Ok(()) = self.disk.write_at(self.size, text.as_bytes()) else {
+            return Err(StoreFault::Refused);
+        };
+        self.size = size;
+        self.last = end;
+        Ok(())
+    }
+
     /// Writes the text of a commit behind the last one.
     fn write(&mut self, commit: &Commit<'_, '_>, images: &[Image<'_>]) -> Result<(), StoreFault>
         ensures above { OnOk result (self.old.last < commit.now.end) }
@@ -95,18 +149,78 @@ impl<D: Disk + Drop> Segment<D> {
         ensures stuck { self.new.is_stuck ≡ self.old.is_stuck }
         ensures fault { IfErr result IsOwnFault }
     {
-        if commit.end <= self.last || !self.disk.may_be_used() {
+        let text = self.text(commit, images)?;
+        self.put(commit.end, text.as_str())
+    }
+
+    /// Makes all that was written outlast a crash.
+    pub(crate) fn flush(&mut self) -> Result<(), StoreFault>
+        ensures durable { OnOk result (Only (D.seen self.old.disk) (D.may_leave self.new.disk)) }
+        ensures seen { D.seen self.new.disk ≡ D.seen self.old.disk }
+        ensures crash { (c : List ℕ) → D.may_leave self.new.disk c → D.may_leave self.old.disk c }
+        ensures base { self.new.base ≡ self.old.base }
+        ensures last { self.new.last ≡ self.old.last }
+        ensures size { self.new.size ≡ self.old.size }
+        ensures was_free { OnOk result (self.old.is_stuck ≡ false) }
+        ensures free { OnOk result (self.new.is_stuck ≡ false) }
+        ensures stuck { OnErr result (self.new.is_stuck ≡ true) }
+        ensures fault { IfErr result (λ fault. fault ≡ Refused) }
+    {
+        if self.is_stuck || !self.disk.may_be_used() {
+            self.is_stuck = true;
             return Err(StoreFault::Refused);
         }
-        let text = entry_text(self.alloc, self.last, commit, images)?;
-        let Some(size) = self.size.checked_add(text.len()) else {
+        let Ok(()) = self.disk.sync() else {
+            self.is_stuck = true;
             return Err(StoreFault::Refused);
         };
-        let Ok(()) = self.disk.write_at(self.size, text.as_bytes()) else {
+        Ok(())
+    }
+
+    /// Takes nothing more from now on.
+    pub(crate) fn stop(&mut self)
+        ensures { self.new ≡ record { self.old with is_stuck = true } }
+    {
+        self.is_stuck = true;
+    }
+
+    /// Ends the segment: writes the line that tells where its last commit ends, and syncs it. The
+    /// segment takes nothing more, also where this fails.
+    ///
+    /// # Errors
+    ///
+    /// `Refused` where a call of the file fails, or it has more than the head and the commits, and
+    /// `Memory`.
+    pub fn finish(&mut self) -> Result<(), StoreFault>
+        ensures finished { OnOk result (IsTrue (D.is_clean self.new.disk) → (es : List Entry) →
+            KeepsEntries self.old.base self.old.last self.old.size (D.seen self.old.disk) es →
+            IsFinished self.old.base self.old.last es (D.seen self.new.disk)
+            (D.may_leave self.new.disk)) }
+        ensures behind { WritesBehind self.old.size (D.seen self.old.disk) (D.seen self.new.disk)
+            (D.may_leave self.old.disk) (D.may_leave self.new.disk) }
+        ensures base { self.new.base ≡ self.old.base }
+        ensures last { self.new.last ≡ self.old.last }
+        ensures size { self.new.size ≡ self.old.size }
+        ensures stuck { self.new.is_stuck ≡ true }
+        ensures fault { IfErr result IsOwnFault }
+    {
+        self.is_stuck = true;
+        let line = closing_line(self.alloc, self.last)?;
+        if !self.disk.may_be_used() {
+            return Err(StoreFault::Refused);
+        }
+        let Ok(len) = self.disk.len() else {
             return Err(StoreFault::Refused);
         };
-        self.size = size;
-        self.last = commit.end;
+        if len != self.size {
+            return Err(StoreFault::Refused);
+        }
+        let Ok(()) = self.disk.write_at(self.size, line.as_bytes()) else {
+            return Err(StoreFault::Refused);
+        };
+        let Ok(()) = self.disk.sync() else {
+            return Err(StoreFault::Refused);
+        };
         Ok(())
     }
 }
@@ -151,15 +265,7 @@ impl<D: Disk + Drop> Ledger for Segment<D> {
     }
 
     fn sync(&mut self) -> Result<(), StoreFault> {
-        if self.is_stuck || !self.disk.may_be_used() {
-            self.is_stuck = true;
-            return Err(StoreFault::Refused);
-        }
-        let Ok(()) = self.disk.sync() else {
-            self.is_stuck = true;
-            return Err(StoreFault::Refused);
-        };
-        Ok(())
+        self.flush()
     }
 
     fn stick(&mut self) {

@@ -1,0 +1,133 @@
+//! Opening a feed: its last segment is opened, and those above the position go.
+
+use crate::fault::FeedFault;
+use crate::feed::Feed;
+use crate::folder::{Folder, Names, Origin, SegmentLimits};
+use crate::heads::segment_head;
+use crate::segment::Segment;
+use pglsn::Lsn;
+use std::alloc::Global;
+
+/// A segment of no commits in a file, in the place of whatever that has. Where that fails, the
+/// folder has the file back.
+fn create_in<F: Folder>(
+    alloc: Global,
+    folder: &mut F,
+    file: F::File,
+    names: &Names,
+    base: Lsn,
+) -> Result<Segment<F::File>, FeedFault> {
+    let system = names.system.as_str();
+    let database = names.database.as_str();
+    match Segment::create(alloc, file, base, system, database, names.slot.as_str()) {
+        Ok(segment) => Ok(segment),
+        Err((fault, file)) => {
+            folder.close(base, file);
+            Err(fault)
+        }
+    }
+}
+
+/// A segment of no commits in a new file.
+pub(crate) fn begin_segment<F: Folder>(
+    alloc: Global,
+    folder: &mut F,
+    names: &Names,
+    base: Lsn,
+) -> Result<Segment<F::File>, FeedFault> {
+    let file = folder.create(base)?;
+    create_in(alloc, folder, file, names, base)
+}
+
+/// The segment that begins at `base`, up to the commit that ends at the position. Where it begins
+/// there, it is made anew, since a crash may have left a part of its head.
+fn segment_at<F: Folder>(
+    alloc: Global,
+    folder: &mut F,
+    names: &Names,
+    base: Lsn,
+    position: Lsn,
+) -> Result<Segment<F::File>, FeedFault> {
+    let file = folder.open(base)?;
+    if base == position {
+        return create_in(alloc, folder, file, names, base);
+    }
+    match Segment::open(alloc, file, base, position) {
+        Ok(segment) => Ok(segment),
+        Err((fault, file)) => {
+            folder.close(base, file);
+            Err(fault)
+        }
+    }
+}
+
+/// Removes segments, the last of them first.
+fn remove_all<F: Folder>(folder: &mut F, bases: &[Lsn]) -> Result<(), FeedFault> {
+    for base in bases.iter().rev() {
+        folder.remove(*base)?;
+    }
+    Ok(())
+}
+
+/// The segment in which a position is, and where the first one begins.
+fn last_segment<F: Folder>(
+    alloc: Global,
+    folder: &mut F,
+    names: &Names,
+    position: Lsn,
+) -> Result<(Segment<F::File>, Lsn), FeedFault> {
+    let bases = folder.bases()?;
+    if bases.is_empty() {
+        let segment = begin_segment(alloc, folder, names, position)?;
+        return Ok((segment, position));
+    }
+    let count = bases.iter().take_while(|base| **base <= position).count();
+    let (below, above) = bases.split_at(count);
+    let (Some(first), Some(last)) = (below.first(), below.last()) else {
+        return Err(FeedFault::NotAFeed);
+    };
+    let segment = segment_at(alloc, folder, names, *last, position)?;
+    remove_all(folder, above)?;
+    Ok((segment, *first))
+}
+
+impl<F: Folder + Drop> Feed<F> {
+    /// The feed in a folder, at the position of the store beside it. The last segment that doesn't
+    /// begin above the position is opened there, and what lies behind is cut off, the line that ends
+    /// it too; then the segments above it are removed, the last of them first. In a folder without
+    /// segments one begins at the position. No other segment is read.
+    ///
+    /// # Errors
+    ///
+    /// `NotAFeed` where there are segments, but none of them begins at or below the position, or none
+    /// of its commits ends there, and `TooLong` where the names don't fit the head of a segment: then
+    /// all is as it was. `Refused` where a call of the folder or of a file fails, and `Memory`.
+    pub fn open(
+        alloc: Global,
+        mut folder: F,
+        origin: &Origin<'_>,
+        limits: SegmentLimits,
+        position: Lsn,
+    ) -> Result<Feed<F>, (FeedFault, F)> {
+        match open_in(alloc, &mut folder, origin, position) {
+            Ok((segment, begins, names)) => {
+                Ok(Feed::of(alloc, folder, segment, begins, names, limits))
+            }
+            Err(fault) => Err((fault, folder)),
+        }
+    }
+}
+
+/// What a feed is opened with: its open segment, where it begins, and what it is of.
+fn open_in<F: Folder>(
+    alloc: Global,
+    folder: &mut F,
+    origin: &Origin<'_>,
+    position: Lsn,
+) -> Result<(Segment<F::File>, Lsn, Names), FeedFault> {
+    let names = Names::of(alloc, origin)?;
+    // the head of a segment has room for the names wherever it begins
+    let _head = segment_head(alloc, Lsn(u64::MAX), origin.system, origin.database, origin.slot)?;
+    let (segment, begins) = last_segment(alloc, folder, &names, position)?;
+    Ok((segment, begins, names))
+}
