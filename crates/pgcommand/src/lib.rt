@@ -55,8 +55,8 @@ pub fn command_of(alloc: Global, words: &[String]) -> Result<Task, CommandFault>
     let Some((name, found)) = matches.subcommand() else {
         unreachable!()
     };
-    if let Some(word) = missing_word(found) {
-        return Err(usage_fault(missing(alloc, name, word)?));
+    match missing_word(found) {
+        Some(word) => Err(usage_fault(missing(alloc, name, word)?)),
+        None => Ok(task_of(alloc, name, found)?),
     }
-    Ok(task_of(alloc, name, found)?)
 }

@@ -1,2 +1,3 @@
 pub mod Filed
 pub mod NewFile
+pub mod Fed

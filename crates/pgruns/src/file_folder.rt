@@ -73,7 +73,10 @@ fn base_of(name: &str) -> Option<Lsn> {
     if name.len() != 16 || !name.as_bytes().iter().all(is_digit) {
         return None;
     }
-    u64::from_str_radix(name, 16).ok().map(Lsn)
+    match u64::from_str_radix(name, 16) {
+        Ok(base) => Some(Lsn(base)),
+        Err(_) => None,
+    }
 }
 
 /// Writes to the disk which files a folder holds.
