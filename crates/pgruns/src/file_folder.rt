@@ -87,15 +87,12 @@ fn sync_names(folder: &Option<File>) -> Result<(), FeedFault> {
     }
 }
 
-/// Makes a folder that isn't there, and has the folder that it is in written to the disk.
+/// Makes a folder that isn't there, and writes to the disk that the one above has it.
 fn make_folder(rt: &HostRuntime, path: &str) -> io::Result<()> {
     if fs::metadata(rt, path).is_ok() {
         return Ok(());
     }
-    DirBuilder::new()
-        .recursive(true)
-        .mode(FOLDER_MODE)
-        .create(rt, path)?;
+    DirBuilder::new().mode(FOLDER_MODE).create(rt, path)?;
     let above = match Path::new(path).parent() {
         Some(above) if !above.as_str().is_empty() => above,
         _ => Path::new("."),

@@ -12,6 +12,7 @@ mod file_folder;
 pub mod filed;
 pub mod laws;
 mod new_file;
+mod recorded;
 mod telling;
 
 pub use closing::Closing;
