@@ -1,12 +1,13 @@
 -- What the calls of a segment leave.
-use Rattle.std.proofs.Common.{◌≡◌, ◌<◌, ◌≤◌, ◌+◌, ℕ, List, [], ◌∷◌, ◌++◌, length, append-nil, ap, ◌^◌, refl, sym, ◌∙◌, subst, arith}
+use Rattle.std.proofs.Common.{◌≡◌, ◌<◌, ◌≤◌, ◌+◌, ℕ, List, [], ◌∷◌, ◌++◌, drop, length, length-append, length-drop, append-nil, ap, ◌^◌, refl, sym, ◌∙◌, subst, arith}
 use Rattle.sqlite_disk.specs.Disk.{Holds, Only, Torn}
 use Rattle.pgledger.specs.Entries.{Entry, last_end}
-use Rattle.pgfeed.specs.Segments.{IsCut, IsFound, IsHead, KeepsEntries, Lasts, Reopens, WritesBehind}
-use Rattle.pgfeed.specs.Texts.{entries_text, entry_text, segment_head}
+use Rattle.pgfeed.specs.Segments.{IsCut, IsFinished, IsFound, IsHead, KeepsEntries, Lasts, Reopens, WritesBehind}
+use Rattle.pgfeed.specs.Texts.{closing_line, entries_text, entry_text, segment_head}
 use Rattle.pgfeed.specs.Fits.{FitsEntry}
 use Rattle.pgfeed.specs.Cutting.Kept.{kept_behind, kept_front, kept_more}
-use Rattle.pgfeed.specs.Cutting.Walking.{no_entry}
+use Rattle.pgfeed.specs.Cutting.Walking.{drop_front, no_entry}
+use Rattle.pgfeed.specs.Cutting.Files.{holds_behind}
 use Rattle.pgfeed.specs.Cutting.Opened.{lasts_behind, reopens_before}
 
 torn_same : (at : ℕ) (file : List ℕ) → Torn at 0 file file
@@ -15,6 +16,9 @@ torn_same at file = record { no_shorter = omega arith; no_longer = omega arith; 
 -- nothing is written, and a crash leaves nothing else
 pub writes_none : (size : ℕ) (file : List ℕ) (before after : List ℕ → Type 0) → ((c : List ℕ) → after c → before c) → WritesBehind size file file before after
 writes_none size file before after less = (0, torn_same size file, λ c left. (c, less c left, torn_same size c))
+
+pub writes_same : (size : ℕ) (old new : List ℕ) (before after : List ℕ → Type 0) → new ≡ old → ((c : List ℕ) → after c → before c) → WritesBehind size old new before after
+writes_same size old new before after same less = subst (λ file. WritesBehind size old file before after) (sym same) (writes_none size old before after less)
 
 pub lasts_more : (base new_base size more place : ℕ) (old new : List ℕ) (before after : List ℕ → Type 0) → new_base ≡ base → size ≤ more → WritesBehind size old new before after → Lasts base size before place
     → Lasts new_base more after place
@@ -37,6 +41,10 @@ synced_lasts base last size file after es k only =
         each = λ c left. (k.rest, only c left ∙ front.0);
       },
     )
+
+pub lasts_there : (base new_base size new_size place : ℕ) (after : List ℕ → Type 0) → new_base ≡ base → new_size ≡ size → Lasts base size after place → Lasts new_base new_size after place
+lasts_there base new_base size new_size place after same stays lasting =
+    subst (λ b. Lasts b new_size after place) (sym same) (subst (λ n. Lasts base n after place) (sym stays) lasting)
 
 -- an entry more, or as many where nothing is known of the write
 pub appended : (base new_base last new_last size more : ℕ) (old new : List ℕ) (before after : List ℕ → Type 0) (e : Entry) → new_base ≡ base → new_last ≡ e.end → more ≡ size + length (entry_text last e)
@@ -97,3 +105,33 @@ left_reopens base size place at new_base new_last new_size text file outcomes af
   found = subst (λ b. IsFound b place text new_size) (sym same) found;
   cut = cut;
 }
+
+-- ---- the line that ends a segment
+
+none_left : (xs : List ℕ) → length xs ≡ 0 → xs ≡ []
+none_left [] e = refl
+none_left (x ∷ xs) e = absurd (omega arith)
+
+some_line : (last : ℕ) → 0 < length (closing_line last)
+some_line last = omega (arith, length-append {A = ℕ})
+
+pub finished : (base last size : ℕ) (old new line : List ℕ) (after : List ℕ → Type 0) (es : List Entry) → KeepsEntries base last size old es → length old ≡ size → line ≡ closing_line last
+    → Torn size (length line) old new → (0 < length line → Holds new size line) → Only new after → IsFinished base last es new after
+finished base last size old new line after es k long is torn written only =
+    let some : 0 < length line = omega (arith, some_line last, ap length is) in
+    let kept = kept_behind base last size (length line) old new es k torn in
+    let front = kept_front base last size new es kept in
+    let rest : kept.rest ≡ drop size new = sym (ap (drop size) front.0 ∙ drop_front size (kept.head ++ entries_text base es) kept.rest (sym front.1)) in
+    let behind : drop size new ≡ line ++ drop (size + length line) new = holds_behind new size line (written some) in
+    let most : length new ≤ size + length line = omega (arith, torn.no_longer) in
+    let more = length-drop (size + length line) new in
+    let none : drop (size + length line) new ≡ [] = none_left (drop (size + length line) new) (omega arith) in
+    let whole : kept.rest ≡ closing_line last = rest ∙ behind ∙ ap (λ xs. line ++ xs) none ∙ append-nil line ∙ is in
+    record {
+      head = kept.head;
+      is_head = kept.is_head;
+      file_is = kept.file_is ∙ ap (λ xs. kept.head ++ (entries_text base es ++ xs)) whole;
+      entries = kept.entries;
+      last_is = kept.last_is;
+      synced = only;
+    }

@@ -1,4 +1,5 @@
 pub mod Examples
 pub mod Calls
+pub mod Following
 pub mod Bodies
 pub mod Plain

@@ -4,3 +4,4 @@ pub mod Walking
 pub mod Files
 pub mod Kept
 pub mod Opened
+pub mod Following

@@ -1,5 +1,13 @@
 //! A feed: segments that follow each other.
 
+ghost use Rattle.std.specs.Prelude.{◌≡◌, ◌⊎◌, ◌↔◌, ◌++◌, ◌∷◌, [], List, true, false};
+ghost use Rattle.std.specs.Prelude.{IsTrue, OnOk, OnErr, IfErr};
+ghost use Rattle.pgapply.specs.Stored.{IsOwnFault};
+ghost use Rattle.pgledger.specs.Entries.{Entry, entry_of};
+ghost use Rattle.pgledger.specs.Ledgers.{Appends, AppendsAtMost, Rests};
+ghost use Rattle.pgfeed.specs.Feeds.{Goes, KeepsAll, KeepsOn, LastsUpTo, MayEnd, OpensAt};
+ghost use Rattle.pgfeed.specs.Feeds.{IsFull, IsLate};
+
 use crate::fault::FeedFault;
 use crate::folder::{Folder, Names, SegmentLimits};
 use crate::segment::Segment;
@@ -31,6 +39,16 @@ pub struct Feed<F: Folder + Drop> {
     limits: SegmentLimits,
 }
 
+/// What a store is told of a segment that isn't made.
+fn store_fault(fault: FeedFault) -> StoreFault
+    ensures { IsOwnFault result }
+{
+    match fault {
+        FeedFault::Memory => StoreFault::Memory,
+        _ => StoreFault::Refused,
+    }
+}
+
 impl<F: Folder + Drop> Feed<F> {
     /// A feed whose open segment is this one, of which all is synced.
     pub(crate) fn of(
@@ -40,7 +58,11 @@ impl<F: Folder + Drop> Feed<F> {
         begins: Lsn,
         names: Names,
         limits: SegmentLimits,
-    ) -> Feed<F> {
+    ) -> Feed<F>
+        ensures segment { result.segment ≡ segment }
+        ensures begins { result.begins ≡ begins }
+        ensures synced { result.synced ≡ segment.last }
+    {
         let synced = segment.last();
         Feed {
             alloc,
@@ -55,52 +77,78 @@ impl<F: Folder + Drop> Feed<F> {
     }
 
     /// The LSN at which its first segment begins, as it was opened.
-    pub fn begins(&self) -> Lsn {
+    pub fn begins(&self) -> Lsn
+        ensures { result ≡ self.now.begins }
+    {
         self.begins
     }
 
     /// The LSN at which its open segment begins.
-    pub fn base(&self) -> Lsn {
+    pub fn base(&self) -> Lsn
+        ensures { result ≡ self.now.segment.base }
+    {
         self.segment.base()
     }
 
     /// The LSN at which its last commit ends, or at which it begins.
-    pub fn last(&self) -> Lsn {
+    pub fn last(&self) -> Lsn
+        ensures { result ≡ self.now.segment.last }
+    {
         self.segment.last()
     }
 
     /// The folder, and the file of the open segment.
-    pub fn into_parts(self) -> (F, F::File) {
+    pub fn into_parts(self) -> (F, F::File)
+        ensures { result ≡ (self.folder, self.segment.disk) }
+    {
         (self.folder, self.segment.into_disk())
     }
 
-    /// Whether so many bytes more would pass what a segment may have. One commit it takes always.
-    fn is_full(&self, bytes: usize) -> bool {
-        let size = (self.segment.size() as u64).saturating_add(bytes as u64);
-        self.segment.base() < self.segment.last() && self.limits.bytes < size
+    /// Whether the open segment has a commit, and no room for so many bytes more.
+    fn is_full(&self, bytes: usize) -> bool
+        ensures { IsTrue result ↔ IsFull self.now.limits.bytes self.now.segment bytes }
+    {
+        let room = self.limits.bytes.saturating_sub(self.segment.size() as u64);
+        self.segment.base() < self.segment.last() && room < bytes as u64
     }
 
     /// Whether a commit comes too late for the open segment.
-    fn is_late(&self, about: Option<About>) -> bool {
+    fn is_late(&self, about: Option<About>) -> bool
+        ensures { IsTrue result ↔ IsLate self.now.limits.micros self.now.first about }
+    {
         let (Some(first), Some(about)) = (self.first, about) else {
             return false;
         };
-        first < about.time && self.limits.micros <= about.time.abs_diff(first)
+        first <= about.time && self.limits.micros <= about.time.abs_diff(first)
     }
 
     /// Whether the open segment ends before a commit whose text has so many bytes.
-    fn ends_before(&self, about: Option<About>, bytes: usize) -> bool {
+    fn ends_before(&self, about: Option<About>, bytes: usize) -> bool
+        ensures { IsTrue result ↔ ((self.now.synced ≡ self.now.segment.last)
+            × (IsFull self.now.limits.bytes self.now.segment bytes
+            ⊎ IsLate self.now.limits.micros self.now.first about)) }
+    {
         self.synced == self.segment.last() && (self.is_full(bytes) || self.is_late(about))
     }
 
     /// Ends the open segment, and begins the next one where it ends.
-    fn begin_next(&mut self) -> Result<(), StoreFault> {
+    fn begin_next(&mut self) -> Result<(), StoreFault>
+        requires { self.old.synced ≡ self.old.segment.last }
+        ensures goes { Goes F.File.seen F.File.may_leave self.old.segment self.new.segment }
+        ensures kept { KeepsOn F.File.seen self.old.begins self.old.segment self.new.segment }
+        ensures ends { MayEnd F.File.seen F.File.may_leave F.File.is_clean self.old.synced
+            self.old.segment self.new.segment }
+        ensures last { self.new.segment.last ≡ self.old.segment.last }
+        ensures free { OnOk result (self.new.segment.is_stuck ≡ false) }
+        ensures begins { self.new.begins ≡ self.old.begins }
+        ensures synced { self.new.synced ≡ self.old.synced }
+        ensures fault { IfErr result IsOwnFault }
+    {
         let base = self.segment.last();
         self.segment.finish()?;
         let segment = match begin_segment(self.alloc, &mut self.folder, &self.names, base) {
             Ok(segment) => segment,
-            Err(FeedFault::Memory) => return Err(StoreFault::Memory),
-            Err(_) => return Err(StoreFault::Refused),
+            Err(fault) => return Err(store_fault(fault)),
         };
         let ended = std::mem::replace(&mut self.segment, segment);
         self.folder.close(ended.base(), ended.into_disk());
@@ -110,7 +158,18 @@ impl<F: Folder + Drop> Feed<F> {
 
     /// Goes on to the next segment where the open one ends before a commit whose text has so many
     /// bytes.
-    fn make_room(&mut self, about: Option<About>, bytes: usize) -> Result<(), StoreFault> {
+    fn make_room(&mut self, about: Option<About>, bytes: usize) -> Result<(), StoreFault>
+        ensures goes { Goes F.File.seen F.File.may_leave self.old.segment self.new.segment }
+        ensures kept { KeepsOn F.File.seen self.old.begins self.old.segment self.new.segment }
+        ensures ends { MayEnd F.File.seen F.File.may_leave F.File.is_clean self.old.synced
+            self.old.segment self.new.segment }
+        ensures last { self.new.segment.last ≡ self.old.segment.last }
+        ensures free { self.old.segment.is_stuck ≡ false →
+            OnOk result (self.new.segment.is_stuck ≡ false) }
+        ensures begins { self.new.begins ≡ self.old.begins }
+        ensures synced { self.new.synced ≡ self.old.synced }
+        ensures fault { IfErr result IsOwnFault }
+    {
         if self.ends_before(about, bytes) {
             return self.begin_next();
         }
@@ -118,19 +177,34 @@ impl<F: Folder + Drop> Feed<F> {
     }
 
     /// Writes the text of a commit behind the last one, or into the next segment.
-    fn write(&mut self, commit: &Commit<'_, '_>, images: &[Image<'_>]) -> Result<(), StoreFault> {
+    fn write(&mut self, commit: &Commit<'_, '_>, images: &[Image<'_>]) -> Result<(), StoreFault>
+        ensures goes { Goes F.File.seen F.File.may_leave self.old.segment self.new.segment }
+        ensures appended { OnOk result ((es : List Entry) →
+            KeepsAll F.File.seen self.old.begins self.old.segment es →
+            KeepsAll F.File.seen self.old.begins self.new.segment (es ++ (entry_of commit.now.end
+            commit.now.about commit.now.work.now.changes images.now) ∷ [])) }
+        ensures kept { OnErr result
+            (KeepsOn F.File.seen self.old.begins self.old.segment self.new.segment) }
+        ensures ends { MayEnd F.File.seen F.File.may_leave F.File.is_clean self.old.synced
+            self.old.segment self.new.segment }
+        ensures free { self.old.segment.is_stuck ≡ false →
+            OnOk result (self.new.segment.is_stuck ≡ false) }
+        ensures begins { self.new.begins ≡ self.old.begins }
+        ensures synced { self.new.synced ≡ self.old.synced }
+        ensures fault { IfErr result IsOwnFault }
+    {
         let text = self.segment.text(commit, images)?;
         self.make_room(commit.about, text.len())?;
         self.segment.put(commit.end, text.as_str())?;
-        if self.first.is_none() {
-            self.first = commit.about.map(|about| about.time);
-        }
+        self.first = self.first.or(commit.about.map(|about| about.time));
         Ok(())
     }
 }
 
 impl<F: Folder + Drop> Ledger for Feed<F> {
     ghost use Rattle.pgfeed.specs.Feeds.{KeepsAll, LastsUpTo, OpensAt};
+    ghost use Rattle.pgfeed.specs.Cutting.Following.{cut_ledger};
+    ghost use Rattle.pgfeed.specs.Cutting.Opened.{wants_all};
 
     ghost begins = { λ l. l.begins };
 
@@ -153,7 +227,25 @@ impl<F: Folder + Drop> Ledger for Feed<F> {
         true
     }
 
-    fn append(&mut self, commit: &Commit<'_, '_>, images: &[Image<'_>]) -> Result<(), StoreFault> {
+    /// Appends a commit. Where the open segment ends before it, the next one begins where the last
+    /// commit ends, and all was synced up to there.
+    fn append(&mut self, commit: &Commit<'_, '_>, images: &[Image<'_>]) -> Result<(), StoreFault>
+        ensures ends { MayEnd F.File.seen F.File.may_leave F.File.is_clean self.old.synced
+            self.old.segment self.new.segment }
+        ensures appended { OnOk result (Appends (λ (l : Feed F F.File) es.
+            KeepsAll F.File.seen l.begins l.segment es) (entry_of commit.now.end commit.now.about
+            commit.now.work.now.changes images.now) self.old self.new) }
+        ensures was_free { OnOk result (self.old.segment.is_stuck ≡ false) }
+        ensures free { OnOk result (self.new.segment.is_stuck ≡ false) }
+        ensures refused { OnErr result (AppendsAtMost (λ (l : Feed F F.File) es.
+            KeepsAll F.File.seen l.begins l.segment es) commit.now.end self.old self.new) }
+        ensures stuck { OnErr result (self.new.segment.is_stuck ≡ true) }
+        ensures fault { IfErr result IsOwnFault }
+        ensures rests { Rests (λ (l : Feed F F.File). l.begins) (λ (l : Feed F F.File). true)
+            (λ (l : Feed F F.File) p. LastsUpTo F.File.may_leave l.segment p)
+            (λ (l : Feed F F.File) p (other : Feed F F.File). (other.begins ≡ l.begins)
+            × OpensAt F.File.seen F.File.may_leave l.segment p other.segment) self.old self.new }
+    {
         if self.segment.is_stuck() {
             return Err(StoreFault::Refused);
         }
@@ -176,7 +268,9 @@ impl<F: Folder + Drop> Ledger for Feed<F> {
         self.segment.stop();
     }
 
-    ghost cuts = { ? };
+    ghost cuts = { λ old new p told later opened kept ends lasting above. cut_ledger F.File.seen
+        F.File.may_leave F.File.seen_may_stay old.begins new.begins old.segment p new.segment told
+        later opened kept ends lasting };
 
-    ghost unasked = { ? };
+    ghost unasked = { λ l no es. wants_all no };
 }

@@ -95,6 +95,7 @@ fn find_end<D: Disk>(
     requires { IsTrue (D.is_usable disk.old) }
     ensures found { IfOk result (λ size. IsTrue (D.is_clean disk.new) →
         IsFound base position (D.seen disk.old) size × (size ≤ length (D.seen disk.old))) }
+    ensures within { OnOk result (base ≤ position) }
     ensures seen { D.seen disk.new ≡ D.seen disk.old }
     ensures crash { (c : List ℕ) → D.may_leave disk.new c → D.may_leave disk.old c }
     ensures clean { IsTrue (D.is_clean disk.new) → IsTrue (D.is_clean disk.old) }
@@ -205,6 +206,7 @@ impl<D: Disk + Drop> Segment<D> {
             (D.seen s.disk) (D.may_leave s.disk)) }
         ensures begins { IfOk result (λ s. (s.base ≡ base) × (s.last ≡ position)
             × (s.is_stuck ≡ false)) }
+        ensures within { OnOk result (base ≤ position) }
         ensures refused { IfErr result (λ e. e.0 ≡ NotAFeed → (D.seen e.1 ≡ D.seen disk)
             × ((c : List ℕ) → D.may_leave e.1 c → D.may_leave disk c)) }
     {

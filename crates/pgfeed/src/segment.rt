@@ -179,7 +179,7 @@ impl<D: Disk + Drop> Segment<D> {
 
     /// Takes nothing more from now on.
     pub(crate) fn stop(&mut self)
-        ensures { self.new ≡ record { self.old with is_stuck = true } }
+        ensures { self.new ≡ record self.old { is_stuck = true } }
     {
         self.is_stuck = true;
     }

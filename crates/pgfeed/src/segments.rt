@@ -1,5 +1,8 @@
 //! Opening a feed: its last segment is opened, and those above the position go.
 
+ghost use Rattle.std.specs.Prelude.{◌≡◌, ◌≤◌, [], false, IsTrue, IfOk};
+ghost use Rattle.pgfeed.specs.Feeds.{IsFresh, KeepsAll, LastsUpTo, OpensSome};
+
 use crate::fault::FeedFault;
 use crate::feed::Feed;
 use crate::folder::{Folder, Names, Origin, SegmentLimits};
@@ -16,7 +19,12 @@ fn create_in<F: Folder>(
     file: F::File,
     names: &Names,
     base: Lsn,
-) -> Result<Segment<F::File>, FeedFault> {
+) -> Result<Segment<F::File>, FeedFault>
+    requires { IsTrue (F.File.is_usable file) }
+    ensures fresh { IfOk result (λ s. IsFresh F.File.seen F.File.may_leave s) }
+    ensures base { IfOk result (λ s. s.base ≡ base) }
+    ensures free { IfOk result (λ s. s.is_stuck ≡ false) }
+{
     let system = names.system.as_str();
     let database = names.database.as_str();
     match Segment::create(alloc, file, base, system, database, names.slot.as_str()) {
@@ -34,7 +42,11 @@ pub(crate) fn begin_segment<F: Folder>(
     folder: &mut F,
     names: &Names,
     base: Lsn,
-) -> Result<Segment<F::File>, FeedFault> {
+) -> Result<Segment<F::File>, FeedFault>
+    ensures fresh { IfOk result (λ s. IsFresh F.File.seen F.File.may_leave s) }
+    ensures base { IfOk result (λ s. s.base ≡ base) }
+    ensures free { IfOk result (λ s. s.is_stuck ≡ false) }
+{
     let file = folder.create(base)?;
     create_in(alloc, folder, file, names, base)
 }
@@ -47,7 +59,13 @@ fn segment_at<F: Folder>(
     names: &Names,
     base: Lsn,
     position: Lsn,
-) -> Result<Segment<F::File>, FeedFault> {
+) -> Result<Segment<F::File>, FeedFault>
+    ensures opened { IfOk result (λ s. OpensSome F.File.seen F.File.may_leave
+        (IsTrue (F.File.is_clean s.disk)) position s) }
+    ensures base { IfOk result (λ s. s.base ≡ base) }
+    ensures last { IfOk result (λ s. s.last ≡ position) }
+    ensures free { IfOk result (λ s. s.is_stuck ≡ false) }
+{
     let file = folder.open(base)?;
     if base == position {
         return create_in(alloc, folder, file, names, base);
@@ -75,17 +93,26 @@ fn last_segment<F: Folder>(
     folder: &mut F,
     names: &Names,
     position: Lsn,
-) -> Result<(Segment<F::File>, Lsn), FeedFault> {
+) -> Result<(Segment<F::File>, Lsn), FeedFault>
+    ensures opened { IfOk result (λ found. OpensSome F.File.seen F.File.may_leave
+        (IsTrue (F.File.is_clean found.0.disk)) position found.0) }
+    ensures last { IfOk result (λ found. found.0.last ≡ position) }
+    ensures free { IfOk result (λ found. found.0.is_stuck ≡ false) }
+    ensures begins { IfOk result (λ found. found.1 ≤ found.0.base) }
+{
     let bases = folder.bases()?;
     if bases.is_empty() {
         let segment = begin_segment(alloc, folder, names, position)?;
         return Ok((segment, position));
     }
-    let count = bases.iter().take_while(|base| **base <= position).count();
+    let count = bases.partition_point(|base| *base <= position);
     let (below, above) = bases.split_at(count);
     let (Some(first), Some(last)) = (below.first(), below.last()) else {
         return Err(FeedFault::NotAFeed);
     };
+    if last < first {
+        return Err(FeedFault::Refused);
+    }
     let segment = segment_at(alloc, folder, names, *last, position)?;
     remove_all(folder, above)?;
     Ok((segment, *first))
@@ -108,7 +135,16 @@ impl<F: Folder + Drop> Feed<F> {
         origin: &Origin<'_>,
         limits: SegmentLimits,
         position: Lsn,
-    ) -> Result<Feed<F>, (FeedFault, F)> {
+    ) -> Result<Feed<F>, (FeedFault, F)>
+        ensures opened { IfOk result (λ f. OpensSome F.File.seen F.File.may_leave
+            (IsTrue (F.File.is_clean f.segment.disk)) position f.segment) }
+        ensures last { IfOk result (λ f. f.segment.last ≡ position) }
+        ensures synced { IfOk result (λ f. f.synced ≡ position) }
+        ensures free { IfOk result (λ f. f.segment.is_stuck ≡ false) }
+        ensures begun { IfOk result (λ f. f.begins ≡ position →
+            KeepsAll F.File.seen f.begins f.segment []
+            × LastsUpTo F.File.may_leave f.segment position) }
+    {
         match open_in(alloc, &mut folder, origin, position) {
             Ok((segment, begins, names)) => {
                 Ok(Feed::of(alloc, folder, segment, begins, names, limits))
@@ -124,7 +160,13 @@ fn open_in<F: Folder>(
     folder: &mut F,
     origin: &Origin<'_>,
     position: Lsn,
-) -> Result<(Segment<F::File>, Lsn, Names), FeedFault> {
+) -> Result<(Segment<F::File>, Lsn, Names), FeedFault>
+    ensures opened { IfOk result (λ found. OpensSome F.File.seen F.File.may_leave
+        (IsTrue (F.File.is_clean found.0.disk)) position found.0) }
+    ensures last { IfOk result (λ found. found.0.last ≡ position) }
+    ensures free { IfOk result (λ found. found.0.is_stuck ≡ false) }
+    ensures begins { IfOk result (λ found. found.1 ≤ found.0.base) }
+{
     let names = Names::of(alloc, origin)?;
     // the head of a segment has room for the names wherever it begins
     let _head = segment_head(alloc, Lsn(u64::MAX), origin.system, origin.database, origin.slot)?;

@@ -61,11 +61,22 @@ fn work_of<'a>(alloc: Global) -> Result<Work<'a>, StoreFault> {
     Ok(work)
 }
 
-/// Appends a commit of one Insert.
+/// Appends a commit of one Insert, about which nothing is told.
 pub(crate) fn append<D: Disk + Drop>(
     alloc: Global,
     segment: &mut Segment<D>,
     end: Lsn,
+    words: &str,
+) -> Result<(), StoreFault> {
+    append_at(alloc, segment, end, None, words)
+}
+
+/// Appends a commit of one Insert, maybe of this time.
+pub(crate) fn append_at<L: Ledger>(
+    alloc: Global,
+    ledger: &mut L,
+    end: Lsn,
+    time: Option<i64>,
     words: &str,
 ) -> Result<(), StoreFault> {
     let row = tuple(alloc, words)?;
@@ -83,12 +94,17 @@ pub(crate) fn append<D: Disk + Drop>(
     images.push(Image::Inserted {
         row: row.borrowed(),
     })?;
+    let about = time.map(|time| About {
+        final_lsn: end,
+        xid: 739,
+        time,
+    });
     let commit = Commit {
         end,
-        about: None,
+        about,
         work: &work,
     };
-    segment.append(&commit, images.as_slice())
+    ledger.append(&commit, images.as_slice())
 }
 
 /// The text of a commit with a change of each kind.

@@ -7,4 +7,8 @@
 #[cfg(test)]
 mod commits;
 #[cfg(test)]
+mod feeds;
+#[cfg(test)]
+mod folders;
+#[cfg(test)]
 mod tests;

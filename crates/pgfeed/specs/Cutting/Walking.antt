@@ -12,7 +12,7 @@ use Rattle.pgfeed.specs.Cutting.Fronts.{one_front}
 use Rattle.pgfeed.specs.Cutting.Widths.{line_length}
 
 -- a walk goes up
-walks_up : (at place size : ℕ) (marks : List Mark) (text : List ℕ) → Walks at marks text place size → at ≤ place
+pub walks_up : (at place size : ℕ) (marks : List Mark) (text : List ℕ) → Walks at marks text place size → at ≤ place
 walks_up at place size [] text walk = omega (arith, walk.0)
 walks_up at place size (mark ∷ marks) text walk = let more = walks_up mark.end place walk.1.0 marks (drop (256 + mark.bytes) text) walk.1.2 in omega (arith, walk.0.above)
 

@@ -9,7 +9,7 @@ use Rattle.std.proofs.lemmas.List.{length-replicate}
 use Rattle.pglsn.specs.Texts.{lsn_text}
 use Rattle.pglsn.proofs.Printed.{text_reads}
 use Rattle.pgapply.specs.declared.commit.About.{About}
-use Rattle.pgfeed.specs.Texts.{about_text, commit_front, commit_line, commit_object, commit_rest, padded, unix_micros}
+use Rattle.pgfeed.specs.Texts.{about_text, closing_object, commit_front, commit_line, commit_object, commit_rest, padded, unix_micros}
 use Rattle.pgfeed.specs.Fits.{FitsAbout, FitsLine}
 
 pub lsn_length : (n : ℕ) → n < 2 ^ 64 → length (lsn_text n) ≤ 17
@@ -62,3 +62,7 @@ padded_length size text fits =
 
 pub line_length : (end prev bytes changes : ℕ) (about : Option About) → FitsLine end prev bytes changes about → length (commit_line end prev bytes changes about) ≡ 256
 line_length end prev bytes changes about fits = padded_length 256 (commit_object end prev bytes changes about) (object_length end prev bytes changes about fits)
+
+-- the line that ends a segment
+pub closing_length : (last : ℕ) → last < 2 ^ 64 → length (closing_object last) < 256
+closing_length last small = let long = lsn_length last small in omega (arith, length-append {A = ℕ})

@@ -1,0 +1,286 @@
+//! A feed of segments in memory.
+
+use crate::commits::append_at;
+use crate::folders::{MemoryFolder, Stop, Stored};
+use pgapply::StoreFault;
+use pgfeed::{Feed, FeedFault, Origin, SegmentLimits};
+use pgledger::Ledger;
+use pglsn::Lsn;
+use std::alloc::{AllocError, Global};
+use std::test::Fail;
+
+/// A head and two commits.
+const TWO: SegmentLimits = SegmentLimits {
+    bytes: 1024 + 2 * (256 + 183),
+    micros: u64::MAX,
+};
+
+/// One line that ends the first segment, and one that ends the second, without blanks.
+const CLOSING: [&'static str; 2] = ["{\"last\":\"0/300\"}", "{\"last\":\"0/500\"}"];
+
+/// The LSNs at which the commits of a run end.
+const ENDS: [u64; 5] = [0x200, 0x300, 0x400, 0x500, 0x600];
+
+fn open(
+    alloc: Global,
+    folder: MemoryFolder,
+    limits: SegmentLimits,
+    position: Lsn,
+) -> Result<Feed<MemoryFolder>, (FeedFault, MemoryFolder)> {
+    let origin = Origin {
+        system: "7",
+        database: "d",
+        slot: "s",
+    };
+    Feed::open(alloc, folder, &origin, limits, position)
+}
+
+/// Appends the commits that end after this LSN, each settled by itself, and notes up to where that
+/// was done.
+fn go_on(
+    alloc: Global,
+    feed: &mut Feed<MemoryFolder>,
+    settled: &mut Lsn,
+) -> Result<(), StoreFault> {
+    for end in ENDS.iter() {
+        if settled.0 < *end {
+            append_at(alloc, feed, Lsn(*end), None, "1 a")?;
+            feed.sync()?;
+            *settled = Lsn(*end);
+        }
+    }
+    Ok(())
+}
+
+/// What a feed leaves in its folder.
+fn left(feed: Feed<MemoryFolder>) -> Vec<Stored> {
+    let base = feed.base();
+    let (mut folder, file) = feed.into_parts();
+    pgfeed::Folder::close(&mut folder, base, file);
+    folder.into_segments()
+}
+
+/// Opens a feed over these segments, and goes on until all is settled or it stops. Gives the
+/// segments that are there then.
+fn run(
+    alloc: Global,
+    segments: Vec<Stored>,
+    stop: Stop,
+    settled: &mut Lsn,
+) -> Vec<Stored> {
+    let folder = MemoryFolder::of(alloc, segments, stop);
+    match open(alloc, folder, TWO, *settled) {
+        Ok(mut feed) => {
+            let _ended = go_on(alloc, &mut feed, settled);
+            left(feed)
+        }
+        Err((_, folder)) => folder.into_segments(),
+    }
+}
+
+/// The segments of an undisturbed run.
+fn whole(alloc: Global) -> Vec<Stored> {
+    run(alloc, Vec::new(alloc), Stop::Never, &mut Lsn(0x100))
+}
+
+/// Where a run is stopped.
+fn stops(alloc: Global) -> Result<Vec<Stop>, AllocError> {
+    let mut all = Vec::new(alloc);
+    for calls in 0..8 {
+        all.push(Stop::Folder(calls))?;
+        for number in 0..3 {
+            all.push(Stop::File(number, calls))?;
+            all.push(Stop::File(number, calls + 8))?;
+        }
+    }
+    Ok(all)
+}
+
+fn opened(
+    found: Result<Feed<MemoryFolder>, (FeedFault, MemoryFolder)>,
+) -> Result<Feed<MemoryFolder>, Fail> {
+    match found {
+        Ok(feed) => Ok(feed),
+        Err((fault, _)) => Err(Fail::from(fault)),
+    }
+}
+
+fn sizes(alloc: Global, segments: &[Stored]) -> Result<Vec<(u64, usize)>, AllocError> {
+    let mut all = Vec::new(alloc);
+    for (base, bytes) in segments.iter() {
+        all.push((base.0, bytes.len()))?;
+    }
+    Ok(all)
+}
+
+#[test]
+fn ends_a_segment_before_the_commit_that_would_pass_its_bytes(rt: HostRuntime) -> Result<(), Fail> {
+    let alloc = rt.alloc();
+    let segments = whole(alloc);
+    assert_eq!(rt;
+        sizes(alloc, &segments)?.as_slice(),
+        [(0x100, 2158), (0x300, 2158), (0x500, 1463)].as_slice()
+    );
+    for ((_, bytes), line) in segments.iter().zip(&CLOSING) {
+        let text = str::from_utf8(&bytes[1902..])?;
+        assert_eq!(rt; text.trim_end(), *line);
+        assert!(rt; text.ends_with("  \n"));
+    }
+    Ok(())
+}
+
+#[test]
+fn has_the_same_bytes_after_a_stop_at_any_call(rt: HostRuntime) -> Result<(), Fail> {
+    let alloc = rt.alloc();
+    let whole = whole(alloc);
+    for stop in stops(alloc)? {
+        let mut settled = Lsn(0x100);
+        let segments = run(alloc, Vec::new(alloc), stop, &mut settled);
+        let again = run(alloc, segments, Stop::Never, &mut settled);
+        assert!(rt; again.as_slice() == whole.as_slice(), "{stop:?}");
+    }
+    Ok(())
+}
+
+#[test]
+fn opens_below_segments_after_a_stop_at_any_call(rt: HostRuntime) -> Result<(), Fail> {
+    let alloc = rt.alloc();
+    let whole = whole(alloc);
+    for stop in stops(alloc)? {
+        for position in [0x100, 0x200, 0x300, 0x400] {
+            let mut settled = Lsn(position);
+            let segments = run(alloc, whole.clone()?, stop, &mut settled);
+            let again = run(alloc, segments, Stop::Never, &mut settled);
+            assert!(rt; again.as_slice() == whole.as_slice(), "{stop:?} {position}");
+        }
+    }
+    Ok(())
+}
+
+/// The bases and sizes of the segments once a feed of all commits is opened at a position, if it is.
+fn opened_at(alloc: Global, position: u64) -> Result<Option<Vec<(u64, usize)>>, Fail> {
+    let whole = whole(alloc);
+    let folder = MemoryFolder::of(alloc, whole.clone()?, Stop::Never);
+    match open(alloc, folder, TWO, Lsn(position)) {
+        Ok(feed) => {
+            if feed.last() != Lsn(position) || feed.begins() != Lsn(0x100) {
+                return Err(Fail::from("it is opened elsewhere"));
+            }
+            Ok(Some(sizes(alloc, &left(feed))?))
+        }
+        Err((fault, folder)) => {
+            if fault != FeedFault::NotAFeed || folder.segments() != whole.as_slice() {
+                return Err(Fail::from("the folder isn't as it was"));
+            }
+            Ok(None)
+        }
+    }
+}
+
+#[test]
+fn opening_removes_what_is_above_the_position(rt: HostRuntime) -> Result<(), Fail> {
+    let alloc = rt.alloc();
+    for (position, size) in [(0x100, 1024), (0x200, 1463)] {
+        let found = opened_at(alloc, position)?.unwrap_or(Vec::new(alloc));
+        assert_eq!(rt; found.as_slice(), [(0x100, size)].as_slice());
+    }
+    for (position, size) in [(0x300, 1024), (0x400, 1463)] {
+        let found = opened_at(alloc, position)?.unwrap_or(Vec::new(alloc));
+        assert_eq!(rt; found.as_slice(), [(0x100, 2158), (0x300, size)].as_slice());
+    }
+    Ok(())
+}
+
+#[test]
+fn a_feed_that_does_not_fit_is_left_as_it_was(rt: HostRuntime) -> Result<(), Fail> {
+    let alloc = rt.alloc();
+    for position in [0, 0xff, 0x101, 0x250, 0x301, 0x450, 0x601, 0x700] {
+        assert!(rt; opened_at(alloc, position)?.is_none(), "{position}");
+    }
+    Ok(())
+}
+
+#[test]
+fn names_that_are_too_long_leave_the_folder_as_it_was(rt: HostRuntime) -> Result<(), Fail> {
+    let alloc = rt.alloc();
+    let name = "slot".repeat(alloc, 250)?;
+    let origin = Origin {
+        system: "7",
+        database: "d",
+        slot: name.as_str(),
+    };
+    for position in [0x100, 0x400] {
+        let whole = whole(alloc);
+        let folder = MemoryFolder::of(alloc, whole.clone()?, Stop::Never);
+        match Feed::open(alloc, folder, &origin, TWO, Lsn(position)) {
+            Ok(_) => return Err(Fail::from("the names are taken")),
+            Err((fault, folder)) => {
+                assert_eq!(rt; fault, FeedFault::TooLong);
+                assert!(rt; folder.segments() == whole.as_slice());
+            }
+        }
+    }
+    Ok(())
+}
+
+/// The bases of a feed of commits with these times, each settled by itself, of which no segment may
+/// have commits that are a thousand microseconds apart.
+fn bases_by_time(alloc: Global, times: &[Option<i64>]) -> Result<Vec<u64>, Fail> {
+    let limits = SegmentLimits {
+        bytes: u64::MAX,
+        micros: 1000,
+    };
+    let folder = MemoryFolder::of(alloc, Vec::new(alloc), Stop::Never);
+    let mut feed = opened(open(alloc, folder, limits, Lsn(0)))?;
+    let mut bases = Vec::new(alloc);
+    for (end, time) in (1..100).zip(times) {
+        append_at(alloc, &mut feed, Lsn(end), *time, "1 a")?;
+        feed.sync()?;
+        bases.push(feed.base().0)?;
+    }
+    Ok(bases)
+}
+
+#[test]
+fn ends_a_segment_by_the_times_of_its_commits(rt: HostRuntime) -> Result<(), Fail> {
+    let alloc = rt.alloc();
+    let times = [Some(-5), Some(994), Some(995), Some(1994), Some(1), Some(1995)];
+    assert_eq!(rt; bases_by_time(alloc, &times)?.as_slice(), [0, 0, 2, 2, 2, 5].as_slice());
+    let times = [None, Some(7), None, Some(1006), Some(1007)];
+    assert_eq!(rt; bases_by_time(alloc, &times)?.as_slice(), [0, 0, 0, 0, 4].as_slice());
+    let times = [Some(i64::MIN), Some(i64::MAX)];
+    assert_eq!(rt; bases_by_time(alloc, &times)?.as_slice(), [0, 1].as_slice());
+    Ok(())
+}
+
+#[test]
+fn commits_that_are_settled_at_once_stand_in_one_segment(rt: HostRuntime) -> Result<(), Fail> {
+    let alloc = rt.alloc();
+    let folder = MemoryFolder::of(alloc, Vec::new(alloc), Stop::Never);
+    let mut feed = opened(open(alloc, folder, TWO, Lsn(0x100)))?;
+    for end in [0x200, 0x300, 0x400, 0x500] {
+        append_at(alloc, &mut feed, Lsn(end), None, "1 a")?;
+    }
+    feed.sync()?;
+    assert_eq!(rt; feed.base(), Lsn(0x100));
+    append_at(alloc, &mut feed, Lsn(0x600), None, "1 a")?;
+    assert_eq!(rt; feed.base(), Lsn(0x500));
+    assert_eq!(rt; feed.last(), Lsn(0x600));
+    Ok(())
+}
+
+#[test]
+fn a_feed_that_has_failed_takes_nothing_more(rt: HostRuntime) -> Result<(), Fail> {
+    let alloc = rt.alloc();
+    let folder = MemoryFolder::of(alloc, Vec::new(alloc), Stop::Never);
+    let mut feed = opened(open(alloc, folder, TWO, Lsn(0x100)))?;
+    append_at(alloc, &mut feed, Lsn(0x200), None, "1 a")?;
+    assert_eq!(rt;
+        append_at(alloc, &mut feed, Lsn(0x200), None, "1 a"),
+        Err(StoreFault::Refused)
+    );
+    assert!(rt; feed.is_stuck());
+    assert_eq!(rt; feed.sync(), Err(StoreFault::Refused));
+    assert_eq!(rt; feed.last(), Lsn(0x200));
+    Ok(())
+}
