@@ -56,4 +56,4 @@ module _ {F D : Type 0} (seen : D → List ℕ) (may_leave : D → List ℕ → 
     pub opened : OpensSome seen may_leave (IsTrue (is_clean l.segment.disk)) p l.segment
     pub last : l.segment.last ≡ p
     pub free : l.segment.is_stuck ≡ false
-    pub begun : l.begins ≡ p → l.segment.base ≡ p → FeedKeeps l [] × FeedLasts l p
+    pub begun : l.begins ≡ p → FeedKeeps l [] × FeedLasts l p
