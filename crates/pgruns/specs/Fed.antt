@@ -34,26 +34,25 @@ TellsUnfed takes failed f old new = takes old (feed_line f) new ⊎ failed old
 
 -- ---- a store with its feed
 
-module _ {F D : Type 0} (seen : D → List ℕ) (may_leave : D → List ℕ → Type 0) where
-  -- what a feed is as a ledger
-  abbrev pub feed_begins : Feed F D → ℕ
-  feed_begins l = l.begins
+-- what a feed is as a ledger
+abbrev pub feed_begins : {F D : Type 0} → Feed F D → ℕ
+feed_begins l = l.begins
 
-  abbrev pub FeedKeeps : Feed F D → List Entry → Type 0
-  FeedKeeps l es = KeepsAll seen l.begins l.segment es
+abbrev pub is_stuck_feed : {F D : Type 0} → Feed F D → Bool
+is_stuck_feed l = l.segment.is_stuck
 
-  abbrev pub FeedLasts : Feed F D → ℕ → Type 0
-  FeedLasts l p = LastsUpTo may_leave l.segment p
+abbrev pub FeedKeeps : {F D : Type 0} → (D → List ℕ) → Feed F D → List Entry → Type 0
+FeedKeeps seen l es = KeepsAll seen l.begins l.segment es
 
-  abbrev pub is_stuck_feed : Feed F D → Bool
-  is_stuck_feed l = l.segment.is_stuck
+abbrev pub FeedLasts : {F D : Type 0} → (D → List ℕ → Type 0) → Feed F D → ℕ → Type 0
+FeedLasts may_leave l p = LastsUpTo may_leave l.segment p
 
-  abbrev pub FeedReopens : Feed F D → ℕ → Feed F D → Type 0
-  FeedReopens l p other = (other.begins ≡ l.begins) × OpensAt seen may_leave l.segment p other.segment
+abbrev pub FeedReopens : {F D : Type 0} → (D → List ℕ) → (D → List ℕ → Type 0) → Feed F D → ℕ → Feed F D → Type 0
+FeedReopens seen may_leave l p other = (other.begins ≡ l.begins) × OpensAt seen may_leave l.segment p other.segment
 
-  -- It was opened at this LSN. A new one begins there, and keeps nothing yet.
-  pub record IsOpenedAt (is_clean : D → Bool) (p : ℕ) (l : Feed F D) : Type 0 where
-    pub opened : OpensSome seen may_leave (IsTrue (is_clean l.segment.disk)) p l.segment
-    pub last : l.segment.last ≡ p
-    pub free : l.segment.is_stuck ≡ false
-    pub begun : l.begins ≡ p → FeedKeeps l [] × FeedLasts l p
+-- It was opened at this LSN. A new one begins there, and keeps nothing yet.
+pub record IsOpenedAt {F D : Type 0} (seen : D → List ℕ) (may_leave : D → List ℕ → Type 0) (is_clean : D → Bool) (p : ℕ) (l : Feed F D) : Type 0 where
+  pub opened : OpensSome seen may_leave (IsTrue (is_clean l.segment.disk)) p l.segment
+  pub last : l.segment.last ≡ p
+  pub free : l.segment.is_stuck ≡ false
+  pub begun : l.begins ≡ p → FeedKeeps seen l [] × FeedLasts may_leave l p
