@@ -1,5 +1,5 @@
 -- What the parse of the words comes to.
-use Rattle.std.proofs.Common.{◌≡◌, ◌∙◌, ⊎_elim, true, refl, sym, ap, subst, List, [], Option, Some, None, unwrap_or}
+use Rattle.std.proofs.Common.{◌≡◌, ◌∙◌, inl, inr, ⊎_elim, true, refl, sym, ap, subst, List, [], Option, Some, None, unwrap_or}
 use Rattle.std.specs.Option.{option_map}
 use Rattle.clap.specs.Kinds.{HasKind, IsAmong}
 use Rattle.clap.specs.Words.{App, HasMatchesOf, Row, Text, fault_of, is_simple, is_simple_and_free, kind_of, subcommand_of, subcommand_rows_of}
@@ -8,7 +8,8 @@ use Rattle.clap.specs.declared.parser.matches.ArgMatches.{ArgMatches}
 use Rattle.clap.proofs.OnLiterals.{clap_on_literals}
 use Rattle.pgcommand.specs.declared.fault.CommandFault.{CommandFault}
 use Rattle.pgcommand.specs.declared.fault.CommandFault.TheVariants.{Usage, Memory}
-use Rattle.pgcommand.specs.Asked.{IsCommandName, IsRefusalOf, IsUsage, pgsub_app}
+use Rattle.clap.specs.declared.error.kind.ErrorKind.TheVariants.{MissingRequiredArgument}
+use Rattle.pgcommand.specs.Asked.{IsCommandName, IsRefusalOf, IsUsage, LacksWord, pgsub_app}
 use Rattle.pgcommand.proofs.Meeting.{names_one}
 
 simple_pgsub : is_simple pgsub_app ≡ true
@@ -43,7 +44,12 @@ pub refused_as : (words : List Text) (app : App) (error : Error) (told : Command
 refused_as words app error Memory same is kinds = tt
 refused_as words app error (Usage told) same is kinds =
     let has = subst (λ (a : App). HasKind (fault_of a words) error) same (kinds (ap is_simple_and_free same ∙ free_pgsub)) in
-    subst (λ e. IsAmong (kind_of e) (fault_of pgsub_app words)) (sym is.0) (⊎_elim (λ e. absurd (is.1 e)) (λ a. a) has)
+    inl (subst (λ e. IsAmong (kind_of e) (fault_of pgsub_app words)) (sym is.0) (⊎_elim (λ e. absurd (is.1 e)) (λ a. a) has))
+
+-- where a word is missing
+pub refused_without : (words : List Text) (error : Error) (told : CommandFault) → LacksWord words → kind_of error ≡ MissingRequiredArgument → IsUsage error told → IsRefusalOf words told
+refused_without words error Memory lacks kind is = tt
+refused_without words error (Usage told) lacks kind is = inr (lacks, ap kind_of is.0 ∙ kind)
 
 some-inj : {X : Type 0} {x y : X} → Some x ≡ Some y → x ≡ y
 some-inj {X} {x} {y} e = ap (λ (o : Option X). unwrap_or o x) e

@@ -6,7 +6,7 @@ use Rattle.std.specs.Str.Parse.{IsNumeral, ParsesUnsigned, digits_value, without
 use Rattle.clap.specs.Words.{AddsArg, AddsSubcommand, App, ReadsOne, Rule, rule_of, with_rule, with_subcommand}
 use Rattle.clap.specs.declared.builder.arg.Arg.{Arg}
 use Rattle.clap.specs.declared.builder.command.Command.{Command}
-use Rattle.pgcommand.specs.Asked.{IsCommand, ReadsAsOne, ReadsUpTo}
+use Rattle.pgcommand.specs.Asked.{IsCommand, ReadsAsOne, ReadsOr, ReadsUpTo}
 
 pub none≢some : {X : Type 0} {x : X} → None ≡ Some x → ⊥
 none≢some e = true≢false (sym (ap is_some e))
@@ -65,3 +65,15 @@ reads_up_to E G k most t (Some m) below only value n is text same numeral small 
 reads_up_to E G k most t None below only value n is text same numeral small =
     let failed = value text same in
     absurd (only text (Err failed.0) failed.1 (numeral, omega (arith, small, below)))
+
+-- the same of a number that need not be given
+pub reads_or : (E : Type 0) (G : List ℕ → Result ℕ E → Type 0) (k most default : ℕ) (t : Option (List ℕ)) (r : Option ℕ) → most < 2 ^ k
+    → ((u : List ℕ) (x : Result ℕ E) → G u x → ParsesUnsigned k 10 u x) → (t ≡ None → r ≡ None) → ((u : List ℕ) → t ≡ Some u → ReadsOne G u r)
+    → ReadsOr default most t (unwrap_or r default)
+reads_or E G k most default None r below only none value = ap (λ (o : Option ℕ). unwrap_or o default) (none refl)
+reads_or E G k most default (Some u) r below only none value =
+    reads_up_to E G k most (Some u) r below only value (unwrap_or r default) (λ m e small. ap (λ (o : Option ℕ). unwrap_or o default) e)
+
+pub is_some_text : (o : Option (Bor (List ℕ))) → is_some o ≡ is_some (option_map (λ s. s.now) o)
+is_some_text None = refl
+is_some_text (Some s) = refl

@@ -1,5 +1,5 @@
 -- What the words of a command line ask for.
-use Rattle.std.specs.Prelude.{◌≡◌, ◌≢◌, ◌≤◌, ◌↔◌, ◌⊎◌, ℕ, List, [], ◌∷◌, Some, true, codes, string_bytes, Bool, false, Option, unwrap_or, option_map, pos, String}
+use Rattle.std.specs.Prelude.{◌≡◌, ◌≢◌, ◌≤◌, ◌↔◌, ◌⊎◌, ◌||◌, not, if◌then◌else◌, ℕ, List, [], ◌∷◌, Some, None, is_some, true, codes, string_bytes, Bool, false, Option, unwrap_or, option_map, pos, String}
 use Rattle.std.specs.declared.alloc.Global.{Global}
 use Rattle.std.specs.Str.Parse.{IsNumeral, digits_value, without_leading_plus}
 use Rattle.clap.specs.declared.builder.command.Command.{Command}
@@ -7,9 +7,10 @@ use Rattle.clap.specs.declared.builder.command.Command.TheViews.{out-Command}
 use Rattle.clap.specs.Words.{App, app_of, Row, Rule, Text, IsAmong, fault_of, first_of, one_of, new_app, new_rule, subcommand_of, with_rule, with_subcommand, kind_of}
 use Rattle.clap.specs.Simple.{on_top}
 use Rattle.clap.specs.declared.error.Error.{Error}
-use Rattle.clap.specs.declared.error.kind.ErrorKind.TheVariants.{OutOfMemory}
+use Rattle.clap.specs.declared.error.kind.ErrorKind.TheVariants.{MissingRequiredArgument, OutOfMemory}
 use Rattle.clap.specs.declared.builder.action.ArgAction.TheVariants.{SetTrue}
 use Rattle.clap.specs.declared.builder.value_parser.ValueParser.TheVariants.{Signed, Unsigned}
+use Rattle.pgcommand.specs.declared.feed.FeedOptions.{FeedOptions}
 use Rattle.pgcommand.specs.declared.limits.Limits.{Limits}
 use Rattle.pgcommand.specs.declared.task.Task.{Task}
 use Rattle.pgcommand.specs.declared.task.Task.TheVariants.{Show, Apply, Dump, Follow, Same, Resume, Lsn}
@@ -65,17 +66,43 @@ cache_rule = record (new_rule (codes "cache")) {
   defaults = codes "20000" ∷ [];
 }
 
+-- the folder of a feed
+abbrev pub feed_rule : Rule
+feed_rule = record (new_rule (codes "feed")) { long = Some (codes "feed"); value_names = 1 }
+
+-- what the feed is of: the system's identifier, the database and the slot
+abbrev pub feed_text_rule : Text → Rule
+feed_text_rule name = record (new_rule name) { long = Some name; value_names = 1 }
+
+-- when a segment of the feed ends
+abbrev pub feed_bytes_rule : Rule
+feed_bytes_rule = record (new_rule (codes "feed-segment-bytes")) {
+  long = Some (codes "feed-segment-bytes");
+  value_names = 1;
+  parser = Some (Unsigned 0 18446744073709551615);
+}
+
+abbrev pub feed_seconds_rule : Rule
+feed_seconds_rule = record (new_rule (codes "feed-segment-seconds")) {
+  long = Some (codes "feed-segment-seconds");
+  value_names = 1;
+  parser = Some (Signed (pos 0) (pos 4294967295));
+}
+
+abbrev pub with_feed : App → App
+with_feed a = with_rule (with_rule (with_rule (with_rule (with_rule (with_rule a feed_rule) (feed_text_rule (codes "feed-system"))) (feed_text_rule (codes "feed-database"))) (feed_text_rule (codes "feed-slot"))) feed_bytes_rule) feed_seconds_rule
+
 abbrev pub show_app : App
 show_app = with_rule (with_rule (new_app (codes "show")) proto_rule) (word_rule (codes "FILE"))
 
 abbrev pub apply_app : App
-apply_app = with_rule (with_rule (with_rule (with_rule (with_rule (with_rule (with_rule (with_rule (new_app (codes "apply")) proto_rule) raw_rule) progress_rule) (store_rule false)) cache_rule) max_buffered_rule) max_frame_rule) (word_rule (codes "FILE"))
+apply_app = with_rule (with_feed (with_rule (with_rule (with_rule (with_rule (with_rule (with_rule (with_rule (new_app (codes "apply")) proto_rule) raw_rule) progress_rule) (store_rule false)) cache_rule) max_buffered_rule) max_frame_rule)) (word_rule (codes "FILE"))
 
 abbrev pub dump_app : App
 dump_app = with_rule (with_rule (new_app (codes "dump")) (store_rule true)) cache_rule
 
 abbrev pub follow_app : App
-follow_app = with_rule (with_rule (with_rule (with_rule (with_rule (new_app (codes "follow")) proto_rule) max_buffered_rule) max_frame_rule) (store_rule true)) cache_rule
+follow_app = with_feed (with_rule (with_rule (with_rule (with_rule (with_rule (new_app (codes "follow")) proto_rule) max_buffered_rule) max_frame_rule) (store_rule true)) cache_rule)
 
 abbrev pub same_app : App
 same_app = with_rule (with_rule (with_rule (new_app (codes "same")) proto_rule) (word_rule (codes "LEFT"))) (word_rule (codes "RIGHT"))
@@ -131,11 +158,30 @@ IsFlag name rows flag = (one_of name rows ≡ Some (codes "true") → flag ≡ t
 abbrev pub NamesStore : List Row → Option (String Global) → Type 0
 NamesStore rows store = option_map string_bytes store ≡ first_of (codes "store") rows
 
+-- the number that the value of an option reads as, or this one where it isn't given
+abbrev pub ReadsOr : ℕ → ℕ → Option Text → ℕ → Type 0
+ReadsOr default most None n = n ≡ default
+ReadsOr default most (Some text) n = ReadsUpTo most (Some text) n
+
+-- a feed in the folder that `--feed` names, of what the other options tell, which are empty where they aren't given
+pub record IsFeed (rows : List Row) (feed : FeedOptions) : Type 0 where
+  pub folder : first_of (codes "feed") rows ≡ Some (string_bytes feed.folder)
+  pub system : string_bytes feed.system ≡ text_in (codes "feed-system") rows
+  pub database : string_bytes feed.database ≡ text_in (codes "feed-database") rows
+  pub slot : string_bytes feed.slot ≡ text_in (codes "feed-slot") rows
+  pub bytes : ReadsOr 67108864 18446744073709551615 (one_of (codes "feed-segment-bytes") rows) feed.segment_bytes
+  pub seconds : ReadsOr 0 4294967295 (one_of (codes "feed-segment-seconds") rows) feed.segment_seconds
+
+-- the feed that is asked for, and none where `--feed` isn't given
+abbrev pub AsksFeed : List Row → Option FeedOptions → Type 0
+AsksFeed rows None = first_of (codes "feed") rows ≡ None
+AsksFeed rows (Some feed) = IsFeed rows feed
+
 abbrev pub IsAsked : Text → List Row → Task → Type 0
 IsAsked name rows (Show version file) = (name ≡ codes "show") × IsVersion rows version × (string_bytes file ≡ text_in (codes "FILE") rows)
-IsAsked name rows (Apply version limits raw progress store cache file) = (name ≡ codes "apply") × IsVersion rows version × IsLimits rows limits × IsFlag (codes "raw") rows raw × IsFlag (codes "progress") rows progress × NamesStore rows store × IsCache rows cache × (string_bytes file ≡ text_in (codes "FILE") rows)
+IsAsked name rows (Apply version limits raw progress store cache feed file) = (name ≡ codes "apply") × IsVersion rows version × IsLimits rows limits × IsFlag (codes "raw") rows raw × IsFlag (codes "progress") rows progress × NamesStore rows store × IsCache rows cache × AsksFeed rows feed × (string_bytes file ≡ text_in (codes "FILE") rows)
 IsAsked name rows (Dump store cache) = (name ≡ codes "dump") × IsCache rows cache × (string_bytes store ≡ text_in (codes "store") rows)
-IsAsked name rows (Follow version limits store cache) = (name ≡ codes "follow") × IsVersion rows version × IsLimits rows limits × IsCache rows cache × (string_bytes store ≡ text_in (codes "store") rows)
+IsAsked name rows (Follow version limits store cache feed) = (name ≡ codes "follow") × IsVersion rows version × IsLimits rows limits × IsCache rows cache × AsksFeed rows feed × (string_bytes store ≡ text_in (codes "store") rows)
 IsAsked name rows (Same version left right) = (name ≡ codes "same") × IsVersion rows version × (string_bytes left ≡ text_in (codes "LEFT") rows) × (string_bytes right ≡ text_in (codes "RIGHT") rows)
 IsAsked name rows (Resume file) = (name ≡ codes "resume") × (string_bytes file ≡ text_in (codes "FILE") rows)
 IsAsked name rows (Lsn text) = (name ≡ codes "lsn") × (string_bytes text ≡ text_in (codes "TEXT") rows)
@@ -144,13 +190,29 @@ IsAsked name rows (Lsn text) = (name ≡ codes "lsn") × (string_bytes text ≡ 
 abbrev pub IsCommandName : Text → Type 0
 IsCommandName name = (name ≡ codes "show") ⊎ ((name ≡ codes "apply") ⊎ ((name ≡ codes "dump") ⊎ ((name ≡ codes "follow") ⊎ ((name ≡ codes "same") ⊎ ((name ≡ codes "resume") ⊎ (name ≡ codes "lsn"))))))
 
--- The words have no fault, and their subcommand asks for the task.
-abbrev pub IsTaskOf : List Text → Task → Type 0
-IsTaskOf words task = (fault_of pgsub_app words ≡ []) × (name : Text) × (rows : List Row) × (subcommand_of pgsub_app words ≡ Some (name, rows)) × IsAsked name rows task
+abbrev pub is_given : Text → List Row → Bool
+is_given name rows = is_some (first_of name rows)
 
--- Why no task is given: an error of one of the kinds that the command line has at these words, or memory ran out.
+-- something of a feed is told
+abbrev pub tells_of_feed : List Row → Bool
+tells_of_feed rows =
+    is_given (codes "feed-system") rows || (is_given (codes "feed-database") rows || (is_given (codes "feed-slot") rows || (is_given (codes "feed-segment-bytes") rows || is_given (codes "feed-segment-seconds") rows)))
+
+-- a feed without a store is asked for, or something is told of a feed that isn't asked for
+abbrev pub lacks_word : List Row → Bool
+lacks_word rows = if is_given (codes "feed") rows then not (is_given (codes "store") rows) else tells_of_feed rows
+
+-- The words have no fault, and their subcommand, which lacks none, asks for the task.
+abbrev pub IsTaskOf : List Text → Task → Type 0
+IsTaskOf words task = (fault_of pgsub_app words ≡ []) × (name : Text) × (rows : List Row) × (subcommand_of pgsub_app words ≡ Some (name, rows)) × (lacks_word rows ≡ false) × IsAsked name rows task
+
+-- the words have no fault, but their subcommand lacks one
+abbrev pub LacksWord : List Text → Type 0
+LacksWord words = (fault_of pgsub_app words ≡ []) × (name : Text) × (rows : List Row) × (subcommand_of pgsub_app words ≡ Some (name, rows)) × (lacks_word rows ≡ true)
+
+-- Why no task is given: an error of one of the kinds that the command line has at these words, a word that is missing, or memory ran out.
 abbrev pub IsRefusalOf : List Text → CommandFault → Type 0
-IsRefusalOf words (Usage error) = IsAmong (kind_of error) (fault_of pgsub_app words)
+IsRefusalOf words (Usage error) = IsAmong (kind_of error) (fault_of pgsub_app words) ⊎ (LacksWord words × (kind_of error ≡ MissingRequiredArgument))
 IsRefusalOf words Memory = Unit {0}
 
 -- out of memory is told apart from the other kinds

@@ -1,10 +1,12 @@
 //! The command line as `clap` reads it.
 
 ghost use Rattle.std.specs.Prelude.{◌≡◌, IfOk, codes, false};
-ghost use Rattle.clap.specs.Words.{new_app, rule_of};
-ghost use Rattle.pgcommand.specs.Asked.{IsCommand, word_rule, proto_rule, raw_rule, progress_rule, store_rule, cache_rule, max_buffered_rule, max_frame_rule, show_app, apply_app, dump_app, follow_app, same_app, resume_app, lsn_app, bare_app, pgsub_app};
+ghost use Rattle.clap.specs.Values.{kind_of};
+ghost use Rattle.clap.specs.Words.{App, new_app, rule_of};
+ghost use Rattle.pgcommand.specs.Asked.{IsCommand, word_rule, proto_rule, raw_rule, progress_rule, store_rule, cache_rule, max_buffered_rule, max_frame_rule, feed_rule, feed_text_rule, feed_bytes_rule, feed_seconds_rule, with_feed, show_app, apply_app, dump_app, follow_app, same_app, resume_app, lsn_app, bare_app, pgsub_app};
 
-use clap::{Arg, ArgAction, Command, value_parser};
+use clap::error::ErrorKind;
+use clap::{Arg, ArgAction, Command, Error, value_parser};
 use std::alloc::{AllocError, Global};
 
 /// What `follow --help` says of how it ends.
@@ -12,7 +14,7 @@ const FOLLOW_STATUSES: &str = "Exit statuses:
    0  the stream ended
    1  the stream is rejected
    2  usage error
-   3  the file is no store
+   3  the file is no store, or the folder no feed of it
   10  the buffered items of open transactions would cost more than --max-buffered
   11  a frame is longer than --max-frame
   12  the store can't be opened, as while another process has it open
@@ -128,6 +130,75 @@ fn max_frame<'a>(alloc: Global) -> Arg<'a>
         .default_value("16777216")
 }
 
+/// `--feed FOLDER`.
+fn feed<'a>(alloc: Global) -> Arg<'a>
+    ensures rule { rule_of result ≡ feed_rule }
+    ensures local { result.global ≡ false }
+{
+    Arg::new(alloc, "feed")
+        .long("feed")
+        .value_name("FOLDER")
+        .help(
+            "Keep a feed of each commit beside the store, in files of this folder; it is made where it isn't there",
+        )
+}
+
+/// `--feed-system TEXT` and the like.
+fn feed_text<'a>(alloc: Global, name: &'a str, help: &'a str) -> Arg<'a>
+    ensures rule { rule_of result ≡ feed_text_rule name.entry.now }
+    ensures local { result.global ≡ false }
+{
+    Arg::new(alloc, name)
+        .long(name)
+        .value_name("TEXT")
+        .help(help)
+}
+
+/// `--feed-segment-bytes BYTES`.
+fn feed_bytes<'a>(alloc: Global) -> Arg<'a>
+    ensures rule { rule_of result ≡ feed_bytes_rule }
+    ensures local { result.global ≡ false }
+{
+    Arg::new(alloc, "feed-segment-bytes")
+        .long("feed-segment-bytes")
+        .value_name("BYTES")
+        .help(
+            "A file of the feed ends before the commit that would make it longer [default: 67108864]",
+        )
+        .value_parser(value_parser!(u64))
+}
+
+/// `--feed-segment-seconds SECONDS`.
+fn feed_seconds<'a>(alloc: Global) -> Arg<'a>
+    ensures rule { rule_of result ≡ feed_seconds_rule }
+    ensures local { result.global ≡ false }
+{
+    Arg::new(alloc, "feed-segment-seconds")
+        .long("feed-segment-seconds")
+        .value_name("SECONDS")
+        .help(
+            "And before one that was committed so many seconds after its first, where this isn't 0 [default: 0]",
+        )
+        .value_parser(value_parser!(u32).range(0..=4294967295))
+}
+
+/// Adds the options of a feed.
+fn with_feed<'a>(alloc: Global, command: Command<'a>) -> Result<Command<'a>, AllocError>
+    ensures { (app : App) → IsCommand app command.entry →
+        IfOk result (IsCommand (with_feed app)) }
+{
+    let system = "The system identifier of the server, as the feed tells it";
+    let database = "The database that is followed, as the feed tells it";
+    let slot = "The slot that is followed, as the feed tells it";
+    command
+        .arg(feed(alloc))?
+        .arg(feed_text(alloc, "feed-system", system))?
+        .arg(feed_text(alloc, "feed-database", database))?
+        .arg(feed_text(alloc, "feed-slot", slot))?
+        .arg(feed_bytes(alloc))?
+        .arg(feed_seconds(alloc))
+}
+
 /// A command without arguments.
 fn named<'a>(alloc: Global, name: &'a str, about: &'a str) -> Command<'a>
     ensures { IsCommand (new_app name.entry.now) result }
@@ -150,7 +221,7 @@ fn show_command<'a>(alloc: Global) -> Result<Command<'a>, AllocError>
 fn apply_command<'a>(alloc: Global) -> Result<Command<'a>, AllocError>
     ensures { IfOk result (IsCommand apply_app) }
 {
-    named(
+    let command = named(
         alloc,
         "apply",
         "Apply a recording, and print the rows and the position that it leads to",
@@ -165,8 +236,8 @@ fn apply_command<'a>(alloc: Global) -> Result<Command<'a>, AllocError>
     ))?
     .arg(cache(alloc))?
     .arg(max_buffered(alloc))?
-    .arg(max_frame(alloc))?
-    .arg(word(alloc, "FILE", "The recording"))
+    .arg(max_frame(alloc))?;
+    with_feed(alloc, command)?.arg(word(alloc, "FILE", "The recording"))
 }
 
 fn dump_command<'a>(alloc: Global) -> Result<Command<'a>, AllocError>
@@ -196,7 +267,7 @@ fn bare_follow<'a>(alloc: Global) -> Command<'a>
 fn follow_command<'a>(alloc: Global) -> Result<Command<'a>, AllocError>
     ensures { IfOk result (IsCommand follow_app) }
 {
-    bare_follow(alloc)
+    let command = bare_follow(alloc)
         .arg(proto(alloc))?
         .arg(max_buffered(alloc))?
         .arg(max_frame(alloc))?
@@ -205,7 +276,30 @@ fn follow_command<'a>(alloc: Global) -> Result<Command<'a>, AllocError>
             true,
             "Keep rows and position in this file and go on from what it holds; it is made where it isn't there",
         ))?
-        .arg(cache(alloc))
+        .arg(cache(alloc))?;
+    with_feed(alloc, command)
+}
+
+/// The usage of `apply` with a feed.
+const FED_APPLY: &str = "pgsub apply [OPTIONS] --store <FILE> --feed <FOLDER> <FILE>";
+
+/// The usage of `follow` with a feed.
+const FED_FOLLOW: &str = "pgsub follow [OPTIONS] --store <FILE> --feed <FOLDER>";
+
+/// The error of words that lack this one, with the usage of their subcommand, `apply` or `follow`.
+pub(crate) fn missing(alloc: Global, name: &str, word: &str) -> Result<Error, AllocError>
+    ensures { IfOk result (λ error. kind_of error ≡ ErrorKind.MissingRequiredArgument) }
+{
+    let message = format!(in alloc;
+        "the following required arguments were not provided:\n  {word}"
+    )?;
+    let usage = if name == "apply" {
+        FED_APPLY
+    } else {
+        FED_FOLLOW
+    };
+    let mut command = Command::new(alloc, "pgsub").override_usage(usage);
+    command.error(ErrorKind::MissingRequiredArgument, message.as_str())
 }
 
 fn same_command<'a>(alloc: Global) -> Result<Command<'a>, AllocError>

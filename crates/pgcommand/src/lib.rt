@@ -23,16 +23,18 @@ ghost use Rattle.pgcommand.specs.Asked.{IsRefusalOf, IsTaskOf};
 
 mod commands;
 pub mod fault;
+pub mod feed;
 pub mod limits;
 pub mod task;
 
 pub use commands::VERSION;
-use commands::program;
+use commands::{missing, program};
 pub use fault::CommandFault;
 use fault::usage_fault;
+pub use feed::FeedOptions;
 pub use limits::Limits;
 use std::alloc::Global;
-use task::task_of;
+use task::{missing_word, task_of};
 pub use task::{DEFAULT_CACHE, Task};
 
 /// Returns the task that the words ask for.
@@ -53,5 +55,8 @@ pub fn command_of(alloc: Global, words: &[String]) -> Result<Task, CommandFault>
     let Some((name, found)) = matches.subcommand() else {
         unreachable!()
     };
-    Ok(task_of(alloc, name, found)?)
+    match missing_word(found) {
+        Some(word) => Err(usage_fault(missing(alloc, name, word)?)),
+        None => Ok(task_of(alloc, name, found)?),
+    }
 }

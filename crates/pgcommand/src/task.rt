@@ -1,9 +1,10 @@
 //! The tasks of the program, and how the parsed words ask for them.
 
-ghost use Rattle.std.specs.Prelude.{◌≡◌, ◌↔◌, IfOk, Option, true, codes, string_bytes};
-ghost use Rattle.clap.specs.Words.{found_of, one_of, rows_of};
-ghost use Rattle.pgcommand.specs.Asked.{IsAsked, IsCache, IsCommandName, IsFlag, IsLimits, NamesStore, ReadsAsOne, ReadsUpTo, IsVersion, text_in};
+ghost use Rattle.std.specs.Prelude.{◌≡◌, ◌↔◌, IfOk, Option, Some, is_some, true, codes, string_bytes};
+ghost use Rattle.clap.specs.Words.{first_of, found_of, one_of, rows_of};
+ghost use Rattle.pgcommand.specs.Asked.{AsksFeed, IsAsked, IsCache, IsCommandName, IsFeed, IsFlag, IsLimits, NamesStore, ReadsAsOne, ReadsOr, ReadsUpTo, IsVersion, is_given, lacks_word, tells_of_feed, text_in};
 
+use crate::feed::FeedOptions;
 use crate::limits::Limits;
 use clap::ArgMatches;
 use pgorder::Version;
@@ -14,7 +15,7 @@ pub const DEFAULT_CACHE: u32 = 20_000;
 
 /// What the program is asked for. `version` is that of the logical replication protocol, 2 by default, `limits` those of the stream
 /// that is applied, `Limits::DEFAULT` by default, and `cache` how many pages of the file `store` are kept in memory, `DEFAULT_CACHE` by
-/// default.
+/// default. Beside a store a feed of its commits is kept, if one is asked for.
 #[derive(Debug, Drop)]
 pub enum Task {
     /// Print one line for each frame of a recording.
@@ -31,6 +32,7 @@ pub enum Task {
         progress: bool,
         store: Option<String>,
         cache: u32,
+        feed: Option<FeedOptions>,
         file: String,
     },
     /// Print the rows and the position that are kept in a file.
@@ -45,6 +47,7 @@ pub enum Task {
         limits: Limits,
         store: String,
         cache: u32,
+        feed: Option<FeedOptions>,
     },
     /// Compare the rows and positions that two recordings lead to.
     Same {
@@ -150,11 +153,94 @@ fn store_of(alloc: Global, found: &ArgMatches<'_>) -> Result<Option<String>, All
     }
 }
 
+/// Whether the option of this name is given.
+fn is_given(found: &ArgMatches<'_>, name: &str) -> bool
+    ensures { result ≡ is_given name.now (rows_of (found_of found.now)) }
+{
+    found.get_str(name).is_some()
+}
+
+/// Whether something is told of a feed.
+fn tells_of_feed(found: &ArgMatches<'_>) -> bool
+    ensures { result ≡ tells_of_feed (rows_of (found_of found.now)) }
+{
+    is_given(found, "feed-system")
+        || is_given(found, "feed-database")
+        || is_given(found, "feed-slot")
+        || is_given(found, "feed-segment-bytes")
+        || is_given(found, "feed-segment-seconds")
+}
+
+/// The word that the matches of a subcommand lack: a feed needs a store, and what is told of one needs a feed.
+pub(crate) fn missing_word(found: &ArgMatches<'_>) -> Option<&'static str>
+    ensures { is_some result ≡ lacks_word (rows_of (found_of found.now)) }
+{
+    if is_given(found, "feed") {
+        if is_given(found, "store") {
+            None
+        } else {
+            Some("--store <FILE>")
+        }
+    } else if tells_of_feed(found) {
+        Some("--feed <FOLDER>")
+    } else {
+        None
+    }
+}
+
+/// The value of `--feed-segment-bytes`.
+fn segment_bytes_of(found: &ArgMatches<'_>) -> u64
+    ensures { ReadsOr 67108864 18446744073709551615
+        (one_of (codes "feed-segment-bytes") (rows_of (found_of found.now))) result }
+{
+    found
+        .get_one::<u64>("feed-segment-bytes")
+        .unwrap_or(FeedOptions::SEGMENT_BYTES)
+}
+
+/// The value of `--feed-segment-seconds`.
+fn segment_seconds_of(found: &ArgMatches<'_>) -> u32
+    ensures { ReadsOr 0 4294967295
+        (one_of (codes "feed-segment-seconds") (rows_of (found_of found.now))) result }
+{
+    found.get_one::<u32>("feed-segment-seconds").unwrap_or(0)
+}
+
+/// What is told of the feed in this folder.
+fn feed_in(alloc: Global, found: &ArgMatches<'_>, folder: &str) -> Result<FeedOptions, AllocError>
+    ensures { Some folder.now ≡ first_of (codes "feed") (rows_of (found_of found.now)) →
+        IfOk result (IsFeed (rows_of (found_of found.now))) }
+{
+    let folder = String::from_str(alloc, folder)?;
+    let system = value_of(alloc, found, "feed-system")?;
+    let database = value_of(alloc, found, "feed-database")?;
+    let slot = value_of(alloc, found, "feed-slot")?;
+    Ok(FeedOptions {
+        folder,
+        system,
+        database,
+        slot,
+        segment_bytes: segment_bytes_of(found),
+        segment_seconds: segment_seconds_of(found),
+    })
+}
+
+/// The feed that `--feed` asks for.
+fn feed_of(alloc: Global, found: &ArgMatches<'_>) -> Result<Option<FeedOptions>, AllocError>
+    ensures { IfOk result (AsksFeed (rows_of (found_of found.now))) }
+{
+    match found.get_str("feed") {
+        Some(folder) => Ok(Some(feed_in(alloc, found, folder)?)),
+        None => Ok(None),
+    }
+}
+
 /// The task that the subcommand `apply` asks for by these matches.
 fn apply_of(alloc: Global, found: &ArgMatches<'_>) -> Result<Task, AllocError>
     ensures { IfOk result (IsAsked (codes "apply") (rows_of (found_of found.now))) }
 {
     let store = store_of(alloc, found)?;
+    let feed = feed_of(alloc, found)?;
     let file = value_of(alloc, found, "FILE")?;
     Ok(Task::Apply {
         version: version_of(found),
@@ -163,7 +249,23 @@ fn apply_of(alloc: Global, found: &ArgMatches<'_>) -> Result<Task, AllocError>
         progress: flag_of(found, "progress"),
         store,
         cache: cache_of(found),
+        feed,
         file,
+    })
+}
+
+/// The task that the subcommand `follow` asks for by these matches.
+fn follow_of(alloc: Global, found: &ArgMatches<'_>) -> Result<Task, AllocError>
+    ensures { IfOk result (IsAsked (codes "follow") (rows_of (found_of found.now))) }
+{
+    let store = value_of(alloc, found, "store")?;
+    let feed = feed_of(alloc, found)?;
+    Ok(Task::Follow {
+        version: version_of(found),
+        limits: limits_of(found),
+        store,
+        cache: cache_of(found),
+        feed,
     })
 }
 
@@ -188,15 +290,7 @@ pub(crate) fn task_of(alloc: Global, name: &str, found: &ArgMatches<'_>) -> Resu
                 cache: cache_of(found),
             }
         }
-        "follow" => {
-            let store = value_of(alloc, found, "store")?;
-            Task::Follow {
-                version: version_of(found),
-                limits: limits_of(found),
-                store,
-                cache: cache_of(found),
-            }
-        }
+        "follow" => follow_of(alloc, found)?,
         "same" => {
             let left = value_of(alloc, found, "LEFT")?;
             let right = value_of(alloc, found, "RIGHT")?;

@@ -1,2 +1,3 @@
 mod NewPage
 mod LiveRows
+mod Parts

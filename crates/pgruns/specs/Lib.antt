@@ -1,2 +1,4 @@
 pub mod Filed
 pub mod NewFile
+pub mod Recorded
+pub mod Fed

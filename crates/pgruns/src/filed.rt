@@ -52,7 +52,7 @@ pub type Filed<D> = Result<Closing<D>, Option<Connection<FileStore<D>>>>;
 
 /// The store in the file at a path, which is made where it isn't there, as `Store::open_or_return`
 /// opens it.
-fn open_file<F: Start>(
+pub(crate) fn open_file<F: Start>(
     alloc: Global,
     rt: &HostRuntime,
     path: &str,

@@ -7,9 +7,15 @@
 #![tactic(auto)]
 
 mod closing;
+pub mod fed;
+mod file_folder;
 pub mod filed;
 pub mod laws;
 mod new_file;
+mod recorded;
+mod telling;
 
 pub use closing::Closing;
+pub use fed::{FeedPlan, apply_fed_to_file, follow_fed_file};
+pub use file_folder::{FileFolder, Found};
 pub use filed::{Filed, apply_to_file, dump_file, follow_file};

@@ -5,10 +5,13 @@ ghost use Rattle.std.specs.Prelude.{◌≡◌, ◌≢◌, ◌⊎◌};
 ghost use Rattle.clap.specs.Values.{kind_of};
 ghost use Rattle.clap.specs.declared.error.kind.ErrorKind.TheVariants as kind;
 
-use pgcommand::{CommandFault, DEFAULT_CACHE, Limits, Task, command_of};
+use pgcommand::{CommandFault, DEFAULT_CACHE, FeedOptions, Limits, Task, command_of};
+use pgfeed::{Origin, SegmentLimits};
 use pgfollow::{Clock, Link};
 use pgorder::Version;
-use pgruns::{apply_to_file, dump_file, follow_file};
+use pgruns::{
+    FeedPlan, FileFolder, apply_fed_to_file, apply_to_file, dump_file, follow_fed_file, follow_file,
+};
 use pgstore::Store;
 use pgsub_cli::fault::RunFault;
 use pgsub_cli::reporting::Reporter;
@@ -155,6 +158,47 @@ fn status_of<T: Drop>(run: (u8, T)) -> u8 {
     run.0
 }
 
+/// That of a run beside which a feed is kept.
+fn fed_status_of<T: Drop, L: Drop>(run: (u8, T, L)) -> u8 {
+    run.0
+}
+
+/// The feed that a task keeps beside its store, if it keeps one.
+fn feed_of(task: &Task) -> Option<&FeedOptions> {
+    match task {
+        Task::Apply { feed, .. } | Task::Follow { feed, .. } => feed.as_ref(),
+        _ => None,
+    }
+}
+
+/// When the segments of a feed end: 0 seconds stand for no limit of age.
+fn segment_limits(options: &FeedOptions) -> SegmentLimits {
+    let micros = match options.segment_seconds {
+        0 => u64::MAX,
+        seconds => u64::from(seconds) * 1_000_000,
+    };
+    SegmentLimits {
+        bytes: options.segment_bytes,
+        micros,
+    }
+}
+
+/// The feed that these options ask for.
+fn feed_plan<'a>(
+    rt: &'a HostRuntime,
+    options: &'a FeedOptions,
+) -> FeedPlan<'a, FileFolder<'a, Unknown>> {
+    FeedPlan {
+        folder: FileFolder::new(rt, options.folder.as_str(), Unknown),
+        origin: Origin {
+            system: options.system.as_str(),
+            database: options.database.as_str(),
+            slot: options.slot.as_str(),
+        },
+        limits: segment_limits(options),
+    }
+}
+
 /// Applies what a task names to the store in the file at a path. That is read before the store is
 /// opened.
 ///
@@ -167,6 +211,21 @@ fn run_over(rt: &HostRuntime, task: &Task, path: &str) -> u8 {
         Err(fault) => return tell_stopped(rt.alloc(), task, fault, &mut err),
     };
     let reporter = reporter_of(rt, task, &input);
+    if let Some(options) = feed_of(task) {
+        return fed_status_of(apply_fed_to_file(
+            rt.alloc(),
+            rt,
+            path,
+            cache_of(task),
+            Unknown,
+            feed_plan(rt, options),
+            limits_of(task),
+            input,
+            reporter.as_ref(),
+            &mut out,
+            &mut err,
+        ));
+    }
     status_of(apply_to_file(
         rt.alloc(),
         rt,
@@ -238,6 +297,34 @@ fn run_live(rt: &HostRuntime, limits: Limits, version: Version, path: &str, cach
     ))
 }
 
+/// The same, and a feed of its commits is kept.
+fn run_live_fed(
+    rt: &HostRuntime,
+    options: &FeedOptions,
+    limits: Limits,
+    version: Version,
+    path: &str,
+    cache: usize,
+) -> u8 {
+    let mut err = rt.stderr();
+    let mut link = Link::new(rt.stdin(), rt.stdout());
+    let mut clock = SystemClock { rt };
+    fed_status_of(follow_fed_file(
+        rt.alloc(),
+        rt,
+        path,
+        cache,
+        Unknown,
+        feed_plan(rt, options),
+        MissedLines::new(rt.alloc(), rt.stderr()),
+        limits,
+        version,
+        &mut link,
+        &mut clock,
+        &mut err,
+    ))
+}
+
 /// Runs a task over a store in memory, and tells meanwhile how far it is.
 fn run_told<S: Alter + Drop>(
     rt: &HostRuntime,
@@ -297,7 +384,11 @@ fn run_words(rt: &HostRuntime, words: &[String]) -> u8 {
         ..
     } = &task
     {
-        return run_live(rt, *limits, *version, store.as_str(), cache_of(&task));
+        let (path, cache) = (store.as_str(), cache_of(&task));
+        return match feed_of(&task) {
+            Some(options) => run_live_fed(rt, options, *limits, *version, path, cache),
+            None => run_live(rt, *limits, *version, path, cache),
+        };
     }
     if let Task::Dump { store, .. } = &task {
         return dump_over(rt, &task, store.as_str());

@@ -59,27 +59,27 @@ status_of (Err run.NotAnLsn) = 2
 -- the paths of what a task reads, as the command line names them
 abbrev pub left_path : Task → List ℕ
 left_path (task.Show version file) = string_bytes file
-left_path (task.Apply version limits raw progress store cache file) = string_bytes file
+left_path (task.Apply version limits raw progress store cache feed file) = string_bytes file
 left_path (task.Dump store cache) = string_bytes store
-left_path (task.Follow version limits store cache) = string_bytes store
+left_path (task.Follow version limits store cache feed) = string_bytes store
 left_path (task.Same version left right) = string_bytes left
 left_path (task.Resume file) = string_bytes file
 left_path (task.Lsn text) = []
 
 abbrev pub right_path : Task → List ℕ
 right_path (task.Show version file) = []
-right_path (task.Apply version limits raw progress store cache file) = []
+right_path (task.Apply version limits raw progress store cache feed file) = []
 right_path (task.Dump store cache) = []
-right_path (task.Follow version limits store cache) = []
+right_path (task.Follow version limits store cache feed) = []
 right_path (task.Same version left right) = string_bytes right
 right_path (task.Resume file) = []
 right_path (task.Lsn text) = []
 
 -- the file of the store that the command line names, if it names one
 abbrev pub store_path : Task → Option (List ℕ)
-store_path (task.Apply version limits raw progress store cache file) = option_map string_bytes store
+store_path (task.Apply version limits raw progress store cache feed file) = option_map string_bytes store
 store_path (task.Dump store cache) = Some (string_bytes store)
-store_path (task.Follow version limits store cache) = Some (string_bytes store)
+store_path (task.Follow version limits store cache feed) = Some (string_bytes store)
 store_path _ = None
 
 -- Standard error gets the line of the fault, and nothing where there is none. Where there is no memory for that line, it gets the one
@@ -237,10 +237,10 @@ module _ {R W : Type 0} (gives begins : R → List ℕ → Type 0) (read_failed 
   -- How each task ends that names no store. Of `show` no line is lost; the others lose theirs where the store can't be read or memory runs out.
   abbrev pub Ends : Task → Option R → Option R → W → W → Result Ending RunFault → Type 0
   Ends (task.Show version file) left right old new ended = Prints (λ f. ⊥) (PrintsShown version) left old new ended
-  Ends (task.Apply version limits false progress store cache file) left right old new ended = Prints IsReadFault (PrintsApplied limits version) left old new ended
-  Ends (task.Apply version limits true progress store cache file) left right old new ended = PrintsFile limits version left old new ended
+  Ends (task.Apply version limits false progress store cache feed file) left right old new ended = Prints IsReadFault (PrintsApplied limits version) left old new ended
+  Ends (task.Apply version limits true progress store cache feed file) left right old new ended = PrintsFile limits version left old new ended
   Ends (task.Dump store cache) left right old new ended = ⊥
-  Ends (task.Follow version limits store cache) left right old new ended = ⊥
+  Ends (task.Follow version limits store cache feed) left right old new ended = ⊥
   Ends (task.Same version file other) left right old new ended = Compares version left right old new ended
   Ends (task.Resume file) left right old new ended = Prints IsReadFault PrintsResumed left old new ended
   Ends (task.Lsn text) left right old new ended = WritesNumber takes write_failed (string_bytes text) old new ended

@@ -1,7 +1,7 @@
 //! Command lines, and the tasks that they ask for.
 
 use clap::error::ErrorKind;
-use pgcommand::{CommandFault, Task, VERSION, command_of};
+use pgcommand::{CommandFault, FeedOptions, Task, VERSION, command_of};
 use pgorder::Version;
 use std::alloc::{AllocError, Global};
 use std::test::Fail;
@@ -12,6 +12,16 @@ fn asked(alloc: Global, line: &str) -> Result<Result<Task, CommandFault>, AllocE
         words.push(String::from_str(alloc, word)?)?;
     }
     Ok(command_of(alloc, words.as_slice()))
+}
+
+/// A feed that is asked for, behind the text of its task.
+fn feed_text(alloc: Global, feed: &Option<FeedOptions>) -> Result<String, AllocError> {
+    let Some(feed) = feed else {
+        return Ok(String::new(alloc));
+    };
+    let (folder, bytes, seconds) = (&feed.folder, feed.segment_bytes, feed.segment_seconds);
+    let (system, database, slot) = (&feed.system, &feed.database, &feed.slot);
+    format!(in alloc; " fed {folder} [{system}] [{database}] [{slot}] {bytes} {seconds}")
 }
 
 /// A task in one line.
@@ -25,6 +35,7 @@ fn task_text(alloc: Global, task: &Task) -> Result<String, AllocError> {
             progress,
             store: None,
             cache,
+            feed: _,
             file,
         } => {
             let (buffered, frame) = (limits.max_buffered, limits.max_frame);
@@ -39,11 +50,13 @@ fn task_text(alloc: Global, task: &Task) -> Result<String, AllocError> {
             progress,
             store: Some(store),
             cache,
+            feed,
             file,
         } => {
             let (buffered, frame) = (limits.max_buffered, limits.max_frame);
+            let fed = feed_text(alloc, feed)?;
             format!(in alloc;
-                "apply {version:?} {buffered} {frame} {raw} {progress} into {store} {cache}: {file}"
+                "apply {version:?} {buffered} {frame} {raw} {progress} into {store} {cache}{fed}: {file}"
             )
         }
         Task::Dump { store, cache } => format!(in alloc; "dump {store} {cache}"),
@@ -52,9 +65,11 @@ fn task_text(alloc: Global, task: &Task) -> Result<String, AllocError> {
             limits,
             store,
             cache,
+            feed,
         } => {
             let (buffered, frame) = (limits.max_buffered, limits.max_frame);
-            format!(in alloc; "follow {version:?} {buffered} {frame} {store} {cache}")
+            let fed = feed_text(alloc, feed)?;
+            format!(in alloc; "follow {version:?} {buffered} {frame} {store} {cache}{fed}")
         }
         Task::Same {
             version,
@@ -161,6 +176,19 @@ const TASKS: &[(&str, &str)] = &[
     (
         "pgsub follow --max-frame 7 --cache=+0200 --store S --max-buffered 8",
         "follow Two 8 7 S 200",
+    ),
+    (
+        "pgsub follow --store S --feed D",
+        "follow Two 67108864 16777216 S 20000 fed D [] [] [] 67108864 0",
+    ),
+    (
+        "pgsub follow --feed-slot=c --feed-segment-seconds 60 --feed D --store S --feed-system 7 \
+        --feed-database b --feed-segment-bytes 18446744073709551615",
+        "follow Two 67108864 16777216 S 20000 fed D [7] [b] [c] 18446744073709551615 60",
+    ),
+    (
+        "pgsub apply --store S --feed=D --feed-segment-bytes 0 --feed-segment-seconds=4294967295 F",
+        "apply Two 67108864 16777216 false false into S 20000 fed D [] [] [] 0 4294967295: F",
     ),
     ("pgsub same A B", "same Two A B"),
     ("pgsub same A --proto 1 B", "same One A B"),
@@ -293,6 +321,46 @@ const REJECTED: &[(&str, ErrorKind)] = &[
         "pgsub follow --store S --cache 200 --cache 200",
         ErrorKind::ArgumentConflict,
     ),
+    (
+        "pgsub follow --store S --feed-system 7",
+        ErrorKind::MissingRequiredArgument,
+    ),
+    (
+        "pgsub follow --store S --feed-database b",
+        ErrorKind::MissingRequiredArgument,
+    ),
+    (
+        "pgsub follow --store S --feed-slot c",
+        ErrorKind::MissingRequiredArgument,
+    ),
+    (
+        "pgsub follow --store S --feed-segment-bytes 67108864",
+        ErrorKind::MissingRequiredArgument,
+    ),
+    (
+        "pgsub apply --store S --feed-segment-seconds 0 F",
+        ErrorKind::MissingRequiredArgument,
+    ),
+    ("pgsub apply --feed D F", ErrorKind::MissingRequiredArgument),
+    (
+        "pgsub follow --store S --feed D --feed D",
+        ErrorKind::ArgumentConflict,
+    ),
+    (
+        "pgsub follow --store S --feed D --feed-segment-bytes -1",
+        ErrorKind::UnknownArgument,
+    ),
+    (
+        "pgsub follow --store S --feed D --feed-segment-bytes 64MB",
+        ErrorKind::ValueValidation,
+    ),
+    (
+        "pgsub follow --store S --feed D --feed-segment-seconds 4294967296",
+        ErrorKind::ValueValidation,
+    ),
+    ("pgsub follow --store S --feed", ErrorKind::InvalidValue),
+    ("pgsub dump --store S --feed D", ErrorKind::UnknownArgument),
+    ("pgsub show --feed D F", ErrorKind::UnknownArgument),
     ("pgsub show --cache 200 F", ErrorKind::UnknownArgument),
     ("pgsub same --cache 200 A B", ErrorKind::UnknownArgument),
     ("pgsub resume --cache 200 F", ErrorKind::UnknownArgument),
@@ -366,6 +434,29 @@ fn the_help_tells_what_a_cache_costs(rt: HostRuntime) -> Result<(), Fail> {
             text.contains("--cache <PAGES>") && text.contains("20000 cost 20 MB"),
             "{text}"
         );
+    }
+    Ok(())
+}
+
+#[test]
+fn a_feed_tells_which_word_it_lacks(rt: HostRuntime) -> Result<(), Fail> {
+    for (line, word, usage) in [
+        (
+            "pgsub follow --store S --feed-slot c",
+            "  --feed <FOLDER>\n",
+            "Usage: pgsub follow [OPTIONS] --store <FILE> --feed <FOLDER>\n",
+        ),
+        (
+            "pgsub apply --feed D F",
+            "  --store <FILE>\n",
+            "Usage: pgsub apply [OPTIONS] --store <FILE> --feed <FOLDER> <FILE>\n",
+        ),
+    ] {
+        let Err(fault) = asked(rt.alloc(), line)? else {
+            return Err(Fail::from(line));
+        };
+        let text = format!(in rt.alloc(); "{fault}")?;
+        assert!(rt; text.contains(word) && text.contains(usage), "{text}");
     }
     Ok(())
 }

@@ -1,4 +1,3 @@
-use Rattle.std.proofs.lemmas.Result.{IfOk-weaker}
 use Rattle.pgcommand.proofs.Building.{with_arg}
 use Rattle.pgcommand.proofs.commands.follow_command.Goals as goal
 
@@ -8,4 +7,5 @@ returns c =
     let two = with_arg _ _ _ _ _ one c.max_buffered.ensures.rule c.max_buffered.ensures.local c.in_ok-arg-2.ensures in
     let three = with_arg _ _ _ _ _ two c.max_frame.ensures.rule c.max_frame.ensures.local c.in_ok-arg-3.ensures in
     let four = with_arg _ _ _ _ _ three c.store.ensures.rule c.store.ensures.local c.in_ok-arg-4.ensures in
-    IfOk-weaker c.arg-5.result _ _ (λ r h. with_arg _ r _ _ _ four c.cache.ensures.rule c.cache.ensures.local h) c.arg-5.ensures
+    let five = with_arg _ _ _ _ _ four c.cache.ensures.rule c.cache.ensures.local c.in_ok-command.ensures in
+    c.with_feed.ensures _ five

@@ -1,6 +1,6 @@
 use Rattle.std.proofs.Common.{rules}
 use Rattle.pgcommand.proofs.task.task_of.Goals as goal
-use Rattle.pgcommand.proofs.task.task_of.Goals.{in-show+in_ok-file-in-show, in-apply+in_ok-task-in-apply, in-dump+in_ok-store-in-dump, in-follow+in_ok-store-in-follow, in-same+in_ok-left-in-same+in_ok-right-in-same, in-resume+in_ok-value_of-in-resume, in-lsn+in_ok-value_of-in-lsn}
+use Rattle.pgcommand.proofs.task.task_of.Goals.{in-show+in_ok-file-in-show, in-apply+in_ok-task-in-apply, in-dump+in_ok-store-in-dump, in-follow+in_ok-task-in-follow, in-same+in_ok-left-in-same+in_ok-right-in-same, in-resume+in_ok-value_of-in-resume, in-lsn+in_ok-value_of-in-lsn}
 
 pub returns : goal.returns
 returns c =
@@ -8,7 +8,7 @@ returns c =
       | in-show+in_ok-file-in-show w ↦ search rules
       | in-apply+in_ok-task-in-apply w ↦ search rules
       | in-dump+in_ok-store-in-dump w ↦ search rules
-      | in-follow+in_ok-store-in-follow w ↦ search rules
+      | in-follow+in_ok-task-in-follow w ↦ search rules
       | in-same+in_ok-left-in-same+in_ok-right-in-same w ↦ search rules
       | in-resume+in_ok-value_of-in-resume w ↦ search rules
       | in-lsn+in_ok-value_of-in-lsn w ↦ search rules

@@ -1,0 +1,9 @@
+-- A store with its ledger is its parts.
+use Rattle.std.proofs.Common.{◌≡◌, ap₂}
+use Rattle.pgledger.specs.declared.recorded.Recorded.{Recorded}
+
+abbrev pub with_ledger : {S G : Type 0} → S → G → Recorded S G
+with_ledger store ledger = record { store = store; ledger = ledger }
+
+pub of_parts : {S G : Type 0} (r : Recorded S G) (store : S) (ledger : G) → r.store ≡ store → r.ledger ≡ ledger → r ≡ with_ledger store ledger
+of_parts r store ledger e f = ap₂ with_ledger e f

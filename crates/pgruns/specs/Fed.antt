@@ -1,0 +1,58 @@
+-- Part of the statement.
+-- A run over a store in two files that keeps a feed of its commits in a folder.
+use Rattle.std.specs.Prelude.{◌≡◌, ◌⊎◌, ◌++◌, ◌∷◌, ℕ, List, [], Bool, false, IsTrue, codes}
+use Rattle.pgledger.specs.Entries.{Entry}
+use Rattle.pgfeed.specs.declared.fault.FeedFault.{FeedFault}
+use Rattle.pgfeed.specs.declared.fault.FeedFault.TheVariants as feed
+use Rattle.pgfeed.specs.declared.feed.Feed.{Feed}
+use Rattle.pgfeed.specs.Feeds.{KeepsAll, LastsUpTo, OpensAt, OpensSome}
+
+-- ---- why no feed is opened
+
+-- the line of the fault on standard error
+abbrev pub feed_line : FeedFault → List ℕ
+feed_line feed.NotAFeed = codes "pgsub: feed 1 NotAFeed" ++ 10 ∷ []
+feed_line feed.TooLong = codes "pgsub: feed 2 TooLong" ++ 10 ∷ []
+feed_line feed.Refused = codes "pgsub: feed 3 Refused" ++ 10 ∷ []
+feed_line feed.Memory = codes "pgsub: memory" ++ 10 ∷ []
+
+-- the exit status of following: the folder is no feed of this store, or its files can't be used, or memory ran out
+abbrev pub status_of_unfed : FeedFault → ℕ
+status_of_unfed feed.NotAFeed = 3
+status_of_unfed feed.TooLong = 3
+status_of_unfed feed.Refused = 13
+status_of_unfed feed.Memory = 14
+
+-- that of another run
+abbrev pub status_of_unapplied : FeedFault → ℕ
+status_of_unapplied feed.Memory = 1
+status_of_unapplied _ = 3
+
+-- standard error gets the line
+abbrev pub TellsUnfed : {E : Type 0} → (E → List ℕ → E → Type 0) → (E → Type 0) → FeedFault → E → E → Type 0
+TellsUnfed takes failed f old new = takes old (feed_line f) new ⊎ failed old
+
+-- ---- a store with its feed
+
+-- what a feed is as a ledger
+abbrev pub feed_begins : {F D : Type 0} → Feed F D → ℕ
+feed_begins l = l.begins
+
+abbrev pub is_stuck_feed : {F D : Type 0} → Feed F D → Bool
+is_stuck_feed l = l.segment.is_stuck
+
+abbrev pub FeedKeeps : {F D : Type 0} → (D → List ℕ) → Feed F D → List Entry → Type 0
+FeedKeeps seen l es = KeepsAll seen l.begins l.segment es
+
+abbrev pub FeedLasts : {F D : Type 0} → (D → List ℕ → Type 0) → Feed F D → ℕ → Type 0
+FeedLasts may_leave l p = LastsUpTo may_leave l.segment p
+
+abbrev pub FeedReopens : {F D : Type 0} → (D → List ℕ) → (D → List ℕ → Type 0) → Feed F D → ℕ → Feed F D → Type 0
+FeedReopens seen may_leave l p other = (other.begins ≡ l.begins) × OpensAt seen may_leave l.segment p other.segment
+
+-- It was opened at this LSN. A new one begins there, and keeps nothing yet.
+pub record IsOpenedAt {F D : Type 0} (seen : D → List ℕ) (may_leave : D → List ℕ → Type 0) (is_clean : D → Bool) (p : ℕ) (l : Feed F D) : Type 0 where
+  pub opened : OpensSome seen may_leave (IsTrue (is_clean l.segment.disk)) p l.segment
+  pub last : l.segment.last ≡ p
+  pub free : l.segment.is_stuck ≡ false
+  pub begun : l.begins ≡ p → FeedKeeps seen l [] × FeedLasts may_leave l p

@@ -1,0 +1,216 @@
+//! Runs over a store in the files at a path that keep a feed of its commits in a folder: opens both,
+//! runs, and closes them.
+
+ghost use Rattle.std.specs.Prelude.{◌≡◌, ◌↔◌, [], false, true, None, Option, Result, Err, Some, IfOk, IfErr, IfSome};
+ghost use Rattle.sqlite.specs.Files.{over_files};
+ghost use Rattle.sqlite.specs.Held as connection;
+ghost use Rattle.sqlite.specs.State.{HasCleanDisk};
+ghost use Rattle.sqlite.specs.WalFiles.{image_at};
+ghost use Rattle.pgapply.specs.declared.rows.StoreFault.{StoreFault};
+ghost use Rattle.pgfeed.specs.declared.fault.FeedFault.{FeedFault};
+ghost use Rattle.pgfeed.specs.declared.feed.Feed.{Feed};
+ghost use Rattle.pgfollow.specs.declared.fault.FollowFault.{FollowFault};
+ghost use Rattle.pgfollow.specs.declared.fault.FollowFault.TheVariants as follow;
+ghost use Rattle.pgfollow.specs.Live.{IsOfFollowing};
+ghost use Rattle.pgstore.specs.Reopened.{StaysAsFound};
+ghost use Rattle.pgstore.specs.StoreValue.{IsHonest, Serves};
+ghost use Rattle.pgsub_core.specs.declared.fault.Fault.TheVariants.{Store as OfStore};
+ghost use Rattle.pgsub_cli.specs.declared.fault.Ending.{Ending};
+ghost use Rattle.pgsub_cli.specs.declared.fault.RunFault.{RunFault};
+ghost use Rattle.pgsub_cli.specs.declared.fault.RunFault.TheVariants.{Stream};
+ghost use Rattle.pgsub_cli.specs.Caused.{TellsCaused};
+ghost use Rattle.pgsub_cli.specs.FollowedLive.{ending_of};
+ghost use Rattle.pgsub_cli.specs.FollowStatus.{status_of_follow, status_of_unfollowed};
+ghost use Rattle.pgsub_cli.specs.Runs.{Tells, status_of};
+ghost use Rattle.pgsub_cli.specs.Storing.{status_of_unopened};
+ghost use Rattle.pgruns.specs.Filed.{RunsInFiles, TellsBoth, fault_of_closing, status_closed, status_of_unclosed};
+ghost use Rattle.pgruns.specs.Recorded.{AppliesRecorded, FollowsRecorded};
+ghost use Rattle.pgruns.specs.Fed.{FeedKeeps, FeedLasts, FeedReopens, IsOpenedAt, TellsUnfed, feed_begins, is_stuck_feed, status_of_unapplied, status_of_unfed};
+
+use crate::closing::{close_told, followed_status, run_status};
+use crate::filed::{Filed, open_file};
+use crate::recorded::{apply_fed, follow_fed};
+use crate::telling::{tell_unapplied, tell_unfed};
+use pgfeed::{Feed, FeedFault, Folder, Origin, SegmentLimits};
+use pgfollow::{Clock, Link};
+use pglsn::Lsn;
+use pgorder::Version;
+use pgsub_cli::Limits;
+use pgsub_cli::files::{Input, Output};
+use pgsub_cli::following::tell_unfollowed;
+use pgsub_cli::reported::Listener;
+use pgsub_cli::reporting::Reporter;
+use pgsub_cli::storing::{Incoming, tell_unopened};
+use sqlite::{FileFrom, Start};
+use std::alloc::Global;
+use std::cell::RefCell;
+use std::io::{Read, Write};
+use std::time::Clock as Ticks;
+
+/// A feed that is to be opened beside a store.
+#[derive(Drop)]
+pub struct FeedPlan<'a, D: Folder + Drop> {
+    /// The folder of its segments.
+    pub folder: D,
+    /// What it is of.
+    pub origin: Origin<'a>,
+    /// When its segments end.
+    pub limits: SegmentLimits,
+}
+
+/// Opens the feed at the position of the store beside it.
+fn open_feed<D: Folder + Drop>(
+    alloc: Global,
+    plan: FeedPlan<'_, D>,
+    position: Lsn,
+) -> Result<Feed<D>, FeedFault>
+    ensures { IfOk result (IsOpenedAt D.File.seen D.File.may_leave D.File.is_clean position) }
+{
+    match Feed::open(alloc, plan.folder, &plan.origin, plan.limits, position) {
+        Ok(feed) => Ok(feed),
+        Err((fault, _folder)) => Err(fault),
+    }
+}
+
+/// Follows a server over the store in the file at a path, as `follow_file` does, and keeps a feed of
+/// its commits.
+pub fn follow_fed_file<
+    F: Start,
+    D: Folder + Drop,
+    L: Listener + Drop,
+    R: Read + Drop,
+    W: Write + Drop,
+    K: Clock,
+    E: Output,
+>(
+    alloc: Global,
+    rt: &HostRuntime,
+    path: &str,
+    cache: usize,
+    start: F,
+    plan: FeedPlan<'_, D>,
+    listener: L,
+    limits: Limits,
+    version: Version,
+    link: &mut Link<R, W>,
+    clock: &mut K,
+    err: &mut E,
+) -> (u8, Filed<FileFrom<F>>, Option<Feed<D>>)
+    requires readable { link.old.read_failed ≡ false }
+    requires writable { link.old.write_failed ≡ false }
+    ensures unopened { IfErr result.1 (λ left. (f : StoreFault)
+        × (result.0 ≡ status_of_unfollowed f) × (link.new ≡ link.old) × (result.2 ≡ None)
+        × TellsCaused E.takes E.failed (Err (Stream (OfStore f))) err.old err.new
+        × IfSome left (λ conn. HasCleanDisk (connection.state over_files conn) →
+        StaysAsFound over_files (image_at F.Start) conn)) }
+    ensures unfed { result.2 ≡ None → IfOk result.1 (λ closing. (f : FeedFault)
+        × (result.0 ≡ status_of_unfed f) × (link.new ≡ link.old)
+        × TellsBoth E.takes E.failed (TellsUnfed E.takes E.failed f) (fault_of_closing closing)
+        err.old err.new
+        × RunsInFiles (image_at F.Start) (λ opened ended. ended ≡ opened) closing) }
+    ensures ran { IfSome result.2 (λ feed. IfOk result.1 (λ closing. (why : Option FollowFault)
+        × TellsBoth E.takes E.failed (TellsCaused E.takes E.failed (ending_of why))
+        (fault_of_closing closing) err.old err.new
+        × ((why ≡ Some follow.Read) ↔ (link.new.read_failed ≡ true))
+        × ((why ≡ Some follow.Write) ↔ (link.new.write_failed ≡ true))
+        × IfSome why IsOfFollowing
+        × RunsInFiles (image_at F.Start) (λ opened ended.
+        (result.0 ≡ status_closed status_of_unclosed (status_of_follow ended.group.missed.count why)
+        (fault_of_closing closing)) × ((begun : Feed D D.File)
+        × IsOpenedAt D.File.seen D.File.may_leave D.File.is_clean opened.position begun
+        × (IsHonest over_files ended →
+        FollowsRecorded over_files feed_begins (FeedKeeps D.File.seen)
+        (FeedLasts D.File.may_leave) is_stuck_feed (FeedReopens D.File.seen D.File.may_leave) L
+        (R.remaining link.old.reader) (R.remaining link.new.reader) link.new.reads
+        (W.contents link.old.writer) (W.contents link.new.writer) limits version
+        opened begun ended feed why))) closing)) }
+{
+    let store = match open_file(alloc, rt, path, cache, start) {
+        Ok(store) => store,
+        Err((refusal, conn)) => {
+            let (fault, cause) = (refusal.fault(), refusal.cause());
+            return (tell_unfollowed(alloc, fault, cause, err), Err(conn), None);
+        }
+    };
+    match open_feed(alloc, plan, store.position()) {
+        Ok(feed) => {
+            let (status, store, feed) = follow_fed(
+                alloc, store, feed, listener, limits, version, link, clock, err,
+            );
+            let (fault, closing) = close_told(alloc, store, err);
+            (followed_status(status, fault), Ok(closing), Some(feed))
+        }
+        Err(unfed) => {
+            let status = tell_unfed(unfed, err);
+            let (_fault, closing) = close_told(alloc, store, err);
+            (status, Ok(closing), None)
+        }
+    }
+}
+
+/// Applies to the store in the file at a path what comes, as `apply_to_file` does, and keeps a feed
+/// of its commits.
+pub fn apply_fed_to_file<
+    F: Start,
+    D: Folder + Drop,
+    R: Input + Drop,
+    K: Ticks + Drop,
+    P: Output + Drop,
+    W: Output,
+    E: Output,
+>(
+    alloc: Global,
+    rt: &HostRuntime,
+    path: &str,
+    cache: usize,
+    start: F,
+    plan: FeedPlan<'_, D>,
+    limits: Limits,
+    input: Option<(Version, Incoming<R>)>,
+    reporter: Option<&RefCell<Reporter<K, P>>>,
+    out: &mut W,
+    err: &mut E,
+) -> (u8, Filed<FileFrom<F>>, Option<Feed<D>>)
+    ensures unopened { IfErr result.1 (λ left. (f : StoreFault)
+        × (result.0 ≡ status_of_unopened f) × (out.new ≡ out.old) × (result.2 ≡ None)
+        × Tells E.takes E.failed [] [] (Err (Stream (OfStore f))) err.old err.new
+        × IfSome left (λ conn. HasCleanDisk (connection.state over_files conn) →
+        StaysAsFound over_files (image_at F.Start) conn)) }
+    ensures unfed { result.2 ≡ None → IfOk result.1 (λ closing. (f : FeedFault)
+        × (result.0 ≡ status_of_unapplied f) × (out.new ≡ out.old)
+        × TellsBoth E.takes E.failed (TellsUnfed E.takes E.failed f) (fault_of_closing closing)
+        err.old err.new
+        × RunsInFiles (image_at F.Start) (λ opened ended. ended ≡ opened) closing) }
+    ensures ran { IfSome result.2 (λ feed. IfOk result.1 (λ closing. (why : Result Ending RunFault)
+        × (result.0 ≡ status_closed status_of_unopened (status_of why) (fault_of_closing closing))
+        × TellsBoth E.takes E.failed (Tells E.takes E.failed [] [] why)
+        (fault_of_closing closing) err.old err.new
+        × RunsInFiles (image_at F.Start) (λ opened ended. (begun : Feed D D.File)
+        × IsOpenedAt D.File.seen D.File.may_leave D.File.is_clean opened.position begun
+        × AppliesRecorded over_files feed_begins (FeedKeeps D.File.seen)
+        (FeedLasts D.File.may_leave) is_stuck_feed (FeedReopens D.File.seen D.File.may_leave)
+        R.gives R.begins R.failed W.takes W.failed limits input
+        (record { store = opened; ledger = begun }) (record { store = ended; ledger = feed }) why
+        out.old out.new) closing)) }
+{
+    let store = match open_file(alloc, rt, path, cache, start) {
+        Ok(store) => store,
+        Err((refusal, conn)) => {
+            return (tell_unopened(alloc, refusal.fault(), err), Err(conn), None);
+        }
+    };
+    match open_feed(alloc, plan, store.position()) {
+        Ok(feed) => {
+            let (status, store, feed) = apply_fed(
+                alloc, store, feed, limits, input, reporter, out, err,
+            );
+            let (fault, closing) = close_told(alloc, store, err);
+            (run_status(status, fault), Ok(closing), Some(feed))
+        }
+        Err(unfed) => {
+            let status = tell_unapplied(unfed, err);
+            let (_fault, closing) = close_told(alloc, store, err);
+            (status, Ok(closing), None)
+        }
+    }
+}

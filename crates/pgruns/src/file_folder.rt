@@ -1,0 +1,195 @@
+//! The folder of a feed: each segment is a file, named by the LSN at which it begins.
+
+use pgfeed::{FeedFault, Folder};
+use pglsn::Lsn;
+use sqlite::{FileFrom, Start};
+use sqlite_std_file::OpenError;
+use std::alloc::{AllocError, Global};
+use std::fs::{DirBuilder, File, OpenOptions};
+use std::io::ErrorKind;
+use std::marker::PhantomData;
+use std::os::unix::fs::{DirBuilderExt, OpenOptionsExt};
+use std::path::Path;
+use std::{fs, io};
+
+/// The mode of the folder where it is made: others than its owner don't read the copied rows.
+const FOLDER_MODE: u32 = 0o700;
+
+/// The mode of the files.
+const FILE_MODE: u32 = 0o600;
+
+/// What the file of a segment held when it was opened, for any file. That is `F`'s: of all files of
+/// a run one is read, the segment that was there. A file that the run makes, or makes anew, is cut to
+/// nothing first, so what it held says nothing.
+#[derive(Drop)]
+pub struct Found<F: Start> {
+    start: PhantomData<F>,
+}
+
+impl<F: Start> Start for Found<F> {
+    ghost log = { F.Start.log };
+
+    ghost db = { F.Start.db };
+
+    ghost is_mixing = { F.Start.is_mixing };
+
+    fn mixes() -> bool {
+        F::mixes()
+    }
+}
+
+/// The folder of a feed. A segment's file has the LSN at which it begins for its name, in 16
+/// hexadecimal digits; other names are passed over, as those of readers. One process has the folder
+/// at a time, and a file is locked as one of the SQL library.
+#[derive(Drop)]
+pub struct FileFolder<'r, F: Start> {
+    rt: &'r HostRuntime,
+    path: &'r str,
+    /// The folder once it was opened, locked.
+    folder: Option<File>,
+    start: PhantomData<F>,
+}
+
+/// A fault of the system.
+fn io_fault(error: io::Error) -> FeedFault {
+    match error.kind() {
+        ErrorKind::OutOfMemory => FeedFault::Memory,
+        _ => FeedFault::Refused,
+    }
+}
+
+/// That of opening the file of a segment.
+fn open_fault(error: OpenError) -> FeedFault {
+    match error {
+        OpenError::Io(error) => io_fault(error),
+        OpenError::OutOfMemory => FeedFault::Memory,
+        OpenError::Busy | OpenError::HotJournal => FeedFault::Refused,
+    }
+}
+
+/// The LSN that the name of a segment's file tells, None of another name.
+fn base_of(name: &str) -> Option<Lsn> {
+    let is_digit = |byte: &u8| byte.is_ascii_digit() || (b'A'..=b'F').contains(byte);
+    if name.len() != 16 || !name.as_bytes().iter().all(is_digit) {
+        return None;
+    }
+    match u64::from_str_radix(name, 16) {
+        Ok(base) => Some(Lsn(base)),
+        Err(_) => None,
+    }
+}
+
+/// Writes to the disk which files a folder holds.
+fn sync_names(folder: &Option<File>) -> Result<(), FeedFault> {
+    match folder {
+        Some(folder) => folder.sync_all().map_err(io_fault),
+        None => Err(FeedFault::Refused),
+    }
+}
+
+/// Makes a folder that isn't there, and writes to the disk that the one above has it.
+fn make_folder(rt: &HostRuntime, path: &str) -> io::Result<()> {
+    if fs::metadata(rt, path).is_ok() {
+        return Ok(());
+    }
+    DirBuilder::new().mode(FOLDER_MODE).create(rt, path)?;
+    let above = match Path::new(path).parent() {
+        Some(above) if !above.as_str().is_empty() => above,
+        _ => Path::new("."),
+    };
+    File::open(rt, above)?.sync_all()
+}
+
+impl<'r, F: Start> FileFolder<'r, F> {
+    /// The folder at a path, which isn't touched yet. `start` stands for what the file of the segment
+    /// that is opened holds, for any file it is `Unknown`.
+    pub fn new(rt: &'r HostRuntime, path: &'r str, _start: F) -> FileFolder<'r, F> {
+        FileFolder {
+            rt,
+            path,
+            folder: None,
+            start: PhantomData,
+        }
+    }
+
+    /// Makes the folder if it isn't there, opens it and locks it.
+    fn reach(&mut self) -> Result<(), FeedFault> {
+        make_folder(self.rt, self.path).map_err(io_fault)?;
+        let folder = File::open(self.rt, self.path).map_err(io_fault)?;
+        if folder.try_lock().is_err() {
+            return Err(FeedFault::Refused);
+        }
+        self.folder = Some(folder);
+        Ok(())
+    }
+
+    /// The path of the segment's file that begins there, with something behind it.
+    fn file_path(&self, base: Lsn, end: &str) -> Result<String, AllocError> {
+        let (folder, number) = (self.path, base.0);
+        format!(in self.rt.alloc(); "{folder}/{number:016X}{end}")
+    }
+
+    /// The LSNs that the names in the folder tell, in any order.
+    fn read_bases(&self, alloc: Global) -> io::Result<Vec<Lsn>> {
+        let mut bases = Vec::new(alloc);
+        for entry in fs::read_dir(self.rt, self.path)? {
+            match entry {
+                Ok(entry) => {
+                    if let Some(base) = base_of(entry.file_name()) {
+                        bases.push(base)?;
+                    }
+                }
+                // a name that isn't UTF-8
+                Err(error) if error.kind() == ErrorKind::InvalidFilename => {}
+                Err(error) => return Err(error),
+            }
+        }
+        Ok(bases)
+    }
+
+    /// The file of a segment, locked. The log that the SQL library makes beside it goes again.
+    fn open_file(&self, base: Lsn) -> Result<FileFrom<Found<F>>, FeedFault> {
+        let path = self.file_path(base, "")?;
+        let log = self.file_path(base, "-wal")?;
+        let start = Found { start: PhantomData };
+        let files = sqlite_std_file::open(self.rt, path.as_str(), start).map_err(open_fault)?;
+        fs::remove_file(self.rt, log.as_str()).map_err(io_fault)?;
+        Ok(files.db)
+    }
+}
+
+impl<F: Start> Folder for FileFolder<'_, F> {
+    type File = FileFrom<Found<F>>;
+
+    fn bases(&mut self) -> Result<Vec<Lsn>, FeedFault> {
+        self.reach()?;
+        let mut bases = self.read_bases(self.rt.alloc()).map_err(io_fault)?;
+        bases.sort()?;
+        Ok(bases)
+    }
+
+    fn open(&mut self, base: Lsn) -> Result<FileFrom<Found<F>>, FeedFault> {
+        self.open_file(base)
+    }
+
+    fn create(&mut self, base: Lsn) -> Result<FileFrom<Found<F>>, FeedFault> {
+        let path = self.file_path(base, "")?;
+        let made = OpenOptions::new()
+            .write(true)
+            .create_new(true)
+            .mode(FILE_MODE)
+            .open(self.rt, path.as_str());
+        match made {
+            Err(error) if error.kind() != ErrorKind::AlreadyExists => return Err(io_fault(error)),
+            _ => {}
+        }
+        sync_names(&self.folder)?;
+        self.open_file(base)
+    }
+
+    fn remove(&mut self, base: Lsn) -> Result<(), FeedFault> {
+        let path = self.file_path(base, "")?;
+        fs::remove_file(self.rt, path.as_str()).map_err(io_fault)?;
+        sync_names(&self.folder)
+    }
+}

@@ -1,0 +1,52 @@
+//! Tells why a feed wasn't opened.
+
+ghost use Rattle.std.specs.Prelude.{◌≡◌};
+ghost use Rattle.pgruns.specs.Fed.{TellsUnfed, feed_line, status_of_unapplied, status_of_unfed};
+
+use pgfeed::FeedFault;
+use pgsub_cli::files::Output;
+
+/// The line of a fault of a feed on standard error.
+fn feed_line(fault: FeedFault) -> &'static str
+    ensures { result.now ≡ feed_line fault }
+{
+    match fault {
+        FeedFault::NotAFeed => "pgsub: feed 1 NotAFeed\n",
+        FeedFault::TooLong => "pgsub: feed 2 TooLong\n",
+        FeedFault::Refused => "pgsub: feed 3 Refused\n",
+        FeedFault::Memory => "pgsub: memory\n",
+    }
+}
+
+/// Writes the line. Where standard error can't be written, the status alone tells.
+fn tell_feed<E: Output>(fault: FeedFault, err: &mut E)
+    ensures { TellsUnfed E.takes E.failed fault err.old err.new }
+{
+    let _ = err.write_lines(feed_line(fault));
+}
+
+/// Tells why the feed of a run that follows wasn't opened. Returns the exit status: 3 where the
+/// folder is no feed of the store, or the names are too long, 14 where memory ran out and else 13.
+pub(crate) fn tell_unfed<E: Output>(fault: FeedFault, err: &mut E) -> u8
+    ensures status { result ≡ status_of_unfed fault }
+    ensures tells { TellsUnfed E.takes E.failed fault err.old err.new }
+{
+    tell_feed(fault, err);
+    match fault {
+        FeedFault::NotAFeed | FeedFault::TooLong => 3,
+        FeedFault::Refused => 13,
+        FeedFault::Memory => 14,
+    }
+}
+
+/// That of another run: 1 where memory ran out and else 3.
+pub(crate) fn tell_unapplied<E: Output>(fault: FeedFault, err: &mut E) -> u8
+    ensures status { result ≡ status_of_unapplied fault }
+    ensures tells { TellsUnfed E.takes E.failed fault err.old err.new }
+{
+    tell_feed(fault, err);
+    match fault {
+        FeedFault::Memory => 1,
+        _ => 3,
+    }
+}
