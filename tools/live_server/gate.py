@@ -1,4 +1,5 @@
-"""The short run of the merge gate: a copy of rows, following, each part killed once, a comparison, and README's walkthrough."""
+"""The short run of the merge gate: a copy of rows, following with a feed and tables, each part killed once, a comparison, and README's
+walkthrough."""
 
 from __future__ import annotations
 
@@ -10,12 +11,13 @@ from .follower import wait_until
 from .killing import Run, mixed
 from .load import Mixed
 from .options import Options
+from .patience import Patience
 from .walking import walk
 
 
 def run(options: Options, checks: Checks) -> None:
     # (before version 14 of the server there is no version 2)
-    run, load = mixed(dataclasses.replace(options, workers=2, pause=0.2), options.proto or 2)
+    run, load = mixed(dataclasses.replace(options, workers=2, pause=0.2 * Patience.factor, feed=True), options.proto or 2)
     try:
         if checks.run("copies rows while others are written", lambda: copies(run, load)):
             load.truncate(True)
@@ -33,7 +35,7 @@ def copies(run: Run, load: Mixed) -> None:
 
 
 def follows(run: Run, checks: Checks) -> None:
-    for victim in ("filter", "connector", "server"):
+    for victim in ("filter", "tables", "connector", "server"):
         checks.run(f"goes on after its {victim} was killed", lambda: goes_on(run, victim))
     checks.run("has the rows of the server", lambda: equal(run))
 
