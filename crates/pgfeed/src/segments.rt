@@ -2,7 +2,7 @@
 
 ghost use Rattle.std.specs.Prelude.{◌≡◌, ◌≤◌, [], false, IsTrue, IfOk};
 ghost use Rattle.pgfeed.specs.Feeds.{IsFresh, KeepsAll, LastsUpTo, OpensSome};
-ghost use Rattle.pgfeed.specs.Naming.{head_of};
+ghost use Rattle.pgfeed.specs.Naming.{IsOf, head_of};
 
 use crate::fault::FeedFault;
 use crate::feed::Feed;
@@ -144,6 +144,10 @@ impl<F: Folder + Drop> Feed<F> {
         ensures last { IfOk result (λ f. f.segment.last ≡ position) }
         ensures synced { IfOk result (λ f. f.synced ≡ position) }
         ensures free { IfOk result (λ f. f.segment.is_stuck ≡ false) }
+        ensures begins { IfOk result (λ f. f.begins ≤ f.segment.base) }
+        ensures told { IfOk result (λ f. IsOf f.names origin.now.system.now
+            origin.now.database.now origin.now.slot.now) }
+        ensures limits { IfOk result (λ f. f.limits ≡ limits) }
         ensures begun { IfOk result (λ f. f.begins ≡ position →
             KeepsAll F.File.seen f.begins f.segment []
             × LastsUpTo F.File.may_leave f.segment position) }
@@ -169,6 +173,8 @@ fn open_in<F: Folder>(
     ensures last { IfOk result (λ found. found.0.last ≡ position) }
     ensures free { IfOk result (λ found. found.0.is_stuck ≡ false) }
     ensures begins { IfOk result (λ found. found.1 ≤ found.0.base) }
+    ensures told { IfOk result (λ found. IsOf found.2 origin.now.system.now
+        origin.now.database.now origin.now.slot.now) }
 {
     let names = Names::of(alloc, origin)?;
     // the head of a segment has room for the names wherever it begins
