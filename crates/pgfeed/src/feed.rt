@@ -22,10 +22,10 @@ use std::alloc::Global;
 /// A feed: a ledger over a folder of segments that follow each other. The last one is open; the
 /// others have ended, each with a line that tells the LSN at which it ends and the next one begins.
 ///
-/// A segment ends before a commit that it doesn't take by its limits. It ends only where nothing was
-/// appended since the last sync, so that the position of the store beside it, at which a crash opens
-/// the feed again, is never below where the open segment begins. So commits that the store settles
-/// at once stand in one segment, also where their bytes pass its limits.
+/// A segment ends before a commit that it doesn't take by its limits. It ends only where nothing
+/// was appended since the last sync, so that the position of the store beside it, at which a crash
+/// opens the feed again, is never below where the open segment begins. So commits that the store
+/// settles at once stand in one segment, also where their bytes pass its limits.
 ///
 /// The time of a commit is compared with that of the first commit that was appended to the segment
 /// since the feed was opened, of those whose time is known.

@@ -50,8 +50,8 @@ pub trait Folder {
     fn open(&mut self, base: Lsn) -> Result<Self::File, FeedFault>
         ensures usable { IfOk result (λ file. IsTrue (Self.File.is_usable file)) };
 
-    /// The file of a segment that begins here. Its name outlasts a crash. Where a file has that name
-    /// already, it is that one.
+    /// The file of a segment that begins here. Its name outlasts a crash. Where a file has that
+    /// name already, it is that one.
     ///
     /// # Errors
     ///
@@ -66,8 +66,8 @@ pub trait Folder {
     /// `Refused` where it can't be removed, and `Memory`.
     fn remove(&mut self, base: Lsn) -> Result<(), FeedFault>;
 
-    /// Takes back the file of a segment that the feed writes no more. Where nothing else is said, it
-    /// is dropped.
+    /// Takes back the file of a segment that the feed writes no more. Where nothing else is said,
+    /// it is dropped.
     fn close(&mut self, _base: Lsn, _file: Self::File) {}
 }
 

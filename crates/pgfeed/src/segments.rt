@@ -123,15 +123,17 @@ fn last_segment<F: Folder>(
 
 impl<F: Folder + Drop> Feed<F> {
     /// The feed in a folder, at the position of the store beside it. The last segment that doesn't
-    /// begin above the position is opened there, and what lies behind is cut off, the line that ends
-    /// it too; then the segments above it are removed, the last of them first. In a folder without
-    /// segments one begins at the position. No other segment is read.
+    /// begin above the position is opened there, and what lies behind is cut off, the line that
+    /// ends it too; then the segments above it are removed, the last of them first. One that begins
+    /// at the position is made anew, since a crash may have left a part of its head. In a folder
+    /// without segments one begins at the position. No other segment is read.
     ///
     /// # Errors
     ///
-    /// `NotAFeed` where there are segments, but none of them begins at or below the position, or none
-    /// of its commits ends there, and `TooLong` where the names don't fit the head of a segment: then
-    /// all is as it was. `Refused` where a call of the folder or of a file fails, and `Memory`.
+    /// `NotAFeed` where there are segments, but none of them begins at or below the position, or
+    /// none of its commits ends there, and `TooLong` where the names don't fit the head of a
+    /// segment: then all is as it was. `Refused` where a call of the folder or of a file fails or
+    /// the bases don't rise, and `Memory`.
     pub fn open(
         alloc: Global,
         mut folder: F,
