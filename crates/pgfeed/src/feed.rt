@@ -22,10 +22,10 @@ use std::alloc::Global;
 /// A feed: a ledger over a folder of segments that follow each other. The last one is open; the
 /// others have ended, each with a line that tells the LSN at which it ends and the next one begins.
 ///
-/// A segment ends before a commit that it doesn't take by its limits. It ends only where nothing was
-/// appended since the last sync, so that the position of the store beside it, at which a crash opens
-/// the feed again, is never below where the open segment begins. So commits that the store settles
-/// at once stand in one segment, also where their bytes pass its limits.
+/// A segment ends before a commit that it doesn't take by its limits. It ends only where nothing
+/// was appended since the last sync, so that the position of the store beside it, at which a crash
+/// opens the feed again, is never below where the open segment begins. So commits that the store
+/// settles at once stand in one segment, also where their bytes pass its limits.
 ///
 /// The time of a commit is compared with that of the first commit that was appended to the segment
 /// since the feed was opened, of those whose time is known.
@@ -64,6 +64,8 @@ impl<F: Folder + Drop> Feed<F> {
         ensures segment { result.segment ≡ segment }
         ensures begins { result.begins ≡ begins }
         ensures synced { result.synced ≡ segment.last }
+        ensures names { result.names ≡ names }
+        ensures limits { result.limits ≡ limits }
     {
         let synced = segment.last();
         Feed {
@@ -168,11 +170,12 @@ impl<F: Folder + Drop> Feed<F> {
         ensures kept { KeepsOn F.File.seen self.old.begins self.old.segment self.new.segment }
         ensures ends { MayEnd F.File.seen F.File.may_leave F.File.is_clean self.old.synced
             self.old.segment self.new.segment }
-        ensures over { (self.new.segment.base ≡ self.old.segment.base) ⊎ IsOver self.old.limits.bytes self.old.limits.micros self.old.first
-            self.old.segment about bytes }
+        ensures over { (self.new.segment.base ≡ self.old.segment.base) ⊎
+            IsOver self.old.limits.bytes self.old.limits.micros self.old.first self.old.segment
+            about bytes }
         ensures next { OnOk result (self.old.synced ≡ self.old.segment.last →
-            IsOver self.old.limits.bytes self.old.limits.micros self.old.first
-            self.old.segment about bytes →
+            IsOver self.old.limits.bytes self.old.limits.micros self.old.first self.old.segment
+            about bytes →
             self.new.segment.base ≡ self.old.segment.last) }
         ensures last { self.new.segment.last ≡ self.old.segment.last }
         ensures free { self.old.segment.is_stuck ≡ false →
@@ -198,15 +201,14 @@ impl<F: Folder + Drop> Feed<F> {
             (KeepsOn F.File.seen self.old.begins self.old.segment self.new.segment) }
         ensures ends { MayEnd F.File.seen F.File.may_leave F.File.is_clean self.old.synced
             self.old.segment self.new.segment }
-        ensures over { (self.new.segment.base ≡ self.old.segment.base) ⊎ IsOver self.old.limits.bytes self.old.limits.micros self.old.first
-            self.old.segment commit.now.about (length
-            (entry_text self.old.segment.last (entry_of commit.now.end commit.now.about
-            commit.now.work.now.changes images.now))) }
+        ensures over { (self.new.segment.base ≡ self.old.segment.base) ⊎
+            IsOver self.old.limits.bytes self.old.limits.micros self.old.first self.old.segment
+            commit.now.about (length (entry_text self.old.segment.last (entry_of commit.now.end
+            commit.now.about commit.now.work.now.changes images.now))) }
         ensures next { OnOk result (self.old.synced ≡ self.old.segment.last →
-            IsOver self.old.limits.bytes self.old.limits.micros self.old.first
-            self.old.segment commit.now.about (length
-            (entry_text self.old.segment.last (entry_of commit.now.end commit.now.about
-            commit.now.work.now.changes images.now))) →
+            IsOver self.old.limits.bytes self.old.limits.micros self.old.first self.old.segment
+            commit.now.about (length (entry_text self.old.segment.last (entry_of commit.now.end
+            commit.now.about commit.now.work.now.changes images.now))) →
             self.new.segment.base ≡ self.old.segment.last) }
         ensures free { self.old.segment.is_stuck ≡ false →
             OnOk result (self.new.segment.is_stuck ≡ false) }
@@ -253,15 +255,14 @@ impl<F: Folder + Drop> Ledger for Feed<F> {
     fn append(&mut self, commit: &Commit<'_, '_>, images: &[Image<'_>]) -> Result<(), StoreFault>
         ensures ends { MayEnd F.File.seen F.File.may_leave F.File.is_clean self.old.synced
             self.old.segment self.new.segment }
-        ensures over { (self.new.segment.base ≡ self.old.segment.base) ⊎ IsOver self.old.limits.bytes self.old.limits.micros self.old.first
-            self.old.segment commit.now.about (length
-            (entry_text self.old.segment.last (entry_of commit.now.end commit.now.about
-            commit.now.work.now.changes images.now))) }
+        ensures over { (self.new.segment.base ≡ self.old.segment.base) ⊎
+            IsOver self.old.limits.bytes self.old.limits.micros self.old.first self.old.segment
+            commit.now.about (length (entry_text self.old.segment.last (entry_of commit.now.end
+            commit.now.about commit.now.work.now.changes images.now))) }
         ensures next { OnOk result (self.old.synced ≡ self.old.segment.last →
-            IsOver self.old.limits.bytes self.old.limits.micros self.old.first
-            self.old.segment commit.now.about (length
-            (entry_text self.old.segment.last (entry_of commit.now.end commit.now.about
-            commit.now.work.now.changes images.now))) →
+            IsOver self.old.limits.bytes self.old.limits.micros self.old.first self.old.segment
+            commit.now.about (length (entry_text self.old.segment.last (entry_of commit.now.end
+            commit.now.about commit.now.work.now.changes images.now))) →
             self.new.segment.base ≡ self.old.segment.last) }
         ensures synced { self.new.synced ≡ self.old.synced }
         ensures appended { OnOk result (Appends (λ (l : Feed F F.File) es.

@@ -1,6 +1,7 @@
 //! Where a feed keeps its segments, and what it is of.
 
-ghost use Rattle.std.specs.Prelude.{◌≡◌, IfOk, IsTrue, string_bytes};
+ghost use Rattle.std.specs.Prelude.{IfOk, IsTrue};
+ghost use Rattle.pgfeed.specs.Naming.{IsOf};
 
 use crate::fault::FeedFault;
 use pglsn::Lsn;
@@ -49,8 +50,8 @@ pub trait Folder {
     fn open(&mut self, base: Lsn) -> Result<Self::File, FeedFault>
         ensures usable { IfOk result (λ file. IsTrue (Self.File.is_usable file)) };
 
-    /// The file of a segment that begins here. Its name outlasts a crash. Where a file has that name
-    /// already, it is that one.
+    /// The file of a segment that begins here. Its name outlasts a crash. Where a file has that
+    /// name already, it is that one.
     ///
     /// # Errors
     ///
@@ -65,8 +66,8 @@ pub trait Folder {
     /// `Refused` where it can't be removed, and `Memory`.
     fn remove(&mut self, base: Lsn) -> Result<(), FeedFault>;
 
-    /// Takes back the file of a segment that the feed writes no more. Where nothing else is said, it
-    /// is dropped.
+    /// Takes back the file of a segment that the feed writes no more. Where nothing else is said,
+    /// it is dropped.
     fn close(&mut self, _base: Lsn, _file: Self::File) {}
 }
 
@@ -80,10 +81,8 @@ pub(crate) struct Names {
 
 impl Names {
     pub(crate) fn of(alloc: Global, origin: &Origin<'_>) -> Result<Names, AllocError>
-        ensures system { IfOk result (λ names. string_bytes names.system ≡ origin.now.system.now) }
-        ensures database { IfOk result (λ names.
-            string_bytes names.database ≡ origin.now.database.now) }
-        ensures slot { IfOk result (λ names. string_bytes names.slot ≡ origin.now.slot.now) }
+        ensures { IfOk result (λ names. IsOf names origin.now.system.now
+            origin.now.database.now origin.now.slot.now) }
     {
         Ok(Names {
             system: String::from_str(alloc, origin.system)?,

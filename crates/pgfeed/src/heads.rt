@@ -4,7 +4,8 @@ ghost use Rattle.std.specs.Prelude.{◌≡◌, ◌⊎◌, ◌<◌, ◌≤◌, If
 ghost use Rattle.std.specs.Fmt.{signed_decimal};
 ghost use Rattle.pgfeed.specs.declared.fault.FeedFault.TheVariants.{Memory, TooLong};
 ghost use Rattle.pgfeed.specs.Fits.{FitsLine};
-ghost use Rattle.pgfeed.specs.Texts.{about_text, closing_line, commit_front, commit_line, commit_object, padded};
+ghost use Rattle.pgfeed.specs.Texts.{about_text, commit_front, commit_line, commit_object, padded};
+ghost use Rattle.pgfeed.specs.Texts.{closing_line};
 ghost use Rattle.pgfeed.specs.Texts.{segment_front, segment_head, segment_object, unix_micros};
 
 use crate::fault::FeedFault;

@@ -24,7 +24,8 @@
 //! single file. So a store beside it keeps a feed:
 //!
 //! ```text
-//! let feed = Feed::open(alloc, folder, &origin, limits, store.position())?; // cuts what lies behind
+//! // cuts off what lies behind the position
+//! let feed = Feed::open(alloc, folder, &origin, limits, store.position())?;
 //! let mut store = Recorded::new(store, feed);
 //! ```
 //!

@@ -2,7 +2,7 @@
 
 ghost use Rattle.std.specs.Prelude.{◌≡◌, ◌≤◌, [], false, IsTrue, IfOk};
 ghost use Rattle.pgfeed.specs.Feeds.{IsFresh, KeepsAll, LastsUpTo, OpensSome};
-ghost use Rattle.pgfeed.specs.Naming.{head_of};
+ghost use Rattle.pgfeed.specs.Naming.{IsOf, head_of};
 
 use crate::fault::FeedFault;
 use crate::feed::Feed;
@@ -123,15 +123,17 @@ fn last_segment<F: Folder>(
 
 impl<F: Folder + Drop> Feed<F> {
     /// The feed in a folder, at the position of the store beside it. The last segment that doesn't
-    /// begin above the position is opened there, and what lies behind is cut off, the line that ends
-    /// it too; then the segments above it are removed, the last of them first. In a folder without
-    /// segments one begins at the position. No other segment is read.
+    /// begin above the position is opened there, and what lies behind is cut off, the line that
+    /// ends it too; then the segments above it are removed, the last of them first. One that begins
+    /// at the position is made anew, since a crash may have left a part of its head. In a folder
+    /// without segments one begins at the position. No other segment is read.
     ///
     /// # Errors
     ///
-    /// `NotAFeed` where there are segments, but none of them begins at or below the position, or none
-    /// of its commits ends there, and `TooLong` where the names don't fit the head of a segment: then
-    /// all is as it was. `Refused` where a call of the folder or of a file fails, and `Memory`.
+    /// `NotAFeed` where there are segments, but none of them begins at or below the position, or
+    /// none of its commits ends there, and `TooLong` where the names don't fit the head of a
+    /// segment: then all is as it was. `Refused` where a call of the folder or of a file fails or
+    /// the bases don't rise, and `Memory`.
     pub fn open(
         alloc: Global,
         mut folder: F,
@@ -144,6 +146,10 @@ impl<F: Folder + Drop> Feed<F> {
         ensures last { IfOk result (λ f. f.segment.last ≡ position) }
         ensures synced { IfOk result (λ f. f.synced ≡ position) }
         ensures free { IfOk result (λ f. f.segment.is_stuck ≡ false) }
+        ensures begins { IfOk result (λ f. f.begins ≤ f.segment.base) }
+        ensures told { IfOk result (λ f. IsOf f.names origin.now.system.now
+            origin.now.database.now origin.now.slot.now) }
+        ensures limits { IfOk result (λ f. f.limits ≡ limits) }
         ensures begun { IfOk result (λ f. f.begins ≡ position →
             KeepsAll F.File.seen f.begins f.segment []
             × LastsUpTo F.File.may_leave f.segment position) }
@@ -169,6 +175,8 @@ fn open_in<F: Folder>(
     ensures last { IfOk result (λ found. found.0.last ≡ position) }
     ensures free { IfOk result (λ found. found.0.is_stuck ≡ false) }
     ensures begins { IfOk result (λ found. found.1 ≤ found.0.base) }
+    ensures told { IfOk result (λ found. IsOf found.2 origin.now.system.now
+        origin.now.database.now origin.now.slot.now) }
 {
     let names = Names::of(alloc, origin)?;
     // the head of a segment has room for the names wherever it begins
