@@ -1,5 +1,6 @@
 #!/usr/bin/env bash
-# Counts the instructions of `pgsub apply --store` for a change, and of `pgsub dump` for a row: bench/run instructions [--program PATH]
+# Counts the instructions of `pgsub apply --store` for a change, without and with `--feed`, and of `pgsub dump` for a row:
+# bench/run instructions [--program PATH]
 #
 # They don't vary with what else the machine does. What 12,000 changes take beyond 2,000 is divided by their difference: start and end
 # are left out. Each `apply` prints the rows at its end, as `dump` does. PATH is the program (default: crates/pgsub/out/pgsub). Needs valgrind.
@@ -17,19 +18,25 @@ count() {
     fi
 }
 
-# counts KIND EACH CHANGES: the instructions of `apply` and of `dump` on a session
+# counts KIND EACH CHANGES: the instructions of `apply`, of that with a feed, and of `dump` on a session
 counts() {
-    local store="$work/$1.$2.$3.db"
+    local at="$work/$1.$2.$3" apply=("$program" apply --raw)
     python3 "$top/bench/subscriber/generate.py" "$1" "$work/session" --changes "$3" --each "$2"
-    echo "$(count "$program" apply --raw --store "$store" "$work/session") $(count "$program" dump --store "$store")"
+    echo "$(count "${apply[@]}" --store "$at.db" "$work/session")" \
+        "$(count "${apply[@]}" --store "$at.fed.db" --feed "$at.feed" "$work/session")" \
+        "$(count "$program" dump --store "$at.db")"
+    rm -rf "$at.feed"
 }
 
-echo "| Session | apply, a change | dump, a row |"
-echo "|---|---|---|"
+echo "| Session | apply, a change | with a feed | dump, a row |"
+echo "|---|---|---|---|"
 # (the kind, how many a transaction)
 for session in "inserts 1" "inserts 10" "inserts 100" "inserts 1000" "updates 100"; do
     read -r kind each <<< "$session"
     echo "$(counts "$kind" "$each" 2000) $(counts "$kind" "$each" 12000)" | awk -v kind="$kind" -v each="$each" '
-        NF == 4 { printf "| %s, %d a transaction | %d | %d |\n", kind, each, ($3 - $1) / 10000, ($4 - $2) / (kind == "updates" ? 2500 : 10000) }
-        NF != 4 { print "instructions: a run failed" > "/dev/stderr"; exit 1 }'
+        NF == 6 {
+            printf "| %s, %d a transaction | %d | %d | %d |\n", kind, each, ($4 - $1) / 10000, ($5 - $2) / 10000,
+                ($6 - $3) / (kind == "updates" ? 2500 : 10000)
+        }
+        NF != 6 { print "instructions: a run failed" > "/dev/stderr"; exit 1 }'
 done
