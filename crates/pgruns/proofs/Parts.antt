@@ -1,5 +1,5 @@
 -- A store with its ledger is its parts.
-use Rattle.std.proofs.Common.{◌≡◌, ap₂}
+use Rattle.std.proofs.Common.{◌≡◌, ap₂, subst}
 use Rattle.pgledger.specs.declared.recorded.Recorded.{Recorded}
 
 abbrev pub with_ledger : {S G : Type 0} → S → G → Recorded S G
@@ -7,3 +7,6 @@ with_ledger store ledger = record { store = store; ledger = ledger }
 
 pub of_parts : {S G : Type 0} (r : Recorded S G) (store : S) (ledger : G) → r.store ≡ store → r.ledger ≡ ledger → r ≡ with_ledger store ledger
 of_parts r store ledger e f = ap₂ with_ledger e f
+
+pub along : {A : Type 0} (P : A → A → Type 0) (old new : A) {other next : A} → old ≡ other → new ≡ next → P old new → P other next
+along {A} P old new {other} {next} e f p = subst (λ (a : A). P a next) e (subst (λ (a : A). P old a) f p)

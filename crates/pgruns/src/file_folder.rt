@@ -1,8 +1,11 @@
 //! The folder of a feed: each segment is a file, named by the LSN at which it begins.
 
+ghost use Rattle.std.specs.Prelude.{IfOk, IsTrue};
+
 use pgfeed::{FeedFault, Folder};
 use pglsn::Lsn;
 use sqlite::{FileFrom, Start};
+use sqlite_disk::Disk;
 use sqlite_std_file::OpenError;
 use std::alloc::{AllocError, Global};
 use std::fs::{DirBuilder, File, OpenOptions};
@@ -100,6 +103,17 @@ fn make_folder(rt: &HostRuntime, path: &str) -> io::Result<()> {
     File::open(rt, above)?.sync_all()
 }
 
+/// A file that was opened, of which no sync has failed.
+fn usable<D: Disk + Drop>(file: D) -> Result<D, FeedFault>
+    ensures { IfOk result (λ file. IsTrue (D.is_usable file)) }
+{
+    if file.may_be_used() {
+        Ok(file)
+    } else {
+        Err(FeedFault::Refused)
+    }
+}
+
 impl<'r, F: Start> FileFolder<'r, F> {
     /// The folder at a path, which isn't touched yet. `start` stands for what the file of the segment
     /// that is opened holds, for any file it is `Unknown`.
@@ -169,7 +183,7 @@ impl<F: Start> Folder for FileFolder<'_, F> {
     }
 
     fn open(&mut self, base: Lsn) -> Result<FileFrom<Found<F>>, FeedFault> {
-        self.open_file(base)
+        usable(self.open_file(base)?)
     }
 
     fn create(&mut self, base: Lsn) -> Result<FileFrom<Found<F>>, FeedFault> {
@@ -184,7 +198,7 @@ impl<F: Start> Folder for FileFolder<'_, F> {
             _ => {}
         }
         sync_names(&self.folder)?;
-        self.open_file(base)
+        usable(self.open_file(base)?)
     }
 
     fn remove(&mut self, base: Lsn) -> Result<(), FeedFault> {

@@ -20,7 +20,7 @@ returns-in-Ok-open_feed-clause-ran g c =
         serves = λ honest. c.in-Ok.ensures.serves (applied.honest honest);
         run = (
           c.in-Ok-open_feed.feed,
-          subst (λ (p : ℕ). IsOpenedAt _ _ _ p c.in-Ok-open_feed.feed) c.position.ensures.position c.in-Ok-open_feed.ensures,
+          subst (λ (p : ℕ). IsOpenedAt g.D.File.Disk.seen g.D.File.Disk.may_leave g.D.File.Disk.is_clean p c.in-Ok-open_feed.feed) c.position.ensures.position c.in-Ok-open_feed.ensures,
           e.2,
         );
         closes = c.close_told-fault.ensures.closes;

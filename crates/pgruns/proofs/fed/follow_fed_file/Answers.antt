@@ -21,9 +21,11 @@ returns-in-Ok-open_feed-clause-ran g c =
         serves = λ honest. c.in-Ok.ensures.serves (followed.honest honest);
         run = (
           c.followed_status.ensures ∙ ap₂ (status_closed status_of_unclosed) e.1 c.close_told-fault.ensures.fault,
-          c.in-Ok-open_feed.feed,
-          subst (λ (p : ℕ). IsOpenedAt _ _ _ p c.in-Ok-open_feed.feed) c.position.ensures.position c.in-Ok-open_feed.ensures,
-          λ honest. e.6 honest (c.in-Ok.ensures.serves (followed.honest honest)),
+          (
+            c.in-Ok-open_feed.feed,
+            subst (λ (p : ℕ). IsOpenedAt g.D.File.Disk.seen g.D.File.Disk.may_leave g.D.File.Disk.is_clean p c.in-Ok-open_feed.feed) c.position.ensures.position c.in-Ok-open_feed.ensures,
+            λ honest. e.6 honest (c.in-Ok.ensures.serves (followed.honest honest)),
+          ),
         );
         closes = c.close_told-fault.ensures.closes;
       },
