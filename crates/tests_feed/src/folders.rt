@@ -1,5 +1,7 @@
 //! A folder of segments in memory, which stops after so many calls.
 
+ghost use Rattle.std.specs.Prelude.{IfOk, IsTrue};
+
 use pgfeed::{FeedFault, Folder};
 use pglsn::Lsn;
 use sqlite_disk::{Disk, Fuse, Memory};
@@ -59,7 +61,9 @@ impl MemoryFolder {
     }
 
     /// A disk with these bytes, which is the next that is given.
-    fn give(&mut self, bytes: &[u8]) -> Result<Fuse<Memory>, FeedFault> {
+    fn give(&mut self, bytes: &[u8]) -> Result<Fuse<Memory>, FeedFault>
+        ensures { IfOk result (λ file. IsTrue (⟦<Fuse<Memory> as Disk>⟧.is_usable file)) }
+    {
         let mut disk = Memory::new(self.alloc);
         if !bytes.is_empty() && disk.write_at(0, bytes).is_err() {
             return Err(FeedFault::Memory);
