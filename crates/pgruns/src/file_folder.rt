@@ -4,13 +4,12 @@ ghost use Rattle.std.specs.Prelude.{IfOk, IsTrue};
 
 use pgfeed::{FeedFault, Folder};
 use pglsn::Lsn;
-use sqlite::{FileFrom, Start};
+use sqlite::{FileFrom, Unknown};
 use sqlite_disk::Disk;
 use sqlite_std_file::OpenError;
 use std::alloc::{AllocError, Global};
 use std::fs::{DirBuilder, File, OpenOptions};
 use std::io::ErrorKind;
-use std::marker::PhantomData;
 use std::os::unix::fs::{DirBuilderExt, OpenOptionsExt};
 use std::path::Path;
 use std::{fs, io};
@@ -21,36 +20,15 @@ const FOLDER_MODE: u32 = 0o700;
 /// The mode of the files.
 const FILE_MODE: u32 = 0o600;
 
-/// What the file of a segment held when it was opened, for any file. That is `F`'s: of all files of
-/// a run one is read, the segment that was there. A file that the run makes, or makes anew, is cut to
-/// nothing first, so what it held says nothing.
-#[derive(Drop)]
-pub struct Found<F: Start> {
-    start: PhantomData<F>,
-}
-
-impl<F: Start> Start for Found<F> {
-    ghost log = { F.Start.log };
-
-    ghost db = { F.Start.db };
-
-    ghost is_mixing = { F.Start.is_mixing };
-
-    fn mixes() -> bool {
-        F::mixes()
-    }
-}
-
 /// The folder of a feed. A segment's file has the LSN at which it begins for its name, in 16
 /// hexadecimal digits; other names are passed over, as those of readers. One process has the folder
 /// at a time, and a file is locked as one of the SQL library.
 #[derive(Drop)]
-pub struct FileFolder<'r, F: Start> {
+pub struct FileFolder<'r> {
     rt: &'r HostRuntime,
     path: &'r str,
     /// The folder once it was opened, locked.
     folder: Option<File>,
-    start: PhantomData<F>,
 }
 
 /// A fault of the system.
@@ -114,15 +92,13 @@ fn usable<D: Disk + Drop>(file: D) -> Result<D, FeedFault>
     }
 }
 
-impl<'r, F: Start> FileFolder<'r, F> {
-    /// The folder at a path, which isn't touched yet. `start` stands for what the file of the segment
-    /// that is opened holds, for any file it is `Unknown`.
-    pub fn new(rt: &'r HostRuntime, path: &'r str, _start: F) -> FileFolder<'r, F> {
+impl<'r> FileFolder<'r> {
+    /// The folder at a path, which isn't touched yet.
+    pub fn new(rt: &'r HostRuntime, path: &'r str) -> FileFolder<'r> {
         FileFolder {
             rt,
             path,
             folder: None,
-            start: PhantomData,
         }
     }
 
@@ -162,18 +138,17 @@ impl<'r, F: Start> FileFolder<'r, F> {
     }
 
     /// The file of a segment, locked. The log that the SQL library makes beside it goes again.
-    fn open_file(&self, base: Lsn) -> Result<FileFrom<Found<F>>, FeedFault> {
+    fn open_file(&self, base: Lsn) -> Result<FileFrom<Unknown>, FeedFault> {
         let path = self.file_path(base, "")?;
         let log = self.file_path(base, "-wal")?;
-        let start = Found { start: PhantomData };
-        let files = sqlite_std_file::open(self.rt, path.as_str(), start).map_err(open_fault)?;
+        let files = sqlite_std_file::open(self.rt, path.as_str(), Unknown).map_err(open_fault)?;
         fs::remove_file(self.rt, log.as_str()).map_err(io_fault)?;
         Ok(files.db)
     }
 }
 
-impl<F: Start> Folder for FileFolder<'_, F> {
-    type File = FileFrom<Found<F>>;
+impl Folder for FileFolder<'_> {
+    type File = FileFrom<Unknown>;
 
     fn bases(&mut self) -> Result<Vec<Lsn>, FeedFault> {
         self.reach()?;
@@ -182,11 +157,11 @@ impl<F: Start> Folder for FileFolder<'_, F> {
         Ok(bases)
     }
 
-    fn open(&mut self, base: Lsn) -> Result<FileFrom<Found<F>>, FeedFault> {
+    fn open(&mut self, base: Lsn) -> Result<FileFrom<Unknown>, FeedFault> {
         usable(self.open_file(base)?)
     }
 
-    fn create(&mut self, base: Lsn) -> Result<FileFrom<Found<F>>, FeedFault> {
+    fn create(&mut self, base: Lsn) -> Result<FileFrom<Unknown>, FeedFault> {
         let path = self.file_path(base, "")?;
         let made = OpenOptions::new()
             .write(true)

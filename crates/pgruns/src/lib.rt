@@ -17,5 +17,5 @@ mod telling;
 
 pub use closing::Closing;
 pub use fed::{FeedPlan, apply_fed_to_file, follow_fed_file};
-pub use file_folder::{FileFolder, Found};
+pub use file_folder::FileFolder;
 pub use filed::{Filed, apply_to_file, dump_file, follow_file};

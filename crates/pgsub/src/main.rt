@@ -184,12 +184,9 @@ fn segment_limits(options: &FeedOptions) -> SegmentLimits {
 }
 
 /// The feed that these options ask for.
-fn feed_plan<'a>(
-    rt: &'a HostRuntime,
-    options: &'a FeedOptions,
-) -> FeedPlan<'a, FileFolder<'a, Unknown>> {
+fn feed_plan<'a>(rt: &'a HostRuntime, options: &'a FeedOptions) -> FeedPlan<'a, FileFolder<'a>> {
     FeedPlan {
-        folder: FileFolder::new(rt, options.folder.as_str(), Unknown),
+        folder: FileFolder::new(rt, options.folder.as_str()),
         origin: Origin {
             system: options.system.as_str(),
             database: options.database.as_str(),
