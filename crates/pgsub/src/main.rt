@@ -6,7 +6,7 @@ ghost use Rattle.clap.specs.Values.{kind_of};
 ghost use Rattle.clap.specs.declared.error.kind.ErrorKind.TheVariants as kind;
 
 use pgcommand::{CommandFault, DEFAULT_CACHE, FeedOptions, Limits, Task, command_of};
-use pgfeed::{Origin, SegmentLimits};
+use pgfeed::{Folder, Origin, SegmentLimits};
 use pgfollow::{Clock, Link};
 use pgorder::Version;
 use pgruns::{
@@ -196,6 +196,32 @@ fn feed_plan<'a>(rt: &'a HostRuntime, options: &'a FeedOptions) -> FeedPlan<'a, 
     }
 }
 
+/// Applies to the store in the file at a path what comes, and keeps a feed of its commits, in a folder
+/// of any kind: a proof over the folder's own asks for what holds of each of its parts.
+fn apply_fed<D: Folder + Drop>(
+    rt: &HostRuntime,
+    task: &Task,
+    path: &str,
+    plan: FeedPlan<'_, D>,
+    input: Option<(Version, Incoming<File>)>,
+) -> u8 {
+    let (mut out, mut err) = (rt.stdout(), rt.stderr());
+    let reporter = reporter_of(rt, task, &input);
+    fed_status_of(apply_fed_to_file(
+        rt.alloc(),
+        rt,
+        path,
+        cache_of(task),
+        Unknown,
+        plan,
+        limits_of(task),
+        input,
+        reporter.as_ref(),
+        &mut out,
+        &mut err,
+    ))
+}
+
 /// Applies what a task names to the store in the file at a path. That is read before the store is
 /// opened.
 ///
@@ -207,22 +233,10 @@ fn run_over(rt: &HostRuntime, task: &Task, path: &str) -> u8 {
         Ok(input) => input,
         Err(fault) => return tell_stopped(rt.alloc(), task, fault, &mut err),
     };
-    let reporter = reporter_of(rt, task, &input);
     if let Some(options) = feed_of(task) {
-        return fed_status_of(apply_fed_to_file(
-            rt.alloc(),
-            rt,
-            path,
-            cache_of(task),
-            Unknown,
-            feed_plan(rt, options),
-            limits_of(task),
-            input,
-            reporter.as_ref(),
-            &mut out,
-            &mut err,
-        ));
+        return apply_fed(rt, task, path, feed_plan(rt, options), input);
     }
+    let reporter = reporter_of(rt, task, &input);
     status_of(apply_to_file(
         rt.alloc(),
         rt,
@@ -294,10 +308,10 @@ fn run_live(rt: &HostRuntime, limits: Limits, version: Version, path: &str, cach
     ))
 }
 
-/// The same, and a feed of its commits is kept.
-fn run_live_fed(
+/// The same, and a feed of its commits is kept, in a folder of any kind.
+fn run_live_fed<D: Folder + Drop>(
     rt: &HostRuntime,
-    options: &FeedOptions,
+    plan: FeedPlan<'_, D>,
     limits: Limits,
     version: Version,
     path: &str,
@@ -312,7 +326,7 @@ fn run_live_fed(
         path,
         cache,
         Unknown,
-        feed_plan(rt, options),
+        plan,
         MissedLines::new(rt.alloc(), rt.stderr()),
         limits,
         version,
@@ -383,7 +397,10 @@ fn run_words(rt: &HostRuntime, words: &[String]) -> u8 {
     {
         let (path, cache) = (store.as_str(), cache_of(&task));
         return match feed_of(&task) {
-            Some(options) => run_live_fed(rt, options, *limits, *version, path, cache),
+            Some(options) => {
+                let plan = feed_plan(rt, options);
+                run_live_fed(rt, plan, *limits, *version, path, cache)
+            }
             None => run_live(rt, *limits, *version, path, cache),
         };
     }
