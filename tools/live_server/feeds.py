@@ -142,12 +142,13 @@ def rows_of_feed(feed: Path, state: Replay | None = None) -> tuple[Rows, Replay]
     return found, state
 
 
-def check_images(feed: Path, *tables: str) -> int:
-    """Compares all images of a feed. Returns how many changes that were."""
+def check_images(feed: Path, *tables: str, above: int = 0) -> int:
+    """Compares all images of a feed, of the commits that end above an LSN. Returns how many changes that were."""
     images = Images(*tables)
     for path in segments(feed):
         for commit, body in commits(path):
-            images.check(commit["end"], body)
+            if lsn_of(commit["end"]) > above:
+                images.check(commit["end"], body)
     return images.count
 
 
