@@ -15,6 +15,7 @@
 | other subcommands | `checking`, `dropping`, `probing` |
 | the feed of a follower, and tables that follow it | `feeding`, `beside` |
 | readers of a feed of commits | the package `feed` |
+| .. and what they write to other engines | the package `sinks` |
 """
 
 VERSION = "0.1.0"

@@ -20,7 +20,7 @@ from .asking import Asker
 from .checkpoint import Checkpoint
 from .comparing import require_published
 from .copying import Copier, create_slot, maker_of
-from .errors import FileError, FilterFault, NoSlot, Passing, ServerError, Stopped, Unfit, UsageError
+from .errors import EngineError, FileError, FilterFault, NoSlot, Passing, ServerError, Stopped, TooLarge, Unfit, UsageError
 from .feed import awaiting, tabling
 from .feeding import Feeding
 from .filtering import Filter, FilterEnded
@@ -31,6 +31,7 @@ from .progress import Progress
 from .recording import LONGEST, Aside, Recorder, Recording
 from .remembered import Remembered, print_names
 from .reporting import Reporter
+from .sinks import sinking
 from .snapshots import Snapshots
 from .texts import parse_lsn
 
@@ -68,7 +69,12 @@ FED = """\
 exit status: 0 ended as asked; 2 usage error; 3 a file can't be used; 5 the feed lacks commits after those that the file has; 6 a bug; 7
 something is in the way only for now
 """
-ENDINGS = {"follow": ENDS, "record": ENDS, "verify": COMPARED, "add": ADDED, "refresh": ADDED, "tables": FED, "wait": FED}
+SUNK = """\
+exit status: 0 ended as asked; 1 a change is larger than the engine takes; 2 usage error; 3 a file can't be used; 4 the engine rejected a
+command for good; 5 the feed lacks commits after those that are written, or another sink has begun, or something else has written what the
+sink keeps; 6 a bug; 7 something is in the way only for now, such as an engine that isn't there: start it again
+"""
+ENDINGS = {"follow": ENDS, "record": ENDS, "verify": COMPARED, "add": ADDED, "refresh": ADDED, "tables": FED, "sink": SUNK, "wait": FED}
 TOP = os.path.dirname(os.path.dirname(os.path.dirname(os.path.realpath(__file__))))
 REJECTED, USAGE, FILE, SERVER, UNFIT, BUG, PASSING, NO_SLOT, MISSED = 1, 2, 3, 4, 5, 6, 7, 8, 9
 KINDS = ("history", "slot", "names", "publication", "values", "missing", "gap", "all")
@@ -141,6 +147,10 @@ class Options:
     tables: str = ""
     lsn: int = 0
     within: float = 60.0
+    url: str = ""
+    url_file: str | None = None
+    form: str | None = None
+    stream: str | None = None
 
     def accepts(self, kind: str) -> bool:
         """Whether what may be wrong in this way was said to be taken as it is."""
@@ -353,6 +363,12 @@ def add_tabling(parser: argparse.ArgumentParser) -> None:
     parser.add_argument("--mode", type=mode, default=0o600, metavar="OCTAL", help="mode of a file that is made (default: 600)")
 
 
+def add_sinking(parser: argparse.ArgumentParser) -> None:
+    sinking.add_options(parser)
+    parser.add_argument("--until", type=lsn, metavar="LSN", help="end before the first commit above this LSN")
+    parser.add_argument("--mode", type=mode, default=0o600, metavar="OCTAL", help="mode of a file that is made (default: 600)")
+
+
 def add_awaiting(parser: argparse.ArgumentParser) -> None:
     parser.add_argument("lsn", type=lsn, metavar="LSN", help="what is waited for")
     awaiting.add_options(parser)
@@ -384,6 +400,7 @@ COMMANDS: dict[str, tuple[str, Sequence[Callable[[argparse.ArgumentParser], None
     "names": ("tell which OID each name of a table has now, and which ones had it before", (add_names,)),
     "status": (probing.ABOUT, (probing.add_options,)),
     "tables": (tabling.ABOUT, (add_tabling,)),
+    "sink": (sinking.ABOUT, (add_sinking,)),
     "wait": (awaiting.ABOUT, (add_awaiting,)),
 }
 
@@ -422,7 +439,7 @@ def check(parser: argparse.ArgumentParser, options: Options) -> None:
         ("snapshot_every", "snapshot"), ("skip", "store"), ("strict", "store"), ("init", "tables"), ("feed_segment_bytes", "feed"),
         ("feed_segment_seconds", "feed"), ("feed_max_bytes", "feed"), ("feed_max_age", "feed"),
     ):
-        if options.command not in ("check", "status", "verify", "add", "tables") and getattr(options, given) and not getattr(options, needed):
+        if options.command not in ("check", "status", "verify", "add", "tables", "sink") and getattr(options, given) and not getattr(options, needed):
             parser.error(f"--{given.replace('_', '-')} needs --{needed}")
     if options.command == "follow" and not options.store:
         parser.error("--store is needed")
@@ -434,6 +451,8 @@ def check(parser: argparse.ArgumentParser, options: Options) -> None:
         parser.error("--table and --all-tables exclude each other")
     if options.all_tables and options.keyless != "refuse":
         parser.error("of a publication for all tables no table can be left out: --keyless needs a list")
+    if options.command == "sink" and bool(options.url) == bool(options.url_file):
+        parser.error("either a URL or --url-file is needed")
     options.once = options.once or options.at is not None
 
 
@@ -626,7 +645,7 @@ RUNS: dict[str, Callable[[Options], Any]] = {
     "follow": follow, "record": record, "check": stoppable(checking.run), "drop": stoppable(dropping.run),
     "export": stoppable(exporting.run), "snapshot": stoppable(taking.run),
     "verify": stoppable(verifying.run), "add": stoppable(requesting.run), "refresh": stoppable(refreshing.run), "names": lambda options: print_names(options.store), "status": probing.run,
-    "tables": stoppable(tabling.run), "wait": stoppable(awaiting.run),
+    "tables": stoppable(tabling.run), "sink": stoppable(sinking.run), "wait": stoppable(awaiting.run),
 }
 
 
@@ -652,7 +671,7 @@ def guarded(call: Callable[[], int]) -> int:
     except ServerError as error:
         log.error(str(error))
         return SERVER if error.is_lasting() else PASSING
-    except (Unfit, FileError, FilterFault, Passing, NoSlot, UsageError) as error:
+    except tuple(STATUSES) as error:
         log.error(str(error))
         return next(status for kind, status in STATUSES.items() if isinstance(error, kind))
     except OSError as error:
@@ -671,7 +690,7 @@ def status_of(ended: FilterEnded) -> int:
 
 
 STATUSES: dict[type[Exception], int] = {
-    Unfit: UNFIT, FileError: FILE, FilterFault: FILE, Passing: PASSING, NoSlot: NO_SLOT, UsageError: USAGE
+    Unfit: UNFIT, FileError: FILE, FilterFault: FILE, Passing: PASSING, NoSlot: NO_SLOT, UsageError: USAGE, EngineError: SERVER, TooLarge: REJECTED,
 }
 PASSING_ERRORS = (
     errno.ENOSPC, errno.EDQUOT, errno.ENOMEM, errno.EAGAIN, errno.EMFILE, errno.ENFILE, errno.ESTALE, errno.ETIMEDOUT, errno.EHOSTDOWN,

@@ -31,6 +31,14 @@ class UsageError(Exception):
     """Words of the command line ask for what the server's version doesn't have."""
 
 
+class EngineError(Exception):
+    """The engine that a sink writes to rejected a command, or returned what isn't of its protocol: another try ends in the same way."""
+
+
+class TooLarge(Exception):
+    """A change is larger than the engine takes."""
+
+
 class FilterFault(Exception):
     """The filter wrote what isn't a status, or can't be started."""
 

@@ -4,7 +4,8 @@
 |---|---|
 | what it consists of | `parts`, `decoding`, `faults` |
 | reading it | `reading`, `polling`, `retaining` |
-| `pgsub-feed` | `printing`, `formats`, `undoing` |
+| `pgsub-feed` | `printing`, `formats`, `bulk`, `undoing` |
+| what rows are called outside of SQL | `identifying` |
 | tables of SQLite that follow it | `tabling`, `beginning`, `noting`, `awaiting`, `applying`, `back` |
 | .. and the file that they are in | `rowsfile`, `kept`, `carrying`, `initial` |
 """

@@ -28,9 +28,9 @@ def make_folder(path: str, mode: int) -> None:
 
 
 class Noted:
-    """The LSN of a reader whose rows are in a file of SQLite's with a log beside it."""
+    """The LSN of a reader whose rows are in a file of SQLite's with a log beside it, or in none, and on a disk already."""
 
-    def __init__(self, feed: str, name: str, rows: str, mode: int) -> None:
+    def __init__(self, feed: str, name: str, rows: str | None, mode: int) -> None:
         self.folder, self.rows, self.mode = os.path.join(feed, READERS), rows, mode
         self.path = os.path.join(self.folder, name)
         self.at, self.when = -1, 0.0
@@ -41,11 +41,17 @@ class Noted:
         if at == self.at or not is_last and now - self.when < OFTEN:
             return
         self.at, self.when = at, now
-        with contextlib.suppress(FileNotFoundError):
-            file = os.open(self.rows + LOG, os.O_RDONLY | os.O_CLOEXEC)
-            try:
-                os.fsync(file)
-            finally:
-                os.close(file)
+        if self.rows is not None:
+            sync_log(self.rows)
         make_folder(self.folder, self.mode)
         replace_file(self.path, f"{lsn_text(at)}\n".encode(), self.mode)
+
+
+def sync_log(rows: str) -> None:
+    """Has the disk have what is in the log of a file."""
+    with contextlib.suppress(FileNotFoundError):
+        file = os.open(rows + LOG, os.O_RDONLY | os.O_CLOEXEC)
+        try:
+            os.fsync(file)
+        finally:
+            os.close(file)

@@ -14,7 +14,8 @@ from ..cli import Start, TellVersion, guarded, lsn, stop_by_signals
 from ..errors import Stopped
 from ..postgres import Check
 from ..remembered import Relation
-from .formats import FORMATS
+from .bulk import Bulk
+from .formats import FORMATS, Format
 from .polling import Poll
 from .reading import Reader
 from .rowsfile import names_of
@@ -30,7 +31,9 @@ FORMATS_ABOUT = """\
 formats: `lines` are the feed's own, whole commits. `objects` has an object for each change: its id, made of the LSN at which the commit
 ends and the number of the change, xid and time, op (c, u, d or t; x of one that found no row), schema, table, and the row before and
 after it by the names of the columns. `debezium` has the fields of its envelope. Values are numbers, true and false, or as the server
-prints them.
+prints them. `bulk` has the lines of a bulk request of Elasticsearch and OpenSearch: what each commit leaves of each row that it changes,
+as a document that is indexed or deleted with the commit's LSN as its external version, so the lines can be sent again: what a document has
+already is rejected with 409. Tables without a key are left out, and a TRUNCATE ends it with 5.
 
 exit status: 0 ended as asked; 2 usage error; 3 a file can't be used; 5 the feed lacks commits after that LSN; 6 a bug; 7 something is in
 the way only for now
@@ -48,6 +51,7 @@ class Options:
     format: str = "objects"
     table: list[str] = dataclasses.field(default_factory=list)
     undo: list[int] | None = None
+    truncated: int | None = None
 
 
 def arguments(words: Sequence[str]) -> Options:
@@ -59,7 +63,9 @@ def arguments(words: Sequence[str]) -> Options:
     add("--from", dest="begin", type=lsn, metavar="LSN", help="commits after this one, which must be the end of one (default: all)")
     add("--to", dest="end", type=lsn, metavar="LSN", help="end before the first commit that ends above this LSN")
     add("--follow", action="store_true", help="go on with the commits that come")
-    add("--format", choices=list(FORMATS), default="objects", help="default: objects")
+    add("--format", choices=[*FORMATS, "bulk"], default="objects", help="default: objects")
+    add("--truncated", type=lsn, metavar="LSN",
+        help="with --format bulk: all documents were deleted of the tables that the commit which ends there truncates")
     add("--table", action="append", default=[], help="changes of this table, may be repeated (default: of all)")
     add("--undo", nargs=2, type=lsn, metavar=("FROM", "TO"), help="print the SQL that takes the commits after FROM, up to TO, back")
     add("--version", action=TellVersion, nargs=0, default=argparse.SUPPRESS, help="show the version, and the commit of a checkout")
@@ -68,12 +74,18 @@ def arguments(words: Sequence[str]) -> Options:
         parser.error("--undo has its own LSNs, and doesn't follow")
     if options.table and options.format == "lines" and not options.undo:
         parser.error("the lines of a commit are printed whole: --table needs another format")
+    if options.truncated is not None and options.format != "bulk":
+        parser.error("--truncated is for --format bulk")
     return options
 
 
 def chooser(names: list[str]) -> Callable[[Relation], bool]:
     chosen = set(names)
     return lambda relation: not chosen or bool(chosen & names_of(relation))
+
+
+def form_of(options: Options, is_chosen: Callable[[Relation], bool]) -> Format | Bulk:
+    return Bulk(is_chosen, options.truncated) if options.format == "bulk" else FORMATS[options.format](is_chosen)
 
 
 def run(options: Options, check: Check) -> int:
@@ -83,7 +95,7 @@ def run(options: Options, check: Check) -> int:
         if options.undo:
             undo(reader, options.undo[1], is_chosen, check, put)
         else:
-            print_commits(reader, options, FORMATS[options.format](is_chosen).print, check)
+            print_commits(reader, options, form_of(options, is_chosen).print, check)
     return 0
 
 

@@ -1,0 +1,157 @@
+"""What JetStream is asked: a stream, its messages, and that it takes one in the place where it belongs."""
+
+from __future__ import annotations
+
+import base64
+import binascii
+import collections
+import dataclasses
+import json
+import secrets
+import time
+from typing import Any
+
+from ..errors import EngineError, Passing, TooLarge
+from .nats_wire import Message, Wire, header_bytes, read_headers
+
+# How long to wait for what it says, in seconds.
+LONGEST = 30.0
+# How many messages, and bytes of them, may be published until it has said that it has the first of them.
+MOST, ROOM = 4000, 8 << 20
+NO_STREAM, NO_MESSAGE, WRONG_SEQUENCE, OTHER_TOO_LARGE = 10059, 10037, 10071, 10054
+# Codes of what passes: there is no leader or no room just now.
+PASSING = (408, 503)
+FULL = "exceeded"
+
+
+@dataclasses.dataclass(frozen=True)
+class Stored:
+    """A message of a stream."""
+
+    sequence: int
+    subject: str
+    id: str
+    data: bytes
+
+
+@dataclasses.dataclass
+class Published:
+    """A message that waits until it is taken: its sequence and its size."""
+
+    sequence: int
+    size: int
+
+
+class JetStream:
+    """A stream, and what was published to it."""
+
+    def __init__(self, wire: Wire, stream: str) -> None:
+        self.wire, self.stream = wire, stream
+        self.where = f"{wire.where}, stream {stream}"
+        self.inbox = f"_INBOX.{secrets.token_hex(12)}"
+        wire.subscribe(f"{self.inbox}.*")
+        self.waiting = collections.deque[Published]()
+        self.room, self.asked = 0, 0
+        # the sequence of the last message, with those that wait
+        self.sequence = 0
+        self.most = wire.most
+
+    # ---- asking
+
+    def ask(self, what: str, body: dict[str, Any]) -> dict[str, Any]:
+        """Asks the server's interface, while nothing waits. What it says may have an `error`."""
+        self.asked += 1
+        reply = f"{self.inbox}.ask{self.asked}"
+        self.wire.publish(f"$JS.API.{what}", reply, b"", json.dumps(body).encode() if body else b"")
+        end = time.monotonic() + LONGEST
+        while (message := self.wire.receive(max(0.0, end - time.monotonic()))) is not None:
+            if message.subject == reply:
+                return self.parsed(message)
+        raise Passing(f"{self.where}: no answer in {LONGEST:.0f} seconds")
+
+    def parsed(self, message: Message) -> dict[str, Any]:
+        if message.status == "503":
+            raise EngineError(f"{self.where}: nothing answers: the server has no JetStream, or the stream not this subject")
+        return self.wire.parsed(message.data)
+
+    def need(self, what: str, body: dict[str, Any], passes: int = 0) -> dict[str, Any] | None:
+        """Asks. Returns None where it says that there is none, with this number."""
+        found = self.ask(what, body)
+        error = found.get("error")
+        if error is None:
+            return found
+        if error.get("err_code") == passes:
+            return None
+        raise self.wrong(error)
+
+    def wrong(self, error: dict[str, Any]) -> Exception:
+        text = f"{self.where}: {error.get('description', error)}"
+        if error.get("err_code") == OTHER_TOO_LARGE:
+            return TooLarge(text)
+        is_passing = error.get("code") in PASSING or error.get("err_code") == WRONG_SEQUENCE or FULL in str(error.get("description"))
+        return (Passing if is_passing else EngineError)(text)
+
+    def begin(self) -> dict[str, Any]:
+        """Makes the stream, where it isn't there. Returns what is told of it."""
+        found = self.need(f"STREAM.INFO.{self.stream}", {}, NO_STREAM)
+        if found is None:
+            config = {"name": self.stream, "subjects": [f"{self.stream}.>"], "storage": "file", "retention": "limits", "num_replicas": 1}
+            found = self.need(f"STREAM.CREATE.{self.stream}", config)
+        assert found is not None
+        self.sequence = int(found["state"]["last_seq"])
+        most = int(found["config"].get("max_msg_size", -1))
+        self.most = min(self.wire.most, most) if most > 0 else self.wire.most
+        return found
+
+    def message(self, **which: Any) -> Stored | None:
+        """A message by its `seq`, or the last one of a subject, `last_by_subj`."""
+        found = self.need(f"STREAM.MSG.GET.{self.stream}", which, NO_MESSAGE)
+        if found is None:
+            return None
+        it = found["message"]
+        try:
+            _, headers = read_headers(base64.b64decode(it.get("hdrs", ""))) if it.get("hdrs") else ("", {})
+            return Stored(int(it["seq"]), it["subject"], headers.get("Nats-Msg-Id", ""), base64.b64decode(it.get("data", "")))
+        except (ValueError, KeyError, binascii.Error):
+            raise EngineError(f"{self.where}: it said {str(found)[:200]} in place of a message") from None
+
+    def purge(self) -> None:
+        self.need(f"STREAM.PURGE.{self.stream}", {})
+
+    # ---- publishing
+
+    def headers(self, id: str) -> bytes:
+        """Those of the message that comes next."""
+        return header_bytes({"Nats-Msg-Id": id, "Nats-Expected-Last-Sequence": str(self.sequence)})
+
+    def publish(self, subject: str, id: str, payload: bytes) -> None:
+        """Publishes a message as the one after those before: the stream takes it there or not at all."""
+        headers = self.headers(id)
+        self.sequence += 1
+        size = len(headers) + len(payload)
+        self.wire.publish(subject, f"{self.inbox}.{self.sequence}", headers, payload)
+        self.waiting.append(Published(self.sequence, size))
+        self.room += size
+        if len(self.waiting) >= MOST or self.room >= ROOM:
+            self.settle(MOST // 2, ROOM // 2)
+
+    def settle(self, most: int = 0, room: int = 0) -> None:
+        """Waits until at most so many messages, with so many bytes, aren't taken yet."""
+        while self.waiting and (len(self.waiting) > most or self.room > room):
+            message = self.wire.receive(LONGEST)
+            if message is None:
+                raise Passing(f"{self.where}: it doesn't say in {LONGEST:.0f} seconds that it has a message")
+            if message.subject.startswith(f"{self.inbox}.ask"):
+                continue
+            self.take(message)
+
+    def take(self, message: Message) -> None:
+        """Takes that a message is stored, or isn't."""
+        first = self.waiting.popleft()
+        self.room -= first.size
+        said = self.parsed(message)
+        if error := said.get("error"):
+            raise self.wrong(error)
+        is_ours = message.subject == f"{self.inbox}.{first.sequence}" and said.get("seq") == first.sequence
+        if said.get("duplicate") or not is_ours:
+            raise Passing(f"{self.where}: something else publishes to it: it has {said} in place of message {first.sequence}")

@@ -1,0 +1,95 @@
+"""The messages of a commit: one of each change, and a last one.
+
+| Message | Its id | Its subject | Says |
+|---|---|---|---|
+| a row of a base | `0/500:base:7` | `pgsub.public.stock` | as a change, with the op `r` |
+| a change | `0/600:0` | `pgsub.public.stock` | `lsn`, `n`, `op`, `schema`, `table`, `oid`, and the rows `before` and `after` |
+| the last one | `0/600:commit` | `pgsub.commit` | what the feed has of the commit, and what is kept of which feed |
+"""
+
+from __future__ import annotations
+
+import json
+import re
+from collections.abc import Iterator
+from typing import Any, NamedTuple
+
+from ..feed.identifying import subject
+from ..feed.parts import Cells, Change, Commit, Missed
+from ..remembered import Relation
+from ..texts import lsn_text, parse_lsn
+from .entries import base_entry, compact, entry
+
+ID = re.compile(r"([0-9A-F]+/[0-9A-F]+):(?:(commit)|(base:\d+)|(\d+))")
+COMMIT = "commit"
+
+
+class Said(NamedTuple):
+    """A message: its subject, its id, its payload and what it is of."""
+
+    subject: str
+    id: str
+    payload: bytes
+    about: str
+
+
+class Read(NamedTuple):
+    """What the id of a message says: its LSN, and which change it is of; None of the last one, and -1 of a row of a base."""
+
+    lsn: int
+    n: int | None
+
+
+def read_id(text: str) -> Read | None:
+    """None where it isn't one of a sink."""
+    found = ID.fullmatch(text)
+    if found is None:
+        return None
+    lsn, commit, base, n = found.groups()
+    try:
+        return Read(parse_lsn(lsn), None if commit else -1 if base else int(n))
+    except ValueError:
+        return None
+
+
+def row_message(stream: str, relation: Relation, lsn: int, n: int, id: str, told: dict[str, str]) -> Said:
+    fields = {
+        "lsn": f'"{lsn_text(lsn)}"', "n": str(n), "op": f'"{told["op"]}"', "schema": json.dumps(relation.namespace or "pg_catalog"),
+        "table": json.dumps(relation.name), **{name: it for name, it in told.items() if name != "op"},
+    }
+    body = ",".join(f'"{name}":{it}' for name, it in fields.items())
+    return Said(subject(stream, relation.namespace, relation.name), id, f"{{{body}}}".encode(), relation.text())
+
+
+def change_message(stream: str, commit: Commit, it: Change | Missed) -> Said:
+    return row_message(stream, it.relation, commit.end, it.n, f"{commit.text()}:{it.n}", entry(it))
+
+
+def base_message(stream: str, relation: Relation, lsn: int, n: int, row: Cells) -> Said:
+    return row_message(stream, relation, lsn, n, f"{lsn_text(lsn)}:base:{n}", base_entry(relation, row))
+
+
+def last_message(stream: str, commit: Commit, about: dict[str, Any]) -> Said:
+    told = {
+        "end": commit.text(), "prev": lsn_text(commit.prev), "changes": commit.changes,
+        "lsn": None if commit.lsn is None else lsn_text(commit.lsn), "xid": commit.xid, "ts_us": commit.ts_us, **about,
+    }
+    return Said(f"{stream}.{COMMIT}", f"{commit.text()}:{COMMIT}", compact(told).encode(), "the commit")
+
+
+def read_last(data: bytes) -> tuple[int, dict[str, Any]]:
+    """The LSN of a last message, and what it says of what is kept. A ValueError says that it is none."""
+    told = json.loads(data)
+    try:
+        return parse_lsn(told["end"]), {name: told[name] for name in ("system", "database", "slot", "tables")}
+    except (KeyError, TypeError, AttributeError):
+        raise ValueError from None
+
+
+def numbered(relations: list[Relation], rows: Any) -> Iterator[tuple[Relation, int, Cells]]:
+    """The rows of a base with their numbers."""
+    n = 0
+    for relation in relations:
+        for row in rows(relation):
+            yield relation, n, row
+            n += 1

@@ -1,0 +1,246 @@
+"""The text protocol of NATS: one connection, on which messages are published and come.
+
+    INFO {..}                                     the server, first of all
+    CONNECT {..}
+    SUB subject number
+    HPUB subject reply 12 15 .. 12 bytes of headers and 3 of a payload
+    MSG subject number reply 3 .. 3 bytes
+    HMSG subject number reply 12 15 .. the same with headers
+    PING, PONG
+    +OK, -ERR 'text'
+
+A line ends with CR and LF, and so do the bytes of a message.
+"""
+
+from __future__ import annotations
+
+import dataclasses
+import json
+import socket
+import ssl
+import time
+import urllib.parse
+from typing import Any
+
+from ..errors import EngineError, Passing, UsageError
+
+PORT = 4222
+# How long to wait for a connection, and until what is sent has left, in seconds.
+CONNECT, LONGEST = 10.0, 60.0
+# The longest line that is read, and how much is read at once.
+LINE, CHUNK = 1 << 20, 1 << 18
+HEAD = b"NATS/1.0"
+END = b"\r\n"
+# What a server says where another try ends in the same way.
+LASTING = ("authorization", "authentication", "permissions", "maximum payload", "parser", "unknown protocol", "invalid")
+
+
+@dataclasses.dataclass(frozen=True)
+class Message:
+    """What has come to a subscription. `status` is that of a message of the server itself, "" of any other."""
+
+    subject: str
+    data: bytes
+    status: str = ""
+    headers: dict[str, str] = dataclasses.field(default_factory=dict)
+
+
+def header_bytes(headers: dict[str, str]) -> bytes:
+    return b"".join([HEAD, END, *(f"{name}: {value}\r\n".encode() for name, value in headers.items()), END])
+
+
+def read_headers(text: bytes) -> tuple[str, dict[str, str]]:
+    """The status and the headers of a message. A ValueError says that they are none."""
+    first, *lines = text.decode().split("\r\n")
+    head, _, status = first.partition(" ")
+    if head != HEAD.decode():
+        raise ValueError
+    pairs = (it.partition(":") for it in lines if it)
+    return status.strip()[:3], {name: value.strip() for name, _, value in pairs}
+
+
+class Wire:
+    """A connection. It isn't made again where it is lost."""
+
+    def __init__(self, url: str) -> None:
+        try:
+            parts = urllib.parse.urlsplit(url)
+            self.host, self.port = parts.hostname or "localhost", parts.port or PORT
+        except ValueError as error:
+            raise UsageError(f"the URL of NATS: {error}") from None
+        self.where = f"NATS at {self.host}:{self.port}"
+        self.coming, self.going = bytearray(), bytearray()
+        try:
+            self.socket: socket.socket = socket.create_connection((self.host, self.port), CONNECT)
+        except OSError as error:
+            raise Passing(f"{self.where}: {error}") from None
+        try:
+            self.log_in(parts)
+        except BaseException:
+            self.close()
+            raise
+
+    def log_in(self, parts: urllib.parse.SplitResult) -> None:
+        line = self.line(CONNECT)
+        if line is None or not line.upper().startswith(b"INFO "):
+            raise self.wrong(line)
+        self.info = self.parsed(line[5:])
+        if parts.scheme == "tls" or self.info.get("tls_required"):
+            self.encrypt()
+        self.most = int(self.info.get("max_payload", 1 << 20))
+        user, password = (urllib.parse.unquote(it) if it is not None else None for it in (parts.username, parts.password))
+        login = {} if user is None else {"auth_token": user} if password is None else {"user": user, "pass": password}
+        about = {"verbose": False, "pedantic": False, "lang": "python3", "version": "1", "name": "pgsub-connect", "protocol": 1}
+        self.put(b"CONNECT " + json.dumps({**about, "headers": True, "no_responders": True, **login}).encode() + END)
+        self.ping(CONNECT)
+
+    def encrypt(self) -> None:
+        try:
+            self.socket = ssl.create_default_context().wrap_socket(self.socket, server_hostname=self.host)
+        except ssl.SSLCertVerificationError as error:
+            raise EngineError(f"{self.where}: {error}") from None
+        except OSError as error:
+            raise Passing(f"{self.where}: {error}") from None
+
+    def ping(self, seconds: float) -> None:
+        """Waits until the server has read all that was sent. What comes meanwhile is lost."""
+        self.is_answered = False
+        self.put(b"PING\r\n")
+        self.flush()
+        end = time.monotonic() + seconds
+        while not self.is_answered:
+            if time.monotonic() > end:
+                raise Passing(f"{self.where}: it says nothing for {seconds:.0f} seconds")
+            self.receive(0.5)
+
+    # ---- what goes
+
+    def put(self, content: bytes) -> None:
+        self.going += content
+        if len(self.going) > CHUNK:
+            self.flush()
+
+    def flush(self) -> None:
+        going, self.going = self.going, bytearray()
+        if not going:
+            return
+        try:
+            self.socket.settimeout(LONGEST)
+            self.socket.sendall(going)
+        except OSError as error:
+            raise self.lost(str(error)) from None
+
+    def lost(self, what: str) -> Passing | EngineError:
+        """What a connection that is lost is for the sink: the server may have said why."""
+        return self.refused(what) or Passing(f"{self.where}: the connection is lost: {what}")
+
+    def refused(self, _: str) -> EngineError | None:
+        try:
+            self.socket.settimeout(0.2)
+            self.coming += self.socket.recv(CHUNK)
+        except OSError:
+            pass
+        at = self.coming.find(b"-ERR ")
+        return self.error(bytes(self.coming[at:]).split(END)[0]) if at >= 0 else None
+
+    def subscribe(self, subject: str) -> None:
+        self.put(f"SUB {subject} 1\r\n".encode())
+
+    def publish(self, subject: str, reply: str, headers: bytes, payload: bytes) -> None:
+        """Publishes a message; with headers, unless these are empty."""
+        if headers:
+            self.put(f"HPUB {subject} {reply} {len(headers)} {len(headers) + len(payload)}\r\n".encode() + headers + payload + END)
+        else:
+            self.put(f"PUB {subject} {reply} {len(payload)}\r\n".encode() + payload + END)
+
+    # ---- what comes
+
+    def receive(self, seconds: float) -> Message | None:
+        """The next message that comes in this time. What the server asks is answered meanwhile."""
+        self.flush()
+        end = time.monotonic() + seconds
+        while (line := self.line(max(0.0, end - time.monotonic()))) is not None:
+            op = line.split(b" ", 1)[0].upper()
+            if op in (b"MSG", b"HMSG"):
+                return self.message(op, line)
+            self.answer(op, line)
+        return None
+
+    def answer(self, op: bytes, line: bytes) -> None:
+        if op == b"PING":
+            self.put(b"PONG\r\n")
+            self.flush()
+        elif op == b"PONG":
+            self.is_answered = True
+        elif op == b"-ERR":
+            raise self.error(line) or Passing(f"{self.where}: {line[5:].decode(errors='replace')}")
+        elif op not in (b"INFO", b"+OK"):
+            raise self.wrong(line)
+
+    def error(self, line: bytes) -> EngineError | None:
+        """An error that the server says, where another try would end in the same way."""
+        text = line[5:].decode(errors="replace").strip("'")
+        return EngineError(f"{self.where}: {text}") if text.lower().startswith(LASTING) else None
+
+    def message(self, op: bytes, line: bytes) -> Message:
+        try:
+            _, subject, *more = line.decode().split()
+            sizes = [int(it) for it in (more[-2:] if op == b"HMSG" else more[-1:])]
+            body = self.bytes(sizes[-1] + len(END))
+            if body[-2:] != END:
+                raise ValueError
+            at = sizes[0] if op == b"HMSG" else 0
+            status, headers = read_headers(body[:at]) if at else ("", {})
+        except (ValueError, IndexError):
+            raise self.wrong(line) from None
+        return Message(subject, body[at:-2], status, headers)
+
+    def wrong(self, line: bytes | None) -> EngineError:
+        said = "nothing" if line is None else repr(line[:80].decode(errors="backslashreplace"))
+        return EngineError(f"{self.where}: it said {said}, which isn't NATS' protocol")
+
+    def parsed(self, text: bytes) -> dict[str, Any]:
+        try:
+            found = json.loads(text)
+        except ValueError:
+            found = None
+        if not isinstance(found, dict):
+            raise self.wrong(text)
+        return found
+
+    def line(self, seconds: float) -> bytes | None:
+        """The next line that comes in this time, without its end."""
+        while (at := self.coming.find(END)) < 0:
+            if len(self.coming) > LINE:
+                raise self.wrong(bytes(self.coming))
+            if not self.read(seconds):
+                return None
+            seconds = 0.0 if seconds == 0.0 else LONGEST
+        line = bytes(self.coming[:at])
+        del self.coming[: at + 2]
+        return line
+
+    def bytes(self, size: int) -> bytes:
+        while len(self.coming) < size:
+            if not self.read(LONGEST):
+                raise Passing(f"{self.where}: the rest of a message doesn't come")
+        found = bytes(self.coming[:size])
+        del self.coming[:size]
+        return found
+
+    def read(self, seconds: float) -> bool:
+        """Reads what comes in this time. Returns whether anything did."""
+        try:
+            self.socket.settimeout(seconds)
+            piece = self.socket.recv(CHUNK)
+        except (TimeoutError, BlockingIOError, ssl.SSLWantReadError):
+            return False
+        except OSError as error:
+            raise Passing(f"{self.where}: the connection is lost: {error}") from None
+        if not piece:
+            raise Passing(f"{self.where}: the server has ended the connection")
+        self.coming += piece
+        return True
+
+    def close(self) -> None:
+        self.socket.close()

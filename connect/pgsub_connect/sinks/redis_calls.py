@@ -1,0 +1,104 @@
+"""Commands of Redis and what it says to them, by Debian's python3-redis."""
+
+from __future__ import annotations
+
+import importlib
+from collections.abc import Callable, Sequence
+from typing import Any, Protocol, Union
+
+from ..errors import EngineError, FileError, Passing, UsageError
+
+Command = Sequence[Union[bytes, str, int]]
+# The errors that may pass: it loads its files or runs a script, its memory or its disk is full, or another one is the primary by now.
+PASSES = ("LOADING", "BUSY", "OOM", "MISCONF", "READONLY", "MASTERDOWN", "CLUSTERDOWN", "TRYAGAIN", "NOREPLICAS", "NOGOODSLAVE")
+# How long to wait for a connection, and for what it says, in seconds.
+CONNECT, LONGEST = 10.0, 300.0
+# From how many bytes on Redis may end a connection because of them.
+MUCH = 1 << 29
+
+
+class Said(Exception):
+    """An error that Redis has said."""
+
+    def is_passing(self) -> bool:
+        return str(self).startswith(PASSES)
+
+
+def raised(said: Said, where: str) -> Exception:
+    """What an error is for the sink."""
+    return (Passing if said.is_passing() else EngineError)(f"{where}: {said}")
+
+
+class Calls(Protocol):
+    """A connection. What Redis says is bytes, a number, None or a list of these; an error is a Said that is returned."""
+
+    where: str
+
+    def run(self, commands: Sequence[Command]) -> list[Any]:
+        """Sends commands, and returns what each got."""
+
+    def close(self) -> None:
+        """Ends it."""
+
+
+class Connection:
+    """A connection to a real one. It isn't made again where it is lost, since what was watched would be forgotten."""
+
+    def __init__(self, url: str) -> None:
+        try:
+            self.redis: Any = importlib.import_module("redis")
+        except ModuleNotFoundError:
+            raise FileError("python3-redis is needed: apt-get install python3-redis") from None
+        try:
+            pool = self.redis.ConnectionPool.from_url(url, socket_connect_timeout=CONNECT, socket_timeout=LONGEST, socket_keepalive=True)
+            self.connection = pool.make_connection()
+        except (ValueError, TypeError) as error:
+            raise UsageError(f"the URL of Redis: {error}") from None
+        named = self.connection.__dict__
+        self.where = f"Redis at {named.get('host') or named.get('path')}{':' + str(named['port']) if named.get('port') else ''}"
+        self.guarded(0, self.connection.connect)
+
+    def guarded(self, size: int, call: Callable[[], Any]) -> Any:
+        """Calls. What is wrong with the connection passes, unless it is the login."""
+        errors = self.redis.exceptions
+        try:
+            return call()
+        except errors.AuthenticationError as error:
+            raise EngineError(f"{self.where}: {error}") from None
+        except errors.ResponseError as error:
+            raise raised(Said(self.text(error)), self.where) from None
+        except (errors.InvalidResponse, ValueError) as error:
+            raise EngineError(f"{self.where}: it said what isn't Redis' protocol: {error}") from None
+        except (errors.RedisError, OSError) as error:
+            hint = f" (of {size >> 20} MB that were sent: client-query-buffer-limit may be below that)" if size > MUCH else ""
+            raise Passing(f"{self.where}: {str(error) or type(error).__name__}{hint}") from None
+
+    def text(self, error: Exception) -> str:
+        """An error as Redis has said it: the library takes the code away from those that it knows."""
+        codes = {
+            "BusyLoadingError": "LOADING", "ReadOnlyError": "READONLY", "NoScriptError": "NOSCRIPT", "ExecAbortError": "EXECABORT",
+            "NoPermissionError": "NOPERM", "OutOfMemoryError": "OOM",
+        }
+        code = codes.get(type(error).__name__, "")
+        return str(error) if str(error).startswith(code) else f"{code} {error}"
+
+    def run(self, commands: Sequence[Command]) -> list[Any]:
+        packed = self.connection.pack_commands(commands)
+        size = sum(map(len, packed))
+        self.guarded(size, lambda: self.connection.send_packed_command(packed))
+        found: list[Any] = self.guarded(size, lambda: [self.said() for _ in commands])
+        return found
+
+    def said(self) -> Any:
+        try:
+            return self.whole(self.connection.read_response())
+        except self.redis.exceptions.ResponseError as error:
+            return Said(self.text(error))
+
+    def whole(self, said: Any) -> Any:
+        if isinstance(said, list):
+            return [self.whole(it) for it in said]
+        return Said(self.text(said)) if isinstance(said, Exception) else said
+
+    def close(self) -> None:
+        self.connection.disconnect()

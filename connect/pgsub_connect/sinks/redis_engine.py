@@ -1,0 +1,242 @@
+"""Redis: rows and LSN in one MULTI, and no MULTI of a sink whose place another one has taken.
+
+| Key | Has |
+|---|---|
+| `pgsub:lsn` | the LSN at which the last commit ends whose changes are there |
+| `pgsub:sink` | a text of the sink that writes: the one that was started last |
+| `pgsub:feed` | what is kept, and of what it is a feed |
+| `pgsub:tables` | the definitions that were told last, and the names of tables |
+| `pgsub:loading` | while the rows of a base are written: the names of its tables |
+
+The first two are watched from one MULTI to the next. So where another sink has begun, or has written, a MULTI has no effect at all.
+"""
+
+from __future__ import annotations
+
+import json
+import os
+import secrets
+import socket
+import time
+from collections.abc import Iterable, Iterator, Sequence
+from typing import Any, Optional, Protocol
+
+from ..errors import EngineError, Passing, Unfit
+from ..feed.parts import Cells, Change, Commit, Missed, TableLine
+from ..postgres import Check
+from ..texts import lsn_text, parse_lsn
+from .beginning import Base
+from .engine import Read, Wanted
+from .redis_calls import Calls, Command, Said, raised
+from .relations import Holder, Kept, Relations
+from .redis_disk import Disk
+
+LSN, SINK, FEED, TABLES, LOADING = "pgsub:lsn", "pgsub:sink", "pgsub:feed", "pgsub:tables", "pgsub:loading"
+WATCH, ASK = ("WATCH", LSN, SINK), ("MGET", LSN, SINK)
+# How many commands one MULTI gets where more commits are there.
+MOST = 20000
+# How often one MULTI is tried where somebody reads or trims a stream meanwhile.
+TRIES = 50
+# How often it is looked whether this is still the sink that writes, in seconds.
+OFTEN = 5.0
+
+
+class Form(Holder, Protocol):
+    """How rows and changes are written. What it was given waits until it is written by `commands`, or forgotten by `clear`."""
+
+    name: str
+    is_keyed_only: bool
+
+    def put(self, kept: Kept, row: Cells, n: int, lsn: int) -> None:
+        """A row of a base, the n-th of its table."""
+
+    def change(self, kept: Kept, it: Change | Missed, lsn: int) -> None:
+        """A change of the commit that ends there."""
+
+    def size(self) -> int:
+        """About how many commands wait."""
+
+    def watched(self) -> list[str]:
+        """The keys beside those of the sink that decide whether the commands can be run."""
+
+    def prepare(self) -> None:
+        """Looks at these, once they are watched."""
+
+    def commands(self) -> list[Command]:
+        """What writes all that waits."""
+
+    def accepts(self, said: Said) -> bool:
+        """Whether one of these commands may end with this error."""
+
+    def clear(self) -> None:
+        """Forgets what waits."""
+
+    def check_new(self) -> None:
+        """Looks at what there is before anything is begun."""
+
+    def removals(self, names: Iterable[str]) -> Iterator[Command]:
+        """What removes all that the tables with these names have."""
+
+
+class Redis:
+    """An engine."""
+
+    def __init__(self, calls: Calls, form: Form, check: Check) -> None:
+        self.calls, self.form, self.check = calls, form, check
+        self.owner = f"{socket.gethostname()} {os.getpid()} {secrets.token_hex(8)}".encode()
+        # the LSN that all is at, as a text too, None before there is one; and where the last commit ends that was taken
+        self.at, self.lsn, self.end = 0, None, 0
+        self.looked = time.monotonic()
+        self.left: list[str] = []
+        self.disk = Disk(calls)
+
+    at: int
+    lsn: bytes | None
+    relations: Relations
+
+    # ---- what is there
+
+    def open(self, wanted: Wanted) -> bool:
+        self.relations = Relations(wanted.chosen, self.form.is_keyed_only, self.form)
+        self.about: dict[str, Any] = {**wanted.source(), "tables": list(wanted.chosen), "as": self.form.name}
+        lsn, about = self.run([("MGET", LSN, FEED)])[0]
+        if lsn is not None:
+            self.check_about(about)
+        # (from now on no other sink's MULTI has an effect)
+        self.run([("SET", SINK, self.owner)])
+        self.lsn = self.run([WATCH, ASK])[1][0]
+        tables, loading = self.run([("MGET", TABLES, LOADING)])[0]
+        if self.lsn is None:
+            self.left = json.loads(loading or b"[]")
+            return False
+        self.relations.load((tables or b"").decode())
+        self.reach(parse_lsn(self.lsn.decode()))
+        return True
+
+    def check_about(self, about: bytes | None) -> None:
+        """Rejects what is of another feed, or of other tables."""
+        if about is None or json.loads(about) != self.about:
+            was, now = (about or b"nothing").decode(), json.dumps(self.about)
+            raise Unfit(f"{self.calls.where}: what is kept there is of {was}, and this would be of {now}: take another database")
+
+    def reach(self, at: int) -> None:
+        self.at = self.end = at
+        self.disk.note(at)
+
+    # ---- calls
+
+    def run(self, commands: Sequence[Command]) -> list[Any]:
+        """Runs commands outside of a MULTI, of which none may fail."""
+        said = self.calls.run(commands)
+        self.check_said(said)
+        return said
+
+    def check_said(self, said: Iterable[Any]) -> None:
+        for it in said:
+            if isinstance(it, Said):
+                raise raised(it, self.calls.where)
+
+    def transact(self, commands: Sequence[Command], after: bytes | None) -> None:
+        """Runs commands in one MULTI, which leave the LSN at what is said, as long as this is the sink that writes."""
+        for _ in range(TRIES):
+            if watched := self.form.watched():
+                self.run([("WATCH", *watched)])
+                self.form.prepare()
+            *queued, done, _, found = self.calls.run([("MULTI",), *commands, ("EXEC",), WATCH, ASK])
+            self.check_said([*queued, done, found])
+            self.check_owner(found)
+            if done is not None:
+                return self.check_done(done, found[0], after)
+            self.check_lsn(found[0], self.lsn)
+        raise Passing(f"{self.calls.where}: its streams are altered again and again meanwhile")
+
+    def check_owner(self, found: list[bytes | None]) -> None:
+        if found[1] is None:
+            raise Unfit(f"{self.calls.where}: something else has removed keys of the sink, {SINK} among them")
+        if found[1] != self.owner:
+            raise Unfit(f"{self.calls.where}: another sink has begun to write there, {found[1].decode(errors='replace')}, so this one ends")
+
+    def check_lsn(self, found: bytes | None, expected: bytes | None) -> None:
+        if found != expected:
+            told, should = ((it or b"none").decode(errors="replace") for it in (found, expected))
+            raise Unfit(f"{self.calls.where}: {LSN} is {told} in place of {should}, so something else has written it: this sink ends")
+
+    def check_done(self, done: list[Any], lsn: bytes | None, after: bytes | None) -> None:
+        wrong = [it for it in done if isinstance(it, Said) and not self.form.accepts(it)]
+        if wrong:
+            raise EngineError(f"{self.calls.where}: keys of the sink were altered by something else, begin anew: {wrong[0]}")
+        self.check_lsn(lsn, after)
+        self.lsn = after
+
+    # ---- beginning
+
+    def begin(self, base: Base) -> None:
+        form = self.form
+        self.transact([*form.removals(self.left), ("DEL", LOADING)], self.lsn)
+        form.check_new()
+        tables = [it for it in map(self.relations.describe, base.tables()) if it]
+        if tables:
+            names = json.dumps([it.name for it in tables])
+            self.transact([("SET", LOADING, names)], self.lsn)
+            for kept in tables:
+                self.load(base, kept)
+        self.end = base.lsn
+        self.write([("SET", FEED, json.dumps(self.about)), ("DEL", LOADING)])
+
+    def load(self, base: Base, kept: Kept) -> None:
+        """Writes a table's rows, in parts."""
+        for n, row in enumerate(base.rows(kept.relation)):
+            self.form.put(kept, row, n, base.lsn)
+            if self.form.size() >= MOST:
+                self.check()
+                self.transact(self.form.commands(), self.lsn)
+                self.form.clear()
+
+    # ---- commits
+
+    def take(self, commit: Commit, read: Read) -> None:
+        described = dict[int, Optional[Kept]]()
+        for part in read():
+            if isinstance(part, TableLine):
+                described[part.relation.oid] = self.relations.describe(part.relation)
+            elif kept := described[part.relation.oid]:
+                self.form.change(kept, part, commit.end)
+        self.end = commit.end
+        if self.form.size() >= MOST:
+            self.settle()
+
+    def settle(self) -> None:
+        if self.end != self.at:
+            self.write([])
+
+    def write(self, more: Sequence[Command]) -> None:
+        """Writes what waits, with its LSN."""
+        text = lsn_text(self.end)
+        commands = [*self.form.commands(), *more, ("SET", LSN, text)]
+        tables = self.relations.text() if self.relations.is_changed else None
+        if tables is not None:
+            commands.append(("SET", TABLES, tables))
+        self.transact(commands, text.encode())
+        self.form.clear()
+        if tables is not None:
+            self.relations.saved, self.relations.is_changed = tables, False
+        self.reach(self.end)
+
+    def forget(self) -> None:
+        self.form.clear()
+        self.relations.load(self.relations.saved)
+        self.end = self.at
+
+    def look(self) -> None:
+        now = time.monotonic()
+        if now - self.looked > OFTEN:
+            self.looked = now
+            found = self.run([ASK])[0]
+            self.check_owner(found)
+            self.check_lsn(found[0], self.lsn)
+
+    def safe(self) -> int:
+        return self.disk.safe()
+
+    def close(self) -> None:
+        self.calls.close()

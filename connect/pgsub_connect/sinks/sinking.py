@@ -1,0 +1,208 @@
+"""`pgsub-connect sink`: a feed's commits, written to Redis or to NATS JetStream, each once."""
+
+from __future__ import annotations
+
+import argparse
+import contextlib
+import time
+from typing import TYPE_CHECKING
+
+from .. import log
+from ..errors import Passing, Stopped, UsageError
+from ..feed.faults import Damaged
+from ..feed.noting import Noted
+from ..feed.parts import Commit
+from ..feed.polling import Poll
+from ..feed.reading import Reader, read_confirmed
+from ..feed.tabling import plain_name
+from ..postgres import Check
+from ..texts import lsn_text
+from . import nats_engine, redis_calls, redis_hashes, redis_streams
+from .beginning import base_of
+from .engine import Engine, Wanted
+from .redis_engine import Redis
+
+if TYPE_CHECKING:
+    from ..cli import Options
+
+ABOUT = """\
+write a feed to Redis or to NATS JetStream
+
+  pgsub-connect sink redis://localhost/1 --feed FOLDER                  a hash for each row, as `stock:A-1`
+  pgsub-connect sink redis://localhost/1 --feed FOLDER --as streams     a stream for each table, with an entry for each change
+  pgsub-connect sink nats://localhost --feed FOLDER                     a message for each change, and a last one for each commit
+
+The LSN is kept with what is written, so each commit takes effect once, and a later run goes on from there. A new one begins with the feed's
+first commit, or with the rows of an export. Values are texts as in the feed. A hash's fields are the columns that aren't null; the key
+`pgsub:lsn` has the LSN, of the same MULTI. Tables of schemas but `public` are called `schema.table`, and in names and keys `%`, `:` and
+`.` are %25, %3A and %2E. Subjects are STREAM.schema.table.
+"""
+# How long commits wait for others that come to be written together, in seconds.
+LONGEST = 0.5
+SCHEMES = {"redis": "redis", "rediss": "redis", "unix": "redis", "nats": "nats", "tls": "nats"}
+
+
+def scheme(url: str) -> str:
+    return SCHEMES.get(url.partition("://")[0], "")
+
+
+def url(text: str) -> str:
+    if not scheme(text):
+        raise argparse.ArgumentTypeError(f"{text!r} is no URL as redis://localhost:6379/0, rediss://.., unix:///path or nats://localhost:4222")
+    return text
+
+
+def stream_name(text: str) -> str:
+    if not text or not all(it.isascii() and (it.isalnum() or it in "-_") for it in text):
+        raise argparse.ArgumentTypeError(f"{text!r} is no name of a stream: letters, digits, - and _")
+    return text
+
+
+def add_options(parser: argparse.ArgumentParser) -> None:
+    add = parser.add_argument
+    add("url", metavar="URL", nargs="?", type=url, default="", help="where to write: redis://[[USER]:PASSWORD@]HOST[:PORT][/NUMBER], nats://HOST[:PORT]")
+    add("--url-file", metavar="FILE", help="a file whose first line is the URL, for one with a password")
+    add("--feed", metavar="FOLDER", required=True, help="the feed")
+    begin = parser.add_mutually_exclusive_group().add_argument
+    begin("--base", metavar="FILE", help="begin with the rows of this export, made by `export --text`, where nothing is kept there yet")
+    begin("--store", metavar="FILE", default="", help="begin with the rows of this store; its follower is asked for a copy")
+    add("--as", dest="form", choices=("hashes", "streams"), help="what Redis gets (default: hashes, which leave out tables without a key)")
+    add("--stream", metavar="NAME", type=stream_name, help="the stream of JetStream, made where it isn't there (default: pgsub)")
+    add("--table", action="append", default=[], help="keep this table, may be repeated (default: all)")
+    add("--reader", metavar="NAME", type=plain_name, help="keep the LSN as FOLDER/readers/NAME too, once the engine's disk has the rows")
+    whole = parser.add_mutually_exclusive_group().add_argument
+    whole("--follow", dest="once", action="store_false", default=False, help="follow the feed until a signal asks for the end (default)")
+    whole("--once", dest="once", action="store_true", help="end once all that is there is written")
+
+
+class Sink:
+    """Follows a feed into an engine that is open."""
+
+    def __init__(self, options: Options, engine: Engine, check: Check) -> None:
+        self.options, self.engine = options, engine
+        self.reader = Reader(options.feed, engine.at)
+        self.poll = Poll(self.reader, not options.once, check)
+        self.noted = Noted(options.feed, options.reader, None, options.mode) if options.reader else None
+        self.check = check
+        # since when commits wait to be settled
+        self.begun: float | None = None
+
+    def follow(self) -> None:
+        """Takes commit after commit, up to the end that was asked for."""
+        self.note()
+        while not self.is_at_end(commit := self.poll.next()):
+            if commit:
+                self.check()
+                self.take(commit)
+            else:
+                self.settle()
+                self.engine.look()
+                self.note()
+                self.poll.rest()
+        self.settle()
+        self.check_reached(commit)
+
+    def is_at_end(self, commit: Commit | None) -> bool:
+        if commit is None:
+            return self.options.once
+        return isinstance(self.options.until, int) and commit.end > self.options.until
+
+    def check_reached(self, above: Commit | None) -> None:
+        """Rejects an end below the LSN at which to end, where the feed may still get commits up to it."""
+        until, at = self.options.until, self.engine.at
+        if not isinstance(until, int) or above or at >= until or (read_confirmed(self.options.feed) or 0) >= until:
+            return
+        raise Passing(f"{self.options.feed}: the feed has reached {lsn_text(at)}, and {lsn_text(until)} not yet")
+
+    def take(self, commit: Commit) -> None:
+        """Takes a commit. Where its lines can't be read nothing is kept of what isn't settled."""
+        self.begun = time.monotonic() if self.begun is None else self.begun
+        try:
+            self.engine.take(commit, lambda: self.reader.parts(commit))
+        except Stopped:
+            # (a part of it may wait)
+            self.engine.forget()
+            raise
+        except Damaged as damaged:
+            self.engine.forget()
+            self.begun = None
+            self.poll.bear(damaged, commit.end)
+            self.reader.at = self.engine.at
+            self.poll.rest()
+            return
+        if time.monotonic() - self.begun > LONGEST:
+            self.settle()
+
+    def settle(self) -> None:
+        self.engine.settle()
+        self.begun = None
+        self.note()
+
+    def note(self) -> None:
+        if self.noted:
+            self.noted.note(self.engine.safe())
+
+    def finish(self) -> None:
+        self.reader.close()
+        if self.noted:
+            self.noted.note(self.engine.safe(), is_last=True)
+
+
+def wanted_of(options: Options, check: Check) -> Wanted:
+    """What is to be kept: waits for the feed's first segment."""
+    with contextlib.closing(Reader(options.feed)) as reader:
+        poll = Poll(reader, not options.once, check)
+        while poll.next() is None and reader.head is None and not options.once:
+            poll.rest()
+        if reader.head is None:
+            raise Passing(f"{options.feed}: the feed has no segment yet")
+        return Wanted(reader.head, tuple(sorted(set(options.table))))
+
+
+def engine_of(options: Options, check: Check) -> Engine:
+    kind = scheme(options.url)
+    if kind == "nats":
+        if options.form:
+            raise UsageError("--as is for Redis")
+        return nats_engine.connect(options.url, options.stream or nats_engine.STREAM, check)
+    if options.stream:
+        raise UsageError("--stream is for NATS")
+    calls = redis_calls.Connection(options.url)
+    if options.form == "streams":
+        return Redis(calls, redis_streams.Streams(calls), check)
+    return Redis(calls, redis_hashes.Hashes(calls, check), check)
+
+
+def keep(options: Options, engine: Engine, check: Check) -> None:
+    """Keeps what a feed has. A signal ends it."""
+    wanted = wanted_of(options, check)
+    if not engine.open(wanted):
+        with base_of(options, wanted.chosen, check) as base:
+            engine.begin(base)
+    sink = Sink(options, engine, check)
+    if not options.once:
+        log.info(f"{options.feed} is written from {lsn_text(engine.at)} on")
+    is_stopped = False
+    try:
+        sink.follow()
+    except Stopped:
+        is_stopped = True
+        engine.settle()
+    sink.finish()
+    if is_stopped and (options.once or isinstance(options.until, int)):
+        raise Passing("ended before all of it was written")
+
+
+def run(options: Options, check: Check) -> int:
+    """Follows a feed; the exit status."""
+    if options.url_file:
+        with open(options.url_file, encoding="utf-8") as file:
+            options.url = file.readline().strip()
+        if not scheme(options.url):
+            raise UsageError(f"{options.url_file}: its first line is no URL as redis://.. or nats://..")
+    elif "@" in options.url:
+        log.warning("the password on the command line can be read by every account: use --url-file")
+    with contextlib.closing(engine_of(options, check)) as engine:
+        keep(options, engine, check)
+        log.info(f"all up to {lsn_text(engine.at)} is written")
+    return 0
