@@ -6,11 +6,13 @@ import contextlib
 import io
 import json
 import sys
+from collections.abc import Sequence
 from typing import Any
 from unittest import mock
 
 from feed_text import UNSENT, About, Column, Line
 from pgsub_connect.cli import UNFIT, USAGE
+from pgsub_connect.feed.identifying import index_text
 from pgsub_connect.feed.printing import main
 
 from .feeds import ID, NAME, STOCK, FeedCase, delete, insert, table, truncate, update
@@ -97,7 +99,7 @@ class Formats(PrintingCase):
     def test_words(self) -> None:
         for words in (
             ["--undo", "0/0", "0/1", "--follow"], ["--undo", "0/0", "0/1", "--from", "0/0"], ["--format", "lines", "--table", "t"],
-            ["--from", "x"],
+            ["--from", "x"], ["--truncated", "0/5"], ["--format", "objects", "--truncated", "0/5"],
         ):
             with self.assertRaises(SystemExit) as ended, contextlib.redirect_stderr(io.StringIO()):
                 self.print(*words)
@@ -113,6 +115,65 @@ class Formats(PrintingCase):
         found = [json.loads(it) for it in self.print("--from", "0/25504168").splitlines()]
         self.assertEqual(found[0]["before"], {"id": "one", "name": "b"})
         self.assertEqual([it["after"]["id"] for it in found[1:]], [1, "\\x00"])
+
+
+class BulkLines(PrintingCase):
+    def bulk(self, *lines: Line, words: Sequence[str] = (), status: int = 0) -> list[Any]:
+        """What is printed of one more commit, at 0/200."""
+        self.feed.commit(0x100)
+        self.feed.commit(0x200, lines)
+        return [json.loads(it) for it in self.print("--from", "0/100", "--format", "bulk", *words, status=status).splitlines()]
+
+    def about(self, id: str, index: str = "stock") -> dict[str, Any]:
+        return {"_index": index, "_id": id, "version": 0x200, "version_type": "external"}
+
+    def test_each(self) -> None:
+        found = self.bulk(insert("1", 'a"'), update(["2", "a"], ["3", None]), delete("4", "x"), update(BEFORE, ["1", *AFTER[1:]], of=MANY))
+        self.assertEqual(found, [
+            {"index": self.about("1")}, {"id": 1, "name": 'a"'}, {"delete": self.about("2")}, {"index": self.about("3")},
+            {"id": 3, "name": None}, {"delete": self.about("4")}, {"index": self.about("1", "s.many")},
+            {"id": 1, "b": False, "y": None, "f": "NaN", "n": None, "t": None, "x": "é"},
+        ])
+
+    def test_what_a_commit_leaves(self) -> None:
+        found = self.bulk(
+            insert("1", "a"), update(["1", "a"], ["1", "b"]), insert("2", "c"), delete("2", "c"), update(["5", "x"], ["6", "x"]),
+            update(["6", "x"], ["5", "y"]), delete("7", "z"), insert("7", "w"),
+        )
+        self.assertEqual(found, [
+            {"index": self.about("1")}, {"id": 1, "name": "b"}, {"delete": self.about("2")}, {"delete": self.about("6")},
+            {"index": self.about("5")}, {"id": 5, "name": "y"}, {"index": self.about("7")}, {"id": 7, "name": "w"},
+        ])
+
+    def test_names(self) -> None:
+        two = table(4, "_Ab.c*", [Column("k", 25, -1, True), Column("l", 25, -1, True)], schema="")
+        self.assertEqual(self.bulk(delete("a:b", "%", of=two)), [{"delete": self.about("a%3Ab:%25", "pg_catalog._%41b%2ec%2a")}])
+        self.assertEqual(index_text("public", "_Ab"), "%5f%41b")
+        with logged() as told:
+            self.feed.commit(0x300, [insert("x" * 513, of=table(columns=[Column("k", 25, -1, True)]))])
+            self.assertEqual(self.print("--from", "0/200", "--format", "bulk", status=UNFIT), "")
+        self.assertRegex(told[0], "0/300: public.stock .* has a key of more than 512 bytes")
+
+    def test_what_has_no_documents(self) -> None:
+        bag = table(3, "bag", letter="f")
+        with logged() as told:
+            self.assertEqual(self.bulk(insert("1", "a", of=bag), insert("1", "a", of=bag), Line(STOCK, "x", ["7", None], None, "K")), [])
+        self.assertRegex(told[0], r"public.bag \(3\) has no key, so its rows are no documents and are left out")
+        self.assertRegex(told[1], "a change that found no row is left out")
+        self.assertEqual(len(told), 2)
+
+    def test_truncated(self) -> None:
+        with logged() as told:
+            self.assertEqual(self.bulk(insert("1", "a"), truncate(), insert("2", "b"), status=UNFIT), [])
+        self.assertRegex(told[0], "delete all documents of the index stock, and go on with --from 0/100 --truncated 0/200")
+        found = self.print("--from", "0/100", "--format", "bulk", "--truncated", "0/200").splitlines()
+        self.assertEqual([json.loads(it) for it in found], [{"index": self.about("2")}, {"id": 2, "name": "b"}])
+
+    def test_versions(self) -> None:
+        self.feed.commit(1 << 63, [insert("1", "a")])
+        with logged() as told:
+            self.print("--format", "bulk", status=UNFIT)
+        self.assertRegex(told[0], "80000000/0: the LSN is above the greatest version")
 
 
 class Undoing(PrintingCase):

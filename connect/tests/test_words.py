@@ -51,6 +51,9 @@ class Words(Quiet):
             "follow --store s --jobs 0", "follow --store s --jobs 65", "follow --store s --repair", "add --store s --table t --jobs 2",
             "follow --store s --init f", "follow --store s --feed-max-bytes 5", "follow --store s --feed f --feed-max-bytes 0",
             "follow --store s --feed f --feed-max-age x", "follow --store s --feed-segment-seconds 5", "tables --into r", "wait 0/5",
+            "sink --feed f", "sink http://h --feed f", "sink redis://h", "sink redis://h --url-file u --feed f", "sink nats://h --feed f --stream a.b",
+            "sink redis://h --feed f --as x", "sink redis://h --feed f --base b --store s", "sink redis://h --feed f --reader a/b",
+            "sink redis://h --feed f --until now",
         ):
             self.assertIn("usage: ", self.rejected(words), words)
 

@@ -33,7 +33,8 @@ ends and the number of the change, xid and time, op (c, u, d or t; x of one that
 after it by the names of the columns. `debezium` has the fields of its envelope. Values are numbers, true and false, or as the server
 prints them. `bulk` has the lines of a bulk request of Elasticsearch and OpenSearch: what each commit leaves of each row that it changes,
 as a document that is indexed or deleted with the commit's LSN as its external version, so the lines can be sent again: what a document has
-already is rejected with 409. Tables without a key are left out, and a TRUNCATE ends it with 5.
+already is rejected with 409. Tables without a key are left out, and a TRUNCATE ends it with 5. Of a table that is dropped, or gets another
+name or shape, documents stay as they are until their rows change.
 
 exit status: 0 ended as asked; 2 usage error; 3 a file can't be used; 5 the feed lacks commits after that LSN; 6 a bug; 7 something is in
 the way only for now

@@ -19,6 +19,7 @@ LONGEST = 30.0
 # How many messages, and bytes of them, may be published until it has said that it has the first of them.
 MOST, ROOM = 4000, 8 << 20
 NO_STREAM, NO_MESSAGE, WRONG_SEQUENCE, OTHER_TOO_LARGE = 10059, 10037, 10071, 10054
+NO_JETSTREAM = (10039, 10076)
 # Codes of what passes: there is no leader or no room just now.
 PASSING = (408, 503)
 FULL = "exceeded"
@@ -88,7 +89,7 @@ class JetStream:
         text = f"{self.where}: {error.get('description', error)}"
         if error.get("err_code") == OTHER_TOO_LARGE:
             return TooLarge(text)
-        is_passing = error.get("code") in PASSING or error.get("err_code") == WRONG_SEQUENCE or FULL in str(error.get("description"))
+        is_passing = error.get("code") in PASSING and error.get("err_code") not in NO_JETSTREAM or error.get("err_code") == WRONG_SEQUENCE or FULL in str(error.get("description"))
         return (Passing if is_passing else EngineError)(text)
 
     def begin(self) -> dict[str, Any]:

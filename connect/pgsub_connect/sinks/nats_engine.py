@@ -122,6 +122,7 @@ class Nats:
         size, most = len(self.stream.headers(message.id)) + len(message.payload), self.stream.most
         # (the sequence may have more digits by then)
         if size + 20 > most:
+            self.settle()
             raise TooLarge(
                 f"{message.id}: a change of {message.about} makes a message of {size} bytes, and {self.stream.where} takes {most}:"
                 " raise its max_payload"

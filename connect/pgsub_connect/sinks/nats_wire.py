@@ -31,6 +31,7 @@ CONNECT, LONGEST = 10.0, 60.0
 LINE, CHUNK = 1 << 20, 1 << 18
 HEAD = b"NATS/1.0"
 END = b"\r\n"
+MESSAGES = (b"MSG", b"HMSG")
 # What a server says where another try ends in the same way.
 LASTING = ("authorization", "authentication", "permissions", "maximum payload", "parser", "unknown protocol", "invalid")
 
@@ -57,6 +58,10 @@ def read_headers(text: bytes) -> tuple[str, dict[str, str]]:
         raise ValueError
     pairs = (it.partition(":") for it in lines if it)
     return status.strip()[:3], {name: value.strip() for name, _, value in pairs}
+
+
+def op_of(line: bytes) -> bytes:
+    return line.split(b" ", 1)[0].upper()
 
 
 class Wire:
@@ -104,14 +109,18 @@ class Wire:
 
     def ping(self, seconds: float) -> None:
         """Waits until the server has read all that was sent. What comes meanwhile is lost."""
-        self.is_answered = False
         self.put(b"PING\r\n")
         self.flush()
         end = time.monotonic() + seconds
-        while not self.is_answered:
-            if time.monotonic() > end:
-                raise Passing(f"{self.where}: it says nothing for {seconds:.0f} seconds")
-            self.receive(0.5)
+        while (line := self.line(max(0.0, end - time.monotonic()))) is not None:
+            op = op_of(line)
+            if op == b"PONG":
+                return
+            if op in MESSAGES:
+                self.message(op, line)
+            else:
+                self.answer(op, line)
+        raise Passing(f"{self.where}: it says nothing for {seconds:.0f} seconds")
 
     # ---- what goes
 
@@ -160,8 +169,7 @@ class Wire:
         self.flush()
         end = time.monotonic() + seconds
         while (line := self.line(max(0.0, end - time.monotonic()))) is not None:
-            op = line.split(b" ", 1)[0].upper()
-            if op in (b"MSG", b"HMSG"):
+            if (op := op_of(line)) in MESSAGES:
                 return self.message(op, line)
             self.answer(op, line)
         return None
@@ -170,11 +178,9 @@ class Wire:
         if op == b"PING":
             self.put(b"PONG\r\n")
             self.flush()
-        elif op == b"PONG":
-            self.is_answered = True
         elif op == b"-ERR":
             raise self.error(line) or Passing(f"{self.where}: {line[5:].decode(errors='replace')}")
-        elif op not in (b"INFO", b"+OK"):
+        elif op not in (b"INFO", b"+OK", b"PONG"):
             raise self.wrong(line)
 
     def error(self, line: bytes) -> EngineError | None:

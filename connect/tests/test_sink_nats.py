@@ -1,0 +1,285 @@
+"""Messages of JetStream: what they say, where a sink goes on, and what a server may say."""
+
+from __future__ import annotations
+
+import contextlib
+import json
+import re
+import socket
+import unittest
+from typing import Any
+from unittest import mock
+
+from feed_text import Line
+from pgsub_connect.cli import Options
+from pgsub_connect.errors import EngineError, Passing, TooLarge, Unfit, UsageError
+from pgsub_connect.exporting import run as export
+from pgsub_connect.feed.identifying import subject
+from pgsub_connect.postgres import never
+from pgsub_connect.sinks.nats_messages import read_id
+from pgsub_connect.sinks.nats_wire import Wire, header_bytes, read_headers
+
+from .fake_nats import FakeNats
+from .feeds import STOCK, delete, insert, table, truncate, update
+from .sinks import SinkCase
+from .stores import Store
+
+
+class NatsCase(SinkCase):
+    def setUp(self) -> None:
+        super().setUp()
+        self.server = FakeNats()
+        self.addCleanup(self.server.close)
+        self.url = f"nats://127.0.0.1:{self.server.port}"
+
+    def said(self) -> list[tuple[str, str, Any]]:
+        """The messages: their subjects, ids and what they say."""
+        return [(it.subject, it.id, json.loads(it.data)) for it in self.server.stream or []]
+
+
+class Messages(NatsCase):
+    def test_each(self) -> None:
+        bag = table(2, "a.b *", letter="f", schema="S p")
+        self.take(insert("1", "a"), update(["1", "a"], ["2", b"\1"]), insert("1", None, of=bag))
+        self.take(truncate(), Line(STOCK, "x", ["7", None], None, "K"))
+        self.run_it()
+        about = {"system": "7", "database": "shop", "slot": "pgsub", "tables": []}
+        none = {"lsn": None, "xid": None, "ts_us": None}
+        stock = {"schema": "public", "table": "stock", "oid": 1}
+        self.assertEqual(self.said(), [
+            ("pgsub.commit", "0/0:commit", {"end": "0/0", "prev": "0/0", "changes": 0, **none, **about}),
+            ("pgsub.public.stock", "0/100:0", {"lsn": "0/100", "n": 0, "op": "c", **stock, "after": {"id": "1", "name": "a"}}),
+            ("pgsub.public.stock", "0/100:1", {
+                "lsn": "0/100", "n": 1, "op": "u", **stock, "before": {"id": "1", "name": "a"}, "after": {"id": "2", "name": {"hex": "01"}},
+            }),
+            ("pgsub.S%20p.a%2Eb%20%2A", "0/100:2", {
+                "lsn": "0/100", "n": 2, "op": "c", "schema": "S p", "table": "a.b *", "oid": 2, "after": {"id": "1", "name": None},
+            }),
+            ("pgsub.commit", "0/100:commit", {"end": "0/100", "prev": "0/0", "changes": 3, **none, **about}),
+            ("pgsub.public.stock", "0/200:0", {"lsn": "0/200", "n": 0, "op": "t", **stock}),
+            ("pgsub.public.stock", "0/200:1", {"lsn": "0/200", "n": 1, "op": "x", **stock, "sent": "d", "old": {"id": "7"}}),
+            ("pgsub.commit", "0/200:commit", {"end": "0/200", "prev": "0/100", "changes": 2, **none, **about}),
+        ])
+        self.assertEqual((self.server.config["name"], self.server.config["subjects"]), ("pgsub", ["pgsub.>"]))
+
+    def test_chosen(self) -> None:
+        self.take(insert("1", "a"), insert("1", "b", of=table(2, "other")), insert("2", "c"))
+        self.run_it(table=["other"], stream="mine")
+        self.assertEqual([it[:2] for it in self.said()], [
+            ("mine.commit", "0/0:commit"), ("mine.public.other", "0/100:1"), ("mine.commit", "0/100:commit")
+        ])
+        self.fails(Unfit, "what is kept there is of .* and this would be of", stream="mine")
+
+    def test_subjects(self) -> None:
+        self.assertEqual(subject("s", "", "tä>%"), "s.pg_catalog.t%C3%A4%3E%25")
+        self.assertEqual([read_id(it) for it in ("0/1F:commit", "0/1F:base:3", "0/1F:12")], [(31, None), (31, -1), (31, 12)])
+        self.assertEqual([read_id(it) for it in ("", "0/1F", "x:1", "0/1F:x", "123456789/0:1")], [None] * 5)
+
+
+class GoesOn(NatsCase):
+    def test_after_each_message(self) -> None:
+        for number in range(4):
+            self.take(*(insert(f"{number}{it}", "a") for it in range(number)))
+        self.run_it()
+        whole = self.server.ids()
+        self.assertEqual(len(whole), 5 + 6)
+        for accepted in range(len(whole)):
+            self.server.stream, self.server.last, self.server.accepts = None, 0, accepted
+            self.fails(Passing, "the connection is lost|has ended the connection")
+            self.assertEqual(self.server.ids(), whole[:accepted])
+            self.server.accepts = None
+            self.run_it()
+            self.assertEqual(self.server.ids(), whole)
+
+    def test_again_and_again(self) -> None:
+        for number in range(20):
+            self.take(*(insert(f"{number}{it}", "a") for it in range(number % 5)))
+        for _ in range(200):
+            self.server.accepts = 1
+            with contextlib.suppress(Passing):
+                self.run_it()
+                break
+        expected = ["0/0:commit"]
+        for number in range(20):
+            end = f"0/{0x100 * (number + 1):X}"
+            expected += [f"{end}:{it}" for it in range(number % 5)] + [f"{end}:commit"]
+        self.assertEqual(self.server.ids(), expected)
+
+    def test_large_commits_are_read_twice(self) -> None:
+        self.take(*(insert(str(it), "a") for it in range(50)))
+        with mock.patch("pgsub_connect.sinks.nats_engine.ROOM", 100), mock.patch("pgsub_connect.sinks.jetstream.MOST", 7):
+            self.run_it()
+        self.assertEqual(len(self.server.ids()), 52)
+        self.take(insert("1", "a"), insert("2", "x" * 2000), insert("3", "c"))
+        with mock.patch("pgsub_connect.sinks.nats_engine.ROOM", 100):
+            self.fails(TooLarge, "0/200:1: a change of public.stock")
+        self.assertEqual(len(self.server.ids()), 52)
+
+    def test_a_change_that_is_too_large(self) -> None:
+        self.take(insert("1", "a"))
+        self.take(insert("2", "b"), insert("3", "c" * 1000))
+        self.fails(TooLarge, r"0/200:1: a change of public.stock \(1\) makes a message of \d+ bytes, and NATS .* takes 1000: raise its max_payload")
+        self.assertEqual(self.server.ids(), ["0/0:commit", "0/100:0", "0/100:commit"])
+        self.server.info["max_payload"] = 2000
+        self.run_it()
+        self.assertEqual(self.server.ids()[3:], ["0/200:0", "0/200:1", "0/200:commit"])
+
+    def test_another_commit_follows(self) -> None:
+        self.take(insert("1", "a"), insert("2", "b"))
+        self.server.accepts = 2
+        self.fails(Passing, "connection")
+        self.server.accepts = None
+        self.feed.path.unlink()
+        self.feed.at = 0
+        self.feed.begin()
+        self.feed.commit(0x180, [insert("1", "a")])
+        self.fails(Unfit, "it has a part of a commit that ends at 0/100, and the feed's next one ends at 0/180")
+
+    def test_messages_of_others(self) -> None:
+        self.run_it_with("its last one, 1, isn't of a sink", lambda: self.server.add("pgsub.x", b"NATS/1.0\r\n\r\n", b"{}"))
+        self.run_it_with("its last one is gone", lambda: setattr(self.server, "last", 7))
+        self.run_it_with("the last message of the commit before is gone",
+            lambda: self.server.add("pgsub.x", header_bytes({"Nats-Msg-Id": "0/100:0"}), b"{}"))
+        self.server.stream, self.server.last, self.server.config = [], 0, {"subjects": ["other"]}
+        self.fails(Unfit, "its subjects aren't pgsub.>")
+
+    def run_it_with(self, text: str, call: Any) -> None:
+        self.server.stream, self.server.last, self.server.config = [], 0, {"subjects": ["pgsub.>"]}
+        call()
+        self.fails(Unfit, text)
+
+    def test_somebody_else_publishes(self) -> None:
+        self.take(insert("1", "a"))
+        self.run_it()
+        self.take(insert("2", "a"))
+        self.server.before = lambda: self.server.add("pgsub.x", b"", b"{}")
+        self.fails(Passing, "wrong last sequence: 4")
+
+    def test_a_base(self) -> None:
+        store = Store(str(self.folder / "copy.db"), 0x100)
+        self.addCleanup(store.close)
+        store.table(1, "stock")
+        store.row(1, "1", "a")
+        store.row(1, "2", None)
+        path = str(self.folder / "export.db")
+        export(Options(command="export", store=store.path, into=path, text=True), never)
+        self.take()
+        self.take(delete("1", "a"))
+        expected = ["0/100:base:0", "0/100:base:1", "0/100:commit", "0/200:0", "0/200:commit"]
+        for accepted in range(6):
+            self.server.stream, self.server.last, self.server.accepts = None, 0, accepted
+            with contextlib.suppress(Passing):
+                self.run_it(base=path)
+            self.server.accepts = None
+            self.run_it(base=path)
+            self.assertEqual(self.server.ids(), expected)
+        self.assertEqual(self.said()[1][2], {
+            "lsn": "0/100", "n": 1, "op": "r", "schema": "public", "table": "stock", "oid": 1, "after": {"id": "2", "name": None},
+        })
+
+    def test_a_reader_is_noted(self) -> None:
+        self.take(insert("1", "a"))
+        self.run_it(reader="nats")
+        self.assertEqual((self.path / "readers/nats").read_text(), "0/0\n")
+        with mock.patch("pgsub_connect.sinks.nats_engine.SYNCED", -1.0):
+            self.take()
+            self.run_it(reader="nats")
+        self.assertEqual((self.path / "readers/nats").read_text(), "0/200\n")
+
+
+class Says(NatsCase):
+    """What a server may say."""
+
+    def test_errors(self) -> None:
+        self.take(insert("1", "a"))
+        for error, kind in (
+            ({"code": 503, "err_code": 10008, "description": "JetStream system temporarily unavailable"}, Passing),
+            ({"code": 400, "err_code": 10077, "description": "maximum bytes exceeded"}, Passing),
+            ({"code": 400, "err_code": 10054, "description": "message size exceeds maximum allowed"}, TooLarge),
+            ({"code": 400, "err_code": 1, "description": "something else"}, EngineError),
+        ):
+            self.server.stream, self.server.last, self.server.error = None, 0, error
+            self.fails(kind, re.escape(str(error["description"])))
+
+    def test_no_jetstream(self) -> None:
+        said = {"error": {"code": 503, "err_code": 10039, "description": "JetStream not enabled for account"}}
+        with mock.patch.object(self.server, "ask", lambda *_: said):
+            self.fails(EngineError, "JetStream not enabled")
+
+    def test_login(self) -> None:
+        self.url = self.url.replace("nats://", "nats://u%40:p%3A@")
+        self.run_it()
+        self.assertEqual((self.server.connected["user"], self.server.connected["pass"]), ("u@", "p:"))
+        self.url = self.url.replace("u%40:p%3A@", "token@")
+        self.server.stream, self.server.last = None, 0
+        self.run_it()
+        self.assertEqual(self.server.connected["auth_token"], "token")
+        self.server.pong = b"-ERR 'Authorization Violation'\r\n"
+        self.fails(EngineError, "Authorization Violation")
+        self.server.pong = b"-ERR 'maximum connections exceeded'\r\n"
+        self.fails(Passing, "maximum connections exceeded")
+
+    def test_what_isnt_the_protocol(self) -> None:
+        for said in (b"HTTP/1.0 200 OK\r\n", b"INFO {\r\n", b"INFO 5\r\n", b"x" * (1 << 21)):
+            self.server.hello = said
+            self.fails(EngineError, "isn't NATS' protocol")
+        self.server.hello = b""
+        for said in (b"MSG a\r\n", b"MSG a 1 x\r\n", b"MSG a 1 2\r\nabcd", b"HMSG a 1 2 2\r\nab\r\n", b"FOO\r\n"):
+            self.server.pong = said
+            self.fails(EngineError, "isn't NATS' protocol")
+
+    def test_nobody_is_there(self) -> None:
+        self.server.close()
+        self.fails(Passing, "NATS at 127.0.0.1:\\d+: ")
+        self.fails(UsageError, "the URL of NATS", url="nats://h:x")
+
+    def test_headers(self) -> None:
+        self.assertEqual(read_headers(header_bytes({"A": "b: c", "D": ""})), ("", {"A": "b: c", "D": ""}))
+        self.assertEqual(read_headers(b"NATS/1.0 503 No Responders\r\n\r\n"), ("503", {}))
+        self.assertRaises(ValueError, read_headers, b"HTTP/1.0\r\n")
+
+
+class OfAConnection(unittest.TestCase):
+    """The protocol, over a pair of sockets."""
+
+    def setUp(self) -> None:
+        ours, self.theirs = socket.socketpair()
+        self.addCleanup(self.theirs.close)
+        self.theirs.sendall(b'info {"max_payload":5}\r\nPONG\r\n')
+        with mock.patch("socket.create_connection", lambda *_: ours):
+            self.wire = Wire("nats://h")
+        self.addCleanup(self.wire.close)
+        self.theirs.recv(1 << 16)
+
+    def test_a_ping_is_answered(self) -> None:
+        self.theirs.sendall(b"PING\r\nINFO {}\r\n+OK\r\nMSG a.b 1 reply 3\r\nx\r\n\r\n")
+        message = self.wire.receive(1)
+        assert message
+        self.assertEqual((message.subject, message.data), ("a.b", b"x\r\n"))
+        self.assertEqual(self.theirs.recv(100), b"PONG\r\n")
+        self.assertIsNone(self.wire.receive(0))
+
+    def test_in_pieces(self) -> None:
+        text = b"HMSG a 1 12 15\r\nNATS/1.0\r\n\r\nabc\r\n"
+        for at in range(1, len(text)):
+            self.theirs.sendall(text[:at])
+            first = self.wire.receive(0) if at < text.index(b"\n") else None
+            self.assertIsNone(first)
+            self.theirs.sendall(text[at:])
+            message = self.wire.receive(1)
+            assert message
+            self.assertEqual((message.data, message.status), (b"abc", ""))
+
+    def test_an_error_that_ends_it(self) -> None:
+        self.theirs.sendall(b"-ERR 'Maximum Payload Violation'\r\n")
+        self.theirs.close()
+        with self.assertRaisesRegex(EngineError, "Maximum Payload Violation"):
+            for _ in range(20):
+                self.wire.put(b"x" * 100)
+                self.wire.flush()
+
+    def test_published(self) -> None:
+        self.wire.publish("a", "r", b"", b"xy")
+        self.wire.publish("a", "r", b"NATS/1.0\r\n\r\n", b"xy")
+        self.wire.flush()
+        self.assertEqual(self.theirs.recv(1000), b"PUB a r 2\r\nxy\r\nHPUB a r 12 14\r\nNATS/1.0\r\n\r\nxy\r\n")

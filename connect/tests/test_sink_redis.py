@@ -1,0 +1,579 @@
+"""Hashes and streams of Redis: rows, keys, names, shapes, where they begin and go on, and what else writes there."""
+
+from __future__ import annotations
+
+import contextlib
+import json
+import os
+import random
+import unittest
+from collections import Counter
+from collections.abc import Iterator
+from typing import Any
+from unittest import mock
+
+from feed_replay import Replay, replay
+from feed_text import Column, Definition, Line
+from pgsub_connect.cli import Options
+from pgsub_connect.errors import EngineError, FileError, Passing, Stopped, Unfit, UsageError
+from pgsub_connect.exporting import run as export
+from pgsub_connect.postgres import never
+from pgsub_connect.sinks import sinking
+from pgsub_connect.sinks.redis_calls import Connection, Said, raised
+from pgsub_connect.sinks.redis_disk import Disk
+from pgsub_connect.sinks.trailing import Trail
+
+from .fake_redis import FakeCalls, Stream
+from .feeds import ID, NAME, STOCK, delete, insert, table, truncate, update
+from .sinks import RedisCase, stock
+from .stores import Store
+from .vectors import logged
+
+
+class Changes(RedisCase):
+    def test_of_a_key(self) -> None:
+        self.assertEqual(self.after(insert("1", "a"), insert("2", None)), stock(("1", "a"), ("2", None)))
+        self.assertEqual(self.server.at(), "0/100")
+        self.assertEqual(self.after(update(["1", "a"], ["1", None]), delete("2", None), insert("3", "é")), stock(("1", None), ("3", "é")))
+        self.assertEqual(self.after(update(["1", None], ["7", "c"])), stock(("3", "é"), ("7", "c")))
+        self.assertEqual(self.after(Line(STOCK, "x", ["9", None], None, "K")), stock(("3", "é"), ("7", "c")))
+        self.assertEqual(self.after(truncate(), insert("5", "x")), stock(("5", "x")))
+        self.assertEqual(self.server.at(), "0/500")
+
+    def test_keys_that_wander(self) -> None:
+        self.after(insert("1", "a"), insert("2", "b"))
+        lines = [update(["1", "a"], ["9", "a"]), update(["2", "b"], ["1", "b"]), update(["9", "a"], ["2", "a"])]
+        self.assertEqual(self.after(*lines), stock(("1", "b"), ("2", "a")))
+
+    def test_many_commits_at_once(self) -> None:
+        for number in range(50):
+            self.take(insert(str(number), "a"), *([delete(str(number - 1), "a")] if number else []))
+        self.run_it()
+        self.assertEqual((self.server.rows(), self.server.at()), (stock(("49", "a")), "0/3200"))
+        # (one begins, and one has all)
+        self.assertEqual(self.server.transactions, 3)
+
+    def test_names(self) -> None:
+        plain, dots, other = table(1, "b", schema="a"), table(2, "a.b"), table(3, "pgsub", [Column("k", 25, -1, True)])
+        two = table(4, "t:%", [Column("k", 25, -1, True), Column("l", 25, -1, True)], schema="")
+        self.take(insert("1", "x", of=plain), insert("1", "y", of=dots), insert("lsn", of=other))
+        found = self.after(insert("a:b", "c", of=two), insert("a", "b:c%", of=two), insert("", b"\0\xff", of=two))
+        self.assertEqual(set(found), {
+            "a.b:1", "a%2Eb:1", "%70gsub:lsn", "pg_catalog.t%3A%25:a%3Ab:c", "pg_catalog.t%3A%25:a:b%3Ac%25", "pg_catalog.t%3A%25::%x00ff",
+        })
+        self.assertEqual(self.server.data[b"pg_catalog.t%3A%25::%x00ff"], {b"k": b"", b"l": b"\0\xff"})
+
+    def test_a_key_that_is_one_of_redis(self) -> None:
+        odd = table(1, "a*[b]?\\", [Column("k", 25, -1, True)])
+        self.after(insert("1", of=odd), insert("2", of=odd), insert("1", of=table(2, "ab", [Column("k", 25, -1, True)])))
+        self.assertEqual(set(self.after(truncate(of=odd), insert("3", of=odd))), {"ab:1", "a*[b]?\\:3"})
+
+    def test_without_a_key(self) -> None:
+        bag = table(2, "bag", letter="f")
+        self.take(insert("1", "a"), insert("1", "a", of=bag))
+        told = self.run_it()
+        self.assertRegex(told[0], r"public.bag \(2\) has no key, so its rows can't be hashes and are left out")
+        self.assertEqual(self.server.rows(), stock(("1", "a")))
+        self.take(insert("2", "b", of=table(2, "bag")))
+        self.fails(Unfit, r"public.bag \(2\): the table was left out before")
+        self.assertEqual(self.server.at(), "0/100")
+
+    def test_a_key_is_lost(self) -> None:
+        self.after(insert("1", "a"))
+        self.take(update(["1", "a"], ["1", "b"], of=table(letter="f")))
+        self.assertRegex(self.run_it()[0], "has no key")
+        self.assertEqual(self.server.rows(), {})
+
+    def test_chosen(self) -> None:
+        self.take(insert("1", "a"), insert("1", "x", of=table(2, "other")), insert("1", "y", of=table(3, "other", schema="s")))
+        self.run_it(table=["other"])
+        self.assertEqual(set(self.server.rows()), {"other:1"})
+        self.fails(Unfit, "what is kept there is of .* and this would be of .*", table=["stock"])
+        self.take(insert("2", "a", of=table(2, "renamed")))
+        self.run_it(table=["other"])
+        self.assertEqual(set(self.server.rows()), set())
+        self.take(insert("3", "a", of=table(2, "other")))
+        self.fails(Unfit, "was left out before", table=["other"])
+
+    def test_a_commit_that_cant_be_read(self) -> None:
+        self.take(insert("1", "a"))
+        self.take(insert("2", "b"), insert("3", "c", of=table(columns=[ID, Column("other", 25)])))
+        text = self.feed.path.read_bytes()
+        self.feed.path.write_bytes(text.replace(b'"after":["3"', b'"after":{"3"'))
+        self.fails(FileError, "reading 5 Line")
+        self.assertEqual((self.server.rows(), self.server.at()), ({}, "0/0"))
+        self.feed.path.write_bytes(text)
+        self.run_it()
+        self.assertEqual(self.server.rows(), {"stock:1": {"id": "1"}, "stock:2": {"id": "2"}, "stock:3": {"id": "3", "other": "c"}})
+
+
+class Shapes(RedisCase):
+    def setUp(self) -> None:
+        super().setUp()
+        self.after(insert("1", "a"), insert("2", "b"))
+
+    def altered(self, *columns: Column, row: Any = None) -> dict[str, dict[str, str]]:
+        of = table(columns=columns)
+        return self.after(insert(*row, of=of) if row else Line(of, "x", ["9"] * len(columns), None, "K"))
+
+    def test_columns(self) -> None:
+        more = {"id": "3", "name": "c", "more": "t"}
+        self.assertEqual(self.altered(ID, NAME, Column("more", 16), row=["3", "c", "t"]), {**stock(("1", "a"), ("2", "b")), "stock:3": more})
+        self.assertEqual(self.altered(ID), {f"stock:{it}": {"id": str(it)} for it in (1, 2, 3)})
+        self.assertEqual(self.altered(ID, Column("more", 16)), {f"stock:{it}": {"id": str(it)} for it in (1, 2, 3)})
+
+    def test_another_key(self) -> None:
+        keyed = (Column("id", 23), Column("name", 25, -1, True))
+        self.assertEqual(self.altered(*keyed), {"stock:a": {"id": "1", "name": "a"}, "stock:b": {"id": "2", "name": "b"}})
+        self.assertEqual(self.altered(ID, Column("name", 25, -1, True), row=["3", "c"])["stock:3:c"], {"id": "3", "name": "c"})
+        self.take(Line(table(columns=[Column("id", 23), Column("new", 23, -1, True)]), "x", ["1", "2"], None, "K"))
+        self.fails(Unfit, "two rows have one key, stock:%null")
+
+    def test_a_key_that_is_null(self) -> None:
+        self.after(delete("2", "b"))
+        keyed = (Column("new", 23, -1, True), Column("id", 23))
+        self.assertEqual(self.altered(*keyed), {"stock:%null": {"id": "1"}})
+        self.assertEqual(self.altered(keyed[0]), {"stock:%null": {"": ""}})
+        self.assertEqual(self.altered(keyed[0], Column("id", 25)), {"stock:%null": {"": ""}})
+        self.assertEqual(self.after(update([None], ["4"], of=table(columns=keyed[:1]))), {"stock:4": {"new": "4"}})
+
+    def test_within_one_commit(self) -> None:
+        less, more = table(columns=[ID]), table(columns=[ID, NAME, Column("more", 25)])
+        lines = [
+            update(["1", "a"], ["1", "z"]), insert("3", "c"), update(["3"], ["4"], of=less), insert("5", of=less),
+            insert("6", "n", "m", of=more), update(["1", None, None], ["1", None, "m"], of=more),
+        ]
+        self.assertEqual(self.after(*lines), {
+            "stock:1": {"id": "1", "more": "m"}, "stock:2": {"id": "2"}, "stock:4": {"id": "4"}, "stock:5": {"id": "5"},
+            "stock:6": {"id": "6", "name": "n", "more": "m"},
+        })
+
+    def test_another_name(self) -> None:
+        self.assertEqual(self.after(insert("3", "c", of=table(name="renamed", schema="s"))), {
+            "s.renamed:1": {"id": "1", "name": "a"}, "s.renamed:2": {"id": "2", "name": "b"}, "s.renamed:3": {"id": "3", "name": "c"},
+        })
+        self.assertEqual(set(self.after(truncate(of=table(name="renamed", schema="s")))), set())
+
+    def test_made_anew(self) -> None:
+        found = self.after(insert("1", "new", of=table(2)))
+        self.assertEqual({it for it in found if not it.startswith("pgsub:")}, {"stock:1"})
+        self.assertEqual(found["pgsub:old:1:1"], {"id": "1", "name": "a"})
+        # (the older one comes back under its old name, and the newer one has another)
+        found = self.after(update(["1", "a"], ["1", "x"]), insert("2", "new", of=table(2, "new")))
+        self.assertEqual(found, {**stock(("1", "x"), ("2", "b")), "new:1": {"id": "1", "name": "new"}, "new:2": {"id": "2", "name": "new"}})
+
+    def test_names_are_swapped_in_one_commit(self) -> None:
+        other = table(2, "other")
+        self.after(insert("1", "o", of=other), insert("7", "p", of=other))
+        found = self.after(insert("3", "c", of=table(1, "other")), delete("1", "o", of=table(2, "stock")), delete("2", "b", of=table(1, "other")))
+        self.assertEqual(found, {"other:1": {"id": "1", "name": "a"}, "other:3": {"id": "3", "name": "c"}, "stock:7": {"id": "7", "name": "p"}})
+
+    def test_truncated_between(self) -> None:
+        found = self.after(insert("3", "c"), truncate(), insert("2", "n"), insert("8", "x", of=table(name="renamed")))
+        self.assertEqual(found, {"renamed:2": {"id": "2", "name": "n"}, "renamed:8": {"id": "8", "name": "x"}})
+
+
+class Others(RedisCase):
+    """What else writes there."""
+
+    def setUp(self) -> None:
+        super().setUp()
+        self.after(insert("1", "a"))
+        self.take(insert("2", "b"))
+
+    def test_another_sink_begins(self) -> None:
+        def begin() -> None:
+            self.server.before_exec = lambda: None
+            self.run_it()
+
+        self.server.before_exec = begin
+        self.fails(Unfit, "another sink has begun to write there, .*, so this one ends")
+        self.assertEqual((self.server.rows(), self.server.at()), (stock(("1", "a"), ("2", "b")), "0/200"))
+
+    def test_a_sink_that_doesnt_fit_ends_none(self) -> None:
+        before = self.server.data[b"pgsub:sink"]
+        self.fails(Unfit, "take another database", form="streams")
+        self.assertEqual(self.server.data[b"pgsub:sink"], before)
+
+    def test_the_lsn_is_written(self) -> None:
+        self.server.before_exec = lambda: self.server.do([b"SET", b"pgsub:lsn", b"0/50"]) and None
+        self.fails(Unfit, "pgsub:lsn is 0/50 in place of 0/100")
+        self.assertEqual(self.server.rows(), stock(("1", "a")))
+
+    def test_keys_are_removed(self) -> None:
+        self.server.before_exec = lambda: self.server.do([b"UNLINK", *self.server.data]) and None
+        self.fails(Unfit, "something else has removed keys of the sink, pgsub:sink among them")
+        self.server.before_exec = lambda: None
+        self.assertEqual(self.after(), stock(("1", "a"), ("2", "b")))
+
+    def test_it_looks_while_there_is_nothing(self) -> None:
+        self.run_it()
+        calls, times = [FakeCalls(self.server) for _ in range(2)], iter(range(0, 1000, 100))
+
+        def check() -> None:
+            if next(times) == 300:
+                self.server.do([b"SET", b"pgsub:sink", b"other"])
+
+        options = Options(command="sink", feed=str(self.path), url="redis://h")
+        with mock.patch("pgsub_connect.sinks.redis_calls.Connection", lambda _: calls.pop()), mock.patch("time.sleep"):
+            with mock.patch("pgsub_connect.sinks.redis_engine.OFTEN", 0.0), self.assertRaisesRegex(Unfit, "another sink has begun .* other"):
+                sinking.run(options, check)
+
+    def test_rows_are_something_else_by_now(self) -> None:
+        self.server.do([b"SET", b"stock:2", b"text"])
+        self.server.do([b"UNLINK", b"stock:1"])
+        self.assertEqual(self.after(insert("3", "c", of=table(name="new"))), {
+            "new:2": {"id": "2", "name": "b"}, "new:3": {"id": "3", "name": "c"}
+        })
+
+    def test_errors(self) -> None:
+        for said, kind in (
+            ("OOM command not allowed when used memory > 'maxmemory'.", Passing), ("MISCONF Redis is configured", Passing),
+            ("EXECABORT Transaction discarded because of previous errors.", EngineError), ("NOPERM no permissions", EngineError),
+        ):
+            self.server.fails = lambda said=said: Said(said)  # type: ignore[misc]
+            self.fails(kind, said[:12])
+            self.assertEqual((self.server.rows(), self.server.at()), (stock(("1", "a")), "0/100"))
+
+    def test_an_error_within(self) -> None:
+        self.take(Line(table(columns=[ID]), "x", ["9"], None, "K"))
+        with mock.patch.object(type(self.server), "do_hdel", lambda *_: Said("WRONGTYPE of a key")):
+            self.fails(EngineError, "altered by something else, begin anew: WRONGTYPE")
+
+    def test_a_signal_within_a_commit(self) -> None:
+        self.take(insert("3", "c"), truncate(), insert("4", "d"))
+        states: list[Any] = [(stock(("1", "a")), "0/100"), (stock(("1", "a"), ("2", "b")), "0/200"), (stock(("4", "d")), "0/300")]
+        before, found = dict(self.server.data), list[Any]()
+        for most in range(1, 12):
+            self.server.data, count = dict(before), iter(range(most))
+
+            def check(count: Iterator[int] = count) -> None:
+                if next(count, None) is None:
+                    raise Stopped
+
+            with contextlib.suppress(Passing, Stopped), logged():
+                sinking.run(Options(command="sink", feed=str(self.path), url="redis://h", once=True), check)
+            found.append(states.index((self.server.rows(), self.server.at())))
+        # (of commits that wait together all are left, or none)
+        self.assertEqual(set(found), {0, 1, 2})
+
+
+class Begins(RedisCase):
+    base = 0x130
+
+    def setUp(self) -> None:
+        super().setUp()
+        self.store = Store(str(self.folder / "copy.db"))
+        self.addCleanup(self.store.close)
+        self.store.table(1, "stock")
+        self.store.row(1, "1", "a")
+        self.store.row(1, "2", None)
+        self.store.table(2, "bag", letter="f")
+        self.store.row(2, "1", "x", key=None, copies=2)
+        self.take(update(["1", "a"], ["1", "b"]), delete("1", "x", of=table(2, "bag", letter="f")))
+
+    def export(self, text: bool = True) -> str:
+        path = str(self.folder / "export.db")
+        export(Options(command="export", store=self.store.path, into=path, text=text), never)
+        return path
+
+    def test_needs_a_base(self) -> None:
+        self.fails(Unfit, "the feed begins at 0/130, and there may be rows from before")
+        self.assertEqual(self.server.at(), None)
+
+    def test_with_an_export(self) -> None:
+        told = self.run_it(base=self.export())
+        self.assertRegex(told[0], "public.bag .* has no key")
+        self.assertEqual((self.server.rows(), self.server.at()), (stock(("1", "b"), ("2", None)), "0/230"))
+        self.take(insert("3", "c"))
+        self.run_it()
+        self.assertEqual(self.server.rows(), stock(("1", "b"), ("2", None), ("3", "c")))
+
+    def test_with_a_store(self) -> None:
+        self.run_it(store=self.store.path, table=["stock"])
+        self.assertEqual(self.server.rows(), stock(("1", "b"), ("2", None)))
+        self.assertEqual([it for it in os.listdir(self.folder) if ".base" in it], [])
+
+    def test_exports_that_dont_do(self) -> None:
+        self.fails(FileError, "make it by `pgsub-connect export --text`", base=self.export(False))
+        self.fails(FileError, "it is no export", base=self.store.path)
+        self.store.table(3, "odd", [(1, "A", 25, -1), (0, "a", 25, -1)])
+        self.fails(Unfit, r"public.odd \(3\): names of columns are equal but for case", base=self.export())
+
+    def test_cut_off(self) -> None:
+        base = self.export()
+        for after in range(1, 5):
+            self.server.data.clear()
+            self.server.data[b"other:5"] = {b"x": b"y"}
+            done = self.server.transactions + after
+
+            def fail(done: int = done) -> Said | None:
+                return Said("LOADING") if self.server.transactions >= done else None
+
+            with mock.patch("pgsub_connect.sinks.redis_engine.MOST", 1):
+                self.server.fails = fail
+                self.fails(Passing, "LOADING", base=base)
+                self.server.fails = lambda: None
+                self.assertIn(self.server.at(), (None, "0/130"))
+                self.run_it(base=base)
+            self.assertEqual((self.server.rows(), self.server.at()), ({**stock(("1", "b"), ("2", None)), "other:5": {"x": "y"}}, "0/230"))
+
+    def test_keys_that_are_there(self) -> None:
+        self.server.data[b"stock:7"] = {b"id": b"7"}
+        self.fails(Unfit, r"there are keys that begin with stock: already, as those of public.stock \(1\)", base=self.export())
+
+    def test_streams(self) -> None:
+        self.run_it(base=self.export(), form="streams")
+        row = {"op": "r", "oid": "2", "after": '{"id":"1","name":"x"}'}
+        last = {"op": "d", "oid": "2", "before": '{"id":"1","name":"x"}'}
+        self.assertEqual(self.server.entries("bag"), [((0x130, 0), row), ((0x130, 1), row), ((0x230, 1), last)])
+
+
+class StreamsOfTables(RedisCase):
+    def run_it(self, **more: Any) -> list[str]:
+        return super().run_it(form="streams", **more)
+
+    def test_entries(self) -> None:
+        self.take(insert("1", "a"), update(["1", "a"], ["2", b"\1"]), truncate())
+        self.take(insert("1", None, of=table(2, "bag", letter="f", schema="s")), Line(STOCK, "x", ["7", None], None, "K"))
+        self.run_it()
+        self.assertEqual(self.server.entries("stock"), [
+            ((0x100, 0), {"op": "c", "oid": "1", "after": '{"id":"1","name":"a"}'}),
+            ((0x100, 1), {"op": "u", "oid": "1", "before": '{"id":"1","name":"a"}', "after": '{"id":"2","name":{"hex":"01"}}'}),
+            ((0x100, 2), {"op": "t", "oid": "1"}),
+            ((0x200, 1), {"op": "x", "oid": "1", "sent": '"d"', "old": '{"id":"7"}'}),
+        ])
+        self.assertEqual(self.server.entries("s.bag"), [((0x200, 0), {"op": "c", "oid": "2", "after": '{"id":"1","name":null}'})])
+        self.assertEqual(self.server.at(), "0/200")
+
+    def test_something_else_is_there(self) -> None:
+        self.take(insert("1", "a"))
+        self.server.do([b"SET", b"stock", b"text"])
+        self.fails(Unfit, "the key stock is there already, and isn't a stream")
+        self.server.data[b"stock"] = Stream()
+        self.server.do([b"XADD", b"stock", b"256-0", b"a", b"b"])
+        self.fails(Unfit, "something else has written the stream stock: 256-0 isn't above 256-0")
+        self.assertEqual((self.server.at(), len(self.server.entries("stock"))), ("0/0", 1))
+        del self.server.data[b"stock"]
+        self.run_it()
+        self.assertEqual([at for at, _ in self.server.entries("stock")], [(0x100, 0)])
+
+    def test_it_is_trimmed_meanwhile(self) -> None:
+        self.take(insert("1", "a"))
+        self.run_it()
+        self.take(insert("2", "a"))
+        times = iter(range(100))
+
+        def trim() -> None:
+            if next(times) < 3:
+                self.server.data[b"stock"].clear()
+                self.server.touch(b"stock")
+
+        self.server.before_exec = trim
+        self.run_it()
+        self.assertEqual([at for at, _ in self.server.entries("stock")], [(0x200, 0)])
+        self.take(insert("3", "a"))
+        self.server.before_exec = lambda: self.server.touch(b"stock")
+        self.fails(Passing, "altered again and again")
+
+
+class Ends(RedisCase):
+    def test_until(self) -> None:
+        for number in range(1, 4):
+            self.take(insert(str(number), "a"))
+        self.run_it(once=False, until=0x200)
+        self.assertEqual(self.server.at(), "0/200")
+        self.fails(Passing, "the feed has reached 0/300, and 0/400 not yet", until=0x400)
+        self.feed.confirm(0x400)
+        self.run_it(until=0x400)
+
+    def test_a_reader_is_noted(self) -> None:
+        self.take(insert("1", "a"))
+        self.run_it(reader="redis")
+        # (that it is on the disk isn't sure yet)
+        self.assertEqual((self.path / "readers/redis").read_text(), "0/0\n")
+        with mock.patch("pgsub_connect.sinks.redis_disk.LATE", -10.0):
+            self.run_it(reader="redis")
+        self.assertEqual((self.path / "readers/redis").read_text(), "0/100\n")
+
+    def test_urls(self) -> None:
+        for words, text in (
+            ({"stream": "s"}, "--stream is for NATS"), ({"url": "nats://h", "form": "streams"}, "--as is for Redis"),
+        ):
+            self.take()
+            self.fails(UsageError, text, **words)
+        path = self.folder / "url"
+        path.write_text("redis://:secret@h\n")
+        self.assertEqual(self.run_it(url="", url_file=str(path)), [])
+        path.write_text("http://h\n")
+        self.fails(UsageError, "its first line is no URL", url="", url_file=str(path))
+        self.assertRegex(self.run_it(url="redis://:secret@h")[0], "can be read by every account")
+
+    def test_no_library(self) -> None:
+        with mock.patch("importlib.import_module", side_effect=ModuleNotFoundError), self.assertRaisesRegex(FileError, "apt-get install python3-redis"):
+            Connection("redis://h")
+
+
+class OnTheDisk(unittest.TestCase):
+    def test_trail(self) -> None:
+        trail = Trail(5)
+        for at, now in ((10, 1.0), (11, 1.05), (12, 1.2), (13, 9.0)):
+            trail.note(at, now)
+        self.assertEqual([trail.pass_to(it) for it in (1.0, 1.09, 1.2, 5.0, 9.05, 9.2)], [5, 5, 11, 12, 12, 13])
+
+    def moment(self, info: str, save: bytes = b"3600 1", now: float = 1010.0) -> float:
+        server = mock.Mock(wraps=None)
+        server.run.return_value = [info.replace(" ", "\r\n").encode(), [b"1000", b"0"], [b"save", save]]
+        return Disk(server).moment(now) - now
+
+    def test_moments(self) -> None:
+        self.assertEqual(self.moment("aof_enabled:1 aof_last_write_status:ok"), -3)
+        self.assertEqual(self.moment("aof_enabled:1 aof_last_write_status:err"), -1010)
+        # (its clock is ten seconds before this one's)
+        self.assertEqual(self.moment("aof_enabled:0 rdb_last_save_time:900 rdb_last_bgsave_time_sec:20"), 900 - 20 - 2 - 1000)
+        self.assertEqual(self.moment("aof_enabled:0 rdb_last_save_time:900 rdb_last_bgsave_time_sec:-1"), 900 - 2 - 1000)
+        self.assertGreater(self.moment("aof_enabled:0", b""), 0)
+
+    def test_not_asked_too_often(self) -> None:
+        calls = mock.Mock()
+        calls.run.return_value = [b"aof_enabled:0", [b"1", b"0"], [b"save", b""]]
+        disk = Disk(calls)
+        for at in range(10):
+            disk.note(at)
+            disk.safe()
+        self.assertEqual(calls.run.call_count, 1)
+
+
+class Errors(unittest.TestCase):
+    def test_kinds(self) -> None:
+        self.assertIsInstance(raised(Said("LOADING Redis is loading the dataset in memory"), "Redis"), Passing)
+        self.assertIsInstance(raised(Said("WRONGPASS invalid"), "Redis"), EngineError)
+
+
+# Shapes and names that tables get at random.
+COLUMNS = ([ID, NAME], [ID], [ID, NAME, Column("more", 25)], [NAME, ID], [ID, Column("name", 25, -1, True)])
+
+
+class Load:
+    """A feed of changes of every kind, at random."""
+
+    def __init__(self, rng: random.Random) -> None:
+        self.rng, self.count = rng, 0
+        self.names = {1: "a", 2: "b", 3: "c"}
+        self.tables = {oid: table(oid, name) for oid, name in self.names.items()}
+        self.rows: dict[int, dict[str, list[Any]]] = {1: {}, 2: {}, 3: {}}
+
+    def alter(self, oid: int) -> None:
+        """Gives a table another shape, in which rows are carried by the names of the columns."""
+        old, columns = self.tables[oid], self.rng.choice(COLUMNS)
+        self.tables[oid] = table(oid, self.names[oid], columns)
+        for key, row in self.rows[oid].items():
+            named = {column.name: it for column, it in zip(old.columns, row)}
+            self.rows[oid][key] = [named.get(column.name) for column in columns]
+
+    def swap(self) -> None:
+        first, second = self.rng.sample(sorted(self.names), 2)
+        self.names[first], self.names[second] = self.names[second], self.names[first]
+        for oid in (first, second):
+            self.tables[oid] = table(oid, self.names[oid], self.tables[oid].columns)
+
+    def row(self, of: Definition, id: str) -> list[Any]:
+        self.count += 1
+        return [id if it.name == "id" else self.rng.choice((f"v{self.count}", f"v:{self.count}")) for it in of.columns]
+
+    def line(self) -> list[Line]:
+        rng, oid = self.rng, self.rng.choice((1, 2, 3))
+        chance, of, rows = rng.random(), self.tables[oid], self.rows[oid]
+        if chance < 0.03:
+            self.alter(oid)
+            # (else its definition isn't told before it gets another one)
+            return [Line(self.tables[oid], "x", [None] * len(self.tables[oid].columns), None, "K")]
+        elif chance < 0.05:
+            self.swap()
+        elif chance < 0.08:
+            rows.clear()
+            return [truncate(of=of)]
+        elif chance < 0.5 or not rows:
+            id = str(rng.randrange(1000))
+            if id in rows:
+                return []
+            rows[id] = self.row(of, id)
+            return [insert(*rows[id], of=of)]
+        id = rng.choice(sorted(rows)) if rows else ""
+        if not id:
+            return []
+        before = rows.pop(id)
+        if chance < 0.6:
+            return [delete(*before, of=of)]
+        new = str(rng.randrange(1000)) if chance < 0.75 else id
+        new = id if new in rows else new
+        rows[new] = self.row(of, new)
+        return [update(before, rows[new], of=of)]
+
+
+def hashes_of(state: Replay) -> dict[str, dict[str, str]]:
+    """The hashes of a replayed feed, of the tables by the names that they were described with last."""
+    found = {}
+    for oid, rows in state.rows.items():
+        definition = state.definitions[oid]
+        names = [name for name, _, _ in definition["columns"]]
+        for row in +Counter(rows):
+            cells = dict(zip(names, row))
+            key = ":".join(str(cells[it]).replace(":", "%3A") if cells[it] is not None else "%null" for it in definition["key"])
+            found[f"{oid} {key}"] = {name: str(it) for name, it in cells.items() if it is not None}
+    return found
+
+
+class AnyTime(RedisCase):
+    """Whatever the changes are, and wherever it is cut off."""
+
+    def test_killed_anywhere(self) -> None:
+        for seed in range(12):
+            with self.subTest(seed=seed):
+                self.server.data.clear()
+                self.feed.path.unlink()
+                self.feed.at = self.at = 0
+                self.feed.begin()
+                self.go(random.Random(seed))
+
+    def go(self, rng: random.Random) -> None:
+        load = Load(rng)
+        for _ in range(25):
+            self.take(*(line for _ in range(rng.randrange(1, 25)) for line in load.line()))
+            if rng.random() < 0.5:
+                self.try_it(rng)
+        self.server.before_exec, self.server.fails = lambda: None, lambda: None
+        self.run_it()
+        self.compare()
+
+    def try_it(self, rng: random.Random) -> None:
+        """Runs it, and cuts it off before or after one of its MULTIs."""
+        left = rng.randrange(6)
+
+        def fails() -> Said | None:
+            nonlocal left
+            left -= 1
+            return Said("LOADING") if left == 0 else None
+
+        self.server.fails = fails
+        with mock.patch("pgsub_connect.sinks.redis_engine.MOST", rng.choice((1, 30, 1000))):
+            try:
+                self.run_it()
+            except Passing:
+                pass
+        self.compare()
+
+    def compare(self) -> None:
+        if self.server.at() is None:
+            return
+        high, low = (self.server.at() or "").split("/")
+        state = replay(self.path, until=(int(high, 16) << 32) + int(low, 16))
+        noted = json.loads(self.server.data.get(b"pgsub:tables", b'{"kept":[]}'))["kept"]
+        ours = {}
+        for name, it in noted:
+            begin, oid = name + ":", it["oid"]
+            ours.update({f"{oid} {key[len(begin):]}": row for key, row in self.server.rows().items() if key.startswith(begin)})
+        self.assertEqual((ours, len(ours)), (hashes_of(state), len(self.server.rows())))
+        for name, it in noted:
+            self.assertIn(name, (state.definitions[it["oid"]]["table"], f"pgsub:old:{it['oid']}"))
+
