@@ -3,7 +3,7 @@
 from __future__ import annotations
 
 import abc
-import collections
+import base64
 import contextlib
 import importlib
 import json
@@ -12,14 +12,13 @@ import signal
 import socket
 import subprocess
 import time
+from collections.abc import Iterator
 from pathlib import Path
-from typing import Any, Counter, Dict, Iterator, List, Optional, Tuple
+from typing import Any
 
 from .errors import Failed, Unusable
+from .patience import Patience
 
-# The rows of tables by their names, each as what its columns have.
-Row = Tuple[Tuple[str, Optional[str]], ...]
-Rows = Dict[Tuple[str, str], Counter[Row]]
 PATIENCE = 20.0
 
 
@@ -55,7 +54,7 @@ class Engine(abc.ABC):
         self.wait()
 
     def wait(self) -> None:
-        end = time.monotonic() + PATIENCE
+        end = time.monotonic() + PATIENCE * Patience.factor
         while time.monotonic() < end:
             with contextlib.suppress(OSError), socket.create_connection(("127.0.0.1", self.port), 1):
                 return
@@ -98,7 +97,7 @@ class RedisServer(Engine):
     def wait(self) -> None:
         super().wait()
         client = self.client()
-        end = time.monotonic() + PATIENCE
+        end = time.monotonic() + PATIENCE * Patience.factor
         while time.monotonic() < end:
             with contextlib.suppress(Exception):
                 client.ping()
@@ -106,22 +105,23 @@ class RedisServer(Engine):
             time.sleep(0.02)
         raise Failed("redis-server doesn't say anything")
 
-    def at(self) -> str | None:
-        found: str | None = self.client().get("pgsub:lsn")
-        return found
+    def at(self) -> str:
+        """The LSN of the sink; "" where none is there yet."""
+        return str(self.client().get("pgsub:lsn") or "")
 
-    def hashes(self) -> tuple[dict[str, dict[str, str]], str | None]:
-        """All rows by their keys, and the LSN, of one moment as long as nothing writes."""
-        client, found = self.client(), {}
-        for key in client.scan_iter(count=1000):
-            if not key.startswith("pgsub:"):
-                found[key] = client.hgetall(key)
-        return found, client.get("pgsub:lsn")
+    def hashes(self) -> dict[str, dict[str, str]]:
+        """All rows by their keys."""
+        client = self.client()
+        return {key: client.hgetall(key) for key in client.scan_iter(count=1000) if not key.startswith("pgsub:")}
 
     def entries(self) -> dict[str, list[tuple[str, dict[str, str]]]]:
         """The entries of each stream."""
         client = self.client()
         return {key: client.xrange(key) for key in client.scan_iter(count=1000, _type="stream")}
+
+    def bgsave(self) -> None:
+        """Has it write a copy of all to its disk."""
+        self.client().save()
 
 
 class NatsServer(Engine):
@@ -145,7 +145,7 @@ class NatsServer(Engine):
 
     def wait(self) -> None:
         super().wait()
-        end = time.monotonic() + PATIENCE
+        end = time.monotonic() + PATIENCE * Patience.factor
         while time.monotonic() < end:
             with contextlib.suppress(OSError, Failed):
                 self.ask("INFO")
@@ -157,19 +157,22 @@ class NatsServer(Engine):
         with contextlib.closing(Asker(self.port)) as asker:
             return asker.ask(what, body)
 
-    def messages(self, stream: str = "pgsub") -> Iterator[tuple[int, str, str, Any]]:
-        """Each message of a stream: its sequence, its subject, its id and what it says."""
-        with contextlib.closing(Asker(self.port)) as asker:
-            last = asker.ask(f"STREAM.INFO.{stream}", {})
-            if "error" in last:
-                return
-            for sequence in range(last["state"]["first_seq"], last["state"]["last_seq"] + 1):
-                it = asker.ask(f"STREAM.MSG.GET.{stream}", {"seq": sequence})["message"]
-                import base64
+    def at(self, stream: str = "pgsub") -> str:
+        """The LSN of the last message, where it is that of a commit; "" else."""
+        found = self.ask(f"STREAM.INFO.{stream}")
+        last = found["state"]["last_seq"] if "state" in found else 0
+        it = next(self.messages(stream, last), None) if last else None
+        return it[1].partition(":")[0] if it and it[1].endswith(":commit") else ""
 
+    def messages(self, stream: str = "pgsub", first: int = 1) -> Iterator[tuple[str, str, Any]]:
+        """Each message of a stream from a sequence on: its subject, its id and what it says."""
+        with contextlib.closing(Asker(self.port)) as asker:
+            last = asker.ask(f"STREAM.INFO.{stream}", {})["state"]["last_seq"]
+            for sequence in range(first, last + 1):
+                it = asker.ask(f"STREAM.MSG.GET.{stream}", {"seq": sequence})["message"]
                 headers = base64.b64decode(it["hdrs"]).decode().split("\r\n")
                 ids = [line.partition(": ")[2] for line in headers if line.startswith("Nats-Msg-Id:")]
-                yield it["seq"], it["subject"], ids[0], json.loads(base64.b64decode(it["data"]))
+                yield it["subject"], ids[0], json.loads(base64.b64decode(it["data"]))
 
 
 class Asker:

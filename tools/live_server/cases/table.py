@@ -11,7 +11,8 @@ from ..errors import Unusable
 from ..options import Options
 from ..place import Place, Shared
 from . import (
-    adding, altering, copying, feeding, missing, names, operating, privacy, publications, reaching, repairing, shapes, sideroads, silence, slots, standbys,
+    adding, altering, copying, feeding, missing, names, operating, privacy, publications, reaching, repairing, shapes, sideroads, silence,
+    sinking, slots, standbys,
     starts, stops, timelines, values, verifying, versions,
 )
 from .case import Case
@@ -25,6 +26,7 @@ THEMES: dict[str, Sequence[Case]] = {
     "missing": missing.CASES,
     "exports": EXPORTS,
     "feeds": feeding.CASES,
+    "sinks": sinking.CASES,
     "verifying": verifying.CASES,
     "adding": adding.CASES,
     "repairing": repairing.CASES,
