@@ -21,6 +21,8 @@ from typing import NamedTuple
 
 CONNECT = Path(__file__).resolve().parent.parent
 LIMIT = 60.0
+# (the copies have no tools beside them)
+ENVIRONMENT = {**os.environ, "PYTHONPATH": str(CONNECT.parent / "tools")}
 
 
 class Bug(NamedTuple):
@@ -139,6 +141,30 @@ BUGS = (
         ("test_missing",)),
     Bug("what a killed filter has stored is taken for counted", "filtering.py", "            self.has_told_all = has_told_all", "            self.has_told_all = True",
         ("test_missing",)),
+    Bug("a second sink's MULTI has an effect", "sinks/redis_engine.py", 'WATCH, ASK = ("WATCH", LSN, SINK)', 'WATCH, ASK = ("WATCH", "pgsub:none")',
+        ("test_sink_redis",)),
+    Bug("the LSN comes before the rows", "sinks/redis_engine.py", "        self.transact(commands, text.encode())\n",
+        '        self.transact([("SET", LSN, text)], text.encode())\n        self.transact(commands, text.encode())\n', ("test_sink_redis",)),
+    Bug("what a commit that can't be read had is written", "sinks/redis_engine.py", "        self.form.clear()\n        self.relations.load(", "        self.relations.load(",
+        ("test_sink_redis",)),
+    Bug("rows that wait outlast a TRUNCATE", "sinks/redis_hashes.py", "            if value is not None and key.startswith(begin):", "            if False:",
+        ("test_sink_redis",)),
+    Bug("rows that were moved aside are lost", "sinks/redis_hashes.py", "        self.waiting.update(moved)\n", "", ("test_sink_redis",)),
+    Bug("a table comes back under its name without its rows", "sinks/relations.py", " and not kept.name.startswith(ASIDE):", ":", ("test_sink_redis",)),
+    Bug("two values have one key", "sinks/redis_hashes.py", 'f"{kept.name}:{row_text(kept.key, cells)}"', 'f"{kept.name}:{str(cells[kept.key[0]])}"',
+        ("test_sink_redis",)),
+    Bug("a stream that something else has written gets entries", "sinks/redis_streams.py", "            if last >= first:", "            if last > first:",
+        ("test_sink_redis",)),
+    Bug("an LSN is noted before the disk has it", "sinks/trailing.py", "self.marks[0][0] < moment:", "self.marks[0][0] - EVERY < moment + 100:", ("test_sink_redis",)),
+    Bug("a commit that is half published is published again", "sinks/nats_engine.py", "or part.n <= after:", "or part.n < 0 * after:", ("test_sink_nats",)),
+    Bug("a change that is half published is left out", "sinks/nats_engine.py", "or part.n <= after:", "or part.n <= after + 1 and self.part:", ("test_sink_nats",)),
+    Bug("a message is taken anywhere", "sinks/jetstream.py", '"Nats-Expected-Last-Sequence": str(self.sequence)', '"Nats-Expected-Last-Sequence": "0"', ("test_sink_nats",)),
+    Bug("a part of a commit is published before a change that is too large", "sinks/nats_engine.py", "            self.publish_all(list(self.messages(commit, read)))",
+        "            self.publish_all(self.messages(commit, read))", ("test_sink_nats",)),
+    Bug("a part of another commit is gone on with", "sinks/nats_engine.py", "if self.part and self.part[0] != commit.end:", "if self.part and self.part[0] > 2 * commit.end:",
+        ("test_sink_nats",)),
+    Bug("each change of a commit is a line of its own version", "feed/bulk.py", "                left.pop((index, row_id), None)\n", "", ("test_feed_printing",)),
+    Bug("a row that gets another key stays under the old one", "feed/bulk.py", "((it.before, None), (it.after,", "((it.after, None), (it.after,", ("test_feed_printing",)),
     Bug("the stream is held until the tables are locked", "verifying.py", "    request.tell(point)\n    source.see(snapshot)\n",
         "    source.see(snapshot)\n    request.tell(point)\n", ("test_meeting",)),
 )
@@ -156,7 +182,8 @@ def found(bug: Bug) -> str:
         path.write_text(text.replace(bug.before, bug.after), encoding="utf-8")
         tests = [f"tests.{name}" for name in bug.tests]
         try:
-            done = subprocess.run([sys.executable, "-m", "unittest", "-f", *tests], cwd=folder, capture_output=True, timeout=LIMIT, check=False)
+            command = [sys.executable, "-m", "unittest", "-f", *tests]
+            done = subprocess.run(command, cwd=folder, env=ENVIRONMENT, capture_output=True, timeout=LIMIT, check=False)
         except subprocess.TimeoutExpired:
             return ""
         if b"ImportError" in done.stderr or b"SyntaxError" in done.stderr:

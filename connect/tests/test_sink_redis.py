@@ -20,7 +20,7 @@ from pgsub_connect.errors import EngineError, FileError, Passing, Stopped, Unfit
 from pgsub_connect.exporting import run as export
 from pgsub_connect.postgres import never
 from pgsub_connect.sinks import sinking
-from pgsub_connect.sinks.redis_calls import Connection, Said, raised
+from pgsub_connect.sinks.redis_calls import Connection, Said, packed_command, raised
 from pgsub_connect.sinks.redis_disk import Disk
 from pgsub_connect.sinks.trailing import Trail
 
@@ -49,7 +49,8 @@ class Changes(RedisCase):
     def test_many_commits_at_once(self) -> None:
         for number in range(50):
             self.take(insert(str(number), "a"), *([delete(str(number - 1), "a")] if number else []))
-        self.run_it()
+        with mock.patch("pgsub_connect.sinks.sinking.LONGEST", 100.0):
+            self.run_it()
         self.assertEqual((self.server.rows(), self.server.at()), (stock(("49", "a")), "0/3200"))
         # (one begins, and one has all)
         self.assertEqual(self.server.transactions, 3)
@@ -100,12 +101,33 @@ class Changes(RedisCase):
         self.take(insert("1", "a"))
         self.take(insert("2", "b"), insert("3", "c", of=table(columns=[ID, Column("other", 25)])))
         text = self.feed.path.read_bytes()
-        self.feed.path.write_bytes(text.replace(b'"after":["3"', b'"after":{"3"'))
-        self.fails(FileError, "reading 5 Line")
+        self.feed.path.write_bytes(text.replace(b'["3","c"]', b'["3"]    '))
+        self.fails(FileError, "reading 8 Width")
         self.assertEqual((self.server.rows(), self.server.at()), ({}, "0/0"))
         self.feed.path.write_bytes(text)
         self.run_it()
         self.assertEqual(self.server.rows(), {"stock:1": {"id": "1"}, "stock:2": {"id": "2"}, "stock:3": {"id": "3", "other": "c"}})
+
+
+    def test_a_commit_that_is_another_one_later(self) -> None:
+        self.take(insert("1", "a"))
+        start = self.feed.path.read_bytes()
+        self.take(insert("2", "b"), insert("3", "c"))
+        self.feed.path.write_bytes(self.feed.path.read_bytes().replace(b'["3","c"]', b'["3"]    '))
+        count = iter(range(1000))
+
+        def check() -> None:
+            number = next(count)
+            if number == 5:
+                self.feed.path.write_bytes(start)
+                self.feed.at = self.at = 0x100
+                self.take(insert("4", "d"))
+            if number > 8:
+                raise Stopped
+
+        with logged():
+            sinking.run(Options(command="sink", feed=str(self.path), url="redis://h"), check)
+        self.assertEqual((self.server.rows(), self.server.at()), (stock(("1", "a"), ("4", "d")), "0/200"))
 
 
 class Shapes(RedisCase):
@@ -390,7 +412,8 @@ class Ends(RedisCase):
 
     def test_a_reader_is_noted(self) -> None:
         self.take(insert("1", "a"))
-        self.run_it(reader="redis")
+        with mock.patch("pgsub_connect.sinks.redis_disk.LATE", 1000.0):
+            self.run_it(reader="redis")
         # (that it is on the disk isn't sure yet)
         self.assertEqual((self.path / "readers/redis").read_text(), "0/0\n")
         with mock.patch("pgsub_connect.sinks.redis_disk.LATE", -10.0):
@@ -446,6 +469,9 @@ class OnTheDisk(unittest.TestCase):
 
 
 class Errors(unittest.TestCase):
+    def test_packed(self) -> None:
+        self.assertEqual(packed_command(("SET", "é", b"\r\n", 12)), b"*4\r\n$3\r\nSET\r\n$2\r\n\xc3\xa9\r\n$2\r\n\r\n\r\n$2\r\n12\r\n")
+
     def test_kinds(self) -> None:
         self.assertIsInstance(raised(Said("LOADING Redis is loading the dataset in memory"), "Redis"), Passing)
         self.assertIsInstance(raised(Said("WRONGPASS invalid"), "Redis"), EngineError)

@@ -111,7 +111,7 @@ def read_id(text: str) -> Tuple[int, int]:
 
 def replay_streams(entries: Dict[str, List[Tuple[str, Dict[str, str]]]]) -> Counted:
     """The rows to which streams lead, whose ids give the order."""
-    told, ordered = Told(), List[Tuple[int, int, Dict[str, str]]]()
+    told, ordered = Told(), list[Tuple[int, int, Dict[str, str]]]()
     for stream in entries.values():
         ids = [read_id(at) for at, _ in stream]
         if ids != sorted(set(ids)):

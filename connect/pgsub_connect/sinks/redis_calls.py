@@ -29,6 +29,12 @@ def raised(said: Said, where: str) -> Exception:
     return (Passing if said.is_passing() else EngineError)(f"{where}: {said}")
 
 
+def packed_command(command: Command) -> bytes:
+    """A command as it is sent. (The library takes longer for that than all else that a change needs.)"""
+    words = [it if isinstance(it, bytes) else str(it).encode() for it in command]
+    return b"".join([b"*%d\r\n" % len(words), *(b"$%d\r\n%b\r\n" % (len(it), it) for it in words)])
+
+
 class Calls(Protocol):
     """A connection. What Redis says is bytes, a number, None or a list of these; an error is a Said that is returned."""
 
@@ -83,9 +89,9 @@ class Connection:
         return str(error) if str(error).startswith(code) else f"{code} {error}"
 
     def run(self, commands: Sequence[Command]) -> list[Any]:
-        packed = self.connection.pack_commands(commands)
-        size = sum(map(len, packed))
-        self.guarded(size, lambda: self.connection.send_packed_command(packed))
+        packed = b"".join(map(packed_command, commands))
+        size = len(packed)
+        self.guarded(size, lambda: self.connection.send_packed_command([packed]))
         found: list[Any] = self.guarded(size, lambda: [self.said() for _ in commands])
         return found
 
