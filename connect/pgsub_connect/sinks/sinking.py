@@ -33,9 +33,15 @@ write a feed to Redis or to NATS JetStream
   pgsub-connect sink nats://localhost --feed FOLDER                     a message for each change, and a last one for each commit
 
 The LSN is kept with what is written, so each commit takes effect once, and a later run goes on from there. A new one begins with the feed's
-first commit, or with the rows of an export. Values are texts as in the feed. A hash's fields are the columns that aren't null; the key
-`pgsub:lsn` has the LSN, of the same MULTI. Tables of schemas but `public` are called `schema.table`, and in names and keys `%`, `:` and
-`.` are %25, %3A and %2E. Subjects are STREAM.schema.table.
+first commit, or with the rows of an export. Values are texts as in the feed.
+
+Redis: a hash's fields are the columns that aren't null, and `pgsub:lsn` has the LSN, of the same MULTI. Tables of schemas but `public` are
+called `schema.table`; in names and keys `%`, `:` and `.` are %25, %3A and %2E, and null is %null. A table's rows go with it to another name
+or shape, by the names of its columns. What lost its name to another table, as one that was dropped does, is `pgsub:old:OID` until it has one
+again. A sink that is started ends one that writes there. A commit is kept in memory.
+
+NATS: subjects are STREAM.schema.table, and STREAM.commit for the last message of each commit. A commit of which a part was published is
+completed. --table goes by the names that tables have just then. With --reader, an LSN counts after 150 seconds, once the server has synced it.
 """
 # How long commits wait for others that come to be written together, in seconds.
 LONGEST = 0.5
