@@ -293,6 +293,15 @@ class Names(TablesCase):
         self.assertEqual(self.after(insert("3", "c")), [(2, "b"), (3, "c")])
         self.assertEqual(self.tables(), ["pgsub_old 2", "stock"])
 
+    def test_a_name_comes_back_without_another_one_between(self) -> None:
+        self.after(insert("1", "a"))
+        self.after(insert("1", "new", of=table(2)))
+        self.assertEqual(self.tables(), ["pgsub_old 1", "stock"])
+        # (the definition is the one that was told of it last)
+        self.assertEqual(self.after(update(["1", "a"], ["1", "b"]), insert("2", "new", of=table(2, "new"))), [(1, "b")])
+        self.assertEqual(self.tables(), ["new", "stock"])
+        self.assertEqual(self.rows("SELECT * FROM new ORDER BY id"), [(1, "new"), (2, "new")])
+
     def test_names_change_places(self) -> None:
         one, two = table(1, "one"), table(2, "two")
         self.take(insert("1", "a", of=one), insert("2", "b", of=two))

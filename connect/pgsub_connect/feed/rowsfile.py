@@ -199,7 +199,8 @@ class Rows:
     def describe(self, relation: Relation) -> Kept | None:
         """The table of a relation, in the shape that was told last. None of one that wasn't chosen."""
         kept = self.kept.get(relation.oid)
-        if kept and kept.relation == relation and relation.oid not in self.untold:
+        is_aside = kept is not None and kept.name.startswith(ASIDE)
+        if kept and kept.relation == relation and relation.oid not in self.untold and not is_aside:
             return kept
         if not self.is_chosen(relation):
             self.leave_out(relation, kept)
