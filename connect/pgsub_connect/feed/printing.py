@@ -12,12 +12,12 @@ from collections.abc import Callable, Sequence
 from .. import log
 from ..cli import Start, TellVersion, guarded, lsn, stop_by_signals
 from ..errors import Stopped
+from ..naming import names_of
 from ..postgres import Check
 from ..remembered import Relation
 from .formats import FORMATS
 from .polling import Poll
 from .reading import Reader
-from .rowsfile import names_of
 from .undoing import undo
 
 ABOUT = """\
@@ -73,7 +73,7 @@ def arguments(words: Sequence[str]) -> Options:
 
 def chooser(names: list[str]) -> Callable[[Relation], bool]:
     chosen = set(names)
-    return lambda relation: not chosen or bool(chosen & names_of(relation))
+    return lambda relation: not chosen or bool(chosen & names_of(relation.namespace, relation.name))
 
 
 def run(options: Options, check: Check) -> int:
