@@ -9,7 +9,7 @@ import sys
 from typing import Any
 from unittest import mock
 
-from feed_text import UNSENT, About, Column, Line
+from feed_text import UNSENT, About, Column, Line, lsn_text
 from pgsub_connect.cli import UNFIT, USAGE
 from pgsub_connect.feed.printing import main
 
@@ -162,10 +162,16 @@ class Undoing(PrintingCase):
             ],
         )
 
-    def test_a_key_whose_type_isnt_the_servers_own(self) -> None:
+    def test_a_key_of_a_type_of_users(self) -> None:
         of = table(4, "moods", columns=[Column("mood", 16384, -1, True), ID])
         key, printed = """"id" = '1' AND """, shown(mood="'sad'", id="'1'")
         self.assertEqual(self.undone(insert("sad", "1", of=of)), [f'DELETE FROM "public"."moods" WHERE {key}{printed} AND {own("moods")}'])
+
+    def test_characters_that_others_may_change(self) -> None:
+        for cell, constant in (("a\r\nb", r"E'a\x0d\x0ab'"), ("\t\\t'", r"E'\x09\\t'''"), ("\x7fE", r"E'\x7fE'"), ("E ä", "'E ä'")):
+            self.feed.commit(self.feed.at + 0x100, [delete("1", cell)])
+            text = self.print("--undo", lsn_text(self.feed.at - 0x100), lsn_text(self.feed.at))
+            self.assertIn(f"VALUES ('1', {constant});", text)
 
     def test_a_statement_has_to_change_one_row(self) -> None:
         self.feed.commit(0x100, [insert("1", "a")])

@@ -10,9 +10,9 @@ import collections
 import contextlib
 import json
 import sqlite3
-from collections.abc import Callable, Iterator
+from collections.abc import Callable, Iterable, Iterator
 from pathlib import Path
-from typing import Any, Dict, List, Optional, Tuple, Union
+from typing import Dict, List, NamedTuple, Optional, Tuple, Union
 
 from feed_replay import Replay, commits, lsn_of, replay
 
@@ -24,11 +24,19 @@ from .sessions import Session
 # A value in a table of SQLite.
 Value = Union[int, float, bytes, str, None]
 FLOATS = ("NaN", "Infinity", "-Infinity")
-# By the name of a type what a table of SQLite has of a value that is printed so; any other is its text.
-HAS: Dict[str, Callable[[str], Value]] = {
-    "smallint": int, "integer": int, "bigint": int, "boolean": lambda it: int(it == "t"), "bytea": lambda it: bytes.fromhex(it[2:]),
-    "real": lambda it: it if it in FLOATS else float(it), "double precision": lambda it: it if it in FLOATS else float(it),
+
+
+def number(text: str) -> Value:
+    return text if text in FLOATS else float(text)
+
+
+# By the name of a type that of a column in a table of SQLite, and what that has of a value which is printed so; any other is its text.
+HAS: Dict[str, Tuple[str, Callable[[str], Value]]] = {
+    "smallint": ("INTEGER", int), "integer": ("INTEGER", int), "bigint": ("INTEGER", int),
+    "boolean": ("INTEGER", lambda it: int(it == "t")), "bytea": ("BLOB", lambda it: bytes.fromhex(it[2:])),
+    "real": ("ANY", number), "double precision": ("ANY", number),
 }
+TEXT: Tuple[str, Callable[[str], Value]] = ("TEXT", str)
 LOGGED = "CREATE TABLE logged (id bigserial PRIMARY KEY, tab text, op text, old text[], new text[])"
 LETTERS = {"INSERT": "c", "UPDATE": "u", "DELETE": "d"}
 # Of a change: its table, its letter, and the rows before and after.
@@ -160,41 +168,76 @@ def reading(path: Path) -> Iterator[sqlite3.Connection]:
         yield base
 
 
-def rows_of_tables(path: Path) -> tuple[dict[tuple[str, str], collections.Counter[Any]], str]:
-    """The rows of each table of a file that has any, and the file's LSN."""
-    found = {}
+class Held(NamedTuple):
+    """What a table has: the types of its columns, and how often it has each row, told so that 1, 1.0 and true are others, and -0 is."""
+
+    kinds: Tuple[str, ...]
+    rows: "collections.Counter[str]"
+
+
+# By schema and name.
+Tables = Dict[Tuple[str, str], Held]
+
+
+def held(kinds: Iterable[str], rows: Iterable[tuple[Value, ...]]) -> Held:
+    return Held(tuple(kinds), collections.Counter(repr(tuple(row)) for row in rows))
+
+
+def tables_of_file(path: Path) -> tuple[Tables, str]:
+    """The tables of a file that have rows, and the file's LSN."""
+    found: Tables = {}
     with reading(path) as base:
         (lsn,) = base.execute("SELECT lsn FROM pgsub_position").fetchone()
         for name, schema, table, _ in base.execute("SELECT * FROM pgsub_tables").fetchall():
-            if rows := collections.Counter(base.execute(f"SELECT * FROM {quoted(name)}")):
-                found[schema, table] = rows
+            kinds = [kind for (kind,) in base.execute("SELECT type FROM pragma_table_info(?)", (name,))]
+            it = held(kinds, base.execute(f"SELECT * FROM {quoted(name)}"))
+            if it.rows:
+                found[schema, table] = it
     return found, lsn
 
 
-def values_of_server(cluster: Cluster, *publications: str, database: str = "shop") -> dict[tuple[str, str], collections.Counter[Any]]:
-    """The rows of each published table that has any, as tables of SQLite have their values."""
-    found = {}
-    with cluster.connect(database) as session:
-        session.run(*(f"SET {name} = '{value}'" for name, value in SETTINGS.items()))
-        for schema, table, query in list(published(session, publications)):
-            name = f"{quoted(schema)}.{quoted(table)}".replace("'", "''")
-            reads = [HAS.get(kind, str) for _, kind in columns_of(session, name)]
-            if rows := collections.Counter(valued(reads, row) for row in session.copied(query)):
-                found[schema, table] = rows
+def tables_of_session(session: Session, *publications: str) -> Tables:
+    """Those that SQLite has to have for the rows that a session sees of published tables."""
+    found: Tables = {}
+    for schema, table, query in list(published(session, publications)):
+        name = f"{quoted(schema)}.{quoted(table)}".replace("'", "''")
+        kinds = [HAS.get(kind, TEXT) for _, kind in columns_of(session, name)]
+        reads = [read for _, read in kinds]
+        it = held((kind for kind, _ in kinds), (valued(reads, row) for row in session.copied(query)))
+        if it.rows:
+            found[schema, table] = it
     return found
+
+
+def settle(session: Session) -> None:
+    """Has values printed as they are sent."""
+    session.run(*(f"SET {name} = '{value}'" for name, value in SETTINGS.items()))
+
+
+def tables_of_server(cluster: Cluster, *publications: str, database: str = "shop") -> Tables:
+    with cluster.connect(database) as session:
+        settle(session)
+        return tables_of_session(session, *publications)
 
 
 def valued(reads: list[Callable[[str], Value]], row: Row) -> tuple[Value, ...]:
     return tuple(None if cell is None else read(cell) for read, cell in zip(reads, row))
 
 
+def compare_file(path: Path, theirs: Tables) -> int:
+    """Fails where the tables of a file aren't these. Returns how many rows there are."""
+    ours, lsn = tables_of_file(path)
+    none = Held((), collections.Counter())
+    for table in sorted({*ours, *theirs}):
+        here, there = ours.get(table, none), theirs.get(table, none)
+        if here.rows != there.rows:
+            lacks, has = list((there.rows - here.rows).items())[:3], list((here.rows - there.rows).items())[:3]
+            raise Failed(f"{path} at {lsn}, {'.'.join(table)}: it lacks {str(lacks)[:600]}, and has {str(has)[:600]} instead")
+        if here.kinds != there.kinds:
+            raise Failed(f"{path} at {lsn}, {'.'.join(table)}: columns of the types {here.kinds} in place of {there.kinds}")
+    return sum(sum(it.rows.values()) for it in ours.values())
+
+
 def compare_tables(cluster: Cluster, path: Path, *publications: str, database: str = "shop") -> int:
     """Fails where the tables of a file don't have the server's rows. Returns how many rows there are."""
-    ours, lsn = rows_of_tables(path)
-    theirs = values_of_server(cluster, *publications, database=database)
-    for table in sorted({*ours, *theirs}):
-        here, there = ours.get(table, collections.Counter()), theirs.get(table, collections.Counter())
-        if here != there:
-            lacks, has = list((there - here).items())[:3], list((here - there).items())[:3]
-            raise Failed(f"{path} at {lsn}, {'.'.join(table)}: it lacks {str(lacks)[:600]}, and has {str(has)[:600]} instead")
-    return sum(sum(rows.values()) for rows in ours.values())
+    return compare_file(path, tables_of_server(cluster, *publications, database=database))

@@ -25,14 +25,25 @@ PRINTED = (
     "search_path", "datestyle", "intervalstyle", "extra_float_digits", "bytea_output", "timezone", "lc_monetary", "quote_all_identifiers",
     "xmlbinary",
 )
-# The first OID that isn't of the server's own types.
-FIRST_OWN = 16384
+# Types whose values are looked up in an index by `=`: bool, bytea, "char", name, int8, int2, int4, text, oid, float4, float8, macaddr, inet,
+# bpchar, varchar, date, time, timestamp, timestamptz, interval, timetz, bit, varbit, numeric, uuid, pg_lsn, jsonb. The operator of another
+# type may be in any schema, or be that of a type which reads the constant in another way.
+COMPARED = frozenset((
+    16, 17, 18, 19, 20, 21, 23, 25, 26, 700, 701, 829, 869, 1042, 1043, 1082, 1083, 1114, 1184, 1186, 1266, 1560, 1562, 1700, 2950, 3220, 3802,
+))
+
+# What an editor or a terminal may make another character of.
+CONTROLS = {it: f"\\x{it:02x}" for it in (*range(1, 32), 127)}
 
 
 def constant(cell: Cell) -> str:
     if isinstance(cell, bytes):
         raise Unfit("a value was sent in binary format, which SQL has no constant for: follow without it")
-    return "NULL" if cell is None else literal(cell).strip()
+    if cell is None:
+        return "NULL"
+    text = literal(cell).strip()
+    escaped = text.translate(CONTROLS)
+    return escaped if escaped == text or escaped.startswith("E") else f"E{escaped}"
 
 
 def is_keyed(relation: Relation) -> bool:
@@ -50,8 +61,8 @@ def is_printed(column: Column, cell: Cell) -> str:
 
 
 def is_equal(column: Column, cell: Cell) -> str:
-    """That a column of a key has a value, by its index. The operators of types that aren't the server's own may be in any schema."""
-    if cell is None or column.type_oid >= FIRST_OWN:
+    """That a column of a key has a value, by an index where that can be."""
+    if cell is None or column.type_oid not in COMPARED:
         return is_printed(column, cell)
     return f"{identifier(column.name)} = {constant(cell)}"
 
@@ -67,7 +78,7 @@ def guard(relation: Relation, cells: Cells) -> str:
     named = list(zip(relation.shape.columns, cells, strict=True))
     found = " AND ".join([*(is_printed(*it) for it in named), is_own(relation)])
     if is_keyed(relation):
-        return " AND ".join([*(is_equal(*it) for it in named if it[0].key and it[0].type_oid < FIRST_OWN), found])
+        return " AND ".join([*(is_equal(*it) for it in named if it[0].key and it[0].type_oid in COMPARED), found])
     return f"(tableoid, ctid) = (SELECT tableoid, ctid FROM {table_name(relation)} WHERE {found} LIMIT 1)"
 
 
