@@ -10,11 +10,13 @@ import collections
 import contextlib
 import json
 import sqlite3
+import threading
+import time
 from collections.abc import Callable, Iterable, Iterator
 from pathlib import Path
 from typing import Dict, List, NamedTuple, Optional, Tuple, Union
 
-from feed_replay import Replay, commits, lsn_of, replay
+from feed_replay import Replay, commits, lsn_of
 
 from .cluster import Cluster
 from .errors import Failed
@@ -37,6 +39,9 @@ HAS: Dict[str, Tuple[str, Callable[[str], Value]]] = {
     "real": ("ANY", number), "double precision": ("ANY", number),
 }
 TEXT: Tuple[str, Callable[[str], Value]] = ("TEXT", str)
+# The OIDs of these types.
+OIDS = {"smallint": 21, "integer": 23, "bigint": 20, "boolean": 16, "bytea": 17, "real": 700, "double precision": 701}
+BY_OID = {oid: HAS[name] for name, oid in OIDS.items()}
 LOGGED = "CREATE TABLE logged (id bigserial PRIMARY KEY, tab text, op text, old text[], new text[])"
 LETTERS = {"INSERT": "c", "UPDATE": "u", "DELETE": "d"}
 # Of a change: its table, its letter, and the rows before and after.
@@ -131,15 +136,20 @@ def base_of(cluster: Cluster, program: Path, snapshot: Path, *publications: str,
         for schema, table, _ in list(published(session, publications)):
             name = f"{quoted(schema)}.{quoted(table)}"
             oid = int(session.value(f"SELECT '{name.replace(chr(39), chr(39) * 2)}'::regclass::oid"))
-            columns = [[it, 0, -1] for it, _ in columns_of(session, name.replace("'", "''"))]
+            columns = [[it, OIDS.get(kind, 0), -1] for it, kind in columns_of(session, name.replace("'", "''"))]
             definition = {"oid": oid, "schema": schema, "table": table, "columns": columns}
             state.begin(definition, collections.Counter(rows.get((schema, table), {})))
     return state
 
 
-def rows_of_feed(feed: Path, state: Replay | None = None) -> tuple[Rows, Replay]:
-    """The rows to which a feed leads, from its beginning or a base. Fails where a change found no row."""
-    state = replay(feed, state or Replay(int(segments(feed)[0].name, 16)))
+def rows_of_feed(feed: Path, state: Replay | None = None, look: Callable[[Replay], None] = lambda _: None) -> tuple[Rows, Replay]:
+    """The rows to which a feed leads, from its beginning or a base. Fails where a change found no row. `look` is called at each commit."""
+    state = state or Replay(int(segments(feed)[0].name, 16))
+    look(state)
+    for path in segments(feed):
+        for commit, body in commits(path):
+            state.commit(commit, body)
+            look(state)
     if state.missed:
         raise Failed(f"{state.missed} changes of the feed found no row")
     found: Rows = {}
@@ -241,3 +251,62 @@ def compare_file(path: Path, theirs: Tables) -> int:
 def compare_tables(cluster: Cluster, path: Path, *publications: str, database: str = "shop") -> int:
     """Fails where the tables of a file don't have the server's rows. Returns how many rows there are."""
     return compare_file(path, tables_of_server(cluster, *publications, database=database))
+
+
+def digests_of(tables: Tables) -> Dict[Tuple[str, str], int]:
+    """A number for the rows of each table, which is another one for other rows."""
+    return {name: hash(frozenset(it.rows.items())) for name, it in tables.items()}
+
+
+def tables_of_replay(state: Replay) -> Tables:
+    """Those that SQLite has to have for the rows to which a feed has led."""
+    found: Tables = {}
+    for oid, rows in state.rows.items():
+        definition = state.definitions[oid]
+        kinds = [BY_OID.get(kind, TEXT) for _, kind, _ in definition["columns"]]
+        reads = [read for _, read in kinds]
+        told = (valued(reads, row) for row in (+rows).elements())  # type: ignore[arg-type]
+        if (it := held((kind for kind, _ in kinds), told)).rows:
+            found[definition["schema"], definition["table"]] = it
+    return found
+
+
+class Reader(threading.Thread):
+    """Reads a file of tables again and again while it is written, and keeps which rows it had at which LSN."""
+
+    def __init__(self, path: Path) -> None:
+        super().__init__(daemon=True)
+        self.path, self.ended = path, threading.Event()
+        self.seen: Dict[int, Dict[Tuple[str, str], int]] = {}
+        self.wrong = ""
+
+    def run(self) -> None:
+        pause = 0.1
+        while not self.ended.wait(pause) and not self.wrong:
+            began = time.monotonic()
+            if self.path.exists():
+                self.read()
+            pause = 0.1 + time.monotonic() - began
+
+    def read(self) -> None:
+        try:
+            tables, text = tables_of_file(self.path)
+        except sqlite3.Error as error:
+            self.wrong = f"a reader got: {error}"
+            return
+        found = digests_of(tables)
+        if self.seen.setdefault(lsn_of(text), found) != found:
+            self.wrong = f"a reader saw two states at {text}"
+
+    def check(self, state: Replay) -> None:
+        """Fails where it has seen other rows than those to which the feed leads there."""
+        found = self.seen.get(state.at)
+        if found is not None and found != (wanted := digests_of(tables_of_replay(state))):
+            names = [".".join(it) for it in {*found, *wanted} if found.get(it) != wanted.get(it)]
+            raise Failed(f"at {state.at:X} a reader saw other rows of {', '.join(sorted(names))} than the feed leads to")
+
+    def finish(self) -> None:
+        self.ended.set()
+        self.join()
+        if self.wrong:
+            raise Failed(self.wrong)
