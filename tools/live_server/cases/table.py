@@ -12,7 +12,7 @@ from ..options import Options
 from ..place import Place, Shared
 from . import (
     adding, altering, copying, feeding, kinds, missing, names, operating, past, privacy, publications, reaching, repairing, shapes, sideroads,
-    silence, slots, standbys, starts, stops, timelines, twice, values, verifying, versions,
+    silence, slots, standbys, starts, stops, tabling, timelines, twice, values, verifying, versions,
 )
 from .case import Case
 from .exports import CASES as EXPORTS
@@ -24,7 +24,7 @@ THEMES: dict[str, Sequence[Case]] = {
     "values": (*values.CASES, *kinds.CASES),
     "missing": missing.CASES,
     "exports": EXPORTS,
-    "feeds": (*feeding.CASES, *past.CASES, *twice.CASES),
+    "feeds": (*feeding.CASES, *tabling.CASES, *past.CASES, *twice.CASES),
     "verifying": verifying.CASES,
     "adding": adding.CASES,
     "repairing": repairing.CASES,
