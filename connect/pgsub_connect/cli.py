@@ -344,6 +344,7 @@ def add_reading(parser: argparse.ArgumentParser) -> None:
 def add_exporting(parser: argparse.ArgumentParser) -> None:
     add = parser.add_argument
     add("--text", action="store_true", help="each value as TEXT, as the server prints it")
+    add("--table", action="append", default=[], help="export this table, may be repeated (default: all)")
 
 
 def add_verifying(parser: argparse.ArgumentParser) -> None:
@@ -439,7 +440,7 @@ def check(parser: argparse.ArgumentParser, options: Options) -> None:
         ("snapshot_every", "snapshot"), ("skip", "store"), ("strict", "store"), ("init", "tables"), ("feed_segment_bytes", "feed"),
         ("feed_segment_seconds", "feed"), ("feed_max_bytes", "feed"), ("feed_max_age", "feed"),
     ):
-        if options.command not in ("check", "status", "verify", "add", "tables", "sink") and getattr(options, given) and not getattr(options, needed):
+        if options.command not in ("check", "status", "verify", "add", "tables", "export", "sink") and getattr(options, given) and not getattr(options, needed):
             parser.error(f"--{given.replace('_', '-')} needs --{needed}")
     if options.command == "follow" and not options.store:
         parser.error("--store is needed")

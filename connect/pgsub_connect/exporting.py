@@ -12,12 +12,12 @@ from __future__ import annotations
 import contextlib
 import itertools
 import sqlite3
-from collections.abc import Iterable, Iterator
+from collections.abc import Iterable, Iterator, Sequence
 from typing import TYPE_CHECKING
 
 from . import log
 from .errors import FileError, Passing, Stopped, Unfit
-from .naming import OLD, POSITION, TABLES, name_columns, name_tables
+from .naming import OLD, POSITION, TABLES, name_columns, name_tables, names_of
 from .placing import check_into, placed
 from .postgres import Check
 from .remembered import Relation, Remembered
@@ -84,15 +84,15 @@ class Target:
 class Export:
     """Fills a new file, in one transaction and constant memory: nothing was there that would be kept for going back."""
 
-    def __init__(self, store: sqlite3.Connection, into: sqlite3.Connection, is_text: bool, check: Check) -> None:
-        self.store, self.into, self.is_text, self.check = store, into, is_text, check
+    def __init__(self, store: sqlite3.Connection, into: sqlite3.Connection, is_text: bool, check: Check, names: Sequence[str]) -> None:
+        self.store, self.into, self.is_text, self.check, self.names = store, into, is_text, check, names
         self.waiting = 0
 
     def run(self, remembered: Remembered) -> tuple[int, int, int]:
         """Writes it all. Returns the position, how many tables there are, and how many rows."""
         position = read_position(self.store)
         stored = read_relations(self.store)
-        relations = choose(stored, remembered, position)
+        relations = named(choose(stored, remembered, position), self.names)
         self.begin(position, relations)
         self.copy_rows(stored)
         self.into.execute("COMMIT")
@@ -124,7 +124,7 @@ class Export:
             if target is None:
                 if oid not in stored:
                     raise Malformed
-                # (of an older table whose name another one has)
+                # (of an older table whose name another one has, or one that wasn't chosen)
                 continue
             target.waiting.append((self.values(target, body), copies))
             self.waiting += len(body) + ROW
@@ -173,6 +173,14 @@ class Export:
         self.into.execute(f"DROP TABLE {OLD}")
 
 
+def named(relations: list[Relation], names: Sequence[str]) -> list[Relation]:
+    """Those with these names; all where there are none."""
+    known = {name: it for it in relations for name in names_of(it.namespace, it.name)}
+    if unknown := [it for it in names if it not in known]:
+        raise FileError(f"the store has no table {unknown[0]}")
+    return [it for it in relations if not names or names_of(it.namespace, it.name) & set(names)]
+
+
 def unlike_text(relation: Relation, unlike: Unlike) -> str:
     column = relation.shape.columns[unlike.index].name
     shown = unlike.value[:100].decode(errors="backslashreplace")
@@ -214,7 +222,7 @@ def export(path: str, new: str, options: Options, check: Check) -> tuple[int, in
     remembered = Remembered(options.store)
     try:
         with contextlib.closing(opened(path)) as store, contextlib.closing(sqlite3.connect(new, isolation_level=None)) as into:
-            return Export(store, into, options.text, check).run(remembered)
+            return Export(store, into, options.text, check, options.table).run(remembered)
     except Malformed:
         raise FileError(f"{options.store}: a malformed row or definition: the disk, or another program, has spoiled the file") from None
     except sqlite3.Error as error:

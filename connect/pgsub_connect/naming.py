@@ -22,6 +22,11 @@ def table_name(schema: str, table: str) -> str:
     return table if schema == "public" else f"{schema or 'pg_catalog'}.{table}"
 
 
+def names_of(schema: str, table: str) -> set[str]:
+    """The names by which a table may be chosen."""
+    return {f"{schema or 'pg_catalog'}.{table}"} | ({table} if schema == "public" else set())
+
+
 def usable_name(schema: str, table: str) -> str:
     """The same, where SQLite keeps it for itself with something before it."""
     name = table_name(schema, table)

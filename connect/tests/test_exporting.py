@@ -52,6 +52,24 @@ class Case(StoreCase):
         return [name for (name,) in names]
 
 
+class Chosen(Case):
+    def test_by_name(self) -> None:
+        for oid, schema in ((1, "public"), (2, "other"), (3, "")):
+            self.store.table(oid, "t", [(1, "id", 23, -1)], schema=schema)
+            self.store.row(oid, str(oid))
+        for names, tables in ((["t", "pg_catalog.t"], ["pg_catalog.t", "t"]), (["other.t"], ["other.t"]), (["public.t"], ["t"])):
+            self.export(table=names)
+            self.assertEqual((self.tables(), len(self.rows(f'SELECT * FROM "{tables[0]}"'))), (tables, 1))
+        with logged(), self.assertRaisesRegex(FileError, "the store has no table x"):
+            run(self.options(table=["t", "x"]), never)
+        self.assertEqual(self.left(), [])
+
+    def test_command(self) -> None:
+        self.store.table(1, "t", [(1, "id", 23, -1)])
+        with logged():
+            self.assertEqual(main(["export", "--store", self.path, "--into", self.into, "--table", "t"]), 0)
+
+
 class Types(Case):
     def of(self, columns: Sequence[str], *rows: Sequence[str | bytes | None]) -> None:
         self.store.table(1, "t", [(0, f"c{at}", TYPES[it], -1) for at, it in enumerate(columns)], letter="f")

@@ -10,7 +10,7 @@ from collections.abc import Sequence
 from typing import Any
 from unittest import mock
 
-from feed_text import UNSENT, About, Column, Line
+from feed_text import UNSENT, About, Column, Line, lsn_text
 from pgsub_connect.cli import UNFIT, USAGE
 from pgsub_connect.feed.identifying import index_text
 from pgsub_connect.feed.printing import main
@@ -176,36 +176,69 @@ class BulkLines(PrintingCase):
         self.assertRegex(told[0], "80000000/0: the LSN is above the greatest version")
 
 
+def own(name: str) -> str:
+    oid = f"'\"public\".\"{name}\"'::pg_catalog.regclass"
+    return f"(tableoid = {oid} OR tableoid IN (SELECT relid FROM pg_catalog.pg_partition_tree({oid})))"
+
+
+def shown(**values: str) -> str:
+    """That columns are printed so."""
+    return " AND ".join(f"pg_catalog.format('%s', \"{name}\") = {value}" for name, value in values.items())
+
+
 class Undoing(PrintingCase):
     def undone(self, *lines: Line, status: int = 0) -> list[str]:
         """The statements that take these back."""
         self.feed.commit(0x100, [])
         self.feed.commit(0x200, lines)
         text = self.print("--undo", "0/100", "0/200", status=status)
-        return [it.partition("BEGIN ")[2].partition("; IF NOT FOUND")[0] for it in text.split("DO ")[1:]]
+        return [it.partition("BEGIN ")[2].partition("; GET DIAGNOSTICS")[0] for it in text.split("DO ")[1:]]
 
-    def test_each(self) -> None:
-        bag = table(3, "bag", letter="f")
+    def test_of_a_key(self) -> None:
+        first, second, escaped = """"id" = '1' AND """, """"id" = '2' AND """, r"E'b\\'"
+        there = "RAISE EXCEPTION '%', '0/200:3, public.stock: there is a row with this key by now'"
         self.assertEqual(
             self.undone(
                 insert("1", None), update(["1", "o'x"], ["1", "b\\"]), update(["1", "b"], ["2", "b"]), delete("1", "a"),
-                update(["1", "a"], ["1", "a"]), insert("1", "a", of=bag), delete("1", None, of=bag), update(["1", "a"], ["1", "b"], of=bag),
+                update(["1", "a"], ["1", "a"]),
             ),
             [
-                'UPDATE "public"."bag" SET "name" = \'a\' WHERE ctid = (SELECT ctid FROM "public"."bag" WHERE '
-                "pg_catalog.format('%s', \"id\") = '1' AND "
-                "pg_catalog.format('%s', \"name\") = 'b' LIMIT 1)",
-                'INSERT INTO "public"."bag" ("id", "name") OVERRIDING SYSTEM VALUE VALUES (\'1\', NULL)',
-                'DELETE FROM "public"."bag" WHERE ctid = (SELECT ctid FROM "public"."bag" WHERE '
-                "pg_catalog.format('%s', \"id\") = '1' AND "
-                "pg_catalog.format('%s', \"name\") = 'a' LIMIT 1)",
-                "IF EXISTS (SELECT FROM \"public\".\"stock\" WHERE \"id\" = '1') THEN RAISE EXCEPTION 'there is a row'; END IF; "
+                f"""IF EXISTS (SELECT FROM "public"."stock" WHERE "id" = '1') THEN {there}; END IF; """
                 'INSERT INTO "public"."stock" ("id", "name") OVERRIDING SYSTEM VALUE VALUES (\'1\', \'a\')',
-                'UPDATE "public"."stock" SET "id" = \'1\' WHERE "id" = \'2\' AND pg_catalog.format(\'%s\', "name") = \'b\'',
-                'UPDATE "public"."stock" SET "name" = \'o\'\'x\' WHERE "id" = \'1\' AND pg_catalog.format(\'%s\', "name") = E\'b\\\\\'',
-                'DELETE FROM "public"."stock" WHERE "id" = \'1\' AND "name" IS NULL',
+                f"""UPDATE "public"."stock" SET "id" = '1' WHERE {second}{shown(id="'2'", name="'b'")} AND {own("stock")}""",
+                f"""UPDATE "public"."stock" SET "name" = 'o''x' WHERE {first}{shown(id="'1'", name=escaped)} AND {own("stock")}""",
+                f"""DELETE FROM "public"."stock" WHERE {first}{shown(id="'1'")} AND "name" IS NULL AND {own("stock")}""",
             ],
         )
+
+    def test_without_a_key(self) -> None:
+        bag = table(3, "bag", letter="f")
+        where = '(tableoid, ctid) = (SELECT tableoid, ctid FROM "public"."bag" WHERE '
+        self.assertEqual(
+            self.undone(insert("1", "a", of=bag), delete("1", None, of=bag), update(["1", "a"], ["1", "b"], of=bag)),
+            [
+                f"""UPDATE "public"."bag" SET "name" = 'a' WHERE {where}{shown(id="'1'", name="'b'")} AND {own("bag")} LIMIT 1)""",
+                'INSERT INTO "public"."bag" ("id", "name") OVERRIDING SYSTEM VALUE VALUES (\'1\', NULL)',
+                f"""DELETE FROM "public"."bag" WHERE {where}{shown(id="'1'", name="'a'")} AND {own("bag")} LIMIT 1)""",
+            ],
+        )
+
+    def test_a_key_of_a_type_of_users(self) -> None:
+        of = table(4, "moods", columns=[Column("mood", 16384, -1, True), ID])
+        key, printed = """"id" = '1' AND """, shown(mood="'sad'", id="'1'")
+        self.assertEqual(self.undone(insert("sad", "1", of=of)), [f'DELETE FROM "public"."moods" WHERE {key}{printed} AND {own("moods")}'])
+
+    def test_characters_that_others_may_change(self) -> None:
+        for cell, constant in (("a\r\nb", r"E'a\x0d\x0ab'"), ("\t\\t'", r"E'\x09\\t'''"), ("\x7fE", r"E'\x7fE'"), ("E ä", "'E ä'")):
+            self.feed.commit(self.feed.at + 0x100, [delete("1", cell)])
+            text = self.print("--undo", lsn_text(self.feed.at - 0x100), lsn_text(self.feed.at))
+            self.assertIn(f"VALUES ('1', {constant});", text)
+
+    def test_a_statement_has_to_change_one_row(self) -> None:
+        self.feed.commit(0x100, [insert("1", "a")])
+        text = self.print("--undo", "0/0", "0/100")
+        raised = "IF changed <> 1 THEN RAISE EXCEPTION '%', '0/100:0, public.stock: the row is another one by now'; END IF; END $pgsub$;\n"
+        self.assertIn(f"; GET DIAGNOSTICS changed = ROW_COUNT; {raised}", text)
 
     def test_what_cant_be(self) -> None:
         with logged() as told:
@@ -232,4 +265,4 @@ class Undoing(PrintingCase):
         self.feed.commit(0x100, [insert("1", "$pgsub$"), insert("2", NAME.name)])
         text = self.print("--undo", "0/0", "0/100")
         self.assertEqual((text.count("DO $pgsub1$ "), text.count(" $pgsub1$;"), text.count("DO $pgsub$ ")), (1, 1, 1))
-        self.assertTrue(text.startswith("BEGIN;\nSET LOCAL search_path = '';\n") and text.endswith("COMMIT;\n"))
+        self.assertTrue(text.startswith("BEGIN;\nSET LOCAL client_encoding = 'UTF8';\nSET LOCAL search_path = '';\n") and text.endswith("COMMIT;\n"))

@@ -93,12 +93,20 @@ class Changes(TablesCase):
         self.assertEqual(self.after(delete("1", "", of=full), delete("1", None, of=full)), [(0, None)])
         self.assertEqual(self.rows("SELECT count(*) FROM pragma_table_info('stock') WHERE pk"), [(0,)])
 
+    def test_zeros_of_both_signs(self) -> None:
+        of = table(columns=[ID, Column("f", 701), Column("g", 700)], letter="f")
+        self.take(*(insert("1", f, g, of=of) for f in ("0", "-0") for g in ("0", "-0", None)))
+        self.take(delete("1", "-0", "0", of=of), update(["1", "-0", "-0"], ["2", "-0", "-0"], of=of), delete("1", "0", None, of=of))
+        found = self.after(delete("1", "0", "-0", of=of))
+        self.assertEqual(sorted(map(repr, found)), ["(1, -0.0, None)", "(1, 0.0, 0.0)", "(2, -0.0, -0.0)"])
+
     def test_many_columns(self) -> None:
-        for letter in ("d", "f"):
-            wide = table(oid=ord(letter), name=letter, columns=[ID, *(Column(f"c{at}", 25) for at in range(1599))], letter=letter)
-            row, new = (["1"] + [it] * 1599 for it in "xy")
-            self.assertEqual(self.after(insert(*row, of=wide), update(row, new, of=wide), of=letter), [(1, *new[1:])])
-            self.assertEqual(self.after(delete(*new, of=wide), of=letter), [])
+        for letter, kind, was, now in (("d", 25, "x", "y"), ("f", 25, "x", "y"), ("f", 701, "NaN", "Infinity")):
+            name = f"{letter}{kind}"
+            wide = table(ord(letter) + kind, name, [ID, *(Column(f"c{at}", kind) for at in range(1599))], letter)
+            row, new = (["1"] + [it] * 1599 for it in (was, now))
+            self.assertEqual(self.after(insert(*row, of=wide), update(row, new, of=wide), of=name), [(1, *new[1:])])
+            self.assertEqual(self.after(delete(*new, of=wide), of=name), [])
 
     def test_columns_of_a_row_id(self) -> None:
         odd = table(columns=[Column("rowid", 23), Column("OID", 25)], letter="f")
@@ -431,6 +439,20 @@ class Beginning(TablesCase):
         with mock.patch("pgsub_connect.exporting.log"):
             self.run_it(store=str(self.folder / "copy.db"))
         self.assertEqual(self.rows("SELECT * FROM stock"), [("c", 1, "a")])
+
+    def test_an_export_with_names_that_are_equal_but_for_case(self) -> None:
+        store = Store(str(self.folder / "copy.db"), 0x100)
+        for oid, name in ((1, "stock"), (2, "Stock")):
+            store.table(oid, name, [(1, "id", 23, -1)])
+        store.close()
+        self.take()
+        base = str(self.folder / "base.db")
+        with logged():
+            export(Options(command="export", store=str(self.folder / "copy.db"), into=base), never)
+        with self.assertRaisesRegex(Unfit, r"public.stock \(1\) and public.Stock \(2\) would have the same table stock: .*--table"):
+            self.run_it(base=base)
+        self.run_it(base=base, table=["Stock"])
+        self.assertEqual(self.rows("SELECT schema, \"table\", oid FROM pgsub_tables"), [("public", "Stock", 2)])
 
     def test_an_export(self) -> None:
         store = Store(str(self.folder / "copy.db"), 0x300)

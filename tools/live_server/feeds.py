@@ -10,11 +10,13 @@ import collections
 import contextlib
 import json
 import sqlite3
-from collections.abc import Callable, Iterator
+import threading
+import time
+from collections.abc import Callable, Iterable, Iterator
 from pathlib import Path
-from typing import Any, Dict, List, Optional, Tuple, Union
+from typing import Dict, List, NamedTuple, Optional, Tuple, Union
 
-from feed_replay import Replay, commits, lsn_of, replay
+from feed_replay import Replay, commits, lsn_of
 
 from .cluster import Cluster
 from .errors import Failed
@@ -24,11 +26,22 @@ from .sessions import Session
 # A value in a table of SQLite.
 Value = Union[int, float, bytes, str, None]
 FLOATS = ("NaN", "Infinity", "-Infinity")
-# By the name of a type what a table of SQLite has of a value that is printed so; any other is its text.
-HAS: Dict[str, Callable[[str], Value]] = {
-    "smallint": int, "integer": int, "bigint": int, "boolean": lambda it: int(it == "t"), "bytea": lambda it: bytes.fromhex(it[2:]),
-    "real": lambda it: it if it in FLOATS else float(it), "double precision": lambda it: it if it in FLOATS else float(it),
+
+
+def number(text: str) -> Value:
+    return text if text in FLOATS else float(text)
+
+
+# By the name of a type that of a column in a table of SQLite, and what that has of a value which is printed so; any other is its text.
+HAS: Dict[str, Tuple[str, Callable[[str], Value]]] = {
+    "smallint": ("INTEGER", int), "integer": ("INTEGER", int), "bigint": ("INTEGER", int),
+    "boolean": ("INTEGER", lambda it: int(it == "t")), "bytea": ("BLOB", lambda it: bytes.fromhex(it[2:])),
+    "real": ("ANY", number), "double precision": ("ANY", number),
 }
+TEXT: Tuple[str, Callable[[str], Value]] = ("TEXT", str)
+# The OIDs of these types.
+OIDS = {"smallint": 21, "integer": 23, "bigint": 20, "boolean": 16, "bytea": 17, "real": 700, "double precision": 701}
+BY_OID = {oid: HAS[name] for name, oid in OIDS.items()}
 LOGGED = "CREATE TABLE logged (id bigserial PRIMARY KEY, tab text, op text, old text[], new text[])"
 LETTERS = {"INSERT": "c", "UPDATE": "u", "DELETE": "d"}
 # Of a change: its table, its letter, and the rows before and after.
@@ -123,15 +136,20 @@ def base_of(cluster: Cluster, program: Path, snapshot: Path, *publications: str,
         for schema, table, _ in list(published(session, publications)):
             name = f"{quoted(schema)}.{quoted(table)}"
             oid = int(session.value(f"SELECT '{name.replace(chr(39), chr(39) * 2)}'::regclass::oid"))
-            columns = [[it, 0, -1] for it, _ in columns_of(session, name.replace("'", "''"))]
+            columns = [[it, OIDS.get(kind, 0), -1] for it, kind in columns_of(session, name.replace("'", "''"))]
             definition = {"oid": oid, "schema": schema, "table": table, "columns": columns}
             state.begin(definition, collections.Counter(rows.get((schema, table), {})))
     return state
 
 
-def rows_of_feed(feed: Path, state: Replay | None = None) -> tuple[Rows, Replay]:
-    """The rows to which a feed leads, from its beginning or a base. Fails where a change found no row."""
-    state = replay(feed, state or Replay(int(segments(feed)[0].name, 16)))
+def rows_of_feed(feed: Path, state: Replay | None = None, look: Callable[[Replay], None] = lambda _: None) -> tuple[Rows, Replay]:
+    """The rows to which a feed leads, from its beginning or a base. Fails where a change found no row. `look` is called at each commit."""
+    state = state or Replay(int(segments(feed)[0].name, 16))
+    look(state)
+    for path in segments(feed):
+        for commit, body in commits(path):
+            state.commit(commit, body)
+            look(state)
     if state.missed:
         raise Failed(f"{state.missed} changes of the feed found no row")
     found: Rows = {}
@@ -160,41 +178,135 @@ def reading(path: Path) -> Iterator[sqlite3.Connection]:
         yield base
 
 
-def rows_of_tables(path: Path) -> tuple[dict[tuple[str, str], collections.Counter[Any]], str]:
-    """The rows of each table of a file that has any, and the file's LSN."""
-    found = {}
+class Held(NamedTuple):
+    """What a table has: the types of its columns, and how often it has each row, told so that 1, 1.0 and true are others, and -0 is."""
+
+    kinds: Tuple[str, ...]
+    rows: "collections.Counter[str]"
+
+
+# By schema and name.
+Tables = Dict[Tuple[str, str], Held]
+
+
+def held(kinds: Iterable[str], rows: Iterable[tuple[Value, ...]]) -> Held:
+    return Held(tuple(kinds), collections.Counter(repr(tuple(row)) for row in rows))
+
+
+def tables_of_file(path: Path) -> tuple[Tables, str]:
+    """The tables of a file that have rows, and the file's LSN."""
+    found: Tables = {}
     with reading(path) as base:
         (lsn,) = base.execute("SELECT lsn FROM pgsub_position").fetchone()
         for name, schema, table, _ in base.execute("SELECT * FROM pgsub_tables").fetchall():
-            if rows := collections.Counter(base.execute(f"SELECT * FROM {quoted(name)}")):
-                found[schema, table] = rows
+            kinds = [kind for (kind,) in base.execute("SELECT type FROM pragma_table_info(?)", (name,))]
+            it = held(kinds, base.execute(f"SELECT * FROM {quoted(name)}"))
+            if it.rows:
+                found[schema, table] = it
     return found, lsn
 
 
-def values_of_server(cluster: Cluster, *publications: str, database: str = "shop") -> dict[tuple[str, str], collections.Counter[Any]]:
-    """The rows of each published table that has any, as tables of SQLite have their values."""
-    found = {}
-    with cluster.connect(database) as session:
-        session.run(*(f"SET {name} = '{value}'" for name, value in SETTINGS.items()))
-        for schema, table, query in list(published(session, publications)):
-            name = f"{quoted(schema)}.{quoted(table)}".replace("'", "''")
-            reads = [HAS.get(kind, str) for _, kind in columns_of(session, name)]
-            if rows := collections.Counter(valued(reads, row) for row in session.copied(query)):
-                found[schema, table] = rows
+def tables_of_session(session: Session, *publications: str) -> Tables:
+    """Those that SQLite has to have for the rows that a session sees of published tables."""
+    found: Tables = {}
+    for schema, table, query in list(published(session, publications)):
+        name = f"{quoted(schema)}.{quoted(table)}".replace("'", "''")
+        kinds = [HAS.get(kind, TEXT) for _, kind in columns_of(session, name)]
+        reads = [read for _, read in kinds]
+        it = held((kind for kind, _ in kinds), (valued(reads, row) for row in session.copied(query)))
+        if it.rows:
+            found[schema, table] = it
     return found
+
+
+def settle(session: Session) -> None:
+    """Has values printed as they are sent."""
+    session.run(*(f"SET {name} = '{value}'" for name, value in SETTINGS.items()))
+
+
+def tables_of_server(cluster: Cluster, *publications: str, database: str = "shop") -> Tables:
+    with cluster.connect(database) as session:
+        settle(session)
+        return tables_of_session(session, *publications)
 
 
 def valued(reads: list[Callable[[str], Value]], row: Row) -> tuple[Value, ...]:
     return tuple(None if cell is None else read(cell) for read, cell in zip(reads, row))
 
 
+def compare_file(path: Path, theirs: Tables) -> int:
+    """Fails where the tables of a file aren't these. Returns how many rows there are."""
+    ours, lsn = tables_of_file(path)
+    none = Held((), collections.Counter())
+    for table in sorted({*ours, *theirs}):
+        here, there = ours.get(table, none), theirs.get(table, none)
+        if here.rows != there.rows:
+            lacks, has = list((there.rows - here.rows).items())[:3], list((here.rows - there.rows).items())[:3]
+            raise Failed(f"{path} at {lsn}, {'.'.join(table)}: it lacks {str(lacks)[:600]}, and has {str(has)[:600]} instead")
+        if here.kinds != there.kinds:
+            raise Failed(f"{path} at {lsn}, {'.'.join(table)}: columns of the types {here.kinds} in place of {there.kinds}")
+    return sum(sum(it.rows.values()) for it in ours.values())
+
+
 def compare_tables(cluster: Cluster, path: Path, *publications: str, database: str = "shop") -> int:
     """Fails where the tables of a file don't have the server's rows. Returns how many rows there are."""
-    ours, lsn = rows_of_tables(path)
-    theirs = values_of_server(cluster, *publications, database=database)
-    for table in sorted({*ours, *theirs}):
-        here, there = ours.get(table, collections.Counter()), theirs.get(table, collections.Counter())
-        if here != there:
-            lacks, has = list((there - here).items())[:3], list((here - there).items())[:3]
-            raise Failed(f"{path} at {lsn}, {'.'.join(table)}: it lacks {str(lacks)[:600]}, and has {str(has)[:600]} instead")
-    return sum(sum(rows.values()) for rows in ours.values())
+    return compare_file(path, tables_of_server(cluster, *publications, database=database))
+
+
+def digests_of(tables: Tables) -> Dict[Tuple[str, str], int]:
+    """A number for the rows of each table, which is another one for other rows."""
+    return {name: hash(frozenset(it.rows.items())) for name, it in tables.items()}
+
+
+def tables_of_replay(state: Replay) -> Tables:
+    """Those that SQLite has to have for the rows to which a feed has led."""
+    found: Tables = {}
+    for oid, rows in state.rows.items():
+        definition = state.definitions[oid]
+        kinds = [BY_OID.get(kind, TEXT) for _, kind, _ in definition["columns"]]
+        reads = [read for _, read in kinds]
+        told = (valued(reads, row) for row in (+rows).elements())  # type: ignore[arg-type]
+        if (it := held((kind for kind, _ in kinds), told)).rows:
+            found[definition["schema"], definition["table"]] = it
+    return found
+
+
+class Reader(threading.Thread):
+    """Reads a file of tables again and again while it is written, and keeps which rows it had at which LSN."""
+
+    def __init__(self, path: Path) -> None:
+        super().__init__(daemon=True)
+        self.path, self.ended = path, threading.Event()
+        self.seen: Dict[int, Dict[Tuple[str, str], int]] = {}
+        self.wrong = ""
+
+    def run(self) -> None:
+        pause = 0.1
+        while not self.ended.wait(pause) and not self.wrong:
+            began = time.monotonic()
+            if self.path.exists():
+                self.read()
+            pause = 0.1 + time.monotonic() - began
+
+    def read(self) -> None:
+        try:
+            tables, text = tables_of_file(self.path)
+        except sqlite3.Error as error:
+            self.wrong = f"a reader got: {error}"
+            return
+        found = digests_of(tables)
+        if self.seen.setdefault(lsn_of(text), found) != found:
+            self.wrong = f"a reader saw two states at {text}"
+
+    def check(self, state: Replay) -> None:
+        """Fails where it has seen other rows than those to which the feed leads there."""
+        found = self.seen.get(state.at)
+        if found is not None and found != (wanted := digests_of(tables_of_replay(state))):
+            names = [".".join(it) for it in {*found, *wanted} if found.get(it) != wanted.get(it)]
+            raise Failed(f"at {state.at:X} a reader saw other rows of {', '.join(sorted(names))} than the feed leads to")
+
+    def finish(self) -> None:
+        self.ended.set()
+        self.join()
+        if self.wrong:
+            raise Failed(self.wrong)

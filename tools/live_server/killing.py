@@ -12,10 +12,11 @@ from pathlib import Path
 from typing import Protocol
 
 import psycopg
+from feed_replay import Replay
 
 from .cluster import Cluster
 from .errors import Failed
-from .feeds import base_of, check_images, compare_tables, log_changes, rows_of_feed, segments
+from .feeds import Reader, base_of, check_images, compare_tables, log_changes, rows_of_feed, segments
 from .follower import Supervisor, checkpoint_of, is_adding, is_confirmed, wait_until
 from .load import LOGGED, SCHEMA, Mixed
 from .options import Options
@@ -173,7 +174,9 @@ class Fed:
     def __init__(self, run: Run) -> None:
         self.run, self.feed = run, Path(f"{run.store}.feed")
         self.rows, self.snapshot = Path(f"{run.store}.rows"), Path(f"{run.store}.snapshot")
+        self.reader = Reader(self.rows)
         self.logged: tuple[str, ...] = ()
+        self.checked: set[int] = set()
 
     def words(self) -> list[str]:
         # (the segments that the tables have read stay, too, to be replayed)
@@ -189,19 +192,29 @@ class Fed:
         """Copies the rows from which the feed is replayed at the end."""
         self.call("snapshot", "--store", self.run.store, "--into", self.snapshot)
         self.base = base_of(self.run.cluster, self.run.options.program, self.snapshot, "pgsub")
+        self.reader.start()
 
     def wait(self, end: str) -> None:
         wait_until(self.rows.exists, "making the tables", 120, self.run.supervisor.check)
         self.call("wait", end, "--tables", self.rows, "--within", "300")
 
     def compare(self) -> str:
-        """Compares the feed and the tables with the server. Returns what there is to say."""
+        """Compares the feed, the tables, and what a reader has seen of them, with the server. Returns what there is to say."""
+        self.reader.finish()
         # (a table that was truncated while its slot was made is copied by itself, and the commits before that lack its changes)
         above = self.base.at if self.base else 0
-        rows, state = rows_of_feed(self.feed, self.base)
+        seen = {it for it in self.reader.seen if it >= above}
+        rows, state = rows_of_feed(self.feed, self.base, self.look)
         compare(rows_of_server(self.run.cluster, "pgsub"), rows)
         count, images = compare_tables(self.run.cluster, self.rows, "pgsub"), check_images(self.feed, *self.logged, above=above)
-        return f"; a feed of {len(segments(self.feed))} segments, {state.changes} changes replayed, {images} images, {count} rows in tables"
+        if left := seen - self.checked or not seen:
+            raise Failed(f"a reader saw {len(seen)} states, and no commit ends where these do: {left}")
+        read = f"{len(seen)} states of them read"
+        return f"; a feed of {len(segments(self.feed))} segments, {state.changes} changes replayed, {images} images, {count} rows in tables, {read}"
+
+    def look(self, state: Replay) -> None:
+        self.reader.check(state)
+        self.checked.add(state.at)
 
 
 def is_read(found: Sequence[str], tables: Sequence[str]) -> bool:

@@ -1,13 +1,20 @@
-"""What is compared of a feed with a server: arrays as it prints them, and the images of a commit with what triggers have logged."""
+"""What is compared of a feed with a server: arrays as it prints them, the images of a commit with what triggers have logged, and tables with
+the rows to which a feed leads."""
 
 from __future__ import annotations
 
+import contextlib
 import json
+import sqlite3
+import tempfile
 import unittest
+from pathlib import Path
+
+from feed_replay import Replay
 
 try:
     from live_server.errors import Failed
-    from live_server.feeds import Images, read_array
+    from live_server.feeds import HAS, Held, Images, Reader, Tables, compare_file, held, read_array, tables_of_replay
 except ModuleNotFoundError:
     raise unittest.SkipTest("psycopg is needed") from None
 
@@ -49,3 +56,64 @@ class Compared(unittest.TestCase):
     def test_one_that_no_trigger_saw(self) -> None:
         with self.assertRaisesRegex(Failed, "the feed has 1, and the trigger 0"):
             self.check({"op": "table", "oid": 1, "table": "stock"}, {"op": "d", "oid": 1, "n": 0, "before": ["A", "5"], "after": None})
+
+
+class OfTables(unittest.TestCase):
+    """A file of one table with a row, compared with others."""
+
+    def setUp(self) -> None:
+        folder = tempfile.TemporaryDirectory()
+        self.addCleanup(folder.cleanup)
+        self.path = Path(folder.name) / "rows.db"
+        self.put("0/100", 1, -0.0)
+
+    def put(self, lsn: str, *row: object) -> None:
+        self.path.unlink(missing_ok=True)
+        with contextlib.closing(sqlite3.connect(self.path, isolation_level=None)) as base:
+            base.executescript(
+                "CREATE TABLE pgsub_position (lsn TEXT); CREATE TABLE pgsub_tables (name TEXT, schema TEXT, \"table\" TEXT, oid INTEGER);"
+                "INSERT INTO pgsub_tables VALUES ('t', 'public', 't', 1); CREATE TABLE t (a INTEGER, b ANY) STRICT"
+            )
+            base.execute("INSERT INTO pgsub_position VALUES (?)", (lsn,))
+            base.execute("INSERT INTO t VALUES (?, ?)", row)
+
+    def of(self, kinds: tuple[str, ...] = ("INTEGER", "ANY"), *row: object) -> Tables:
+        return {("public", "t"): held(kinds, [row or (1, -0.0)])}  # type: ignore[list-item]
+
+    def test_the_same(self) -> None:
+        self.assertEqual(compare_file(self.path, self.of()), 1)
+
+    def test_others(self) -> None:
+        for row in ((1, 0.0), (1, 0), (1.0, -0.0), (True, -0.0), (1, None), (2, -0.0)):
+            with self.assertRaisesRegex(Failed, "at 0/100, public.t: it lacks"):
+                compare_file(self.path, self.of(("INTEGER", "ANY"), *row))
+        with self.assertRaisesRegex(Failed, "columns of the types"):
+            compare_file(self.path, self.of(("INTEGER", "REAL")))
+        with self.assertRaisesRegex(Failed, "public.other: it lacks"):
+            compare_file(self.path, {**self.of(), ("public", "other"): Held(("INTEGER",), held((), [(1,)]).rows)})
+
+    def test_values_of_types(self) -> None:
+        texts = {"smallint": "7", "integer": "-7", "bigint": "9223372036854775807", "boolean": "t", "bytea": "\\x00ff", "real": "0.1", "double precision": "NaN"}
+        found = {kind: HAS[kind][1](text) for kind, text in texts.items()}
+        self.assertEqual(list(found.values()), [7, -7, (1 << 63) - 1, 1, b"\0\xff", 0.1, "NaN"])
+
+    def replayed(self, b: str) -> Replay:
+        state = Replay(0x100)
+        definition = {"oid": 1, "schema": "public", "table": "t", "columns": [["a", 23, -1], ["b", 701, -1]]}
+        state.describe(definition)
+        state.change({"op": "c", "oid": 1, "before": None, "after": ["1", b]})
+        return state
+
+    def test_what_a_reader_sees(self) -> None:
+        self.assertEqual(tables_of_replay(self.replayed("-0")), self.of())
+        reader = Reader(self.path)
+        reader.read()
+        reader.check(self.replayed("-0"))
+        with self.assertRaisesRegex(Failed, "at 100 a reader saw other rows of public.t"):
+            reader.check(self.replayed("0"))
+        self.put("0/100", 1, 5.0)
+        reader.read()
+        self.assertEqual(reader.wrong, "a reader saw two states at 0/100")
+        self.path.write_bytes(b"no database at all" * 100)
+        reader.read()
+        self.assertIn("a reader got: ", reader.wrong)

@@ -54,7 +54,7 @@ def make(options: Options, check: Check) -> None:
     elif options.store:
         base = own_name(options.into + ".base")
         try:
-            export(dataclasses.replace(options, command="export", into=base), check)
+            export(dataclasses.replace(options, command="export", into=base, table=[]), check)
             make_from(base, options, check)
         finally:
             remove(base)

@@ -3,6 +3,7 @@
 from __future__ import annotations
 
 import dataclasses
+import math
 import sqlite3
 from collections.abc import Sequence
 
@@ -20,6 +21,12 @@ NONE = Column("pgsub_none", 25, -1, False)
 # How many columns the index has by which a row without a key is found.
 INDEXED = 4
 ROW_IDS = ("rowid", "_rowid_", "oid")
+# The function of a connection that tells a zero with a sign, which SQLite takes for one without.
+IS_MINUS_ZERO = "pgsub_is_minus_zero"
+
+
+def is_minus_zero(value: Bound) -> bool:
+    return value == 0 and isinstance(value, float) and math.copysign(1, value) < 0
 
 
 def with_columns(relation: Relation) -> Relation:
@@ -117,9 +124,12 @@ class Kept(Valued):
 
     def where(self, first: int) -> str:
         """What finds a row, by values that are bound from a number on."""
-        where = listed([self.target.columns[at] for at in self.found], self.values(self.found, first))
+        columns, values = [self.target.columns[at] for at in self.found], self.values(self.found, first)
+        where = listed(columns, values)
         if self.target.is_keyed:
             return where
+        if floats := [at for at, (kind, _, _) in enumerate(self.target.kinds) if kind == "ANY"]:
+            where += " AND " + listed(*([f"{IS_MINUS_ZERO}({some[at]})" for at in floats] for some in (columns, values)))
         row_id = self.row_id()
         return f"{row_id} = (SELECT {row_id} FROM {identifier(self.name)} WHERE {where} LIMIT 1)"
 

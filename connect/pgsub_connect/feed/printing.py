@@ -12,13 +12,13 @@ from collections.abc import Callable, Sequence
 from .. import log
 from ..cli import Start, TellVersion, guarded, lsn, stop_by_signals
 from ..errors import Stopped
+from ..naming import names_of
 from ..postgres import Check
 from ..remembered import Relation
 from .bulk import Bulk
 from .formats import FORMATS, Format
 from .polling import Poll
 from .reading import Reader
-from .rowsfile import names_of
 from .undoing import undo
 
 ABOUT = """\
@@ -82,7 +82,7 @@ def arguments(words: Sequence[str]) -> Options:
 
 def chooser(names: list[str]) -> Callable[[Relation], bool]:
     chosen = set(names)
-    return lambda relation: not chosen or bool(chosen & names_of(relation))
+    return lambda relation: not chosen or bool(chosen & names_of(relation.namespace, relation.name))
 
 
 def form_of(options: Options, is_chosen: Callable[[Relation], bool]) -> Format | Bulk:

@@ -21,13 +21,13 @@ from .. import log
 from ..catalog import Column, Shape
 from ..errors import FileError, Passing, Unfit
 from ..exporting import key_index
-from ..naming import OLD, POSITION, TABLES, folded, told_columns, usable_name
+from ..naming import OLD, POSITION, TABLES, folded, names_of, told_columns, usable_name
 from ..remembered import Relation
 from ..texts import identifier, lsn_text, parse_lsn
 from .carrying import carry, loosen, sources
 from .decoding import read_relation
 from .initial import Init
-from .kept import Kept, rows_index
+from .kept import IS_MINUS_ZERO, Kept, is_minus_zero, rows_index
 from .parts import Head
 
 APPLICATION, FORMAT = 0x70677374, 1
@@ -63,10 +63,8 @@ def full_name(relation: Relation) -> tuple[str, str]:
     return relation.namespace or "pg_catalog", relation.name
 
 
-def names_of(relation: Relation) -> set[str]:
-    """The names by which a table may be chosen."""
-    schema, name = full_name(relation)
-    return {f"{schema}.{name}"} | ({name} if schema == "public" else set())
+def same_table(one: Relation, other: Relation, name: str) -> Unfit:
+    return Unfit(f"{one.text()} and {other.text()} would have the same table {name}: begin anew, and choose the tables by --table")
 
 
 def unlisted(db: sqlite3.Connection, name: str, schema: str, table: str, oid: int) -> Relation:
@@ -99,6 +97,7 @@ class Rows:
         # (what a power cut takes, the feed still has)
         for pragma in ("synchronous = NORMAL", "legacy_alter_table = ON", "foreign_keys = OFF", "cache_size = -32000"):
             self.db.execute(f"PRAGMA {pragma}")
+        self.db.create_function(IS_MINUS_ZERO, 1, is_minus_zero, deterministic=True)
 
     def reload(self) -> None:
         """Reads what the file has."""
@@ -192,7 +191,7 @@ class Rows:
             raise Unfit(f"{self.path} has rows of {was.text()}, and the feed is of {head.text()}")
 
     def is_chosen(self, relation: Relation) -> bool:
-        return not self.chosen or bool(self.chosen & names_of(relation))
+        return not self.chosen or bool(self.chosen & names_of(relation.namespace, relation.name))
 
     # ---- its tables
 
@@ -226,10 +225,7 @@ class Rows:
         holder = self.names.get(folded(name))
         if holder and holder.oid != relation.oid:
             if full_name(holder.relation) != full_name(relation):
-                raise Unfit(
-                    f"{relation.text()} and {holder.relation.text()} would have the same table {name}: begin anew, and choose"
-                    " the tables by --table"
-                )
+                raise same_table(relation, holder.relation, name)
             self.rename(holder, ASIDE + str(holder.oid))
             self.note(holder)
         return name
@@ -305,8 +301,12 @@ def prepare(db: sqlite3.Connection, folder: str, chosen: Iterable[str], is_base:
         db.execute(statement)
     names = sorted(set(chosen))
     db.execute(f"INSERT INTO {FEED} VALUES (?, NULL, NULL, NULL, ?)", (folder, json.dumps(names)))
+    taken = dict[str, Relation]()
     for name, schema, table, oid in db.execute(f"SELECT * FROM {TABLES}").fetchall():
-        if not names or set(names) & names_of(Relation(oid, schema, table, Shape("f", ()))):
+        if not names or set(names) & names_of(schema, table):
+            relation, usual = Relation(oid, schema, table, Shape("f", ())), usable_name(schema, table)
+            if (other := taken.setdefault(folded(usual), relation)) is not relation:
+                raise same_table(relation, other, usual)
             db.execute(f"INSERT INTO {RELATIONS} VALUES (?, ?, NULL)", (oid, name))
         else:
             db.execute(f"DROP TABLE {identifier(name)}")

@@ -7,6 +7,7 @@ import json
 import shutil
 import sqlite3
 import struct
+import subprocess
 import threading
 import time
 from collections.abc import Callable, Iterator
@@ -15,6 +16,7 @@ from typing import Any, Optional
 
 from ..child import Child
 from ..errors import Failed
+from ..feeds import reading
 from ..follower import wait_until
 from ..load import SCHEMA, Worker, final_statements
 from ..place import OK, PASSING, Place
@@ -50,6 +52,38 @@ class Moves:
                     f"INSERT INTO move VALUES ({self.moves}, {source}, {target}, {more})", "COMMIT",
                 )
                 time.sleep(self.pause)
+
+
+def feed_of(place: Place) -> Path:
+    return place.beside(".feed")
+
+
+def rows_file(place: Place) -> Path:
+    return place.folder / "rows.db"
+
+
+def wait(place: Place, lsn: str, *more: str, status: int = OK) -> None:
+    place.subcommand("wait", lsn, "--tables", str(rows_file(place)), *more, status=status)
+
+
+def now_in_tables(place: Place) -> None:
+    """Waits until the tables have all that is committed now."""
+    wait(place, place.value("SELECT pg_current_wal_insert_lsn()"))
+
+
+def position_of(place: Place) -> str:
+    """The LSN of the tables."""
+    with reading(rows_file(place)) as base:
+        return str(base.execute("SELECT lsn FROM pgsub_position").fetchone()[0])
+
+
+def undo(place: Place, begin: str, end: str, *more: str) -> str:
+    """The SQL that takes commits of the feed back."""
+    words = [str(place.options.connect.parent / "pgsub-feed"), "--feed", str(feed_of(place)), "--undo", begin, end, *more]
+    done = subprocess.run(words, capture_output=True, check=False)
+    if done.returncode:
+        raise Failed(f"undo: status {done.returncode}: {done.stderr.decode(errors='replace')}")
+    return done.stdout.decode()
 
 
 @contextlib.contextmanager

@@ -25,25 +25,8 @@ from ..patience import Patience
 from ..place import FILE, LOG, OK, UNFIT, Place
 from ..rows import compare, rows_of_server
 from .case import Case
-from .common import ACCOUNTS, Moves
+from .common import ACCOUNTS, Moves, feed_of, now_in_tables, rows_file, wait
 from .exports import check_whole
-
-
-def feed_of(place: Place) -> Path:
-    return place.beside(".feed")
-
-
-def rows_file(place: Place) -> Path:
-    return place.folder / "rows.db"
-
-
-def wait(place: Place, lsn: str, *more: str, status: int = OK) -> None:
-    place.subcommand("wait", lsn, "--tables", str(rows_file(place)), *more, status=status)
-
-
-def now_in_tables(place: Place) -> None:
-    """Waits until the tables have all that is committed now."""
-    wait(place, place.value("SELECT pg_current_wal_insert_lsn()"))
 
 
 def equal_tables(place: Place) -> None:

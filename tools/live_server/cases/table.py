@@ -11,9 +11,8 @@ from ..errors import Unusable
 from ..options import Options
 from ..place import Place, Shared
 from . import (
-    adding, altering, copying, feeding, missing, names, operating, privacy, publications, reaching, repairing, shapes, sideroads, silence,
-    sinking, slots, standbys,
-    starts, stops, timelines, values, verifying, versions,
+    adding, altering, copying, feeding, kinds, missing, names, operating, past, privacy, publications, reaching, repairing, shapes, sideroads,
+    silence, sinking, slots, standbys, starts, stops, tabling, timelines, twice, values, verifying, versions,
 )
 from .case import Case
 from .exports import CASES as EXPORTS
@@ -22,10 +21,10 @@ THEMES: dict[str, Sequence[Case]] = {
     "starts": (*starts.CASES, *shapes.CASES),
     "names": names.CASES,
     "publications": publications.CASES,
-    "values": values.CASES,
+    "values": (*values.CASES, *kinds.CASES),
     "missing": missing.CASES,
     "exports": EXPORTS,
-    "feeds": feeding.CASES,
+    "feeds": (*feeding.CASES, *tabling.CASES, *past.CASES, *twice.CASES),
     "sinks": sinking.CASES,
     "verifying": verifying.CASES,
     "adding": adding.CASES,
