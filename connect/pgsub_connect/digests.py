@@ -116,6 +116,10 @@ class Sums:
     def total(self) -> int:
         return sum(self.rows)
 
+    def totals(self) -> tuple[int, int, int]:
+        """How many rows the table has, and the two sums over all chunks: those that it would have with one chunk."""
+        return self.total(), sum(self.first), sum(self.second)
+
     def differing(self, other: Sums) -> list[int]:
         """The chunks that aren't the same."""
         ours, theirs = zip(self.rows, self.first, self.second), zip(other.rows, other.first, other.second)
@@ -130,8 +134,11 @@ class Summing:
 
     def add(self, body: bytes, copies: int) -> None:
         """Adds a stored row that is there so often."""
+        self.add_fields(fields_of(body, self.plan.width), copies)
+
+    def add_fields(self, fields: Fields, copies: int) -> None:
+        """Adds a row by its fields."""
         plan, sums = self.plan, self.sums
-        fields = fields_of(body, plan.width)
         text = text_of(fields)
         words = words_of(hash_of(text))
         key = words_of(hash_of(plan.key_text(fields, text))) if plan.key else words

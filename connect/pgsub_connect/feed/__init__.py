@@ -7,4 +7,5 @@
 | `pgsub-feed` | `printing`, `formats`, `undoing` |
 | tables of SQLite that follow it | `tabling`, `beginning`, `noting`, `awaiting`, `applying`, `back` |
 | .. and the file that they are in | `rowsfile`, `kept`, `carrying`, `initial` |
+| .. their digests, and comparing them | `digesting`, `fields`, `verifying`, `viewing`, `trail` |
 """
