@@ -194,11 +194,14 @@ class Queries:
         return f"('x' || pg_catalog.substr({text}, {8 * word + 1}, 8))::bit(32)::integer"
 
     def chunk(self, text: str) -> str:
+        if self.plan.chunks == 1:
+            return "0"
         return f"({self.word(text, CHUNK_WORD)} & {self.plan.chunks - 1})"
 
     def sums(self) -> str:
         """Of each chunk that has rows: its number, how many, and the two sums."""
-        key, name = (f", {self.hashed('k')} AS k", "k") if self.plan.key else ("", "h")
+        is_keyed = self.plan.key and self.plan.chunks > 1
+        key, name = (f", {self.hashed('k')} AS k", "k") if is_keyed else ("", "h")
         hashed = f"SELECT {self.hashed('r')} AS h{key} FROM ({self.rows()}) s OFFSET 0"
         return (
             f"SELECT w.c, pg_catalog.count(*), pg_catalog.sum(w.a), pg_catalog.sum(w.b) FROM (SELECT {self.chunk(name)} AS c,"

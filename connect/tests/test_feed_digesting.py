@@ -9,8 +9,11 @@ from typing import Any
 
 from feed_text import Column, Definition, Line
 from pgsub_connect.errors import FileError
-from pgsub_connect.feed import digesting, tabling
+from pgsub_connect.feed import tabling
+from pgsub_connect.feed.applying import Applier
 from pgsub_connect.feed.digesting import Digest, read_digests
+from pgsub_connect.feed.reading import Reader
+from pgsub_connect.feed.rowsfile import Rows
 from pgsub_connect.postgres import never
 
 from .feeds import ID, NAME, delete, insert, table, truncate, update
@@ -160,6 +163,21 @@ class Files(DigestsCase):
         self.run_it()
         self.has(["1", "a"], ["2", "b"])
 
+    def test_what_is_rolled_back_in_one_run(self) -> None:
+        self.take(insert("2", "b"), delete("1", "a"))
+        rows = Rows(self.into)
+        for is_kept in (False, True):
+            with contextlib.closing(Reader(str(self.path), rows.at)) as reader:
+                commit = reader.next()
+                assert commit and rows.digests
+                rows.begin()
+                Applier(rows, never).apply(commit, reader.parts(commit))
+                self.assertEqual(rows.digests.known, {1: digest_of(["2", "b"])})
+                rows.settle(commit.end) if is_kept else rows.roll_back()
+                self.assertEqual(rows.digests.known, {1: digest_of(["2", "b"] if is_kept else ["1", "a"])})
+        rows.close(True)
+        self.has(["2", "b"])
+
     def test_later(self) -> None:
         """A file that is there gets them once they are asked for."""
         self.into += ".later"
@@ -182,7 +200,3 @@ class Files(DigestsCase):
         self.assertEqual(self.digests(), {})
         self.taken(insert("2", "b"))
         self.has(["1", "a"], ["2", "b"])
-
-    def test_as_text(self) -> None:
-        self.assertEqual(Digest(3, -1, 2).text(), "3-ffffffffffffffff0000000000000002")
-        self.assertEqual(digesting.NOTHING.plus(Digest(1, 2, 3).times(-1)), Digest(-1, -2, -3))

@@ -7,7 +7,7 @@ import io
 import json
 import shutil
 import sqlite3
-from collections.abc import Sequence
+from collections.abc import Callable, Sequence
 from types import SimpleNamespace
 from typing import Any
 from unittest import mock
@@ -47,6 +47,8 @@ class VerifyCase(TablesCase):
         self.server.answer("reltuples", [["10"]])
         self.published: list[Table] = [STOCK, WHOLE]
         self.point = 0x200
+        # what is done once the server's tables are locked
+        self.meanwhile: Callable[[], object] = lambda: None
         self.said: list[str] = []
         self.patches = contextlib.ExitStack()
         self.addCleanup(self.patches.close)
@@ -60,7 +62,7 @@ class VerifyCase(TablesCase):
         found = SimpleNamespace(plain=connection_to(self.server), encoding="UTF8", tables=self.published, seen=[], closed=0)
         found.chosen = lambda names: chosen(self.published, names) if names else list(self.published)
         found.make_slot = lambda seconds: (self.point, "snapshot")
-        found.see, found.close = found.seen.append, found.plain.close
+        found.see, found.close = lambda snapshot: self.meanwhile(), found.plain.close
         return found
 
     def verified(self, status: int, **more: Any) -> list[dict[str, Any]]:
@@ -237,6 +239,27 @@ class Server(VerifyCase):
             self.confirm(0)
             self.feed.commit(0x30000, [insert("12", "x")])
             self.fails(Passing, "rows.db is at 0/200, and")
+
+    def test_a_table_that_is_added(self) -> None:
+        """It has no state of the server, also where that begins meanwhile."""
+        store = self.folder / "store"
+        path = self.folder / "store.connector"
+
+        def add(oid: int) -> None:
+            path.write_text(json.dumps({"phase": "following", "adding": {str(oid): 0}}))
+
+        add(1)
+        self.fails(Passing, "being added just now, or refused: public.stock", store=str(store))
+        self.equal(store=str(store), table=["whole"])
+        path.unlink()
+        self.equal(store=str(store))
+        self.meanwhile = lambda: add(2)
+        self.fails(Passing, "being added just now, or refused: public.whole", store=str(store))
+
+    def test_a_file_that_is_taken_back_meanwhile(self) -> None:
+        with mock.patch.object(verifying, "wait", lambda path, trail, point, check: trail.has(point)):
+            self.meanwhile = lambda: self.plant("UPDATE pgsub_position SET lsn = '0/100'")
+            self.fails(Passing, "rows.db was taken back to 0/100 meanwhile")
 
     def test_a_file_of_something_else(self) -> None:
         for path, text in ((self.into + ".none", "there is no file"), (str(self.path / "confirmed"), "has no tables that follow a feed")):

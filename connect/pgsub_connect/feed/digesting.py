@@ -30,9 +30,6 @@ class Digest(NamedTuple):
     first: int
     second: int
 
-    def text(self) -> str:
-        return f"{self.rows}-{self.first % (1 << 64):016x}{self.second % (1 << 64):016x}"
-
     def plus(self, other: Digest) -> Digest:
         return Digest(self.rows + other.rows, self.first + other.first, self.second + other.second)
 

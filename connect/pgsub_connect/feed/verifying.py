@@ -125,7 +125,7 @@ def with_server(options: Options, check: Check) -> int:
         at, folder = read_file(options.tables)
         trail = stack.enter_context(contextlib.closing(Trail(options.feed or folder, at)))
         source = stack.enter_context(contextlib.closing(source_of(options, check)))
-        tables = settled(source.chosen(options.table), read_known(options.store + ".connector"), Remembered(options.store).partial)
+        tables = followed(options, source.chosen(options.table))
         point, snapshot = source.make_slot(options.hold)
         source.see(snapshot)
         if point < at:
@@ -133,11 +133,20 @@ def with_server(options: Options, check: Check) -> int:
             trail = stack.enter_context(contextlib.closing(Trail(options.feed or folder, point)))
         wait(options.tables, trail, point, check)
         view = stack.enter_context(contextlib.closing(View(options.tables, check)))
+        if view.at < trail.last:
+            raise Passing(f"{options.tables} was taken back to {lsn_text(view.at)} meanwhile: nothing was compared")
         view.trail = trail
+        # (of one that is added since then the feed lacks changes up to here, or truncates it)
+        followed(options, tables)
         sides = Tables(source, view)
         tell_left(sides)
         status = compare(options, sides, with_rows(options, view, tables), f"on the server at {lsn_text(point)}", [view])
     return status
+
+
+def followed(options: Options, tables: list[Table]) -> list[Table]:
+    """Tables none of which is being added now, as far as the store is known."""
+    return settled(tables, read_known(options.store + ".connector"), Remembered(options.store).partial)
 
 
 def source_of(options: Options, check: Check) -> Source:

@@ -11,7 +11,7 @@ from ..errors import Unusable
 from ..options import Options
 from ..place import Place, Shared
 from . import (
-    adding, altering, copying, feeding, missing, names, operating, privacy, publications, reaching, repairing, shapes, sideroads, silence, slots, standbys,
+    adding, altering, copying, feeding, missing, names, operating, privacy, proving, publications, reaching, repairing, shapes, sideroads, silence, slots, standbys,
     starts, stops, timelines, values, verifying, versions,
 )
 from .case import Case
@@ -25,7 +25,7 @@ THEMES: dict[str, Sequence[Case]] = {
     "missing": missing.CASES,
     "exports": EXPORTS,
     "feeds": feeding.CASES,
-    "verifying": verifying.CASES,
+    "verifying": (*verifying.CASES, *proving.CASES),
     "adding": adding.CASES,
     "repairing": repairing.CASES,
     "timelines": timelines.CASES,
