@@ -54,13 +54,19 @@ def processor() -> float:
     return used.ru_utime + used.ru_stime
 
 
+def run(folder: Path, count: int, *more: str) -> str:
+    """Takes all of a feed into a new file."""
+    before, began = processor(), time.monotonic()
+    subprocess.run(words(folder, "--once", *more), check=True, stderr=subprocess.DEVNULL)
+    took, used = time.monotonic() - began, processor() - before
+    (folder / "rows.db").unlink()
+    return f"{count / took:,.0f} | {1e6 * used / count:.1f}"
+
+
 def measure(folder: Path, count: int, each: int, are_inserts: bool) -> str:
     write(folder / "feed", count, each, are_inserts)
-    before, began = processor(), time.monotonic()
-    subprocess.run(words(folder, "--once"), check=True, stderr=subprocess.DEVNULL)
-    took, used = time.monotonic() - began, processor() - before
     kind = "inserts" if are_inserts else "updates"
-    return f"| {kind} | {each:,} | {count / took:,.0f} | {1e6 * used / count:.1f} |"
+    return f"| {kind} | {each:,} | {run(folder, count)} | {run(folder, count, '--digests')} |"
 
 
 def lags(folder: Path, count: int, pause: float) -> list[float]:
@@ -93,7 +99,7 @@ def main() -> None:
     parser.add_argument("--changes", type=int, default=400000)
     parser.add_argument("--folder")
     options = parser.parse_args()
-    print("| Changes | In a commit | In a second | Processor, µs each |\n|---|---|---|---|")
+    print("| Changes | In a commit | In a second | Processor, µs each | With digests | Processor, µs each |\n|---|---|---|---|---|---|")
     for are_inserts in (True, False):
         for each in (1, 100, 10000):
             with tempfile.TemporaryDirectory(dir=options.folder) as folder:

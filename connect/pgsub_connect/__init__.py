@@ -9,7 +9,7 @@
 | the server | `postgres`, `server`, `catalog`, `facts` |
 | what may make the copy wrong | `watching`, `missing`, `remembered`, `found`, `differences` |
 | how it goes | `progress`, `asking`, `lag`, `reporting`, `metrics` |
-| copies for readers | `snapshots`, `resting`, `taking`, `exporting`, `stored`, `values`, `naming`, `placing` |
+| copies for readers | `snapshots`, `resting`, `taking`, `exporting`, `stored`, `values`, `floats`, `naming`, `placing` |
 | copy and server compared | `verifying`, `sides`, `digests`, `meeting`, `holding` |
 | rows that differ are mended | `mending`, `repairing` |
 | other subcommands | `checking`, `dropping`, `probing` |

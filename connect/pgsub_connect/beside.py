@@ -52,6 +52,7 @@ def words_of(options: Options) -> list[str]:
     """How it is started."""
     words = [sys.executable, "-c", CODE, "tables", "--feed", options.feed, "--into", options.tables, "--store", options.store]
     words += ["--reader", READER, "--mode", f"{options.mode:o}", "--while-input"]
+    words += ["--digests"] if options.digests else []
     return words + (["--init", options.init] if options.init else [])
 
 

@@ -22,6 +22,7 @@ from .comparing import require_published
 from .copying import Copier, create_slot, maker_of
 from .errors import EngineError, FileError, FilterFault, NoSlot, Passing, ServerError, Stopped, TooLarge, Unfit, UsageError
 from .feed import awaiting, tabling
+from .feed import verifying as tables_verifying
 from .feeding import Feeding
 from .filtering import Filter, FilterEnded
 from .following import Follower
@@ -132,6 +133,8 @@ class Options:
     show: int = 20
     hold: float = 10.0
     repair: bool = False
+    digests: bool = False
+    other: str = ""
     feed: str = ""
     without_feed: bool = False
     feed_segment_bytes: int = 0
@@ -272,6 +275,7 @@ def add_feeding(parser: argparse.ArgumentParser) -> None:
     add("--tables", metavar="FILE", default="",
         help="keep ordinary tables in this file of SQLite, by `pgsub-connect tables` beside the follower; the feed is STORE.feed by default")
     add("--init", metavar="FILE", help="with --tables: run this SQL once a table was made or altered, for indexes and views")
+    add("--digests", action="store_true", help="with --tables: keep a digest of each table, for `verify`")
 
 
 def add_publishing(add: Callable[..., object]) -> None:
@@ -349,12 +353,16 @@ def add_exporting(parser: argparse.ArgumentParser) -> None:
 
 def add_verifying(parser: argparse.ArgumentParser) -> None:
     add = parser.add_argument
-    add("--store", metavar="FILE", required=True, help="the store, which has to be followed meanwhile")
+    add("--store", metavar="FILE", default="", help="the store, which has to be followed meanwhile")
+    add("--tables", metavar="FILE", default="", help="compare these tables that follow a feed, and hold nothing meanwhile")
+    add("--with", dest="other", metavar="FILE", default="", help="compare --tables with those of this file, and not with the server")
+    add("--feed", metavar="FOLDER", default="", help="the feed of --tables (default: the one that the file follows)")
+    add("--digests", action="store_true", help="compare the digests that --tables keep, and read rows only where they differ")
     add("--table", action="append", default=[], help="compare this table, may be repeated (default: all that are published)")
     add("--repair", action="store_true", help="have the follower mend the rows that differ, or copy a table anew of which many do")
     add("--show", type=within(0, 1 << 20), default=20, metavar="N", help="print at most N keys that differ (default: 20)")
     add("--hold", type=within_seconds(600.0), default=10.0, metavar="N",
-        help="hold the stream for at most N seconds until the server has made a slot (default: 10)")
+        help="wait for at most N seconds until the server has made a slot, and hold the stream to a store meanwhile (default: 10)")
 
 
 def add_tabling(parser: argparse.ArgumentParser) -> None:
@@ -437,13 +445,15 @@ def check(parser: argparse.ArgumentParser, options: Options) -> None:
         options.feed = options.feed or (options.store + ".feed" if options.tables else "")
     for given, needed in (
         ("table", "create"), ("all_tables", "create"), ("failover", "create"), ("append", "record"), ("snapshot", "store"),
-        ("snapshot_every", "snapshot"), ("skip", "store"), ("strict", "store"), ("init", "tables"), ("feed_segment_bytes", "feed"),
+        ("snapshot_every", "snapshot"), ("skip", "store"), ("strict", "store"), ("init", "tables"), ("digests", "tables"), ("feed_segment_bytes", "feed"),
         ("feed_segment_seconds", "feed"), ("feed_max_bytes", "feed"), ("feed_max_age", "feed"),
     ):
         if options.command not in ("check", "status", "verify", "add", "tables", "export", "sink") and getattr(options, given) and not getattr(options, needed):
             parser.error(f"--{given.replace('_', '-')} needs --{needed}")
     if options.command == "follow" and not options.store:
         parser.error("--store is needed")
+    if options.command == "verify":
+        check_verifying(parser, options)
     if options.command == "record" and not options.record:
         parser.error("--record is needed")
     if options.streaming and options.proto != 2:
@@ -457,6 +467,16 @@ def check(parser: argparse.ArgumentParser, options: Options) -> None:
     options.once = options.once or options.at is not None
 
 
+def check_verifying(parser: argparse.ArgumentParser, options: Options) -> None:
+    if not (options.store or options.tables):
+        parser.error("--store or --tables is needed")
+    for given, name in ((options.other, "with"), (options.feed, "feed"), (options.digests, "digests")):
+        if given and not options.tables:
+            parser.error(f"--{name} needs --tables")
+    if options.tables and options.repair:
+        parser.error("--repair is for a store: what follows its feed gets what was repaired")
+
+
 def settle_options(options: Options) -> None:
     """Fills in what stands elsewhere: the connection string of a file, the program, the limits."""
     if options.command in ("status", "wait"):
@@ -466,6 +486,8 @@ def settle_options(options: Options) -> None:
             options.dsn = file.readline().strip()
     elif {"password", "sslpassword"} & parameters(options.dsn).keys():
         log.warning("the password on the command line can be read by every account: use ~/.pgpass, PGPASSWORD or --dsn-file")
+    if options.command == "verify" and options.tables:
+        options.store = options.store or tables_verifying.store_of(options.tables)
     remembered = Remembered(options.store).publications() if os.path.exists(options.store) else []
     options.publication = options.publication or remembered or ["pgsub"]
     options.pgsub = options.pgsub or program()
@@ -642,10 +664,14 @@ def stoppable(call: Callable[[Options, Check], int]) -> Callable[[Options], int]
     return run
 
 
+def verify(options: Options, check: Check) -> int:
+    return tables_verifying.run(options, check) if options.tables else verifying.run(options, check)
+
+
 RUNS: dict[str, Callable[[Options], Any]] = {
     "follow": follow, "record": record, "check": stoppable(checking.run), "drop": stoppable(dropping.run),
     "export": stoppable(exporting.run), "snapshot": stoppable(taking.run),
-    "verify": stoppable(verifying.run), "add": stoppable(requesting.run), "refresh": stoppable(refreshing.run), "names": lambda options: print_names(options.store), "status": probing.run,
+    "verify": stoppable(verify), "add": stoppable(requesting.run), "refresh": stoppable(refreshing.run), "names": lambda options: print_names(options.store), "status": probing.run,
     "tables": stoppable(tabling.run), "sink": stoppable(sinking.run), "wait": stoppable(awaiting.run),
 }
 

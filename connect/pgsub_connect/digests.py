@@ -116,6 +116,10 @@ class Sums:
     def total(self) -> int:
         return sum(self.rows)
 
+    def totals(self) -> tuple[int, int, int]:
+        """How many rows the table has, and the two sums over all chunks: those that it would have with one chunk."""
+        return self.total(), sum(self.first), sum(self.second)
+
     def differing(self, other: Sums) -> list[int]:
         """The chunks that aren't the same."""
         ours, theirs = zip(self.rows, self.first, self.second), zip(other.rows, other.first, other.second)
@@ -130,8 +134,11 @@ class Summing:
 
     def add(self, body: bytes, copies: int) -> None:
         """Adds a stored row that is there so often."""
+        self.add_fields(fields_of(body, self.plan.width), copies)
+
+    def add_fields(self, fields: Fields, copies: int) -> None:
+        """Adds a row by its fields."""
         plan, sums = self.plan, self.sums
-        fields = fields_of(body, plan.width)
         text = text_of(fields)
         words = words_of(hash_of(text))
         key = words_of(hash_of(plan.key_text(fields, text))) if plan.key else words
@@ -187,11 +194,14 @@ class Queries:
         return f"('x' || pg_catalog.substr({text}, {8 * word + 1}, 8))::bit(32)::integer"
 
     def chunk(self, text: str) -> str:
+        if self.plan.chunks == 1:
+            return "0"
         return f"({self.word(text, CHUNK_WORD)} & {self.plan.chunks - 1})"
 
     def sums(self) -> str:
         """Of each chunk that has rows: its number, how many, and the two sums."""
-        key, name = (f", {self.hashed('k')} AS k", "k") if self.plan.key else ("", "h")
+        is_keyed = self.plan.key and self.plan.chunks > 1
+        key, name = (f", {self.hashed('k')} AS k", "k") if is_keyed else ("", "h")
         hashed = f"SELECT {self.hashed('r')} AS h{key} FROM ({self.rows()}) s OFFSET 0"
         return (
             f"SELECT w.c, pg_catalog.count(*), pg_catalog.sum(w.a), pg_catalog.sum(w.b) FROM (SELECT {self.chunk(name)} AS c,"

@@ -8,6 +8,7 @@ from __future__ import annotations
 import collections
 import itertools
 from collections.abc import Iterable, Iterator
+from typing import Protocol
 
 from .digests import Plan, Queries, Summing, Sums, chunks_for, fields_in, fields_of, text_of
 from .errors import Unfit
@@ -32,6 +33,27 @@ Row = tuple[bytes, bytes, int]
 Difference = tuple[bytes, Group, Group]
 
 
+class Copied(Protocol):
+    """A copy as of the LSN. `counts`: about how many rows each table has, by OID."""
+
+    counts: dict[int, int]
+
+    def columns(self, table: Table) -> list[str]:
+        """The names of a table's columns here; those of the server where nothing of it ever came."""
+
+    def relation(self, oid: int) -> Relation | None:
+        """A table's definition here, None where nothing of it ever came."""
+
+    def left(self, tables: Iterable[Table]) -> list[Relation]:
+        """The tables that have rows here and aren't among these."""
+
+    def sums(self, plans: Iterable[Plan]) -> dict[int, Sums]:
+        """Those of each table."""
+
+    def rows(self, plan: Plan, chunks: list[int]) -> Iterator[Row]:
+        """The rows of some chunks, in the order of their keys."""
+
+
 class Copy:
     """The copy as of the LSN: a store's file."""
 
@@ -49,6 +71,9 @@ class Copy:
         """The names of a table's columns here; those of the server where nothing of it ever came."""
         relation = self.relations.get(table.oid)
         return [it.name for it in relation.shape.columns] if relation else [it.name for it in table.columns]
+
+    def relation(self, oid: int) -> Relation | None:
+        return self.relations.get(oid)
 
     def left(self, tables: Iterable[Table]) -> list[Relation]:
         """The tables that have rows here and aren't among these."""
@@ -112,9 +137,12 @@ def differing(server: Iterable[Row], copy: Iterable[Row]) -> Iterator[Difference
 
 
 class Sides:
-    """A server and a copy of it."""
+    """A server and a copy of it. `names`: what the sides are called where rows are shown; `more`: how many equal rows one has more of;
+    `places`: where the rows of each are."""
 
-    def __init__(self, source: Source, copy: Copy) -> None:
+    names, more, places = ("server", "copy"), ("more_on_server", "more_in_copy"), ("on the server", "in the copy")
+
+    def __init__(self, source: Source, copy: Copied) -> None:
         self.source, self.copy = source, copy
 
     def has_columns(self, table: Table) -> bool:

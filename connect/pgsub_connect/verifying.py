@@ -74,8 +74,9 @@ class Verifier:
         if self.sides.has_columns(table):
             return True
         there, here = [it.name for it in table.columns], self.sides.copy.columns(table)
-        self.tell({"table": table.text(), "columns": {"server": there, "copy": here}})
-        log.warning(f"{table.text()}: it has other columns on the server than in the copy, so its rows aren't compared")
+        self.tell({"table": table.text(), "columns": dict(zip(self.sides.names, (there, here)))})
+        one, two = self.sides.places
+        log.warning(f"{table.text()}: it has other columns {one} than {two}, so its rows aren't compared")
         return False
 
     def is_equal(self, plan: Plan, ours: Sums) -> bool:
@@ -85,7 +86,8 @@ class Verifier:
         chunks = theirs.differing(ours)
         if not chunks:
             return True
-        text = f"{plan.table.text()}: {counted(theirs.total(), 'row')} on the server, {ours.total()} in the copy"
+        one, two = self.sides.places
+        text = f"{plan.table.text()}: {counted(theirs.total(), 'row')} {one}, {ours.total()} {two}"
         log.warning(f"{text}; {len(chunks)} of {counted(plan.chunks, 'chunk')} differ")
         if self.left > 0:
             # (each of them has a row to show)
@@ -110,13 +112,13 @@ class Verifier:
             return dict(zip(names, map(shown, fields), strict=True))
 
         if not plan.key:
-            more = {"more_on_server": sum(theirs.values()), "more_in_copy": sum(ours.values())}
+            more = {it: sum(group.values()) for it, group in zip(self.sides.more, (theirs, ours))}
             self.tell({"table": plan.table.text(), "row": row(fields_in(key)), **more})
             return
         about = dict(zip((names[it] for it in plan.key), map(shown, fields_in(key)), strict=True))
         for one, two in itertools.zip_longest(theirs.elements(), ours.elements()):
             there, here = (None if it is None else row(fields_in(it)) for it in (one, two))
-            self.tell({"table": plan.table.text(), "key": about, "server": there, "copy": here})
+            self.tell({"table": plan.table.text(), "key": about, **dict(zip(self.sides.names, (there, here)))})
 
     def tell(self, line: dict[str, object]) -> None:
         print(log.escaped(json.dumps(line, ensure_ascii=False)), flush=True)

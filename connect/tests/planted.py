@@ -21,7 +21,7 @@ from typing import NamedTuple
 
 CONNECT = Path(__file__).resolve().parent.parent
 LIMIT = 60.0
-# (the copies have no tools beside them)
+# (tests of feeds make them by a module of the scripts)
 ENVIRONMENT = {**os.environ, "PYTHONPATH": str(CONNECT.parent / "tools")}
 
 
@@ -165,6 +165,17 @@ BUGS = (
         ("test_sink_nats",)),
     Bug("each change of a commit is a line of its own version", "feed/bulk.py", "                left.pop((index, row_id), None)\n", "", ("test_feed_printing",)),
     Bug("a row that gets another key stays under the old one", "feed/bulk.py", "((it.before, None), (it.after,", "((it.after, None), (it.after,", ("test_feed_printing",)),
+    Bug("a commit that ends at the LSN is taken back", "feed/trail.py", "if commit.end > point:", "if commit.end >= point:", ("test_feed_verifying",)),
+    Bug("what is taken back is made once more", "feed/trail.py", "((change.before, 1), (change.after, -1))", "((change.before, -1), (change.after, 1))",
+        ("test_feed_verifying",)),
+    Bug("tables are compared before they have all", "feed/verifying.py", " or read_file(path)[0] < trail.last:", ":", ("test_feed_verifying",)),
+    Bug("a table that is added isn't left alone", "feed/verifying.py", "        followed(options, tables)\n", "", ("test_feed_verifying",)),
+    Bug("the digests aren't compared with the rows", "feed/viewing.py", "self.digests[oid] != summing", "() == summing", ("test_feed_verifying",)),
+    Bug("a digest keeps what was deleted", "feed/digesting.py", ".plus(before.times(-1))", "", ("test_feed_digesting",)),
+    Bug("a digest is that of the older shape", "feed/rowsfile.py", "before != relation.shape.columns:", "before is None:", ("test_feed_digesting",)),
+    Bug("a digest outlasts what is rolled back", "feed/rowsfile.py", "self.digests = Digests(db) if has_digests(db) else None",
+        "self.digests = getattr(self, 'digests', None) or (Digests(db) if has_digests(db) else None)", ("test_feed_digesting",)),
+    Bug("digits at a number's bound are taken", "floats.py", "or found in bounds(value, is_short)", "", ("test_floats",)),
     Bug("the stream is held until the tables are locked", "verifying.py", "    request.tell(point)\n    source.see(snapshot)\n",
         "    source.see(snapshot)\n    request.tell(point)\n", ("test_meeting",)),
 )
@@ -182,8 +193,9 @@ def found(bug: Bug) -> str:
         path.write_text(text.replace(bug.before, bug.after), encoding="utf-8")
         tests = [f"tests.{name}" for name in bug.tests]
         try:
-            command = [sys.executable, "-m", "unittest", "-f", *tests]
-            done = subprocess.run(command, cwd=folder, env=ENVIRONMENT, capture_output=True, timeout=LIMIT, check=False)
+            done = subprocess.run(
+                [sys.executable, "-m", "unittest", "-f", *tests], cwd=folder, capture_output=True, timeout=LIMIT, check=False, env=ENVIRONMENT
+            )
         except subprocess.TimeoutExpired:
             return ""
         if b"ImportError" in done.stderr or b"SyntaxError" in done.stderr:

@@ -111,6 +111,12 @@ class Asked(unittest.TestCase):
         self.assertEqual(joined.count("pg_catalog.concat("), 33)
         self.assertEqual(queries.joined([]), "''")
 
+    def test_one_chunk(self) -> None:
+        """The key needn't be hashed."""
+        query = Queries(Plan(a_table("id", "name"), 1), "UTF8").sums()
+        self.assertIn("SELECT 0 AS c", query)
+        self.assertEqual(query.count("sha256"), 1)
+
     def test_rows_of_chunks(self) -> None:
         keyed = Queries(Plan(a_table("id", "name"), 8), "UTF8").texts([2, 5])
         self.assertIn("& 7) IN (2, 5) ORDER BY pg_catalog.convert_to(k, 'UTF8'), pg_catalog.convert_to(r, 'UTF8')) TO STDOUT", keyed)

@@ -8,4 +8,5 @@
 | what rows are called outside of SQL | `identifying` |
 | tables of SQLite that follow it | `tabling`, `beginning`, `noting`, `awaiting`, `applying`, `back` |
 | .. and the file that they are in | `rowsfile`, `kept`, `carrying`, `initial` |
+| .. their digests, and comparing them | `digesting`, `fields`, `verifying`, `viewing`, `trail` |
 """

@@ -53,6 +53,8 @@ class Applier:
         self.check()
         try:
             self.make(kept, waiting)
+            if self.rows.digests:
+                self.rows.digests.note(kept, waiting)
         except sqlite3.IntegrityError as error:
             raise FileError(f"{self.rows.path}, table {kept.name}: {error}: an index or a trigger of its own forbids it") from None
 

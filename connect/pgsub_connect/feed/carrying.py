@@ -8,13 +8,12 @@ from __future__ import annotations
 
 import contextlib
 import sqlite3
-import struct
 from collections.abc import Iterator
-from decimal import Decimal
 
 from .. import log
 from ..catalog import Column
 from ..exporting import Bound, key_index
+from ..floats import printed_float
 from ..naming import OLD
 from ..texts import identifier
 from ..values import BOOL, FLOAT4
@@ -31,32 +30,6 @@ def printed(column: Column, value: Bound) -> Cell:
     if isinstance(value, float):
         return printed_float(value, column.type_oid == FLOAT4)
     return ("t" if value else "f") if column.type_oid == BOOL else str(value)
-
-
-def printed_float(value: float, is_short: bool) -> str:
-    """The shortest digits that give the number again; with an exponent below -4, and from 15 on, or 6."""
-    sign, digits, last = Decimal(shortest(value) if is_short else repr(value)).normalize().as_tuple()
-    assert isinstance(last, int)
-    text, power = "".join(map(str, digits)), len(digits) + last - 1
-    if not -5 < power < (6 if is_short else 15):
-        text = f"{text[0]}{'.' * (len(text) > 1)}{text[1:]}e{'-' if power < 0 else '+'}{abs(power):02d}"
-    elif power < 0:
-        text = "0." + "0" * (-power - 1) + text
-    else:
-        text = text.ljust(power + 1, "0")
-        text = text[: power + 1] + "." * (len(text) > power + 1) + text[power + 1 :]
-    return "-" * sign + text
-
-
-def shortest(value: float) -> str:
-    """The shortest digits that give a number of 4 bytes again."""
-    packed = struct.pack(">f", value)
-    for digits in range(1, 9):
-        text = f"{value:.{digits}g}"
-        with contextlib.suppress(OverflowError):
-            if struct.pack(">f", float(text)) == packed:
-                return text
-    return f"{value:.9g}"
 
 
 def sources(old: Valued, new: Valued) -> list[int | None]:

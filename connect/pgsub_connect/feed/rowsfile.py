@@ -6,6 +6,7 @@
 | `pgsub_tables` | by `name`, that of a table here: `schema`, `table` and `oid` of the publisher's |
 | `pgsub_relations` | by `oid` the definition that was told last, as in the feed, and the table here, null of one that wasn't chosen |
 | `pgsub_feed` | the folder of the feed, what it is a feed of, and the tables that were chosen |
+| `pgsub_digests` | where that was asked for, by `oid` a digest of the table's rows, as the module `digesting` says |
 | any other | the rows of one of the publisher's tables |
 
 Where another table got the name of one, the older one's rows are in `pgsub_old OID`: it may come back under another name.
@@ -26,13 +27,16 @@ from ..remembered import Relation
 from ..texts import identifier, lsn_text, parse_lsn
 from .carrying import carry, loosen, sources
 from .decoding import read_relation
+from .digesting import DIGESTS, Digests, has_digests
+from .digesting import FORMAT as WITH_DIGESTS
+from .digesting import SCHEMA as DIGESTS_SCHEMA
 from .initial import Init
 from .kept import IS_MINUS_ZERO, Kept, is_minus_zero, rows_index
 from .parts import Head
 
 APPLICATION, FORMAT = 0x70677374, 1
 RELATIONS, FEED = "pgsub_relations", "pgsub_feed"
-OWN = {POSITION, TABLES, OLD, RELATIONS, FEED}
+OWN = {POSITION, TABLES, OLD, RELATIONS, FEED, DIGESTS}
 ASIDE = OLD + " "
 # How long to wait for others that write the file or read it, in seconds.
 BUSY = 60.0
@@ -90,7 +94,7 @@ class Rows:
             raise
 
     def set_up(self) -> None:
-        if self.db.execute("PRAGMA user_version").fetchone()[0] != FORMAT:
+        if self.db.execute("PRAGMA user_version").fetchone()[0] not in (FORMAT, WITH_DIGESTS):
             raise FileError(f"{self.path}: another version of {log.PROGRAM} has made the file")
         if self.db.execute("PRAGMA journal_mode = WAL").fetchone()[0] != "wal":
             raise FileError(f"{self.path}: SQLite can't keep a log beside the file there")
@@ -120,6 +124,7 @@ class Rows:
             self.load(name, relation)
         chosen = db.execute(f"SELECT chosen FROM {FEED}").fetchone()
         self.chosen = set(json.loads(chosen[0])) if chosen else set[str]()
+        self.digests = Digests(db) if has_digests(db) else None
 
     def load(self, name: str, relation: Relation) -> None:
         keys = self.db.execute("SELECT count(*) FROM pragma_table_info(?) WHERE pk", (name,)).fetchone()[0]
@@ -147,6 +152,8 @@ class Rows:
     def settle(self, at: int) -> None:
         """Ends the transaction: the rows are those after the commit that ends there."""
         if self.db.in_transaction:
+            if self.digests:
+                self.digests.write()
             self.db.execute(f"UPDATE {POSITION} SET lsn = ?", (lsn_text(at),))
             self.db.execute("COMMIT")
             self.at = at
@@ -190,6 +197,17 @@ class Rows:
             was = Head(0, system, database, slot)
             raise Unfit(f"{self.path} has rows of {was.text()}, and the feed is of {head.text()}")
 
+    def keep_digests(self) -> None:
+        """Keeps a digest of each table from now on. (One whose definition wasn't told gets it with that.)"""
+        self.begin()
+        self.db.execute(DIGESTS_SCHEMA)
+        self.db.execute(f"PRAGMA user_version = {WITH_DIGESTS}")
+        self.digests = Digests(self.db)
+        for kept in self.kept.values():
+            if kept.oid not in self.untold:
+                self.digests.add_up(kept)
+        self.settle(self.at)
+
     def is_chosen(self, relation: Relation) -> bool:
         return not self.chosen or bool(self.chosen & names_of(relation.namespace, relation.name))
 
@@ -207,6 +225,7 @@ class Rows:
         if relation.oid in self.left_out:
             raise Unfit(f"{relation.text()}: the table had another name before, which wasn't chosen: its rows from then are missing")
         name = self.claim(relation)
+        before = kept and relation.oid not in self.untold and kept.relation.shape.columns
         if kept is None:
             kept = Kept(name, relation)
             kept.make(self.db)
@@ -215,6 +234,8 @@ class Rows:
             kept = self.reshaped(kept, Kept(name, relation))
         self.is_init_due = True
         self.note(kept)
+        if self.digests and before != relation.shape.columns:
+            self.digests.add_up(kept)
         return kept
 
     def claim(self, relation: Relation) -> str:
@@ -259,6 +280,8 @@ class Rows:
         self.db.execute(f"DELETE FROM {RELATIONS} WHERE oid = ?", (kept.oid,))
         self.forget(kept)
         del self.kept[kept.oid]
+        if self.digests:
+            self.digests.drop(kept.oid)
 
     def leave_out(self, relation: Relation, kept: Kept | None) -> None:
         if kept:

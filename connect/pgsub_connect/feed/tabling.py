@@ -57,6 +57,7 @@ def add_options(parser: argparse.ArgumentParser) -> None:
     add("--init", metavar="FILE", help="run this SQL once a table was made or altered, for indexes and views: CREATE INDEX IF NOT EXISTS ..")
     add("--table", action="append", default=[], help="keep this table, may be repeated (default: all)")
     add("--reader", metavar="NAME", type=plain_name, help="keep the LSN as FOLDER/readers/NAME too, once the disk has the rows")
+    add("--digests", action="store_true", help="keep a digest of each table, for `verify`; a file that has them keeps them")
     whole = parser.add_mutually_exclusive_group().add_argument
     whole("--follow", dest="once", action="store_false", default=False, help="follow the feed until a signal asks for the end (default)")
     whole("--once", dest="once", action="store_true", help="end once all that is there is in the file")
@@ -145,6 +146,8 @@ def keep(options: Options, check: Check) -> int:
     try:
         check_chosen(options, rows)
         rows.note_folder(os.path.abspath(options.feed))
+        if options.digests and not rows.digests:
+            rows.keep_digests()
         if options.at is not None and rows.at > options.at:
             walk(options.feed, rows, options.at, check)
         if init:

@@ -11,8 +11,8 @@ from ..errors import Unusable
 from ..options import Options
 from ..place import Place, Shared
 from . import (
-    adding, altering, copying, feeding, kinds, missing, names, operating, past, privacy, publications, reaching, repairing, shapes, sideroads,
-    silence, sinking, slots, standbys, starts, stops, tabling, timelines, twice, values, verifying, versions,
+    adding, altering, copying, feeding, kinds, missing, names, operating, past, privacy, proving, publications, reaching, repairing, shapes,
+    sideroads, silence, sinking, slots, standbys, starts, stops, tabling, timelines, twice, values, verifying, versions,
 )
 from .case import Case
 from .exports import CASES as EXPORTS
@@ -26,7 +26,7 @@ THEMES: dict[str, Sequence[Case]] = {
     "exports": EXPORTS,
     "feeds": (*feeding.CASES, *tabling.CASES, *past.CASES, *twice.CASES),
     "sinks": sinking.CASES,
-    "verifying": verifying.CASES,
+    "verifying": (*verifying.CASES, *proving.CASES),
     "adding": adding.CASES,
     "repairing": repairing.CASES,
     "timelines": timelines.CASES,

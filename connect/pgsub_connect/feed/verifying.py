@@ -1,0 +1,247 @@
+"""`pgsub-connect verify --tables`: compares tables that follow a feed with the server, or with another such file.
+
+The server is seen as of the LSN P of a temporary slot; the file is read in one transaction, at whatever LSN it has then, once it has all
+commits that end up to P. Those that end above P, which the slot's snapshot doesn't see (the module `holding` says why), are taken back by
+the feed's images. So nothing is held, neither the stream nor what follows the feed, and nothing is changed but for the slot.
+
+Two files are compared at the lower one of their LSNs: the other one is taken back to it by its own feed.
+
+With `--digests` the sums are those that the files keep, as the module `digesting` says, and rows are read where they differ, or where there
+are none. Without, all rows are read, and the sums that a file keeps are checked by that.
+"""
+
+from __future__ import annotations
+
+import contextlib
+import dataclasses
+import os
+import sqlite3
+import time
+from collections.abc import Iterable, Iterator
+from typing import TYPE_CHECKING
+
+from .. import log
+from ..checkpoint import FOLLOWING, Known
+from ..digests import Plan, Sums, chunks_for
+from ..dropping import read_known
+from ..errors import FileError, Passing, Stopped, Unfit
+from ..making import names_of
+from ..meeting import Source, chosen
+from ..postgres import Check
+from ..publishing import Column, Table
+from ..remembered import Remembered
+from ..sides import Difference, Sides, differing
+from ..texts import counted, lsn_text
+from ..verifying import DIFFERENT, EQUAL, Verifier, settled, tell_left
+from .awaiting import LOOK, read_file
+from .beginning import is_tables
+from .trail import Trail
+from .viewing import View, check_tables
+
+if TYPE_CHECKING:
+    from ..cli import Options
+
+# For how long feed and tables may take to have all commits up to the LSN, in seconds.
+PATIENCE = 60.0
+
+
+class Tables(Sides):
+    """A server, and a file of tables."""
+
+    def __init__(self, source: Source, view: View) -> None:
+        super().__init__(source, view)
+        self.view = view
+
+    def digested(self, plan: Plan) -> tuple[Sums, Sums]:
+        """The sums of both sides of a table with one chunk, by the digests that are kept."""
+        return self.sums(plan), self.view.digested([plan])[plan.table.oid]
+
+
+class Files(Tables):
+    """Another file, and this one."""
+
+    names, more, places = ("other", "copy"), ("more_in_other", "more_in_copy"), ("in the other file", "in the copy")
+
+    def __init__(self, other: View, view: View) -> None:
+        self.other, self.view, self.copy = other, view, view
+
+    def plan(self, table: Table) -> Plan:
+        return Plan(table, chunks_for(max(it.counts.get(table.oid, 0) for it in (self.other, self.copy))))
+
+    def sums(self, plan: Plan) -> Sums:
+        return self.other.sums([plan])[plan.table.oid]
+
+    def digested(self, plan: Plan) -> tuple[Sums, Sums]:
+        one, two = (it.digested([plan])[plan.table.oid] for it in (self.other, self.view))
+        return one, two
+
+    def differing(self, plan: Plan, chunks: list[int]) -> Iterator[Difference]:
+        return differing(self.other.rows(plan, chunks), self.copy.rows(plan, chunks))
+
+
+class ByDigests(Verifier):
+    """Compares tables by the digests that are kept, and of those that differ the rows."""
+
+    def __init__(self, options: Options, sides: Tables) -> None:
+        super().__init__(options, sides)
+        self.both = sides
+
+    def run(self, tables: list[Table]) -> bool:
+        plans = [Plan(it, 1) for it in tables if self.has_columns(it)]
+        equal = {it.table.oid for it in plans if self.is_same(it)}
+        rows = self.rows
+        if read := [it.table for it in plans if it.table.oid not in equal]:
+            super().run(read)
+        self.rows, self.different = rows, [it for it in tables if it.oid not in equal]
+        return not self.different
+
+    def is_same(self, plan: Plan) -> bool:
+        theirs, ours = self.both.digested(plan)
+        self.rows += theirs.total()
+        return not theirs.differing(ours)
+
+
+def run(options: Options, check: Check) -> int:
+    """Compares; the exit status."""
+    try:
+        return with_file(options, check) if options.other else with_server(options, check)
+    except Stopped:
+        raise Passing("ended before all was compared") from None
+    except sqlite3.Error as error:
+        raise FileError(f"{options.tables}: {error}") from None
+
+
+def store_of(path: str) -> str:
+    """The store whose feed a file follows, by the feed's name; "" where it has another one."""
+    with contextlib.suppress(OSError, sqlite3.Error, TypeError):
+        store = read_file(path)[1].removesuffix(".feed") if is_tables(path) else ""
+        return store if os.path.exists(store + ".connector") else ""
+    return ""
+
+
+def with_server(options: Options, check: Check) -> int:
+    check_tables(options.tables)
+    with contextlib.ExitStack() as stack:
+        at, folder = read_file(options.tables)
+        trail = stack.enter_context(contextlib.closing(Trail(options.feed or folder, at)))
+        source = stack.enter_context(contextlib.closing(source_of(options, check)))
+        tables = followed(options, source.chosen(options.table))
+        point, snapshot = source.make_slot(options.hold)
+        source.see(snapshot)
+        if point < at:
+            # (of a standby that is behind)
+            trail = stack.enter_context(contextlib.closing(Trail(options.feed or folder, point)))
+        wait(options.tables, trail, point, check)
+        view = stack.enter_context(contextlib.closing(View(options.tables, check)))
+        if view.at < trail.last:
+            raise Passing(f"{options.tables} was taken back to {lsn_text(view.at)} meanwhile: nothing was compared")
+        view.trail = trail
+        # (of one that is added since then the feed lacks changes up to here, or truncates it)
+        followed(options, tables)
+        sides = Tables(source, view)
+        tell_left(sides)
+        status = compare(options, sides, with_rows(options, view, tables), f"on the server at {lsn_text(point)}", [view])
+    return status
+
+
+def followed(options: Options, tables: list[Table]) -> list[Table]:
+    """Tables none of which is being added now, as far as the store is known."""
+    return settled(tables, read_known(options.store + ".connector"), Remembered(options.store).partial)
+
+
+def source_of(options: Options, check: Check) -> Source:
+    """The server of a file's rows."""
+    with contextlib.closing(View(options.tables, check)) as view:
+        head = view.source
+    if head is None:
+        raise Passing(f"{options.tables} has followed nothing yet")
+    options.slot = head.slot
+    known = Known(FOLLOWING, head.system, head.database, head.slot)
+    return Source(dataclasses.replace(options, store=options.tables), known, check)
+
+
+def wait(path: str, trail: Trail, point: int, check: Check) -> None:
+    """Waits until the feed has all commits that end up to an LSN, and the tables have those."""
+    until = time.monotonic() + PATIENCE
+    while not (has := trail.has(point)) or read_file(path)[0] < trail.last:
+        if time.monotonic() > until:
+            behind = f"{path} is at {lsn_text(read_file(path)[0])}" if has else f"the feed {trail.folder} doesn't have all"
+            raise Passing(f"{behind}, and {lsn_text(point)} wasn't reached in {PATIENCE:.0f} seconds: does its follower run? Nothing was compared")
+        check()
+        time.sleep(LOOK)
+
+
+def with_rows(options: Options, view: View, tables: list[Table]) -> list[Table]:
+    """The tables that a file has; tells which it was made without."""
+    left = [it for it in tables if not view.is_chosen(it)]
+    if left and options.table:
+        raise Unfit(f"{view.path} was made without {names_of([it.text() for it in left])}")
+    if left:
+        log.info(f"{view.path} was made without {counted(len(left), 'table')}: {names_of([it.text() for it in left])}")
+    return [it for it in tables if it not in left]
+
+
+def compare(options: Options, sides: Tables, tables: list[Table], where: str, views: list[View]) -> int:
+    """Compares tables, and tells what differs; the exit status."""
+    verifier = ByDigests(options, sides) if options.digests else Verifier(options, sides)
+    is_equal = verifier.run(tables)
+    for view in views:
+        for relation in view.wrong:
+            log.warning(f"{view.path}: the digest that it keeps of {relation.text()} isn't that of its rows: another program has written there")
+    is_right = not any(it.wrong for it in views)
+    how = " by the digests that are kept" if options.digests else ""
+    text = f"{counted(len(tables), 'table')}, {counted(verifier.rows, 'row')} {where}"
+    log.info(f"{text}: {('equal' if is_right else 'equal rows') + how if is_equal else 'the copy differs'}")
+    return EQUAL if is_equal and is_right else DIFFERENT
+
+
+def with_file(options: Options, check: Check) -> int:
+    paths = (options.other, options.tables)
+    for path in paths:
+        check_tables(path)
+    with contextlib.ExitStack() as stack:
+        other, view = (stack.enter_context(contextlib.closing(View(it, check))) for it in paths)
+        check_same_source(other, view)
+        point = min(other.at, view.at)
+        for it in (other, view):
+            if it.at > point:
+                it.trail = stack.enter_context(contextlib.closing(trail_to(options, it, point)))
+        tables = tables_of((other, view))
+        tables = chosen(tables, options.table) if options.table else tables
+        both = with_rows(options, other, with_rows(options, view, tables))
+        status = compare(options, Files(other, view), both, f"in {other.path} at {lsn_text(point)}", [other, view])
+    return status
+
+
+def check_same_source(one: View, two: View) -> None:
+    """Rejects two files that can't be compared by LSNs."""
+    if one.source is None or two.source is None:
+        raise Passing(f"{(two if one.source else one).path} has followed nothing yet")
+    ours, theirs = ((it.source.system, it.source.database) for it in (one, two) if it.source)
+    if ours != theirs:
+        raise Unfit(f"{one.path} has rows of {one.source.text()}, and {two.path} of {two.source.text()}")
+
+
+def trail_to(options: Options, view: View, point: int) -> Trail:
+    """The way back of the file that is ahead."""
+    folder = options.feed or view.folder
+    if not os.path.isdir(folder):
+        raise Unfit(f"{view.path} is at {lsn_text(view.at)}, and its feed {folder} isn't here to take it back to {lsn_text(point)}: name one by --feed")
+    trail = Trail(folder, point)
+    if not trail.has(point):
+        trail.close()
+        raise Unfit(f"{folder}: the feed doesn't have the commits up to {lsn_text(view.at)}")
+    return trail
+
+
+def tables_of(views: Iterable[View]) -> list[Table]:
+    """All tables that any of the files has."""
+    found = dict[int, Table]()
+    for view in views:
+        for oid, valued in view.tables.items():
+            relation = valued.relation
+            columns = [Column(it.name, it.type_oid, it.modifier, it.key) for it in relation.shape.columns]
+            schema = relation.namespace or "pg_catalog"
+            if oid not in found or oid not in view.untold:
+                found.setdefault(oid, Table(oid, schema, relation.name, "r", relation.shape.identity, None, None, columns))
+    return list(found.values())
