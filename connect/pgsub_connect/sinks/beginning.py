@@ -13,8 +13,8 @@ from ..errors import FileError, Unfit
 from ..exporting import run as export
 from ..feed.beginning import check_begin, opened
 from ..feed.parts import Cells
-from ..feed.rowsfile import names_of, unlisted
-from ..naming import POSITION, TABLES, told_columns
+from ..feed.rowsfile import unlisted
+from ..naming import POSITION, TABLES, names_of, told_columns
 from ..postgres import Check
 from ..remembered import Relation
 from ..resting import own_name
@@ -51,7 +51,7 @@ class Exported(Base):
         found = []
         for name, schema, table, oid in self.db.execute(f"SELECT * FROM {TABLES} ORDER BY oid").fetchall():
             relation = unlisted(self.db, name, schema, table, oid)
-            if not self.chosen or self.chosen & names_of(relation):
+            if not self.chosen or self.chosen & names_of(relation.namespace, relation.name):
                 self.check(name, relation)
                 self.names[oid] = name
                 found.append(relation)

@@ -14,7 +14,7 @@ from .. import log
 from ..errors import Passing, TooLarge, Unfit
 from ..feed.faults import Damaged
 from ..feed.parts import Commit, TableLine
-from ..feed.rowsfile import names_of
+from ..naming import names_of
 from ..postgres import Check
 from ..texts import lsn_text
 from .beginning import Base
@@ -114,7 +114,7 @@ class Nats:
         for part in read():
             if isinstance(part, TableLine) or part.n <= after:
                 continue
-            if not self.chosen or self.chosen & names_of(part.relation):
+            if not self.chosen or self.chosen & names_of(part.relation.namespace, part.relation.name):
                 yield self.sized(change_message(self.name, commit, part))
         yield last_message(self.name, commit, self.about)
 

@@ -15,7 +15,8 @@ from .. import log
 from ..errors import Unfit
 from ..feed.decoding import read_relation
 from ..feed.identifying import key_of, table_text
-from ..feed.rowsfile import names_of, relation_text
+from ..feed.rowsfile import relation_text
+from ..naming import names_of
 from ..remembered import Relation
 
 ASIDE = "pgsub:old:"
@@ -112,7 +113,7 @@ class Relations:
         return new
 
     def leaves_out(self, relation: Relation) -> bool:
-        if self.chosen and not self.chosen & names_of(relation):
+        if self.chosen and not self.chosen & names_of(relation.namespace, relation.name):
             return True
         is_bag = self.is_keyed_only and not key_of(relation)
         if is_bag and relation.oid not in self.told:
