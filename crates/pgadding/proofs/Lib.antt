@@ -19,3 +19,4 @@ mod Copies
 mod NewTables
 mod Worked
 pub mod Delivered
+pub mod MendedRows
