@@ -20,3 +20,4 @@ mod NewTables
 mod Worked
 pub mod Delivered
 pub mod MendedRows
+pub mod MendedTables

@@ -1,5 +1,5 @@
 -- The changes at an identity make the server's row there of the copy's, and leave the others.
-use Rattle.std.proofs.Common.{◌≡◌, ◌≢◌, ◌≤◌, ◌<◌, ◌+◌, ◌-◌, ◌++◌, ℕ, suc, zero, List, [], ◌∷◌, length, Bool, true, false, cond, not, Option, Some, None, Result, Ok, Err, refl, sym, ap, subst, ◌∙◌, inl, inr, arith}
+use Rattle.std.proofs.Common.{◌≡◌, ◌⊎◌, ◌≢◌, ◌≤◌, ◌<◌, ◌+◌, ◌-◌, ◌++◌, ℕ, suc, zero, List, [], ◌∷◌, length, Bool, true, false, cond, not, Option, Some, None, Result, Ok, Err, refl, sym, ap, subst, ◌∙◌, inl, inr, arith}
 use Rattle.std.specs.Prelude.{nat_lt, if◌then◌else◌, ◌==◌, ◌||◌, ◌&&◌}
 use Rattle.std.specs.Ordering.{nat_cmp, eq_by_cmp}
 use Rattle.std.specs.Cmp.{unsigned_Decides}
@@ -12,6 +12,8 @@ use Rattle.std.proofs.lemmas.Cmp.{eq_by_cmp_equiv}
 use Rattle.pgtuple.specs.declared.cell.Cell.{Cell}
 use Rattle.pgtuple.specs.declared.cell.Cell.TheVariants.{Null}
 use Rattle.pgtuple.specs.Cells.{tuple_spelling}
+use Rattle.pgtuple.specs.Limits.{IsTuple}
+use Rattle.pgtuple.proofs.Tuples.{tuples_apart}
 use Rattle.pglogical.specs.declared.item.Column.{Column}
 use Rattle.pglogical.specs.declared.item.RelationDef.{RelationDef}
 use Rattle.pglogical.specs.declared.item.OldKind.{OldKind}
@@ -20,13 +22,15 @@ use Rattle.pglogical.specs.declared.item.Item.{Item}
 use Rattle.pglogical.specs.declared.item.Item.TheVariants as item
 use Rattle.pgrel.specs.Identity.{keyed, identity, identity_full, key_cells, has_width, has_unchanged, is_unchanged, lacks_identity, checked_insert, searched_identity, resolved, known_cells}
 use Rattle.pgrel.proofs.Rows.{sent_stays}
+use Rattle.pgrel.proofs.Keys.{bag_identity}
 use Rattle.pgapply.specs.declared.op.Op.{Op}
 use Rattle.pgapply.specs.declared.op.Op.TheVariants.{Insert, Update, Delete, Truncate}
 use Rattle.pgapply.specs.declared.rows.StoreFault.{StoreFault}
 use Rattle.pgapply.specs.Value.{Row, Rows, IsRow, identity_key, most_copies}
+use Rattle.pgapply.specs.CarriedCopies.{copies_of}
 use Rattle.pgapply.specs.Apply.{◌>>=◌, rows_after, in_store, with_row, without_row, added, updated, deleted}
 use Rattle.pgapply.proofs.KeepsForm.{same_place}
-use Rattle.pgadding.specs.Mended.{key_alone, keyed_changes, times, bag_changes}
+use Rattle.pgadding.specs.Mended.{key_alone, keyed_changes, times, bag_changes, changes_at}
 
 -- ---- a list of changes of a table's rows
 
@@ -252,3 +256,189 @@ keyed_placed def place rows None (Some old) key is was there =
       is = ap (λ r. r >>= λ n. Ok n) (made ∙ ap (λ p. Ok (without_row p old rows)) same ∙ ap (λ n. Ok n) gone);
       put = removed_put rows place;
     }
+
+-- ---- without a key
+
+-- so many copies of a row
+abbrev pub stock : List Cell → ℕ → Option Row
+stock cells zero = None
+stock cells (suc n) = Some (record { cells = cells; copies = suc n })
+
+stocked : (cells : List Cell) (n : ℕ) → 1 ≤ n → stock cells n ≡ Some (record { cells = cells; copies = n })
+stocked cells zero some = absurd (omega arith)
+stocked cells (suc n) some = refl
+
+pub row_stock : (row : Row) → 1 ≤ row.copies → ◌≡◌ {A = Option Row} (Some row) (stock row.cells row.copies)
+row_stock row some = sym (stocked row.cells row.copies some)
+
+pub full_tells : (def : RelationDef) (cells : List Cell) → def.letter ≡ identity_full → lacks_identity def (Some (Full, cells)) ≡ false
+full_tells def cells full =
+    let letter : (def.letter == identity_full) ≡ true = (unsigned_Decides def.letter identity_full).1 full in
+    elim (keyed def) as (λ b. (not b && not ((def.letter == identity_full) && true)) ≡ false) [
+      | true ↦ refl
+      | false ↦ ap (λ b. not (b && true)) letter
+    ]
+
+insert_one : (def : RelationDef) (cells : List Cell) (rows : Rows) (m : ℕ) → keyed def ≡ false → length cells ≡ length def.columns → has_unchanged cells ≡ false → m < most_copies
+    → map.get rows (identity_key def cells) ≡ stock cells m → Placed rows (identity_key def cells) (stock cells (suc m)) (rows_after def (Insert cells) rows)
+insert_one def cells rows zero bag w sent few there = record {
+  next = map.insert rows (identity_key def cells) (record { cells = cells; copies = 1 });
+  is = insert_first def cells rows w sent there;
+  put = inserted_put rows (identity_key def cells) (record { cells = cells; copies = 1 });
+}
+insert_one def cells rows (suc m) bag w sent few there =
+    let more : suc m + 1 ≡ suc (suc m) = omega arith in
+    record {
+      next = map.insert rows (identity_key def cells) (record { cells = cells; copies = suc m + 1 });
+      is = insert_more def cells rows (suc m) bag w sent few there;
+      put = subst (λ n. IsPut rows (identity_key def cells) (Some (record { cells = cells; copies = n })) (map.insert rows (identity_key def cells) (record { cells = cells; copies = suc m + 1 }))) more
+          (inserted_put rows (identity_key def cells) (record { cells = cells; copies = suc m + 1 }));
+    }
+
+-- one step, and those behind it
+joined : (rows : Rows) (place : List ℕ) (first there : Option Row) (r : Result Rows StoreFault) (f : Rows → Result Rows StoreFault) (step : Placed rows place first r) → Placed step.next place there (f step.next)
+    → Placed rows place there (r >>= f)
+joined rows place first there r f step rest = record {
+  next = rest.next;
+  is = ap (λ r. r >>= f) step.is ∙ rest.is;
+  put = put_again rows place first there step.next rest.next step.put rest.put;
+}
+
+insert_times : (def : RelationDef) (oid : ℕ) (cells : List Cell) (k : ℕ) (rows : Rows) (m : ℕ) → keyed def ≡ false → length cells ≡ length def.columns → has_unchanged cells ≡ false → m + k ≤ most_copies
+    → map.get rows (identity_key def cells) ≡ stock cells m → Placed rows (identity_key def cells) (stock cells (m + k)) (fold_items def rows (times k (item.Insert oid cells)))
+insert_times def oid cells zero rows m bag w sent few there =
+    let none : m ≡ m + 0 = omega arith in
+    record { next = rows; is = refl; put = stays rows (identity_key def cells) (stock cells (m + 0)) (there ∙ ap (stock cells) none) }
+insert_times def oid cells (suc k) rows m bag w sent few there =
+    let place = identity_key def cells in
+    let step = insert_one def cells rows m bag w sent (omega arith) there in
+    let sum : suc m + k ≡ m + suc k = omega arith in
+    let rest = insert_times def oid cells k step.next (suc m) bag w sent (omega arith) (put_at rows place (stock cells (suc m)) step.next step.put) in
+    joined rows place (stock cells (suc m)) (stock cells (m + suc k)) (rows_after def (Insert cells) rows) (λ next. fold_items def next (times k (item.Insert oid cells))) step
+    (subst (λ n. Placed step.next place (stock cells n) (fold_items def step.next (times k (item.Insert oid cells)))) sum rest)
+
+delete_one : (def : RelationDef) (cells : List Cell) (rows : Rows) (m : ℕ) → def.letter ≡ identity_full → length cells ≡ length def.columns → has_unchanged cells ≡ false
+    → map.get rows (identity_key def cells) ≡ stock cells (suc m) → Placed rows (identity_key def cells) (stock cells m) (rows_after def (Delete Full cells) rows)
+delete_one def cells rows zero full w sent there =
+    let place = identity_key def cells in
+    record {
+      next = map.remove rows place;
+      is = delete_row def Full cells rows (record { cells = cells; copies = 1 }) (full_tells def cells full) w (sent_identity def cells sent) there;
+      put = removed_put rows place;
+    }
+delete_one def cells rows (suc m) full w sent there =
+    let place = identity_key def cells in
+    let row : Row = record { cells = cells; copies = suc (suc m) } in
+    let several : nat_lt 1 (suc (suc m)) ≡ true = grind (arith, nat_tests) in
+    let less : suc (suc m) - 1 ≡ suc m = omega arith in
+    let left : without_row place row rows ≡ map.insert rows place (record { cells = cells; copies = suc m }) =
+    ap (λ b. cond b (map.insert rows place (record { cells = cells; copies = suc (suc m) - 1 })) (map.remove rows place)) several ∙ ap (λ n. map.insert rows place (record { cells = cells; copies = n })) less in
+    record {
+      next = map.insert rows place (record { cells = cells; copies = suc m });
+      is = delete_row def Full cells rows row (full_tells def cells full) w (sent_identity def cells sent) there ∙ ap (λ n. Ok n) left;
+      put = inserted_put rows place (record { cells = cells; copies = suc m });
+    }
+
+delete_times : (def : RelationDef) (oid : ℕ) (cells : List Cell) (k : ℕ) (rows : Rows) (m : ℕ) → def.letter ≡ identity_full → length cells ≡ length def.columns → has_unchanged cells ≡ false
+    → map.get rows (identity_key def cells) ≡ stock cells (m + k) → Placed rows (identity_key def cells) (stock cells m) (fold_items def rows (times k (item.Delete oid Full cells)))
+delete_times def oid cells zero rows m full w sent there =
+    let none : m + 0 ≡ m = omega arith in
+    record { next = rows; is = refl; put = stays rows (identity_key def cells) (stock cells m) (there ∙ ap (stock cells) none) }
+delete_times def oid cells (suc k) rows m full w sent there =
+    let place = identity_key def cells in
+    let sum : m + suc k ≡ suc (m + k) = omega arith in
+    let step = delete_one def cells rows (m + k) full w sent (there ∙ ap (stock cells) sum) in
+    let rest = delete_times def oid cells k step.next m full w sent (put_at rows place (stock cells (m + k)) step.next step.put) in
+    joined rows place (stock cells (m + k)) (stock cells m) (rows_after def (Delete Full cells) rows) (λ next. fold_items def next (times k (item.Delete oid Full cells))) step rest
+
+-- no copy goes, or the whole row tells which one
+abbrev pub MayGo : RelationDef → ℕ → ℕ → Type 0
+MayGo def theirs ours = (def.letter ≡ identity_full) ⊎ (ours ≤ theirs)
+
+-- some go, where they may
+delete_some : (def : RelationDef) (oid : ℕ) (cells : List Cell) (k : ℕ) (rows : Rows) (m : ℕ) → MayGo def m (m + k) → length cells ≡ length def.columns → has_unchanged cells ≡ false
+    → map.get rows (identity_key def cells) ≡ stock cells (m + k) → Placed rows (identity_key def cells) (stock cells m) (fold_items def rows (times k (item.Delete oid Full cells)))
+delete_some def oid cells k rows m (inl full) w sent there = delete_times def oid cells k rows m full w sent there
+delete_some def oid cells k rows m (inr few) w sent there =
+    let none : k ≡ 0 = omega arith in
+    let same : m + k ≡ m = omega arith in
+    subst (λ n. Placed rows (identity_key def cells) (stock cells m) (fold_items def rows (times n (item.Delete oid Full cells)))) (sym none)
+    (record { next = rows; is = refl; put = stays rows (identity_key def cells) (stock cells m) (there ∙ ap (stock cells) same) })
+
+few_copies : (def : RelationDef) (place : List ℕ) (row : Row) → keyed def ≡ false → IsRow def place row → row.copies ≤ most_copies
+few_copies def place row bag is = subst (λ b. row.copies ≤ (if b then 1 else most_copies)) bag is.copies
+
+-- at the place that spells it
+placed_at : (def : RelationDef) (cells : List Cell) (place : List ℕ) (rows : Rows) (there : Option Row) (outcome : Result Rows StoreFault) → place ≡ identity_key def cells
+    → Placed rows (identity_key def cells) there outcome → Placed rows place there outcome
+placed_at def cells place rows there outcome e it = subst (λ p. Placed rows p there outcome) (sym e) it
+
+-- the same row with other copies
+bag_both : (def : RelationDef) (place : List ℕ) (rows : Rows) (cells : List Cell) (theirs ours : ℕ) → keyed def ≡ false → length cells ≡ length def.columns → has_unchanged cells ≡ false
+    → place ≡ identity_key def cells → theirs ≤ most_copies → ours ≤ most_copies → MayGo def theirs ours → map.get rows place ≡ stock cells ours
+    → Placed rows place (stock cells theirs) (fold_items def rows (times (theirs - ours) (item.Insert def.oid cells) ++ times (ours - theirs) (item.Delete def.oid Full cells)))
+bag_both def place rows cells theirs ours bag w sent spelled many few may there =
+    let high = ours + (theirs - ours) in
+    let ins = times (theirs - ours) (item.Insert def.oid cells) in
+    let del = times (ours - theirs) (item.Delete def.oid Full cells) in
+    let key = identity_key def cells in
+    let at : map.get rows key ≡ stock cells ours = ap (map.get rows) (sym spelled) ∙ there in
+    let come = insert_times def def.oid cells (theirs - ours) rows ours bag w sent (omega arith) at in
+    let total : ours + (theirs - ours) ≡ theirs + (ours - theirs) = omega arith in
+    let there_then : map.get come.next key ≡ stock cells (theirs + (ours - theirs)) = put_at rows key (stock cells high) come.next come.put ∙ ap (stock cells) total in
+    let goes : MayGo def theirs (theirs + (ours - theirs)) = elim may as (λ _. MayGo def theirs (theirs + (ours - theirs))) [
+      | inl full ↦ inl full
+      | inr le ↦ inr (omega arith)
+    ] in
+    let go = delete_some def def.oid cells (ours - theirs) come.next theirs goes w sent there_then in
+    placed_at def cells place rows (stock cells theirs) (fold_items def rows (ins ++ del)) spelled
+    (record {
+      next = go.next;
+      is = fold_items-append def ins del rows ∙ ap (λ r. r >>= λ next. fold_items def next del) come.is ∙ go.is;
+      put = put_again rows key (stock cells high) (stock cells theirs) come.next go.next come.put go.put;
+    })
+
+abbrev pub IsTupleOf : Option Row → Type 0
+IsTupleOf None = Unit {0}
+IsTupleOf (Some row) = IsTuple row.cells
+
+-- rows at one place are the same, but for their copies
+same_cells : (def : RelationDef) (place : List ℕ) (a b : Row) → keyed def ≡ false → IsRow def place a → IsRow def place b → IsTuple a.cells → IsTuple b.cells → a.cells ≡ b.cells
+same_cells def place a b bag one two fits too =
+    let spelled : tuple_spelling a.cells ≡ tuple_spelling b.cells =
+    sym (ap tuple_spelling (bag_identity def a.cells bag)) ∙ sym one.known ∙ two.known ∙ ap tuple_spelling (bag_identity def b.cells bag) in
+    (tuples_apart a.cells b.cells [] [] fits too (ap (λ s. s ++ []) spelled)).0
+
+pub bag_placed : (def : RelationDef) (place : List ℕ) (rows : Rows) (theirs ours : Option Row) → keyed def ≡ false → IsRowOf def place theirs → IsRowOf def place ours → IsTupleOf theirs → IsTupleOf ours
+    → MayGo def (copies_of theirs) (copies_of ours) → map.get rows place ≡ ours → Placed rows place theirs (fold_items def rows (bag_changes def theirs ours))
+bag_placed def place rows None None bag is was fits too may there = record { next = rows; is = refl; put = stays rows place None there }
+bag_placed def place rows (Some row) None bag is was fits too may none =
+    let few = few_copies def place row bag is in
+    let sum : 0 + row.copies ≡ row.copies = omega arith in
+    let it = insert_times def def.oid row.cells row.copies rows 0 bag is.width is.sent (omega arith) (ap (map.get rows) (sym is.known) ∙ none) in
+    placed_at def row.cells place rows (Some row) (fold_items def rows (times row.copies (item.Insert def.oid row.cells))) is.known
+    (subst (λ there. Placed rows (identity_key def row.cells) there (fold_items def rows (times row.copies (item.Insert def.oid row.cells)))) (ap (stock row.cells) sum ∙ sym (row_stock row is.some)) it)
+bag_placed def place rows None (Some old) bag is was fits too may there =
+    let sum : old.copies ≡ 0 + old.copies = omega arith in
+    let at : map.get rows (identity_key def old.cells) ≡ stock old.cells (0 + old.copies) = ap (map.get rows) (sym was.known) ∙ there ∙ row_stock old was.some ∙ ap (stock old.cells) sum in
+    placed_at def old.cells place rows None (fold_items def rows (times old.copies (item.Delete def.oid Full old.cells))) was.known
+    (delete_some def def.oid old.cells old.copies rows 0 (subst (MayGo def 0) sum may) was.width was.sent at)
+bag_placed def place rows (Some row) (Some old) bag is was fits too may there =
+    let same : row.cells ≡ old.cells = same_cells def place row old bag is was fits too in
+    let at : map.get rows place ≡ stock row.cells old.copies = there ∙ row_stock old was.some ∙ ap (λ cells. stock cells old.copies) (sym same) in
+    let it = bag_both def place rows row.cells row.copies old.copies bag is.width is.sent is.known (few_copies def place row bag is) (few_copies def place old bag was) may at in
+    let changes = λ (cells : List Cell). times (row.copies - old.copies) (item.Insert def.oid row.cells) ++ times (old.copies - row.copies) (item.Delete def.oid Full cells) in
+    subst (λ there. Placed rows place there (fold_items def rows (changes old.cells))) (sym (row_stock row is.some))
+    (subst (λ cells. Placed rows place (stock row.cells row.copies) (fold_items def rows (changes cells))) same it)
+
+-- ---- all of them
+
+pub changes_placed : (def : RelationDef) (theirs ours : Rows) (place : List ℕ) (rows : Rows) → IsRowOf def place (map.get theirs place) → IsRowOf def place (map.get ours place)
+    → IsTupleOf (map.get theirs place) → IsTupleOf (map.get ours place) → (keyed def ≡ false → MayGo def (copies_of (map.get theirs place)) (copies_of (map.get ours place)))
+    → map.get rows place ≡ map.get ours place → Placed rows place (map.get theirs place) (fold_items def rows (changes_at def theirs ours place))
+changes_placed def theirs ours place rows is was fits too may there =
+    elim (keyed def) as (λ b. keyed def ≡ b → Placed rows place (map.get theirs place)
+    (fold_items def rows (if b then keyed_changes def (map.get theirs place) (map.get ours place) else bag_changes def (map.get theirs place) (map.get ours place)))) [
+      | true ↦ λ key. keyed_placed def place rows (map.get theirs place) (map.get ours place) key is was there
+      | false ↦ λ bag. bag_placed def place rows (map.get theirs place) (map.get ours place) bag is was fits too (may bag) there
+    ] refl
