@@ -1,5 +1,5 @@
 -- The changes of a table make the server's table of the copy's, and leave the others.
-use Rattle.std.proofs.Common.{◌≡◌, ◌≢◌, ◌++◌, ◌≤◌, ℕ, List, [], ◌∷◌, Bool, true, false, cond, eqb, map, flat_map, Option, Some, None, Result, Ok, refl, sym, ap, subst, ◌∙◌, inl, inr, arith}
+use Rattle.std.proofs.Common.{◌≡◌, ◌≢◌, ◌++◌, ◌≤◌, ◌-◌, ℕ, suc, zero, List, [], ◌∷◌, Bool, true, false, cond, eqb, map, flat_map, Option, Some, None, Result, Ok, refl, sym, ap, subst, ◌∙◌, inl, inr, arith}
 use Rattle.std.specs.Prelude.{◌||◌, ◌==◌}
 use Rattle.std.specs.FinMap as finite
 use Rattle.std.specs.FinMap.{same_map, nat_cmp-IsAntisymmetric, slice_cmp-IsAntisymmetric}
@@ -11,17 +11,18 @@ use Rattle.std.proofs.lemmas.Bool.Decides.{nat_tests}
 use Rattle.pglogical.specs.declared.item.RelationDef.{RelationDef}
 use Rattle.pglogical.specs.declared.item.Item.{Item}
 use Rattle.pglogical.specs.declared.item.Item.TheVariants as item
+use Rattle.pglogical.specs.declared.item.OldKind.TheVariants.{Full}
 use Rattle.pgrel.specs.Identity.{keyed, same_shape, identity_full}
 use Rattle.pgrel.proofs.Shapes.{shapes_decide}
 use Rattle.pgapply.specs.declared.op.Op.{Op}
 use Rattle.pgapply.specs.declared.rows.StoreFault.{StoreFault}
 use Rattle.pgapply.specs.Value.{Row, Rows, Table, Tables, IsRow, AreRows, AreTables}
 use Rattle.pgapply.specs.CarriedCopies.{copies_of, copies_at}
-use Rattle.pgapply.specs.Apply.{Change, apply, fold_changes, found_rows, rows_after, ◌>>=◌}
+use Rattle.pgapply.specs.Apply.{Change, apply, fold_changes, found_rows, carried_for, rows_after, ◌>>=◌}
 use Rattle.pgapply.proofs.KeepsForm.{same_place, of_shape, no_rows}
 use Rattle.pgsub_core.specs.Server.Work.{Work, AllDiffer, changes_of, surviving_changes, is_among}
 use Rattle.pgsub_core.proofs.Changes.{fold-append}
-use Rattle.pgadding.specs.Mended.{Mended, IsNotAmong, AreDistinct, AreFound, TellsRows, AreTuples, IsMended, changes_at}
+use Rattle.pgadding.specs.Mended.{times, keyed_changes, bag_changes, Mended, IsNotAmong, AreDistinct, AreFound, TellsRows, AreTuples, IsMended, changes_at}
 use Rattle.pgadding.specs.Repair.{Repair, ChangesRowOf, IsRepair, IsRepairOf, changed, mended_work, mended_oids}
 use Rattle.pgadding.specs.Repaired.{RepairMakesTheServers}
 use Rattle.pgadding.proofs.MendedRows.{op_of, fold_items, fold_items-append, Placed, IsRowOf, IsTupleOf, MayGo, changes_placed, same_place_as, itself}
@@ -126,4 +127,172 @@ own_shape def = (shapes_decide def def).1 refl
 
 finds_own : (tables : Tables) (def : RelationDef) (rows : Rows) → finite.get tables def.oid ≡ Some (record { definition = def; rows = rows }) → Finds tables def rows
 finds_own tables def rows at op =
-    ap (λ there. found_rows there def op) at ∙ ap (λ b. cond (b || finite.len rows == 0) (Ok rows) (found_rows (Some (record { definition = def; rows = rows })) def op)) (own_shape def)
+    ap (λ there. found_rows there def op) at ∙ ap (λ b. cond (b || finite.len rows == 0) (Ok rows) (carried_for (record { definition = def; rows = rows }) def op)) (own_shape def)
+
+finds_first : (tables : Tables) (def : RelationDef) (rows : Rows) (there : Option Table) → finite.get tables def.oid ≡ there → AreFound def rows there → Finds tables def rows
+finds_first tables def rows None at found op = ap (λ t. found_rows t def op) at ∙ ap (λ r. Ok r) (sym found)
+finds_first tables def rows (Some table) at found op =
+    ap (λ t. found_rows t def op) at
+    ∙ ap (λ b. cond (b || finite.len table.rows == 0) (Ok table.rows) (carried_for table def op)) found.0
+    ∙ ap (λ r. Ok r) (sym found.1)
+
+-- a table with these rows, and no other table than before
+pub record Made (def : RelationDef) (rows : Rows) (tables : Tables) (outcome : Result Tables StoreFault) : Type 0 where
+  pub next : Tables
+  pub is : outcome ≡ Ok next
+  pub here : finite.get next def.oid ≡ Some (record { definition = def; rows = rows })
+  pub others : AlikeTables def.oid next tables
+
+abbrev changes_by : RelationDef → List Item → List Change
+changes_by def items = map (change_of def) items
+
+put_here : (tables : Tables) (def : RelationDef) (rows : Rows) → finite.get (finite.insert tables def.oid (record { definition = def; rows = rows })) def.oid ≡ Some (record { definition = def; rows = rows })
+put_here tables def rows =
+    put tables def.oid (record { definition = def; rows = rows }) def.oid ∙ ap (λ b. cond b (Some (record { definition = def; rows = rows })) (finite.get tables def.oid)) (self def.oid)
+
+-- a first change, and those behind it
+after_first : (def : RelationDef) (i : Item) (items : List Item) (tables : Tables) (rows wanted : Rows) → Finds tables def rows → fold_items def rows (i ∷ items) ≡ Ok wanted
+    → ((next : Tables) (left : Rows) → finite.get next def.oid ≡ Some (record { definition = def; rows = left }) → fold_items def left items ≡ Ok wanted → Made def wanted next (fold_changes next (changes_by def items)))
+    → Made def wanted tables (fold_changes tables (changes_by def (i ∷ items)))
+unfolding fold_changes
+after_first def i items tables rows wanted finds e then =
+    let it = bound (rows_after def (op_of i) rows) (λ next. fold_items def next items) wanted e in
+    let table : Table = record { definition = def; rows = it.at } in
+    let rest = then (finite.insert tables def.oid table) it.at (put_here tables def it.at) it.then in
+    record {
+      next = rest.next;
+      is = ap (λ r. r >>= λ n. fold_changes n (changes_by def items)) (apply_found tables def i rows it.at finds it.first) ∙ rest.is;
+      here = rest.here;
+      others = λ o isnt. rest.others o isnt ∙ own_put def.oid tables tables def.oid table (λ x _. refl) (self def.oid) o isnt;
+    }
+
+fold_more : (def : RelationDef) (items : List Item) (tables : Tables) (rows wanted : Rows) → finite.get tables def.oid ≡ Some (record { definition = def; rows = rows }) → fold_items def rows items ≡ Ok wanted
+    → Made def wanted tables (fold_changes tables (changes_by def items))
+unfolding fold_changes
+fold_more def [] tables rows wanted at e =
+    record { next = tables; is = refl; here = at ∙ ap (λ rows. Some (record { definition = def; rows = rows })) (same_ok rows wanted e); others = λ o _. refl }
+fold_more def (i ∷ items) tables rows wanted at e = after_first def i items tables rows wanted (finds_own tables def rows at) e (λ next left at then. fold_more def items next left wanted at then)
+
+fold_table : (def : RelationDef) (items : List Item) (tables : Tables) (rows wanted : Rows) → items ≢ [] → Finds tables def rows → fold_items def rows items ≡ Ok wanted
+    → Made def wanted tables (fold_changes tables (changes_by def items))
+fold_table def [] tables rows wanted some finds e = absurd (some refl)
+fold_table def (i ∷ items) tables rows wanted some finds e = after_first def i items tables rows wanted finds e (λ next left at then. fold_more def items next left wanted at then)
+
+rows_found : (def : RelationDef) (rows : Rows) (copy : Tables) (there : Option Table) → AreTables copy → finite.get copy def.oid ≡ there → AreFound def rows there → AreRows def rows
+rows_found def rows copy None are at found = subst (AreRows def) (sym found) (no_rows def)
+rows_found def rows copy (Some table) are at found = subst (AreRows def) (sym found.1) (of_shape table.definition def table.rows found.0 (are def.oid table at).each)
+
+pub one_table : (copy server tables : Tables) (t : Mended) (is : IsMended copy server t) → AreTables copy → AreTables server → finite.get tables t.definition.oid ≡ finite.get copy t.definition.oid
+    → Made t.definition is.theirs tables (fold_changes tables (changes_by t.definition t.changes))
+one_table copy server tables t is were are at =
+    let def = t.definition in
+    let both : BothRows def is.theirs is.ours = record {
+      are = (are def.oid (record { definition = def; rows = is.theirs }) is.wanted).each;
+      were = rows_found def is.ours copy (finite.get copy def.oid) were refl is.found;
+      fit = is.their_tuples;
+      fitted = is.our_tuples;
+      tells = is.tells;
+    } in
+    let still : StillToDo is.theirs is.ours is.ours is.places = record { once = is.once; done = is.others; todo = all_ours is.ours is.places } in
+    let mended : fold_items def is.ours t.changes ≡ Ok is.theirs = ap (fold_items def is.ours) is.changes ∙ mend_rows def is.theirs is.ours both is.places is.ours still in
+    fold_table def t.changes tables is.ours is.theirs is.some (finds_first tables def is.ours (finite.get copy def.oid) at is.found) mended
+
+-- ---- what its changes are
+
+all_append : {X : Type 0} (P : X → Type 0) (xs ys : List X) → AllByRecursion P xs → AllByRecursion P ys → AllByRecursion P (xs ++ ys)
+all_append P [] ys a b = b
+all_append P (x ∷ xs) ys a b = (a.0, all_append P xs ys a.1 b)
+
+times_rows : (oid : ℕ) (n : ℕ) (i : Item) → ChangesRowOf oid i → AllByRecursion (ChangesRowOf oid) (times n i)
+times_rows oid zero i is = tt
+times_rows oid (suc n) i is = (is, times_rows oid n i is)
+
+keyed_rows : (def : RelationDef) (theirs ours : Option Row) → AllByRecursion (ChangesRowOf def.oid) (keyed_changes def theirs ours)
+keyed_rows def None None = tt
+keyed_rows def (Some row) None = (refl, tt)
+keyed_rows def (Some row) (Some old) = (refl, tt)
+keyed_rows def None (Some old) = (refl, tt)
+
+bag_rows : (def : RelationDef) (theirs ours : Option Row) → AllByRecursion (ChangesRowOf def.oid) (bag_changes def theirs ours)
+bag_rows def None None = tt
+bag_rows def (Some row) None = times_rows def.oid row.copies _ refl
+bag_rows def (Some row) (Some old) = all_append (ChangesRowOf def.oid) (times (row.copies - old.copies) (item.Insert def.oid row.cells)) (times (old.copies - row.copies) (item.Delete def.oid Full old.cells))
+    (times_rows def.oid (row.copies - old.copies) _ refl) (times_rows def.oid (old.copies - row.copies) _ refl)
+bag_rows def None (Some old) = times_rows def.oid old.copies _ refl
+
+place_rows : (def : RelationDef) (theirs ours : Rows) (place : List ℕ) → AllByRecursion (ChangesRowOf def.oid) (changes_at def theirs ours place)
+place_rows def theirs ours place =
+    elim (keyed def) as (λ b. AllByRecursion (ChangesRowOf def.oid) (cond b (keyed_changes def (finite.get theirs place) (finite.get ours place)) (bag_changes def (finite.get theirs place) (finite.get ours place)))) [
+      | true ↦ keyed_rows def (finite.get theirs place) (finite.get ours place)
+      | false ↦ bag_rows def (finite.get theirs place) (finite.get ours place)
+    ]
+
+all_rows : (def : RelationDef) (theirs ours : Rows) (places : List (List ℕ)) → AllByRecursion (ChangesRowOf def.oid) (flat_map (changes_at def theirs ours) places)
+all_rows def theirs ours [] = tt
+all_rows def theirs ours (place ∷ places) =
+    all_append (ChangesRowOf def.oid) (changes_at def theirs ours place) (flat_map (changes_at def theirs ours) places) (place_rows def theirs ours place) (all_rows def theirs ours places)
+
+pub mended_changes : (copy server : Tables) (t : Mended) → IsMended copy server t → AllByRecursion (ChangesRowOf t.definition.oid) t.changes
+mended_changes copy server t is = subst (AllByRecursion (ChangesRowOf t.definition.oid)) (sym is.changes) (all_rows t.definition is.theirs is.ours is.places)
+
+pub is_repair : (copy server : Tables) (ts : List Mended) → AllByRecursion (IsMended copy server) ts → AllByRecursion (λ (t : Mended). AllByRecursion (ChangesRowOf t.definition.oid) t.changes) ts
+is_repair copy server [] each = tt
+is_repair copy server (t ∷ ts) each = (mended_changes copy server t each.0, is_repair copy server ts each.1)
+
+one_change : (def : RelationDef) (i : Item) → ChangesRowOf def.oid i → changes_of i (def ∷ []) ≡ change_of def i ∷ []
+one_change def (item.Relation other) is = absurd is
+one_change def (item.Insert oid row) is = refl
+one_change def (item.Update oid prior row) is = refl
+one_change def (item.Delete oid kind row) is = refl
+one_change def (item.Truncate options oids) is = absurd is
+
+changed_survive : (def : RelationDef) (items : List Item) (rest : Work) → AllByRecursion (ChangesRowOf def.oid) items → surviving_changes (changed def items rest) ≡ changes_by def items ++ surviving_changes rest
+changed_survive def [] rest are = refl
+changed_survive def (i ∷ items) rest are =
+    ap (λ first. first ++ surviving_changes (changed def items rest)) (one_change def i are.0) ∙ ap (λ more. change_of def i ∷ more) (changed_survive def items rest are.1)
+
+-- ---- all tables that differ
+
+abbrev oids_of : List Mended → List ℕ
+oids_of ts = map (λ (t : Mended). t.definition.oid) ts
+
+or_false : (a b : Bool) → (a || b) ≡ false → (a ≡ false) × (b ≡ false)
+or_false true b e = absurd (cc)
+or_false false b e = (refl, e)
+
+tables_todo : (copy tables next : Tables) (oid : ℕ) (ts : List Mended) → is_among (oids_of ts) oid ≡ false → AlikeTables oid next tables
+    → AllByRecursion (λ (t : Mended). finite.get tables t.definition.oid ≡ finite.get copy t.definition.oid) ts
+    → AllByRecursion (λ (t : Mended). finite.get next t.definition.oid ≡ finite.get copy t.definition.oid) ts
+tables_todo copy tables next oid [] isnt alike todo = tt
+tables_todo copy tables next oid (t ∷ ts) isnt alike todo =
+    let parts = or_false (eqb t.definition.oid oid) (is_among (oids_of ts) oid) isnt in
+    (alike t.definition.oid parts.0 ∙ todo.0, tables_todo copy tables next oid ts parts.1 alike todo.1)
+
+mend_tables : (copy server : Tables) → AreTables copy → AreTables server → (ts : List Mended) (tables : Tables) → AllDiffer (oids_of ts) → AllByRecursion (IsMended copy server) ts
+    → AllByRecursion (λ (t : Mended). finite.get tables t.definition.oid ≡ finite.get copy t.definition.oid) ts
+    → ((oid : ℕ) → is_among (oids_of ts) oid ≡ false → finite.get tables oid ≡ finite.get server oid)
+    → fold_changes tables (surviving_changes (mended_work ts)) ≡ Ok server
+unfolding fold_changes
+mend_tables copy server were are [] tables once each todo done = ap (λ t. Ok t) (same_map nat_cmp_total nat_cmp-IsAntisymmetric tables server (λ oid. done oid refl))
+mend_tables copy server were are (t ∷ ts) tables once each todo done =
+    let def = t.definition in
+    let it = one_table copy server tables t each.0 were are todo.0 in
+    let rest = surviving_changes (mended_work ts) in
+    let later : (oid : ℕ) → is_among (oids_of ts) oid ≡ false → finite.get it.next oid ≡ finite.get server oid = λ oid isnt.
+    elim (eqb def.oid oid) as (λ b. eqb def.oid oid ≡ b → finite.get it.next oid ≡ finite.get server oid) [
+      | true ↦ λ yes. let at : def.oid ≡ oid = grind (arith, nat_tests) in subst (λ x. finite.get it.next x ≡ finite.get server x) at (it.here ∙ sym each.0.wanted)
+      | false ↦ λ no.
+          let other : eqb oid def.oid ≡ false = grind (arith, nat_tests) in
+          it.others oid other ∙ done oid (ap (λ b. b || is_among (oids_of ts) oid) no ∙ isnt)
+    ] refl in
+    ap (fold_changes tables) (changed_survive def t.changes (mended_work ts) (mended_changes copy server t each.0))
+    ∙ fold-append (changes_by def t.changes) rest tables
+    ∙ ap (λ r. r >>= λ n. fold_changes n rest) it.is
+    ∙ mend_tables copy server were are ts it.next once.1 each.1 (tables_todo copy tables it.next def.oid ts once.0 it.others todo.1) later
+
+same_each : (copy : Tables) (ts : List Mended) → AllByRecursion (λ (t : Mended). finite.get copy t.definition.oid ≡ finite.get copy t.definition.oid) ts
+same_each copy [] = tt
+same_each copy (t ∷ ts) = (refl, same_each copy ts)
+
+pub repair_makes : RepairMakesTheServers
+repair_makes r copy server were are is = mend_tables copy server were are r.tables copy is.once is.each (same_each copy r.tables) is.others
