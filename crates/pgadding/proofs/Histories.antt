@@ -14,7 +14,7 @@ use Rattle.pgadding.specs.Around.{IsAround, with_rows}
 use Rattle.pgadding.proofs.LeftWork.{is_work, xids-without}
 use Rattle.pgadding.proofs.Following.{IsSeen, AreSeen, AreUnseen, all_without}
 
-abbrev EndBelow : ℕ → List Transaction → Type 0
+abbrev pub EndBelow : ℕ → List Transaction → Type 0
 EndBelow point ts = AllByRecursion (λ (t : Transaction). t.end < point) ts
 
 -- ---- it is a history
@@ -27,7 +27,7 @@ inserted_xids : (def : RelationDef) (rows : List (List Cell)) → xids_of (inser
 inserted_xids def [] = refl
 inserted_xids def (row ∷ rows) = inserted_xids def rows
 
-unseen_history : (point from : ℕ) (above : List Transaction) → AreUnseen point above → IsHistoryFrom from above → IsHistoryFrom point above
+pub unseen_history : (point from : ℕ) (above : List Transaction) → AreUnseen point above → IsHistoryFrom from above → IsHistoryFrom point above
 unseen_history point from [] unseen h = tt
 unseen_history point from (t ∷ above) unseen h = (unseen.0, h.1, h.2, h.3, h.4)
 
@@ -97,7 +97,7 @@ after-none s (t ∷ ts) h =
     let isnt : nat_lt s t.end ≡ false = grind (arith, nat_tests) in
     ap (λ b. cond b (t ∷ ended_after s ts) (ended_after s ts)) isnt ∙ after-none s ts h.1
 
-after-all : (s : ℕ) (ts : List Transaction) → AllByRecursion (λ (t : Transaction). s < t.end) ts → ended_after s ts ≡ ts
+pub after-all : (s : ℕ) (ts : List Transaction) → AllByRecursion (λ (t : Transaction). s < t.end) ts → ended_after s ts ≡ ts
 after-all s [] h = refl
 after-all s (t ∷ ts) h =
     let late : s < t.end = h.0 in
@@ -123,11 +123,11 @@ all_kept P s (t ∷ ts) h =
 pub seen_after : (point s : ℕ) (ts : List Transaction) → AreSeen point ts → AreSeen point (ended_after s ts)
 seen_after point s ts h = all_kept (IsSeen point) s ts h
 
-later_starts : (s point : ℕ) (ts : List Transaction) → s ≤ point → AllByRecursion (λ (t : Transaction). point < t.end) ts → AllByRecursion (λ (t : Transaction). s < t.end) ts
+pub later_starts : (s point : ℕ) (ts : List Transaction) → s ≤ point → AllByRecursion (λ (t : Transaction). point < t.end) ts → AllByRecursion (λ (t : Transaction). s < t.end) ts
 later_starts s point [] le h = tt
 later_starts s point (t ∷ ts) le h = ((let late : point < t.end = h.0 in omega arith), later_starts s point ts le h.1)
 
-below_starts : (s point : ℕ) (ts : List Transaction) → point ≤ s → EndBelow point ts → AllByRecursion (λ (t : Transaction). t.end ≤ s) ts
+pub below_starts : (s point : ℕ) (ts : List Transaction) → point ≤ s → EndBelow point ts → AllByRecursion (λ (t : Transaction). t.end ≤ s) ts
 below_starts s point [] le h = tt
 below_starts s point (t ∷ ts) le h = ((let early : t.end < point = h.0 in omega arith), below_starts s point ts le h.1)
 

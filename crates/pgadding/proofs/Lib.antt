@@ -21,3 +21,6 @@ mod Worked
 pub mod Delivered
 pub mod MendedRows
 pub mod MendedTables
+pub mod RepairCommit
+pub mod RepairHistories
+pub mod RepairPassed
