@@ -24,3 +24,4 @@ pub mod MendedTables
 pub mod RepairCommit
 pub mod RepairHistories
 pub mod RepairPassed
+pub mod RepairDelivered
