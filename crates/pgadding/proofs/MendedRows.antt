@@ -398,9 +398,10 @@ bag_both def place rows cells theirs ours bag w sent spelled many few may there 
       put = put_again rows key (stock cells high) (stock cells theirs) come.next go.next come.put go.put;
     })
 
-abbrev pub IsTupleOf : Option Row → Type 0
-IsTupleOf None = Unit {0}
-IsTupleOf (Some row) = IsTuple row.cells
+abbrev pub AreTuplesOf : Option Row → Option Row → Type 0
+AreTuplesOf None ours = Unit {0}
+AreTuplesOf (Some row) None = Unit {0}
+AreTuplesOf (Some row) (Some old) = IsTuple row.cells × IsTuple old.cells
 
 -- rows at one place are the same, but for their copies
 same_cells : (def : RelationDef) (place : List ℕ) (a b : Row) → keyed def ≡ false → IsRow def place a → IsRow def place b → IsTuple a.cells → IsTuple b.cells → a.cells ≡ b.cells
@@ -409,22 +410,22 @@ same_cells def place a b bag one two fits too =
     sym (ap tuple_spelling (bag_identity def a.cells bag)) ∙ sym one.known ∙ two.known ∙ ap tuple_spelling (bag_identity def b.cells bag) in
     (tuples_apart a.cells b.cells [] [] fits too (ap (λ s. s ++ []) spelled)).0
 
-pub bag_placed : (def : RelationDef) (place : List ℕ) (rows : Rows) (theirs ours : Option Row) → keyed def ≡ false → IsRowOf def place theirs → IsRowOf def place ours → IsTupleOf theirs → IsTupleOf ours
+pub bag_placed : (def : RelationDef) (place : List ℕ) (rows : Rows) (theirs ours : Option Row) → keyed def ≡ false → IsRowOf def place theirs → IsRowOf def place ours → AreTuplesOf theirs ours
     → MayGo def (copies_of theirs) (copies_of ours) → map.get rows place ≡ ours → Placed rows place theirs (fold_items def rows (bag_changes def theirs ours))
-bag_placed def place rows None None bag is was fits too may there = record { next = rows; is = refl; put = stays rows place None there }
-bag_placed def place rows (Some row) None bag is was fits too may none =
+bag_placed def place rows None None bag is was fit may there = record { next = rows; is = refl; put = stays rows place None there }
+bag_placed def place rows (Some row) None bag is was fit may none =
     let few = few_copies def place row bag is in
     let sum : 0 + row.copies ≡ row.copies = omega arith in
     let it = insert_times def def.oid row.cells row.copies rows 0 bag is.width is.sent (omega arith) (ap (map.get rows) (sym is.known) ∙ none) in
     placed_at def row.cells place rows (Some row) (fold_items def rows (times row.copies (item.Insert def.oid row.cells))) is.known
     (subst (λ there. Placed rows (identity_key def row.cells) there (fold_items def rows (times row.copies (item.Insert def.oid row.cells)))) (ap (stock row.cells) sum ∙ sym (row_stock row is.some)) it)
-bag_placed def place rows None (Some old) bag is was fits too may there =
+bag_placed def place rows None (Some old) bag is was fit may there =
     let sum : old.copies ≡ 0 + old.copies = omega arith in
     let at : map.get rows (identity_key def old.cells) ≡ stock old.cells (0 + old.copies) = ap (map.get rows) (sym was.known) ∙ there ∙ row_stock old was.some ∙ ap (stock old.cells) sum in
     placed_at def old.cells place rows None (fold_items def rows (times old.copies (item.Delete def.oid Full old.cells))) was.known
     (delete_some def def.oid old.cells old.copies rows 0 (subst (MayGo def 0) sum may) was.width was.sent at)
-bag_placed def place rows (Some row) (Some old) bag is was fits too may there =
-    let same : row.cells ≡ old.cells = same_cells def place row old bag is was fits too in
+bag_placed def place rows (Some row) (Some old) bag is was fit may there =
+    let same : row.cells ≡ old.cells = same_cells def place row old bag is was fit.0 fit.1 in
     let at : map.get rows place ≡ stock row.cells old.copies = there ∙ row_stock old was.some ∙ ap (λ cells. stock cells old.copies) (sym same) in
     let it = bag_both def place rows row.cells row.copies old.copies bag is.width is.sent is.known (few_copies def place row bag is) (few_copies def place old bag was) may at in
     let changes = λ (cells : List Cell). times (row.copies - old.copies) (item.Insert def.oid row.cells) ++ times (old.copies - row.copies) (item.Delete def.oid Full cells) in
@@ -434,11 +435,11 @@ bag_placed def place rows (Some row) (Some old) bag is was fits too may there =
 -- ---- all of them
 
 pub changes_placed : (def : RelationDef) (theirs ours : Rows) (place : List ℕ) (rows : Rows) → IsRowOf def place (map.get theirs place) → IsRowOf def place (map.get ours place)
-    → IsTupleOf (map.get theirs place) → IsTupleOf (map.get ours place) → (keyed def ≡ false → MayGo def (copies_of (map.get theirs place)) (copies_of (map.get ours place)))
+    → AreTuplesOf (map.get theirs place) (map.get ours place) → (keyed def ≡ false → MayGo def (copies_of (map.get theirs place)) (copies_of (map.get ours place)))
     → map.get rows place ≡ map.get ours place → Placed rows place (map.get theirs place) (fold_items def rows (changes_at def theirs ours place))
-changes_placed def theirs ours place rows is was fits too may there =
+changes_placed def theirs ours place rows is was fit may there =
     elim (keyed def) as (λ b. keyed def ≡ b → Placed rows place (map.get theirs place)
     (fold_items def rows (if b then keyed_changes def (map.get theirs place) (map.get ours place) else bag_changes def (map.get theirs place) (map.get ours place)))) [
       | true ↦ λ key. keyed_placed def place rows (map.get theirs place) (map.get ours place) key is was there
-      | false ↦ λ bag. bag_placed def place rows (map.get theirs place) (map.get ours place) bag is was fits too (may bag) there
+      | false ↦ λ bag. bag_placed def place rows (map.get theirs place) (map.get ours place) bag is was fit (may bag) there
     ] refl

@@ -25,7 +25,7 @@ use Rattle.pgsub_core.proofs.Changes.{fold-append}
 use Rattle.pgadding.specs.Mended.{times, keyed_changes, bag_changes, Mended, IsNotAmong, AreDistinct, AreFound, TellsRows, AreTuples, IsMended, changes_at}
 use Rattle.pgadding.specs.Repair.{Repair, ChangesRowOf, IsRepair, IsRepairOf, changed, mended_work, mended_oids}
 use Rattle.pgadding.specs.Repaired.{RepairMakesTheServers}
-use Rattle.pgadding.proofs.MendedRows.{op_of, fold_items, fold_items-append, Placed, IsRowOf, IsTupleOf, MayGo, changes_placed, same_place_as, itself}
+use Rattle.pgadding.proofs.MendedRows.{op_of, fold_items, fold_items-append, Placed, IsRowOf, AreTuplesOf, MayGo, changes_placed, same_place_as, itself}
 use Rattle.pgadding.proofs.Steps.{AlikeTables, bound, put, own_put}
 
 -- ---- all identities at which rows differ
@@ -34,8 +34,7 @@ use Rattle.pgadding.proofs.Steps.{AlikeTables, bound, put, own_put}
 record BothRows (def : RelationDef) (theirs ours : Rows) : Type 0 where
   are : AreRows def theirs
   were : AreRows def ours
-  fit : AreTuples theirs
-  fitted : AreTuples ours
+  fit : AreTuples theirs ours
   tells : TellsRows def theirs ours
 
 row_of : (def : RelationDef) (rows : Rows) (place : List ℕ) → AreRows def rows → IsRowOf def place (finite.get rows place)
@@ -44,10 +43,13 @@ row_of def rows place are = elim (finite.get rows place) as (λ (there : Option 
   | Some row ↦ λ e. are place row e
 ] refl
 
-tuple_of : (rows : Rows) (place : List ℕ) → AreTuples rows → IsTupleOf (finite.get rows place)
-tuple_of rows place fit = elim (finite.get rows place) as (λ (there : Option Row). finite.get rows place ≡ there → IsTupleOf there) [
+tuples_of : (theirs ours : Rows) (place : List ℕ) → AreTuples theirs ours → AreTuplesOf (finite.get theirs place) (finite.get ours place)
+tuples_of theirs ours place fit = elim (finite.get theirs place) as (λ (there : Option Row). finite.get theirs place ≡ there → AreTuplesOf there (finite.get ours place)) [
   | None ↦ λ e. tt
-  | Some row ↦ λ e. fit place row e
+  | Some row ↦ λ e. elim (finite.get ours place) as (λ (here : Option Row). finite.get ours place ≡ here → AreTuplesOf (Some row) here) [
+    | None ↦ λ f. tt
+    | Some old ↦ λ f. fit place row old e f
+  ] refl
 ] refl
 
 may_go : (def : RelationDef) (theirs ours : Rows) (place : List ℕ) → TellsRows def theirs ours → keyed def ≡ false → MayGo def (copies_at theirs place) (copies_at ours place)
@@ -85,7 +87,7 @@ mend_rows def theirs ours both [] rows still = ap (λ r. Ok r) (same_map nat_lis
 mend_rows def theirs ours both (place ∷ places) rows still =
     let there = finite.get theirs place in
     let rest = flat_map (changes_at def theirs ours) places in
-    let it = changes_placed def theirs ours place rows (row_of def theirs place both.are) (row_of def ours place both.were) (tuple_of theirs place both.fit) (tuple_of ours place both.fitted)
+    let it = changes_placed def theirs ours place rows (row_of def theirs place both.are) (row_of def ours place both.were) (tuples_of theirs ours place both.fit)
         (may_go def theirs ours place both.tells) still.todo.0 in
     let later : StillToDo theirs ours it.next places = record {
       once = still.once.1;
@@ -189,8 +191,7 @@ one_table copy server tables t is were are at =
     let both : BothRows def is.theirs is.ours = record {
       are = (are def.oid (record { definition = def; rows = is.theirs }) is.wanted).each;
       were = rows_found def is.ours copy (finite.get copy def.oid) were refl is.found;
-      fit = is.their_tuples;
-      fitted = is.our_tuples;
+      fit = is.tuples;
       tells = is.tells;
     } in
     let still : StillToDo is.theirs is.ours is.ours is.places = record { once = is.once; done = is.others; todo = all_ours is.ours is.places } in

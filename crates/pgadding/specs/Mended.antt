@@ -78,9 +78,11 @@ TellsRows def theirs ours =
     ⊎ ((def.letter ≡ identity_full)
     ⊎ ((place : List ℕ) → copies_at ours place ≤ copies_at theirs place))
 
--- rows that tuples of the protocol can hold
-abbrev pub AreTuples : Rows → Type 0
-AreTuples rows = (place : List ℕ) (row : Row) → finite.get rows place ≡ Some row → IsTuple row.cells
+-- Rows that stand at an identity on both sides are tuples that the protocol can hold.
+abbrev pub AreTuples : Rows → Rows → Type 0
+AreTuples theirs ours =
+    (place : List ℕ) (row old : Row) → finite.get theirs place ≡ Some row
+    → finite.get ours place ≡ Some old → IsTuple row.cells × IsTuple old.cells
 
 -- These are a table's changes, where `copy` is what the copy has at the point, and `server` what the
 -- server has there. `places` are the identities at which they differ, in any order.
@@ -99,5 +101,4 @@ pub record IsMended (copy server : Tables) (t : Mended) : Type 0 where
   pub changes : t.changes ≡ flat_map (changes_at t.definition theirs ours) places
   pub some : t.changes ≢ []
   pub tells : TellsRows t.definition theirs ours
-  pub our_tuples : AreTuples ours
-  pub their_tuples : AreTuples theirs
+  pub tuples : AreTuples theirs ours
