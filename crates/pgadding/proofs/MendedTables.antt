@@ -88,7 +88,7 @@ mend_rows def theirs ours both (place ∷ places) rows still =
     let there = finite.get theirs place in
     let rest = flat_map (changes_at def theirs ours) places in
     let it = changes_placed def theirs ours place rows (row_of def theirs place both.are) (row_of def ours place both.were) (tuples_of theirs ours place both.fit)
-        (may_go def theirs ours place both.tells) still.todo.0 in
+    (may_go def theirs ours place both.tells) still.todo.0 in
     let later : StillToDo theirs ours it.next places = record {
       once = still.once.1;
       done = λ q isnt. it.put q ∙ elim (cases_Bool (same_place_as place q)) [

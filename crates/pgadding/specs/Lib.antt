@@ -11,3 +11,4 @@ pub mod Mended
 pub mod Repair
 pub mod Repairing
 pub mod Repaired
+pub mod WorkedRepair

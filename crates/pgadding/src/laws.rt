@@ -20,6 +20,19 @@ ghost use Rattle.pgadding.specs.Repaired.{
   UnrepairedIsTheSame,
   RepairedCopyIsTheServers,
 };
+ghost use Rattle.pgadding.specs.WorkedRepair.{
+  Comes,
+  IsReplaced,
+  Goes,
+  MoreCome,
+  SomeGo,
+  AllGo,
+  ForAKeepalive,
+  ForABegin,
+  NotRepairedYet,
+  IsRepaired,
+  RepairsWork,
+};
 
 /// Whatever is passed on of a server's sessions while a table is added, it is sessions of a history
 /// (`delivered`; `bytes` for their bytes, wherever they end): the server's, in which the
@@ -101,4 +114,22 @@ pub fn repaired_copy_is_the_servers()
     ensures rows { RepairedRowsAreTheServers }
     ensures unrepaired { UnrepairedIsTheSame }
     ensures copy { RepairedCopyIsTheServers }
+{}
+
+/// The changes of single rows, by a key and by the whole row; and what is passed on of the session of
+/// `sessions_are_passed_on` where a copy is repaired.
+///
+/// PostgreSQL documentation, Logical Replication Message Formats.
+pub fn repairs_are_passed_on()
+    ensures comes { Comes }
+    ensures replaced { IsReplaced }
+    ensures goes { Goes }
+    ensures more { MoreCome }
+    ensures some { SomeGo }
+    ensures all { AllGo }
+    ensures keepalive { ForAKeepalive }
+    ensures begin { ForABegin }
+    ensures not_yet { NotRepairedYet }
+    ensures no_more { IsRepaired }
+    ensures work { RepairsWork }
 {}

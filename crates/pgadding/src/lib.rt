@@ -17,6 +17,6 @@
 pub mod laws;
 
 pub use laws::{
-    copy_is_the_servers, passed_on_is_a_session, repaired_copy_is_the_servers, rows_are_the_servers,
-    sessions_are_passed_on,
+    copy_is_the_servers, passed_on_is_a_session, repaired_copy_is_the_servers,
+    repairs_are_passed_on, rows_are_the_servers, sessions_are_passed_on,
 };
