@@ -121,7 +121,7 @@ other_rows a before below above p tables copy is e f oid isnt =
 -- ---- the table itself
 
 -- a truncation finds rows or none, and leaves none
-emptied_table : (def : RelationDef) → Table
+abbrev pub emptied_table : RelationDef → Table
 emptied_table def = record { definition = def; rows = map.empty }
 
 found_some : (there : Option Table) (def : RelationDef) → (rows : Rows) × (found_rows there def op.Truncate ≡ Ok rows)
@@ -132,8 +132,8 @@ found_some (Some table) def =
       | false ↦ (map.empty, refl)
     ]
 
-truncated : (def : RelationDef) (tables : Tables) → apply tables (record { definition = def; op = op.Truncate }) ≡ Ok (map.insert tables def.oid (emptied_table def))
-unfolding apply rows_after emptied_table
+pub truncated : (def : RelationDef) (tables : Tables) → apply tables (record { definition = def; op = op.Truncate }) ≡ Ok (map.insert tables def.oid (emptied_table def))
+unfolding apply rows_after
 truncated def tables =
     let found = found_some (map.get tables def.oid) def in
     ap (λ r. r >>= λ rows. rows_after def op.Truncate rows >>= λ left. Ok (map.insert tables def.oid (record { definition = def; rows = left }))) found.1

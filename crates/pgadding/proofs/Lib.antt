@@ -25,3 +25,4 @@ pub mod RepairCommit
 pub mod RepairHistories
 pub mod RepairPassed
 pub mod RepairDelivered
+pub mod Given

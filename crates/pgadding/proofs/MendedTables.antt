@@ -31,11 +31,11 @@ use Rattle.pgadding.proofs.Steps.{AlikeTables, bound, put, own_put}
 -- ---- all identities at which rows differ
 
 -- what is known of the rows of both sides
-record BothRows (def : RelationDef) (theirs ours : Rows) : Type 0 where
-  are : AreRows def theirs
-  were : AreRows def ours
-  fit : AreTuples theirs ours
-  tells : TellsRows def theirs ours
+pub record BothRows (def : RelationDef) (theirs ours : Rows) : Type 0 where
+  pub are : AreRows def theirs
+  pub were : AreRows def ours
+  pub fit : AreTuples theirs ours
+  pub tells : TellsRows def theirs ours
 
 row_of : (def : RelationDef) (rows : Rows) (place : List ℕ) → AreRows def rows → IsRowOf def place (finite.get rows place)
 row_of def rows place are = elim (finite.get rows place) as (λ (there : Option Row). finite.get rows place ≡ there → IsRowOf def place there) [
@@ -61,15 +61,15 @@ same_ok : {A : Type 0} (x y : A) → ◌≡◌ {A = Result A StoreFault} (Ok x) 
 same_ok x y e = cc
 
 -- rows in which the rest of the identities is still to be changed
-record StillToDo (theirs ours rows : Rows) (places : List (List ℕ)) : Type 0 where
-  once : AreDistinct places
-  done : (q : List ℕ) → IsNotAmong q places → finite.get rows q ≡ finite.get theirs q
-  todo : AllByRecursion (λ (q : List ℕ). finite.get rows q ≡ finite.get ours q) places
+pub record StillToDo (theirs ours rows : Rows) (places : List (List ℕ)) : Type 0 where
+  pub once : AreDistinct places
+  pub done : (q : List ℕ) → IsNotAmong q places → finite.get rows q ≡ finite.get theirs q
+  pub todo : AllByRecursion (λ (q : List ℕ). finite.get rows q ≡ finite.get ours q) places
 
 not_itself : (place q : List ℕ) → same_place_as place q ≡ false → place ≢ q
 not_itself place q isnt e = let yes : same_place_as place q ≡ true = subst (λ x. same_place_as place x ≡ true) e (itself place) in cc
 
-differ : (place q : List ℕ) → q ≢ place → same_place_as place q ≡ false
+pub differ : (place q : List ℕ) → q ≢ place → same_place_as place q ≡ false
 differ place q isnt = elim (cases_Bool (same_place_as place q)) [
   | inl same ↦ absurd (isnt (same_place q place same))
   | inr other ↦ other
@@ -81,7 +81,7 @@ still_todo ours rows next place there [] put isnt todo = tt
 still_todo ours rows next place there (q ∷ places) put isnt todo =
     (put q ∙ ap (λ b. cond b there (finite.get rows q)) (differ place q isnt.0) ∙ todo.0, still_todo ours rows next place there places put isnt.1 todo.1)
 
-mend_rows : (def : RelationDef) (theirs ours : Rows) → BothRows def theirs ours → (places : List (List ℕ)) (rows : Rows) → StillToDo theirs ours rows places
+pub mend_rows : (def : RelationDef) (theirs ours : Rows) → BothRows def theirs ours → (places : List (List ℕ)) (rows : Rows) → StillToDo theirs ours rows places
     → fold_items def rows (flat_map (changes_at def theirs ours) places) ≡ Ok theirs
 mend_rows def theirs ours both [] rows still = ap (λ r. Ok r) (same_map nat_list_cmp_total (slice_cmp-IsAntisymmetric nat_cmp-IsAntisymmetric) rows theirs (λ q. still.done q tt))
 mend_rows def theirs ours both (place ∷ places) rows still =
@@ -101,7 +101,7 @@ mend_rows def theirs ours both (place ∷ places) rows still =
     ∙ ap (λ r. r >>= λ next. fold_items def next rest) it.is
     ∙ mend_rows def theirs ours both places it.next later
 
-all_ours : (ours : Rows) (places : List (List ℕ)) → AllByRecursion (λ (q : List ℕ). finite.get ours q ≡ finite.get ours q) places
+pub all_ours : (ours : Rows) (places : List (List ℕ)) → AllByRecursion (λ (q : List ℕ). finite.get ours q ≡ finite.get ours q) places
 all_ours ours [] = tt
 all_ours ours (q ∷ places) = (refl, all_ours ours places)
 
@@ -145,10 +145,10 @@ pub record Made (def : RelationDef) (rows : Rows) (tables : Tables) (outcome : R
   pub here : finite.get next def.oid ≡ Some (record { definition = def; rows = rows })
   pub others : AlikeTables def.oid next tables
 
-abbrev changes_by : RelationDef → List Item → List Change
+abbrev pub changes_by : RelationDef → List Item → List Change
 changes_by def items = map (change_of def) items
 
-put_here : (tables : Tables) (def : RelationDef) (rows : Rows) → finite.get (finite.insert tables def.oid (record { definition = def; rows = rows })) def.oid ≡ Some (record { definition = def; rows = rows })
+pub put_here : (tables : Tables) (def : RelationDef) (rows : Rows) → finite.get (finite.insert tables def.oid (record { definition = def; rows = rows })) def.oid ≡ Some (record { definition = def; rows = rows })
 put_here tables def rows =
     put tables def.oid (record { definition = def; rows = rows }) def.oid ∙ ap (λ b. cond b (Some (record { definition = def; rows = rows })) (finite.get tables def.oid)) (self def.oid)
 
@@ -168,7 +168,7 @@ after_first def i items tables rows wanted finds e then =
       others = λ o isnt. rest.others o isnt ∙ own_put def.oid tables tables def.oid table (λ x _. refl) (self def.oid) o isnt;
     }
 
-fold_more : (def : RelationDef) (items : List Item) (tables : Tables) (rows wanted : Rows) → finite.get tables def.oid ≡ Some (record { definition = def; rows = rows }) → fold_items def rows items ≡ Ok wanted
+pub fold_more : (def : RelationDef) (items : List Item) (tables : Tables) (rows wanted : Rows) → finite.get tables def.oid ≡ Some (record { definition = def; rows = rows }) → fold_items def rows items ≡ Ok wanted
     → Made def wanted tables (fold_changes tables (changes_by def items))
 unfolding fold_changes
 fold_more def [] tables rows wanted at e =
@@ -228,7 +228,7 @@ place_rows def theirs ours place =
       | false ↦ bag_rows def (finite.get theirs place) (finite.get ours place)
     ]
 
-all_rows : (def : RelationDef) (theirs ours : Rows) (places : List (List ℕ)) → AllByRecursion (ChangesRowOf def.oid) (flat_map (changes_at def theirs ours) places)
+pub all_rows : (def : RelationDef) (theirs ours : Rows) (places : List (List ℕ)) → AllByRecursion (ChangesRowOf def.oid) (flat_map (changes_at def theirs ours) places)
 all_rows def theirs ours [] = tt
 all_rows def theirs ours (place ∷ places) =
     all_append (ChangesRowOf def.oid) (changes_at def theirs ours place) (flat_map (changes_at def theirs ours) places) (place_rows def theirs ours place) (all_rows def theirs ours places)
@@ -247,7 +247,7 @@ one_change def (item.Update oid prior row) is = refl
 one_change def (item.Delete oid kind row) is = refl
 one_change def (item.Truncate options oids) is = absurd is
 
-changed_survive : (def : RelationDef) (items : List Item) (rest : Work) → AllByRecursion (ChangesRowOf def.oid) items → surviving_changes (changed def items rest) ≡ changes_by def items ++ surviving_changes rest
+pub changed_survive : (def : RelationDef) (items : List Item) (rest : Work) → AllByRecursion (ChangesRowOf def.oid) items → surviving_changes (changed def items rest) ≡ changes_by def items ++ surviving_changes rest
 changed_survive def [] rest are = refl
 changed_survive def (i ∷ items) rest are =
     ap (λ first. first ++ surviving_changes (changed def items rest)) (one_change def i are.0) ∙ ap (λ more. change_of def i ∷ more) (changed_survive def items rest are.1)

@@ -78,7 +78,7 @@ repair_described r earlier is = tables_described (λ oid. last_of oid earlier) r
 
 -- ---- what it is in a history
 
-changed_work : (def : RelationDef) (items : List Item) (rest : Work) → AllByRecursion (ChangesRowOf def.oid) items → IsWork rest → IsWork (changed def items rest)
+pub changed_work : (def : RelationDef) (items : List Item) (rest : Work) → AllByRecursion (ChangesRowOf def.oid) items → IsWork rest → IsWork (changed def items rest)
 changed_work def [] rest are is = is
 changed_work def (i ∷ items) rest are is = (row_change def.oid i are.0, sym (row_named def.oid i are.0), changed_work def items rest are.1 is)
 
@@ -86,7 +86,7 @@ pub repair_work : (ts : List Mended) → AllByRecursion (λ (t : Mended). AllByR
 repair_work [] are = tt
 repair_work (t ∷ ts) are = changed_work t.definition t.changes (mended_work ts) are.0 (repair_work ts are.1)
 
-changed_xids : (def : RelationDef) (items : List Item) (rest : Work) → xids_of (changed def items rest) ≡ xids_of rest
+pub changed_xids : (def : RelationDef) (items : List Item) (rest : Work) → xids_of (changed def items rest) ≡ xids_of rest
 changed_xids def [] rest = refl
 changed_xids def (i ∷ items) rest = changed_xids def items rest
 

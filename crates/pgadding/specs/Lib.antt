@@ -12,3 +12,4 @@ pub mod Repair
 pub mod Repairing
 pub mod Repaired
 pub mod WorkedRepair
+pub mod Given

@@ -20,6 +20,7 @@ ghost use Rattle.pgadding.specs.Repaired.{
   UnrepairedIsTheSame,
   RepairedCopyIsTheServers,
 };
+ghost use Rattle.pgadding.specs.Given.{AnyTablesAreGiven, AnyCopyIsRepaired};
 ghost use Rattle.pgadding.specs.WorkedRepair.{
   Comes,
   IsReplaced,
@@ -99,6 +100,8 @@ pub fn sessions_are_passed_on()
 /// passed on is sessions (`delivered`; `bytes`) of a history (`history`), which from the point on
 /// gives the server's rows (`rows`). Below the point the copy is as it was (`unrepaired`), and
 /// whoever follows has a copy of the server's history at each position from the point on (`copy`).
+/// A copy may have any tables before, since some history gives them (`given`): so also that is a copy
+/// of the server's history from the point on (`any`).
 ///
 /// Of the server it is asked what `passed_on_is_a_session` says of transactions and keepalives; of a
 /// table that is repaired that the copy has it under the same shape, or not at all, and the server's
@@ -114,6 +117,8 @@ pub fn repaired_copy_is_the_servers()
     ensures rows { RepairedRowsAreTheServers }
     ensures unrepaired { UnrepairedIsTheSame }
     ensures copy { RepairedCopyIsTheServers }
+    ensures given { AnyTablesAreGiven }
+    ensures any { AnyCopyIsRepaired }
 {}
 
 /// The changes of single rows, by a key and by the whole row; and what is passed on of the session of

@@ -1,6 +1,7 @@
 use Rattle.pgadding.proofs.MendedTables as mended
 use Rattle.pgadding.proofs.RepairHistories as histories
 use Rattle.pgadding.proofs.RepairDelivered as delivered
+use Rattle.pgadding.proofs.Given as given
 use Rattle.pgadding.proofs.laws.repaired_copy_is_the_servers.Goals as goal
 
 pub returns : goal.returns
@@ -12,4 +13,6 @@ returns c = record {
   rows = delivered.repaired_rows;
   unrepaired = delivered.unrepaired;
   copy = delivered.repaired_copy;
+  given = given.any_tables;
+  any = given.any_copy;
 }
