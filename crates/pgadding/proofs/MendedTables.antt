@@ -23,10 +23,10 @@ use Rattle.pgapply.proofs.KeepsForm.{same_place, of_shape, no_rows}
 use Rattle.pgsub_core.specs.Server.Work.{Work, AllDiffer, changes_of, surviving_changes, is_among}
 use Rattle.pgsub_core.proofs.Changes.{fold-append}
 use Rattle.pgadding.specs.Mended.{times, keyed_changes, bag_changes, Mended, IsNotAmong, AreDistinct, AreFound, TellsRows, AreTuples, IsMended, changes_at}
-use Rattle.pgadding.specs.Repair.{Repair, ChangesRowOf, IsRepair, IsRepairOf, changed, mended_work, mended_oids}
+use Rattle.pgadding.specs.Repair.{Repair, ChangesRowOf, IsRepair, AreMended, IsRepairOf, changed, mended_work, mended_oids}
 use Rattle.pgadding.specs.Repaired.{RepairMakesTheServers}
 use Rattle.pgadding.proofs.MendedRows.{op_of, fold_items, fold_items-append, Placed, IsRowOf, AreTuplesOf, MayGo, changes_placed, same_place_as, itself}
-use Rattle.pgadding.proofs.Steps.{AlikeTables, bound, put, own_put}
+use Rattle.pgadding.proofs.Steps.{AlikeTables, bound, put, own_put, effect, applied}
 
 -- ---- all identities at which rows differ
 
@@ -296,4 +296,73 @@ same_each copy [] = tt
 same_each copy (t ∷ ts) = (refl, same_each copy ts)
 
 pub repair_makes : RepairMakesTheServers
-repair_makes r copy server were are is = mend_tables copy server were are r.tables copy is.once is.each (same_each copy r.tables) is.others
+repair_makes r copy server were are is = mend_tables copy server were are r.tables copy is.mended.once is.mended.each (same_each copy r.tables) is.others
+
+-- ---- some tables, where others may differ too
+
+pub record MadeSome (server tables : Tables) (oids : List ℕ) (outcome : Result Tables StoreFault) : Type 0 where
+  pub next : Tables
+  pub is : outcome ≡ Ok next
+  pub these : (oid : ℕ) → is_among oids oid ≡ true → finite.get next oid ≡ finite.get server oid
+  pub others : (oid : ℕ) → is_among oids oid ≡ false → finite.get next oid ≡ finite.get tables oid
+
+pub mend_some : (copy server : Tables) → AreTables copy → AreTables server → (ts : List Mended) (tables : Tables) → AllDiffer (oids_of ts) → AllByRecursion (IsMended copy server) ts
+    → AllByRecursion (λ (t : Mended). finite.get tables t.definition.oid ≡ finite.get copy t.definition.oid) ts
+    → MadeSome server tables (oids_of ts) (fold_changes tables (surviving_changes (mended_work ts)))
+unfolding fold_changes
+mend_some copy server were are [] tables once each todo = record { next = tables; is = refl; these = λ oid e. absurd (cc); others = λ oid _. refl }
+mend_some copy server were are (t ∷ ts) tables once each todo =
+    let def = t.definition in
+    let it = one_table copy server tables t each.0 were are todo.0 in
+    let rest = surviving_changes (mended_work ts) in
+    let more = mend_some copy server were are ts it.next once.1 each.1 (tables_todo copy tables it.next def.oid ts once.0 it.others todo.1) in
+    record {
+      next = more.next;
+      is = ap (fold_changes tables) (changed_survive def t.changes (mended_work ts) (mended_changes copy server t each.0))
+          ∙ fold-append (changes_by def t.changes) rest tables
+          ∙ ap (λ r. r >>= λ n. fold_changes n rest) it.is
+          ∙ more.is;
+      these = λ oid. elim (is_among (oids_of ts) oid) as (λ b. is_among (oids_of ts) oid ≡ b → (eqb def.oid oid || b) ≡ true → finite.get more.next oid ≡ finite.get server oid) [
+        | true ↦ λ among _. more.these oid among
+        | false ↦ λ isnt yes.
+            let at : def.oid ≡ oid = grind (arith, nat_tests) in
+            more.others oid isnt ∙ subst (λ x. finite.get it.next x ≡ finite.get server x) at (it.here ∙ sym each.0.wanted)
+      ] refl;
+      others = λ oid isnt.
+          let parts = or_false (eqb def.oid oid) (is_among (oids_of ts) oid) isnt in
+          let no : eqb def.oid oid ≡ false = parts.0 in
+          let other : eqb oid def.oid ≡ false = grind (arith, nat_tests) in
+          more.others oid parts.1 ∙ it.others oid other;
+    }
+
+pub some_made : (r : Repair) (copy server : Tables) → AreTables copy → AreTables server → AreMended r copy server → MadeSome server copy (mended_oids r) (fold_changes copy (surviving_changes (mended_work r.tables)))
+some_made r copy server were are is = mend_some copy server were are r.tables copy is.once is.each (same_each copy r.tables)
+
+-- the same changes make the same of a table that was the same
+one_same : (oid : ℕ) (tables other next after : Tables) (c : Change) → finite.get tables oid ≡ finite.get other oid → apply tables c ≡ Ok next → apply other c ≡ Ok after → finite.get next oid ≡ finite.get after oid
+one_same oid tables other next after c same e f =
+    let one = applied tables c next e in
+    let two = applied other c after f in
+    let k = c.definition.oid in
+    elim (eqb oid k) as (λ b. eqb oid k ≡ b → finite.get next oid ≡ finite.get after oid) [
+      | true ↦ λ yes.
+          let at : oid ≡ k = grind (arith, nat_tests) in
+          let there : finite.get tables k ≡ finite.get other k = subst (λ x. finite.get tables x ≡ finite.get other x) at same in
+          let table : one.table ≡ two.table = same_ok one.table two.table (sym one.effected ∙ ap (λ t. effect t c) there ∙ two.effected) in
+          ap (λ n. finite.get n oid) one.is ∙ put tables k one.table oid ∙ ap (λ b. cond b (Some one.table) (finite.get tables oid)) yes
+          ∙ ap (λ t. Some t) table
+          ∙ sym (ap (λ n. finite.get n oid) two.is ∙ put other k two.table oid ∙ ap (λ b. cond b (Some two.table) (finite.get other oid)) yes)
+      | false ↦ λ no.
+          ap (λ n. finite.get n oid) one.is ∙ put tables k one.table oid ∙ ap (λ b. cond b (Some one.table) (finite.get tables oid)) no
+          ∙ same
+          ∙ sym (ap (λ n. finite.get n oid) two.is ∙ put other k two.table oid ∙ ap (λ b. cond b (Some two.table) (finite.get other oid)) no)
+    ] refl
+
+pub fold_same : (oid : ℕ) (cs : List Change) (tables other next after : Tables) → finite.get tables oid ≡ finite.get other oid → fold_changes tables cs ≡ Ok next → fold_changes other cs ≡ Ok after
+    → finite.get next oid ≡ finite.get after oid
+unfolding fold_changes
+fold_same oid [] tables other next after same e f = ap (λ n. finite.get n oid) (sym (same_ok tables next e)) ∙ same ∙ ap (λ n. finite.get n oid) (same_ok other after f)
+fold_same oid (c ∷ cs) tables other next after same e f =
+    let one = bound (apply tables c) (λ n. fold_changes n cs) next e in
+    let two = bound (apply other c) (λ n. fold_changes n cs) after f in
+    fold_same oid cs one.at two.at next after (one_same oid tables other one.at two.at c same one.first two.first) one.then two.then

@@ -21,14 +21,14 @@ use Rattle.pgsub_core.proofs.AllSessions.{all_sessions_allowed}
 use Rattle.pgadding.specs.Around.{IsAround, IsWholeSession}
 use Rattle.pgadding.specs.Repair.{Repair, IsRepair, IsRepairOf, repair_transaction, mended_work}
 use Rattle.pgadding.specs.Repairing.{repairing, repaired_on, with_repair}
-use Rattle.pgadding.specs.Repaired.{AreAround, AreStored, RepairedIsDelivered, IsRepairedSession, IsRepairedIncoming, RepairedSessionsAreSessions, IsRepairAround, RepairedRowsAreTheServers, UnrepairedIsTheSame, RepairedCopyIsTheServers}
+use Rattle.pgadding.specs.Repaired.{AreAround, AreStored, RepairedIsDelivered, IsRepairedSession, IsRepairedIncoming, RepairedSessionsAreSessions, IsRepairAround, RepairedRowsAreTheServers, MendedRowsAreTheServers, UnrepairedIsTheSame, RepairedCopyIsTheServers}
 use Rattle.pgadding.proofs.Ordered.{InOrder, in_order, shaped}
 use Rattle.pgadding.proofs.Following.{all_left, all_right, all_both}
 use Rattle.pgadding.proofs.Histories.{all_seen, seen_from, seen_after, after-server, ends_above}
 use Rattle.pgadding.proofs.Kept.{three, server-changes, point-changes, then_last, ended_whole}
 use Rattle.pgadding.proofs.Bytes.{each_starts}
 use Rattle.pgadding.proofs.Copies.{EachStored, seen_stored}
-use Rattle.pgadding.proofs.MendedTables.{repair_makes, is_repair}
+use Rattle.pgadding.proofs.MendedTables.{repair_makes, is_repair, some_made, fold_same}
 use Rattle.pgadding.proofs.RepairHistories.{with_repair_history, after-repair, after-repaired}
 use Rattle.pgadding.proofs.RepairPassed.{RepairReady, repair_passed, repairing_order, repairing_front}
 
@@ -147,6 +147,27 @@ repaired_rows r other before below above p is le =
     ∙ ap (λ t. t >>= λ n. fold_changes n last) makes
     ∙ sym (ap (fold_changes map.empty) (server-changes r.point p before below above around.server le ∙ sym (append_assoc first both last)) ∙ then_last (first ++ both) last is.server theirs)
 
+-- what is made of some tables at the point, and then
+pub mended_rows : MendedRowsAreTheServers
+unfolding tables_as_of
+mended_rows r other before below above p copy server ours theirs around e f is le g h oid among =
+    let copied = all_changes other in
+    let first = all_changes before in
+    let both = all_changes below in
+    let mended = surviving_changes (mended_work r.tables) in
+    let last = all_changes (ended_by p above) in
+    let here : fold_changes map.empty (copied ++ both) ≡ Ok copy = ap (fold_changes map.empty) (sym (point-changes r.point other below above around.copy)) ∙ e in
+    let there : fold_changes map.empty (first ++ both) ≡ Ok server = ap (fold_changes map.empty) (sym (point-changes r.point before below above around.server)) ∙ f in
+    let made = some_made r copy server (given_form (copied ++ both) copy here) (given_form (first ++ both) server there) is in
+    let mine : fold_changes made.next last ≡ Ok ours =
+    sym (ap (fold_changes map.empty) (copy_behind r p other below above around.copy le ∙ sym (append_assoc copied both (mended ++ last)))
+    ∙ then_last (copied ++ both) (mended ++ last) copy here
+    ∙ fold-append mended last copy
+    ∙ ap (λ t. t >>= λ n. fold_changes n last) made.is) ∙ g in
+    let its : fold_changes server last ≡ Ok theirs =
+    sym (ap (fold_changes map.empty) (server-changes r.point p before below above around.server le ∙ sym (append_assoc first both last)) ∙ then_last (first ++ both) last server there) ∙ h in
+    fold_same oid last made.next server ours theirs (made.these oid among) mine its
+
 -- below the point
 copy_below : (r : Repair) (p : ℕ) (other below above : List Transaction) → p < r.point → all_changes (ended_by p (with_repair r other below above)) ≡ all_changes (ended_by p (other ++ (below ++ above)))
 copy_below r p other below above lt =
@@ -206,7 +227,7 @@ pub repaired_copy : RepairedCopyIsTheServers
 repaired_copy v r other before below above p old new sessions all_complete is low unconfirmed safe position confirmed sent ran le =
     let history = with_repair r other below above in
     let around = is.around in
-    let changes : IsRepair r = is_repair is.copy is.server r.tables is.differs.each in
+    let changes : IsRepair r = is_repair is.copy is.server r.tables is.differs.mended.each in
     let start : IsSafe history old.tables old.position old.confirmed = starts_safe r other below above old.tables old.position old.confirmed low unconfirmed safe in
     let between : NothingBetween history p.position p.confirmed =
     subst (λ x. NothingBetween history x p.confirmed) (sym position) (subst (λ c. NothingBetween history old.position c) (sym confirmed) start.stored) in

@@ -78,11 +78,15 @@ IsRepair r =
 abbrev pub mended_oids : Repair → List ℕ
 mended_oids r = map (λ (t : Mended). t.definition.oid) r.tables
 
--- What differs at the point between these tables of the copy and those of the server is in the
--- repair, each table once.
-pub record IsRepairOf (r : Repair) (copy server : Tables) : Type 0 where
+-- The repair has what differs in some tables, each of them once: between these of the copy at the
+-- point, and those of the server.
+pub record AreMended (r : Repair) (copy server : Tables) : Type 0 where
   pub once : AllDiffer (mended_oids r)
   pub each : AllByRecursion (IsMended copy server) r.tables
+
+-- It has all that differs: no other table does.
+pub record IsRepairOf (r : Repair) (copy server : Tables) : Type 0 where
+  pub mended : AreMended r copy server
   pub others :
       (oid : ℕ) → is_among (mended_oids r) oid ≡ false
       → finite.get copy oid ≡ finite.get server oid

@@ -1,12 +1,13 @@
 -- Part of the statement.
 -- What a connector that repairs a copy passes on is a session of a history, and the copy is the
 -- server's from the point on.
-use Rattle.std.specs.Prelude.{◌≡◌, ◌<◌, ◌≤◌, ◌⊎◌, ℕ, List, ◌++◌, Ok}
+use Rattle.std.specs.Prelude.{◌≡◌, ◌<◌, ◌≤◌, ◌⊎◌, ℕ, List, ◌++◌, true, Ok}
+use Rattle.std.specs.FinMap as finite
 use Rattle.std.specs.List.{AllByRecursion}
 use Rattle.pgorder.specs.declared.Version.{Version}
 use Rattle.pgapply.specs.Value.{Tables, AreTables}
 use Rattle.pgapply.specs.Apply.{fold_changes}
-use Rattle.pgsub_core.specs.Server.Work.{surviving_changes}
+use Rattle.pgsub_core.specs.Server.Work.{surviving_changes, is_among}
 use Rattle.pgsub_core.specs.Server.History.{Transaction, IsHistory, tables_as_of}
 use Rattle.pgsub_core.specs.Server.Stream.{Sent}
 use Rattle.pgsub_core.specs.Server.Delivers.{Delivers}
@@ -17,7 +18,7 @@ use Rattle.pgsub_core.specs.Machine.Replica.{Replica, Running}
 use Rattle.pgsub_core.specs.Machine.ApplyState.{follow_all}
 use Rattle.pgadding.specs.Around.{IsAround, IsWholeSession}
 use Rattle.pgadding.specs.Bytes.{AreBytesOf}
-use Rattle.pgadding.specs.Repair.{Repair, IsRepair, IsRepairOf, repair_transaction}
+use Rattle.pgadding.specs.Repair.{Repair, IsRepair, IsRepairOf, AreMended, mended_oids, repair_transaction}
 use Rattle.pgadding.specs.Repairing.{repaired_on, with_repair}
 
 -- The repair's changes make the server's rows of the copy's.
@@ -103,6 +104,21 @@ RepairedRowsAreTheServers =
     → r.point ≤ p
     → tables_as_of (with_repair r other below above) p
     ≡ tables_as_of (before ++ (below ++ above)) p
+
+-- Where other tables may differ too, as those that are copied anew after it, each table of the repair
+-- has the server's rows at the point and at every position above it.
+abbrev pub MendedRowsAreTheServers : Type 0
+MendedRowsAreTheServers =
+    (r : Repair) (other before below above : List Transaction) (p : ℕ)
+    (copy server ours theirs : Tables)
+    → AreAround r.point other before below above
+    → tables_as_of (other ++ (below ++ above)) r.point ≡ Ok copy
+    → tables_as_of (before ++ (below ++ above)) r.point ≡ Ok server
+    → AreMended r copy server
+    → r.point ≤ p
+    → tables_as_of (with_repair r other below above) p ≡ Ok ours
+    → tables_as_of (before ++ (below ++ above)) p ≡ Ok theirs
+    → (oid : ℕ) → is_among (mended_oids r) oid ≡ true → finite.get ours oid ≡ finite.get theirs oid
 
 -- Below the point nothing differs by the repair: where it isn't stored the copy is as it was.
 abbrev pub UnrepairedIsTheSame : Type 0

@@ -17,6 +17,7 @@ ghost use Rattle.pgadding.specs.Repaired.{
   RepairedIsDelivered,
   RepairedSessionsAreSessions,
   RepairedRowsAreTheServers,
+  MendedRowsAreTheServers,
   UnrepairedIsTheSame,
   RepairedCopyIsTheServers,
 };
@@ -98,7 +99,8 @@ pub fn sessions_are_passed_on()
 ///
 /// They are passed on as one transaction at the point, behind which the session ends. So what is
 /// passed on is sessions (`delivered`; `bytes`) of a history (`history`), which from the point on
-/// gives the server's rows (`rows`). Below the point the copy is as it was (`unrepaired`), and
+/// gives the server's rows (`rows`); where other tables differ too, those of the tables that are
+/// repaired (`mended`). Below the point the copy is as it was (`unrepaired`), and
 /// whoever follows has a copy of the server's history at each position from the point on (`copy`).
 /// A copy may have any tables before, since some history gives them (`given`): so also that is a copy
 /// of the server's history from the point on (`any`).
@@ -115,6 +117,7 @@ pub fn repaired_copy_is_the_servers()
     ensures delivered { RepairedIsDelivered }
     ensures bytes { RepairedSessionsAreSessions }
     ensures rows { RepairedRowsAreTheServers }
+    ensures mended { MendedRowsAreTheServers }
     ensures unrepaired { UnrepairedIsTheSame }
     ensures copy { RepairedCopyIsTheServers }
     ensures given { AnyTablesAreGiven }

@@ -11,6 +11,7 @@ returns c = record {
   delivered = delivered.repaired_delivered;
   bytes = delivered.repaired_sessions;
   rows = delivered.repaired_rows;
+  mended = delivered.mended_rows;
   unrepaired = delivered.unrepaired;
   copy = delivered.repaired_copy;
   given = given.any_tables;
