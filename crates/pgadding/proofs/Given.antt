@@ -75,7 +75,7 @@ rows_given def rows are =
     let both : BothRows def rows finite.empty = record {
       are = are;
       were = no_rows def;
-      fit = λ place row old _ e. absurd (let none = sym (no_row place) ∙ e in cc);
+      fit = λ _ place row old _ e. absurd (let none = sym (no_row place) ∙ e in cc);
       tells = inr (inr (no_copies rows));
     } in
     let still : StillToDo rows finite.empty finite.empty (finite.keys rows) = record {

@@ -26,3 +26,4 @@ pub mod RepairHistories
 pub mod RepairPassed
 pub mod RepairDelivered
 pub mod Given
+mod WorkedRepair

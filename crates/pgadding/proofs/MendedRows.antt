@@ -435,11 +435,11 @@ bag_placed def place rows (Some row) (Some old) bag is was fit may there =
 -- ---- all of them
 
 pub changes_placed : (def : RelationDef) (theirs ours : Rows) (place : List ℕ) (rows : Rows) → IsRowOf def place (map.get theirs place) → IsRowOf def place (map.get ours place)
-    → AreTuplesOf (map.get theirs place) (map.get ours place) → (keyed def ≡ false → MayGo def (copies_of (map.get theirs place)) (copies_of (map.get ours place)))
+    → (keyed def ≡ false → AreTuplesOf (map.get theirs place) (map.get ours place)) → (keyed def ≡ false → MayGo def (copies_of (map.get theirs place)) (copies_of (map.get ours place)))
     → map.get rows place ≡ map.get ours place → Placed rows place (map.get theirs place) (fold_items def rows (changes_at def theirs ours place))
 changes_placed def theirs ours place rows is was fit may there =
     elim (keyed def) as (λ b. keyed def ≡ b → Placed rows place (map.get theirs place)
     (fold_items def rows (if b then keyed_changes def (map.get theirs place) (map.get ours place) else bag_changes def (map.get theirs place) (map.get ours place)))) [
       | true ↦ λ key. keyed_placed def place rows (map.get theirs place) (map.get ours place) key is was there
-      | false ↦ λ bag. bag_placed def place rows (map.get theirs place) (map.get ours place) bag is was fit (may bag) there
+      | false ↦ λ bag. bag_placed def place rows (map.get theirs place) (map.get ours place) bag is was (fit bag) (may bag) there
     ] refl

@@ -34,7 +34,7 @@ use Rattle.pgadding.proofs.Steps.{AlikeTables, bound, put, own_put, effect, appl
 pub record BothRows (def : RelationDef) (theirs ours : Rows) : Type 0 where
   pub are : AreRows def theirs
   pub were : AreRows def ours
-  pub fit : AreTuples theirs ours
+  pub fit : keyed def ≡ false → AreTuples theirs ours
   pub tells : TellsRows def theirs ours
 
 row_of : (def : RelationDef) (rows : Rows) (place : List ℕ) → AreRows def rows → IsRowOf def place (finite.get rows place)
@@ -66,7 +66,7 @@ pub record StillToDo (theirs ours rows : Rows) (places : List (List ℕ)) : Type
   pub done : (q : List ℕ) → IsNotAmong q places → finite.get rows q ≡ finite.get theirs q
   pub todo : AllByRecursion (λ (q : List ℕ). finite.get rows q ≡ finite.get ours q) places
 
-not_itself : (place q : List ℕ) → same_place_as place q ≡ false → place ≢ q
+pub not_itself : (place q : List ℕ) → same_place_as place q ≡ false → place ≢ q
 not_itself place q isnt e = let yes : same_place_as place q ≡ true = subst (λ x. same_place_as place x ≡ true) e (itself place) in cc
 
 pub differ : (place q : List ℕ) → q ≢ place → same_place_as place q ≡ false
@@ -87,7 +87,7 @@ mend_rows def theirs ours both [] rows still = ap (λ r. Ok r) (same_map nat_lis
 mend_rows def theirs ours both (place ∷ places) rows still =
     let there = finite.get theirs place in
     let rest = flat_map (changes_at def theirs ours) places in
-    let it = changes_placed def theirs ours place rows (row_of def theirs place both.are) (row_of def ours place both.were) (tuples_of theirs ours place both.fit)
+    let it = changes_placed def theirs ours place rows (row_of def theirs place both.are) (row_of def ours place both.were) (λ bag. tuples_of theirs ours place (both.fit bag))
     (may_go def theirs ours place both.tells) still.todo.0 in
     let later : StillToDo theirs ours it.next places = record {
       once = still.once.1;

@@ -2,7 +2,7 @@
 -- The changes of what differs alone, by which a copy's rows become those of its server.
 -- PostgreSQL documentation, ALTER TABLE, REPLICA IDENTITY; Logical Replication, Publication;
 -- Logical Replication Message Formats, Insert, Update, Delete.
-use Rattle.std.specs.Prelude.{◌≡◌, ◌≢◌, ◌⊎◌, ◌≤◌, ◌-◌, ℕ, suc, zero, List, [], ◌∷◌, ◌++◌, Option, Some, None, true, if◌then◌else◌, map}
+use Rattle.std.specs.Prelude.{◌≡◌, ◌≢◌, ◌⊎◌, ◌≤◌, ◌-◌, ℕ, suc, zero, List, [], ◌∷◌, ◌++◌, Option, Some, None, true, false, if◌then◌else◌, map}
 use Rattle.std.specs.FinMap as finite
 use Rattle.std.specs.List.{AllByRecursion, flat_map}
 use Rattle.pgtuple.specs.declared.cell.Cell.{Cell}
@@ -78,7 +78,8 @@ TellsRows def theirs ours =
     ⊎ ((def.letter ≡ identity_full)
     ⊎ ((place : List ℕ) → copies_at ours place ≤ copies_at theirs place))
 
--- Rows that stand at an identity on both sides are tuples that the protocol can hold.
+-- Rows that stand at an identity on both sides are tuples that the protocol can hold, so that they
+-- are the same where the whole row is the identity.
 abbrev pub AreTuples : Rows → Rows → Type 0
 AreTuples theirs ours =
     (place : List ℕ) (row old : Row) → finite.get theirs place ≡ Some row
@@ -101,4 +102,4 @@ pub record IsMended (copy server : Tables) (t : Mended) : Type 0 where
   pub changes : t.changes ≡ flat_map (changes_at t.definition theirs ours) places
   pub some : t.changes ≢ []
   pub tells : TellsRows t.definition theirs ours
-  pub tuples : AreTuples theirs ours
+  pub tuples : keyed t.definition ≡ false → AreTuples theirs ours

@@ -1,6 +1,7 @@
 -- Part of the statement.
 -- The changes of single rows, and what is passed on of a session with a repair.
 use Rattle.std.specs.Prelude.{◌≡◌, ℕ, pos, codes, List, [], ◌∷◌, ◌++◌, true, false, Option, Some, None}
+use Rattle.std.specs.FinMap as finite
 use Rattle.pgtuple.specs.declared.cell.Cell.{Cell}
 use Rattle.pgtuple.specs.declared.cell.Cell.TheVariants.{Text, Null}
 use Rattle.pglogical.specs.declared.item.Column.{Column}
@@ -10,11 +11,15 @@ use Rattle.pglogical.specs.declared.item.Item.{Item}
 use Rattle.pglogical.specs.declared.item.Item.TheVariants.{Relation, Insert, Update, Delete}
 use Rattle.pglogical.specs.declared.message.Message.{Message}
 use Rattle.pglogical.specs.declared.message.Message.TheVariants as message
-use Rattle.pgapply.specs.Value.{Row}
+use Rattle.pgorder.specs.declared.Version.TheVariants.{Two}
+use Rattle.pgapply.specs.Value.{Row, Rows, Tables}
 use Rattle.pgsub_core.specs.Server.Work.{Nothing, Changed}
 use Rattle.pgsub_core.specs.Server.Stream.{Sent, Data}
+use Rattle.pgadding.specs.Around.{IsWholeSession}
+use Rattle.pgadding.specs.Given.{giving}
 use Rattle.pgadding.specs.Mended.{keyed_changes, bag_changes}
 use Rattle.pgadding.specs.Repair.{Repair, mended_work}
+use Rattle.pgadding.specs.Repaired.{IsRepairAround}
 use Rattle.pgadding.specs.Repairing.{repaired_on}
 use Rattle.pgadding.specs.Worked.{id, seen_with, seen, unseen, keepalive}
 
@@ -112,3 +117,43 @@ RepairsWork =
     mended_work repairing_both.tables
     ≡ Changed (Update 16386 None (cells 97 49)) (k ∷ []) (Changed (Insert 16386 (cells 99 50)) (k ∷ [])
     (Changed (Delete 16387 Full (cells 97 49)) (b ∷ []) Nothing))
+
+-- ---- histories and a session of which the laws speak
+
+-- the identity of the key with this digit
+abbrev pub place_of : ℕ → List ℕ
+place_of digit = 0 ∷ 1 ∷ 116 ∷ 0 ∷ 0 ∷ 0 ∷ 1 ∷ digit ∷ []
+
+abbrev pub one_row : ℕ → ℕ → Row
+one_row letter digit = record { cells = cells letter digit; copies = 1 }
+
+-- The copy has another name under the key 1, and a row under the key 3.
+abbrev pub our_rows : Rows
+our_rows = finite.insert (finite.insert finite.empty (place_of 49) (one_row 98 49)) (place_of 51) (one_row 99 51)
+
+abbrev pub their_rows : Rows
+their_rows = finite.insert finite.empty (place_of 49) (one_row 97 49)
+
+abbrev pub tables_with : Rows → Tables
+tables_with rows = finite.insert finite.empty 16386 (record { definition = k; rows = rows })
+
+abbrev pub repairing_k : Repair
+repairing_k = record {
+  point = 1000;
+  tables =
+      record {
+        definition = k;
+        changes = Update 16386 None (cells 97 49) ∷ Delete 16386 Key (Null ∷ Text (51 ∷ []) ∷ []) ∷ [];
+      }
+      ∷ [];
+  clock = pos 7;
+}
+
+-- they are as the laws ask
+pub record IsExampleOfARepair : Type 0 where
+  pub around :
+      IsRepairAround repairing_k (giving (tables_with our_rows) ∷ [])
+      (giving (tables_with their_rows) ∷ []) [] []
+  pub session :
+      IsWholeSession Two (giving (tables_with their_rows) ∷ []) 900
+      (keepalive 904 ∷ keepalive 1000 ∷ [])

@@ -34,6 +34,7 @@ ghost use Rattle.pgadding.specs.WorkedRepair.{
   NotRepairedYet,
   IsRepaired,
   RepairsWork,
+  IsExampleOfARepair,
 };
 
 /// Whatever is passed on of a server's sessions while a table is added, it is sessions of a history
@@ -125,7 +126,8 @@ pub fn repaired_copy_is_the_servers()
 {}
 
 /// The changes of single rows, by a key and by the whole row; and what is passed on of the session of
-/// `sessions_are_passed_on` where a copy is repaired.
+/// `sessions_are_passed_on` where a copy is repaired. Two histories, a session and a repair are as the
+/// laws ask (`example`).
 ///
 /// PostgreSQL documentation, Logical Replication Message Formats.
 pub fn repairs_are_passed_on()
@@ -140,4 +142,5 @@ pub fn repairs_are_passed_on()
     ensures not_yet { NotRepairedYet }
     ensures no_more { IsRepaired }
     ensures work { RepairsWork }
+    ensures example { IsExampleOfARepair }
 {}

@@ -1,4 +1,5 @@
 use Rattle.std.proofs.Common.{refl}
+use Rattle.pgadding.proofs.WorkedRepair as worked
 use Rattle.pgadding.proofs.laws.repairs_are_passed_on.Goals as goal
 
 pub returns : goal.returns
@@ -14,4 +15,5 @@ returns c = record {
   not_yet = refl;
   no_more = refl;
   work = refl;
+  example = worked.is_example;
 }
