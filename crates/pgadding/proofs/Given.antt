@@ -1,8 +1,8 @@
 -- Tables of any content are given by a history, and a copy that has them is repaired.
-use Rattle.std.proofs.Common.{◌≡◌, ◌≢◌, ◌<◌, ◌≤◌, ◌++◌, ℕ, List, [], ◌∷◌, Bool, true, false, cond, eqb, nat_le, map, flat_map, Option, Some, None, Ok, refl, sym, ap, subst, ◌∙◌, inl, inr, arith, append-nil}
+use Rattle.std.proofs.Common.{◌≡◌, ◌≢◌, ◌<◌, ◌≤◌, ◌++◌, ℕ, List, [], ◌∷◌, Bool, true, false, cond, eqb, nat_le, map, flat_map, Some, None, Ok, refl, sym, ap, subst, ◌∙◌, inr, arith, append-nil}
 use Rattle.std.specs.Prelude.{T, ◌&&◌}
 use Rattle.std.specs.FinMap as finite
-use Rattle.std.specs.FinMap.{same_map, nat_cmp-IsAntisymmetric, slice_cmp-IsAntisymmetric, get-empty, get-entries, get-from_entries, entries_sorted, find, is_sorted}
+use Rattle.std.specs.FinMap.{same_map, nat_cmp-IsAntisymmetric, get-empty, get-entries, get-from_entries, entries_sorted, find, is_sorted}
 use Rattle.std.specs.FinMap.Entries.{below_all}
 use Rattle.std.specs.Ordering.{nat_cmp, is_lt}
 use Rattle.std.specs.Cmp.{nat_cmp_total}
@@ -11,20 +11,19 @@ use Rattle.std.specs.List.{AllByRecursion}
 use Rattle.std.proofs.lemmas.Bool.Decides.{nat_tests}
 use Rattle.std.proofs.lemmas.Cmp.{tied_itself}
 use Rattle.pglogical.specs.declared.item.RelationDef.{RelationDef}
-use Rattle.pglogical.specs.declared.item.Item.{Item}
 use Rattle.pgapply.specs.Value.{Row, Rows, Table, Tables, AreRows, AreTables, IsTable}
 use Rattle.pgapply.specs.CarriedCopies.{copies_of, copies_at}
 use Rattle.pgapply.specs.Apply.{fold_changes, ◌>>=◌}
 use Rattle.pgapply.proofs.KeepsForm.{no_rows}
 use Rattle.pgapply.proofs.Entries.{each_entry}
 use Rattle.pgsub_core.specs.Server.Work.{Work, Nothing, IsWork, AllDiffer, surviving_changes, xids_of}
-use Rattle.pgsub_core.specs.Server.History.{Transaction, IsHistory, all_changes, ended_by, tables_as_of}
+use Rattle.pgsub_core.specs.Server.History.{Transaction, all_changes, ended_by, tables_as_of}
 use Rattle.pgsub_core.specs.Subscriber.Safe.{IsSafe}
 use Rattle.pgsub_core.proofs.Changes.{fold-append, ended-none, ended-append}
 use Rattle.pgadding.specs.Around.{IsAround}
 use Rattle.pgadding.specs.Mended.{IsNotAmong, AreDistinct, changes_at}
-use Rattle.pgadding.specs.Repair.{Repair, changed}
-use Rattle.pgadding.specs.Given.{giving_changes, giving_work, giving, AnyTablesAreGiven, IsAnyCopy, AnyCopyIsRepaired}
+use Rattle.pgadding.specs.Repair.{changed}
+use Rattle.pgadding.specs.Given.{giving_changes, giving_work, giving, AnyTablesAreGiven, AnyCopyIsRepaired}
 use Rattle.pgadding.proofs.Histories.{ends_above}
 use Rattle.pgadding.proofs.Kept.{emptied_table, truncated, point-changes, then_last}
 use Rattle.pgadding.proofs.Steps.{put}

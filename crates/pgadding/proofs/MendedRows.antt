@@ -1,5 +1,5 @@
 -- The changes at an identity make the server's row there of the copy's, and leave the others.
-use Rattle.std.proofs.Common.{◌≡◌, ◌⊎◌, ◌≢◌, ◌≤◌, ◌<◌, ◌+◌, ◌-◌, ◌++◌, ℕ, suc, zero, List, [], ◌∷◌, length, Bool, true, false, cond, not, Option, Some, None, Result, Ok, Err, refl, sym, ap, subst, ◌∙◌, inl, inr, arith}
+use Rattle.std.proofs.Common.{◌≡◌, ◌⊎◌, ◌≤◌, ◌<◌, ◌+◌, ◌-◌, ◌++◌, ℕ, suc, zero, List, [], ◌∷◌, length, Bool, true, false, cond, not, Option, Some, None, Result, Ok, Err, refl, sym, ap, subst, ◌∙◌, inl, inr, arith}
 use Rattle.std.specs.Prelude.{nat_lt, if◌then◌else◌, ◌==◌, ◌||◌, ◌&&◌}
 use Rattle.std.specs.Ordering.{nat_cmp, eq_by_cmp}
 use Rattle.std.specs.Cmp.{unsigned_Decides}
@@ -20,7 +20,7 @@ use Rattle.pglogical.specs.declared.item.OldKind.{OldKind}
 use Rattle.pglogical.specs.declared.item.OldKind.TheVariants.{Key, Full}
 use Rattle.pglogical.specs.declared.item.Item.{Item}
 use Rattle.pglogical.specs.declared.item.Item.TheVariants as item
-use Rattle.pgrel.specs.Identity.{keyed, identity, identity_full, key_cells, has_width, has_unchanged, is_unchanged, lacks_identity, checked_insert, searched_identity, resolved, known_cells}
+use Rattle.pgrel.specs.Identity.{keyed, identity, identity_full, key_cells, has_width, has_unchanged, is_unchanged, lacks_identity, checked_insert, searched_identity, known_cells}
 use Rattle.pgrel.proofs.Rows.{sent_stays}
 use Rattle.pgrel.proofs.Keys.{bag_identity}
 use Rattle.pgapply.specs.declared.op.Op.{Op}

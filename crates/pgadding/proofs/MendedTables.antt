@@ -1,5 +1,5 @@
 -- The changes of a table make the server's table of the copy's, and leave the others.
-use Rattle.std.proofs.Common.{◌≡◌, ◌≢◌, ◌++◌, ◌≤◌, ◌-◌, ℕ, suc, zero, List, [], ◌∷◌, Bool, true, false, cond, eqb, map, flat_map, Option, Some, None, Result, Ok, refl, sym, ap, subst, ◌∙◌, inl, inr, arith}
+use Rattle.std.proofs.Common.{◌≡◌, ◌≢◌, ◌++◌, ◌-◌, ℕ, suc, zero, List, [], ◌∷◌, Bool, true, false, cond, eqb, map, flat_map, Option, Some, None, Result, Ok, refl, sym, ap, subst, ◌∙◌, inl, inr, arith}
 use Rattle.std.specs.Prelude.{◌||◌, ◌==◌}
 use Rattle.std.specs.FinMap as finite
 use Rattle.std.specs.FinMap.{same_map, nat_cmp-IsAntisymmetric, slice_cmp-IsAntisymmetric}
@@ -12,20 +12,20 @@ use Rattle.pglogical.specs.declared.item.RelationDef.{RelationDef}
 use Rattle.pglogical.specs.declared.item.Item.{Item}
 use Rattle.pglogical.specs.declared.item.Item.TheVariants as item
 use Rattle.pglogical.specs.declared.item.OldKind.TheVariants.{Full}
-use Rattle.pgrel.specs.Identity.{keyed, same_shape, identity_full}
+use Rattle.pgrel.specs.Identity.{keyed, same_shape}
 use Rattle.pgrel.proofs.Shapes.{shapes_decide}
 use Rattle.pgapply.specs.declared.op.Op.{Op}
 use Rattle.pgapply.specs.declared.rows.StoreFault.{StoreFault}
-use Rattle.pgapply.specs.Value.{Row, Rows, Table, Tables, IsRow, AreRows, AreTables}
-use Rattle.pgapply.specs.CarriedCopies.{copies_of, copies_at}
+use Rattle.pgapply.specs.Value.{Row, Rows, Table, Tables, AreRows, AreTables}
+use Rattle.pgapply.specs.CarriedCopies.{copies_at}
 use Rattle.pgapply.specs.Apply.{Change, apply, fold_changes, found_rows, carried_for, rows_after, ◌>>=◌}
 use Rattle.pgapply.proofs.KeepsForm.{same_place, of_shape, no_rows}
 use Rattle.pgsub_core.specs.Server.Work.{Work, AllDiffer, changes_of, surviving_changes, is_among}
 use Rattle.pgsub_core.proofs.Changes.{fold-append}
 use Rattle.pgadding.specs.Mended.{times, keyed_changes, bag_changes, Mended, IsNotAmong, AreDistinct, AreFound, TellsRows, AreTuples, IsMended, changes_at}
-use Rattle.pgadding.specs.Repair.{Repair, ChangesRowOf, IsRepair, AreMended, IsRepairOf, changed, mended_work, mended_oids}
+use Rattle.pgadding.specs.Repair.{Repair, ChangesRowOf, AreMended, changed, mended_work, mended_oids}
 use Rattle.pgadding.specs.Repaired.{RepairMakesTheServers}
-use Rattle.pgadding.proofs.MendedRows.{op_of, fold_items, fold_items-append, Placed, IsRowOf, AreTuplesOf, MayGo, changes_placed, same_place_as, itself}
+use Rattle.pgadding.proofs.MendedRows.{op_of, fold_items, fold_items-append, IsRowOf, AreTuplesOf, MayGo, changes_placed, same_place_as, itself}
 use Rattle.pgadding.proofs.Steps.{AlikeTables, bound, put, own_put, effect, applied}
 
 -- ---- all identities at which rows differ

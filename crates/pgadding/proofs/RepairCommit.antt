@@ -1,5 +1,5 @@
 -- The commit of a repair.
-use Rattle.std.proofs.Common.{◌≡◌, ◌++◌, ℕ, List, [], ◌∷◌, true, cond, eqb, map, Option, Some, None, Result, Ok, Err, refl, sym, ap, subst, ◌∙◌, arith, append_assoc}
+use Rattle.std.proofs.Common.{◌≡◌, ◌++◌, ℕ, List, [], ◌∷◌, true, cond, eqb, Option, Some, None, Ok, refl, sym, ap, ◌∙◌, arith}
 use Rattle.std.proofs.lemmas.Bool.Decides.{nat_tests}
 use Rattle.std.specs.List.{AllByRecursion, flat_map}
 use Rattle.pglogical.specs.Named.{named}
@@ -8,11 +8,10 @@ use Rattle.pglogical.specs.declared.item.Item.{Item}
 use Rattle.pglogical.specs.declared.item.Item.TheVariants.{Relation, Insert, Update, Delete, Truncate}
 use Rattle.pglogical.specs.declared.message.Message.{Message}
 use Rattle.pglogical.specs.declared.message.Message.TheVariants as message
-use Rattle.pgapply.specs.Apply.{Change}
-use Rattle.pgsub_core.specs.Server.Work.{Work, IsWork, IsChange, AllDiffer, changes_of, surviving_changes, xids_of}
+use Rattle.pgsub_core.specs.Server.Work.{Work, IsWork, IsChange, surviving_changes, xids_of}
 use Rattle.pgsub_core.specs.Server.Described.{last_of, found_behind, described_from, described, definitions_of, with_definition, with_changes}
-use Rattle.pgsub_core.specs.Server.Stream.{Sent, CommitOrKeepalive, Committed, WholeCommit, commits_and_keepalives, pair_items, pair_commit}
-use Rattle.pgadding.specs.Addition.{rows_xid, sent_at, items_at}
+use Rattle.pgsub_core.specs.Server.Stream.{Committed, WholeCommit, commits_and_keepalives, pair_items, pair_commit}
+use Rattle.pgadding.specs.Addition.{rows_xid, sent_at}
 use Rattle.pgadding.specs.Mended.{Mended}
 use Rattle.pgadding.specs.Repair.{Repair, ChangesRowOf, IsRepair, repair_lsn, repair_end, repair_items, mended_items, repair_sent, changed, mended_work}
 use Rattle.pgadding.proofs.RowsCommit.{pushed, pushed-at, pushed-pair, pushed-items}

@@ -1,30 +1,29 @@
 -- What is passed on with a repair is sessions of the history with it, and the copy is the server's.
-use Rattle.std.proofs.Common.{◌≡◌, ◌<◌, ◌≤◌, ◌++◌, inl, inr, ℕ, List, [], ◌∷◌, true, false, cond, nat_le, None, Ok, refl, sym, ap, subst, ◌∙◌, arith, append_assoc, append-nil}
+use Rattle.std.proofs.Common.{◌≡◌, ◌<◌, ◌≤◌, ◌++◌, inl, inr, ℕ, List, [], ◌∷◌, true, false, cond, nat_le, None, Ok, refl, sym, ap, subst, ◌∙◌, arith, append_assoc}
 use Rattle.std.specs.FinMap as map
-use Rattle.std.specs.List.{AllByRecursion}
 use Rattle.std.proofs.lemmas.Bool.Decides.{leb_tells, nat_tests}
 use Rattle.pgorder.specs.declared.Version.{Version}
 use Rattle.pgapply.specs.Value.{Tables, AreTables}
 use Rattle.pgapply.specs.Apply.{Change, fold_changes, ◌>>=◌}
 use Rattle.pgapply.proofs.KeepsForm.{fold_keeps, none_keeps}
 use Rattle.pgsub_core.specs.Server.Work.{surviving_changes}
-use Rattle.pgsub_core.specs.Server.History.{Transaction, ChangesRows, all_changes, ended_after, ended_by, tables_as_of}
+use Rattle.pgsub_core.specs.Server.History.{Transaction, all_changes, ended_after, ended_by, tables_as_of}
 use Rattle.pgsub_core.specs.Server.Stream.{Sent, messages_in, commits_and_keepalives}
 use Rattle.pgsub_core.specs.Server.Delivers.{Delivers, CommitsFollow}
 use Rattle.pgsub_core.specs.Server.Sessions.{EachStarts, IsSession, IsIncoming}
 use Rattle.pgsub_core.specs.Subscriber.Safe.{IsSafe, NothingBetween}
 use Rattle.pgsub_core.specs.Subscriber.Outcomes.{IsAllowedOutcome}
 use Rattle.pgsub_core.specs.Machine.ApplyState.{follow_all}
-use Rattle.pgsub_core.proofs.Changes.{fold-append, ended-none}
+use Rattle.pgsub_core.proofs.Changes.{fold-append}
 use Rattle.pgsub_core.proofs.Fronts.{delivers_front}
 use Rattle.pgsub_core.proofs.AllSessions.{all_sessions_allowed}
 use Rattle.pgadding.specs.Around.{IsAround, IsWholeSession}
-use Rattle.pgadding.specs.Repair.{Repair, IsRepair, IsRepairOf, repair_transaction, mended_work}
+use Rattle.pgadding.specs.Repair.{Repair, IsRepair, repair_transaction, mended_work}
 use Rattle.pgadding.specs.Repairing.{repairing, repaired_on, with_repair}
-use Rattle.pgadding.specs.Repaired.{AreAround, AreStored, RepairedIsDelivered, IsRepairedSession, IsRepairedIncoming, RepairedSessionsAreSessions, IsRepairAround, RepairedRowsAreTheServers, MendedRowsAreTheServers, UnrepairedIsTheSame, RepairedCopyIsTheServers}
+use Rattle.pgadding.specs.Repaired.{AreAround, AreStored, RepairedIsDelivered, IsRepairedSession, IsRepairedIncoming, RepairedSessionsAreSessions, RepairedRowsAreTheServers, MendedRowsAreTheServers, UnrepairedIsTheSame, RepairedCopyIsTheServers}
 use Rattle.pgadding.proofs.Ordered.{InOrder, in_order, shaped}
 use Rattle.pgadding.proofs.Following.{all_left, all_right, all_both}
-use Rattle.pgadding.proofs.Histories.{all_seen, seen_from, seen_after, after-server, ends_above}
+use Rattle.pgadding.proofs.Histories.{all_seen, seen_from, seen_after, after-server}
 use Rattle.pgadding.proofs.Kept.{three, server-changes, point-changes, then_last, ended_whole}
 use Rattle.pgadding.proofs.Bytes.{each_starts}
 use Rattle.pgadding.proofs.Copies.{EachStored, seen_stored}
@@ -182,7 +181,6 @@ copy_below r p other below above lt =
 nothing_with : (r : Repair) (other below above : List Transaction) (position confirmed : ℕ) → confirmed < r.point
     → NothingBetween (other ++ (below ++ above)) position confirmed → NothingBetween (with_repair r other below above) position confirmed
 nothing_with r other below above position confirmed lt h =
-    let each = EachStored position confirmed in
     let rest = all_right (EachStored position confirmed) other (below ++ above) h in
     all_both (EachStored position confirmed) other (below ++ repair_transaction r ∷ above) (all_left (EachStored position confirmed) other (below ++ above) h)
     (all_both (EachStored position confirmed) below (repair_transaction r ∷ above) (all_left (EachStored position confirmed) below above rest)

@@ -4,7 +4,7 @@ use Rattle.std.specs.List.{AllByRecursion}
 use Rattle.std.specs.Prelude.{nat_lt}
 use Rattle.std.proofs.lemmas.Bool.Decides.{nat_tests}
 use Rattle.pgsub_core.specs.Server.Work.{AllDiffer}
-use Rattle.pgsub_core.specs.Server.History.{Transaction, IsHistory, IsHistoryFrom, ended_after}
+use Rattle.pgsub_core.specs.Server.History.{Transaction, IsHistoryFrom, ended_after}
 use Rattle.pgadding.specs.Addition.{rows_xid}
 use Rattle.pgadding.specs.Around.{IsAround}
 use Rattle.pgadding.specs.Repair.{Repair, IsRepair, repair_transaction}

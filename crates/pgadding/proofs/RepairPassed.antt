@@ -1,22 +1,19 @@
 -- What is passed on with a repair stands in order, and its commits follow in the history with it.
-use Rattle.std.proofs.Common.{◌≡◌, ◌<◌, ◌≤◌, ◌++◌, ℕ, List, [], ◌∷◌, true, false, cond, nat_le, Option, Some, None, Ok, refl, sym, ap, subst, ◌∙◌, arith, append_assoc, append-nil}
-use Rattle.std.proofs.lemmas.Bool.Decides.{leb_tells}
+use Rattle.std.proofs.Common.{◌≡◌, ◌<◌, ◌++◌, ℕ, List, [], ◌∷◌, true, false, cond, nat_le, Option, Some, None, refl, sym, ap, subst, ◌∙◌, arith, append_assoc, append-nil}
 use Rattle.std.specs.List.{AllByRecursion}
 use Rattle.pglogical.specs.declared.item.RelationDef.{RelationDef}
 use Rattle.pglogical.specs.declared.item.Item.{Item}
 use Rattle.pglogical.specs.declared.message.Message.{Message}
 use Rattle.pglogical.specs.declared.message.Message.TheVariants as message
-use Rattle.pgsub_core.specs.Server.Work.{surviving_changes}
 use Rattle.pgsub_core.specs.Server.History.{Transaction, ChangesRows}
 use Rattle.pgsub_core.specs.Server.Described.{relations_after}
-use Rattle.pgsub_core.specs.Server.Stream.{Sent, Data, Keepalive, CommitOrKeepalive, Committed, WholeCommit, messages_in, commits_and_keepalives, pair_of, pair_items, pair_commit}
+use Rattle.pgsub_core.specs.Server.Stream.{Sent, Data, Keepalive, CommitOrKeepalive, Committed, WholeCommit, messages_in, commits_and_keepalives, pair_items, pair_commit}
 use Rattle.pgsub_core.specs.Server.Delivers.{CommitsFollow, ChangeNothing}
-use Rattle.pgadding.specs.Addition.{items_at, sent_at}
+use Rattle.pgadding.specs.Addition.{sent_at}
 use Rattle.pgadding.specs.Passing.{is_behind, place_of, place_after}
-use Rattle.pgadding.specs.Around.{KeepalivesTell}
 use Rattle.pgadding.specs.Repair.{Repair, IsRepair, repair_lsn, repair_end, repair_items, repair_sent, repair_transaction}
 use Rattle.pgadding.specs.Repairing.{kept, repairing}
-use Rattle.pgadding.proofs.Ordered.{InOrder, AreWhole}
+use Rattle.pgadding.proofs.Ordered.{InOrder}
 use Rattle.pgadding.proofs.Places.{At, commit_comes}
 use Rattle.pgadding.proofs.Following.{IsSeen, AreSeen, AreUnseen, all_left, all_right, all_both, seen_among, nothing_seen, nothing_told}
 use Rattle.pgadding.proofs.Passed.{PlaceSeen, not_behind, is_there}

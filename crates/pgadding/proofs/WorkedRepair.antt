@@ -1,10 +1,9 @@
 -- The example of a repair is one.
-use Rattle.std.proofs.Common.{◌≡◌, ◌++◌, ℕ, List, [], ◌∷◌, false, true, cond, eqb, Option, Some, None, Ok, refl, sym, ap, subst, ◌∙◌, inl, arith, ◌||◌}
+use Rattle.std.proofs.Common.{◌≡◌, ◌++◌, ℕ, List, [], ◌∷◌, false, true, cond, eqb, Option, Some, None, refl, sym, ap, subst, ◌∙◌, inl, arith, ◌||◌}
 use Rattle.std.proofs.lemmas.Bool.Decides.{nat_tests}
 use Rattle.std.specs.FinMap as finite
 use Rattle.std.specs.FinMap.{get-insert, get-empty}
 use Rattle.std.specs.Ordering.{nat_cmp}
-use Rattle.std.specs.Cmp.{nat_cmp_total}
 use Rattle.std.specs.Cmp.Lexicographic.{slice_cmp, nat_list_cmp_total}
 use Rattle.pgtuple.specs.declared.cell.Cell.TheVariants.{Text, Null}
 use Rattle.pglogical.specs.declared.item.OldKind.TheVariants.{Key}
@@ -18,7 +17,7 @@ use Rattle.pgsub_core.specs.Server.Work.{is_among}
 use Rattle.pgadding.specs.Around.{IsAround}
 use Rattle.pgadding.specs.Given.{giving}
 use Rattle.pgadding.specs.Mended.{IsNotAmong, AreFound, IsMended, keyed_changes}
-use Rattle.pgadding.specs.WorkedRepair.{k, cells, place_of, one_row, our_rows, their_rows, tables_with, repairing_k, IsExampleOfARepair}
+use Rattle.pgadding.specs.WorkedRepair.{k, cells, place_of, one_row, our_rows, their_rows, tables_with, IsExampleOfARepair}
 use Rattle.pgadding.proofs.Given.{any_tables}
 use Rattle.pgadding.proofs.MendedRows.{same_place_as}
 use Rattle.pgadding.proofs.MendedTables.{differ, not_itself}

@@ -52,9 +52,10 @@ AnyTablesAreGiven =
     → 1 ≤ p
     → IsHistory (giving tables ∷ []) × (tables_as_of (giving tables ∷ []) p ≡ Ok tables)
 
--- A copy has any tables at its position, with what is committed up to the point still to come: what
--- of the server's history is stored, `before`, and what isn't, `below`, are told by their ends alone.
-pub record IsAnyCopy (r : Repair) (before below above : List Transaction) (old : Replica) : Type 0 where
+-- A copy has any tables at its position. Of the server's history up to the point `below` is still to
+-- come.
+pub record IsAnyCopy (r : Repair) (before below above : List Transaction)
+    (old : Replica) : Type 0 where
   pub around : IsAround r.point before below above
   -- no commit is at 0/0
   pub first : IsHistoryFrom 1 (below ++ above)

@@ -2,7 +2,7 @@
 -- The changes of what differs alone, by which a copy's rows become those of its server.
 -- PostgreSQL documentation, ALTER TABLE, REPLICA IDENTITY; Logical Replication, Publication;
 -- Logical Replication Message Formats, Insert, Update, Delete.
-use Rattle.std.specs.Prelude.{◌≡◌, ◌≢◌, ◌⊎◌, ◌≤◌, ◌-◌, ℕ, suc, zero, List, [], ◌∷◌, ◌++◌, Option, Some, None, true, false, if◌then◌else◌, map}
+use Rattle.std.specs.Prelude.{◌≡◌, ◌≢◌, ◌⊎◌, ◌≤◌, ◌-◌, ℕ, suc, zero, List, [], ◌∷◌, ◌++◌, Option, Some, None, true, false, if◌then◌else◌}
 use Rattle.std.specs.FinMap as finite
 use Rattle.std.specs.List.{AllByRecursion, flat_map}
 use Rattle.pgtuple.specs.declared.cell.Cell.{Cell}
@@ -85,8 +85,8 @@ AreTuples theirs ours =
     (place : List ℕ) (row old : Row) → finite.get theirs place ≡ Some row
     → finite.get ours place ≡ Some old → IsTuple row.cells × IsTuple old.cells
 
--- These are a table's changes, where `copy` is what the copy has at the point, and `server` what the
--- server has there. `places` are the identities at which they differ, in any order.
+-- These are a table's changes, where `copy` is what the copy has at the point, and `server` what
+-- the server has there. `places` are the identities at which they differ, in any order.
 pub record IsMended (copy server : Tables) (t : Mended) : Type 0 where
   pub ours : Rows
   pub theirs : Rows

@@ -1,6 +1,6 @@
 -- Part of the statement.
 -- The transaction by which a copy is repaired: what is sent of it, and what it is in a history.
-use Rattle.std.specs.Prelude.{◌≡◌, ◌-◌, ℕ, ℤ, List, [], ◌∷◌, ◌++◌, false, None, map}
+use Rattle.std.specs.Prelude.{◌≡◌, ◌-◌, ℕ, ℤ, List, [], ◌∷◌, ◌++◌, false, map}
 use Rattle.std.specs.FinMap as finite
 use Rattle.std.specs.List.{AllByRecursion, flat_map}
 use Rattle.pglogical.specs.declared.item.RelationDef.{RelationDef}

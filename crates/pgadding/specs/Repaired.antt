@@ -105,8 +105,8 @@ RepairedRowsAreTheServers =
     → tables_as_of (with_repair r other below above) p
     ≡ tables_as_of (before ++ (below ++ above)) p
 
--- Where other tables may differ too, as those that are copied anew after it, each table of the repair
--- has the server's rows at the point and at every position above it.
+-- Where other tables may differ too, as those that are copied anew after it, each table of the
+-- repair has the server's rows at the point and at every position above it.
 abbrev pub MendedRowsAreTheServers : Type 0
 MendedRowsAreTheServers =
     (r : Repair) (other before below above : List Transaction) (p : ℕ)

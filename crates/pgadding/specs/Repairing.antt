@@ -7,8 +7,8 @@ use Rattle.pgsub_core.specs.Server.Stream.{Sent, Data, Keepalive}
 use Rattle.pgadding.specs.Passing.{place_of, is_behind}
 use Rattle.pgadding.specs.Repair.{Repair, repair_sent, repair_transaction}
 
--- What is passed on of a message that comes before the point: all of it, but no keepalive that tells
--- of the point or more from within a transaction.
+-- What is passed on of a message that comes before the point: all of it, but no keepalive that
+-- tells of the point or more from within a transaction.
 abbrev pub kept : ℕ → Option ℕ → Sent → List Sent
 kept point place (Data start end clock m) = Data start end clock m ∷ []
 kept point None (Keepalive end clock reply) = Keepalive end clock reply ∷ []

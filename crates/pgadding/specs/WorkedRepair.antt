@@ -1,13 +1,12 @@
 -- Part of the statement.
 -- The changes of single rows, and what is passed on of a session with a repair.
-use Rattle.std.specs.Prelude.{◌≡◌, ℕ, pos, codes, List, [], ◌∷◌, ◌++◌, true, false, Option, Some, None}
+use Rattle.std.specs.Prelude.{◌≡◌, ℕ, pos, codes, List, [], ◌∷◌, ◌++◌, false, Option, Some, None}
 use Rattle.std.specs.FinMap as finite
 use Rattle.pgtuple.specs.declared.cell.Cell.{Cell}
 use Rattle.pgtuple.specs.declared.cell.Cell.TheVariants.{Text, Null}
 use Rattle.pglogical.specs.declared.item.Column.{Column}
 use Rattle.pglogical.specs.declared.item.RelationDef.{RelationDef}
 use Rattle.pglogical.specs.declared.item.OldKind.TheVariants.{Key, Full}
-use Rattle.pglogical.specs.declared.item.Item.{Item}
 use Rattle.pglogical.specs.declared.item.Item.TheVariants.{Relation, Insert, Update, Delete}
 use Rattle.pglogical.specs.declared.message.Message.{Message}
 use Rattle.pglogical.specs.declared.message.Message.TheVariants as message
@@ -29,7 +28,13 @@ name_of = record { key = false; name = codes "name"; type_oid = 25; modifier = p
 -- public.k (name text, id integer key), and public.b of the same columns with REPLICA IDENTITY FULL
 abbrev pub table_of : ℕ → List ℕ → ℕ → RelationDef
 table_of oid name letter =
-    record { oid = oid; namespace = codes "public"; name = name; letter = letter; columns = name_of ∷ id ∷ [] }
+    record {
+      oid = oid;
+      namespace = codes "public";
+      name = name;
+      letter = letter;
+      columns = name_of ∷ id ∷ [];
+    }
 
 abbrev pub k : RelationDef
 k = table_of 16386 (codes "k") 100
@@ -48,7 +53,8 @@ abbrev pub Comes : Type 0
 Comes = keyed_changes k (row_of 97 49 1) None ≡ Insert 16386 (cells 97 49) ∷ []
 
 abbrev pub IsReplaced : Type 0
-IsReplaced = keyed_changes k (row_of 97 49 1) (row_of 98 49 1) ≡ Update 16386 None (cells 97 49) ∷ []
+IsReplaced =
+    keyed_changes k (row_of 97 49 1) (row_of 98 49 1) ≡ Update 16386 None (cells 97 49) ∷ []
 
 abbrev pub Goes : Type 0
 Goes = keyed_changes k None (row_of 97 49 1) ≡ Delete 16386 Key (Null ∷ Text (49 ∷ []) ∷ []) ∷ []
@@ -72,7 +78,10 @@ abbrev pub repairing_both : Repair
 repairing_both = record {
   point = 1000;
   tables =
-      record { definition = k; changes = Update 16386 None (cells 97 49) ∷ Insert 16386 (cells 99 50) ∷ [] }
+      record {
+        definition = k;
+        changes = Update 16386 None (cells 97 49) ∷ Insert 16386 (cells 99 50) ∷ [];
+      }
       ∷ record { definition = b; changes = Delete 16387 Full (cells 97 49) ∷ [] }
       ∷ [];
   clock = pos 7;
@@ -96,7 +105,8 @@ repair =
 -- keepalive that tells the point from within a transaction.
 abbrev pub ForAKeepalive : Type 0
 ForAKeepalive =
-    repaired_on repairing_both 900 (keepalive 904 ∷ (seen ++ keepalive 999 ∷ keepalive 1000 ∷ unseen))
+    repaired_on repairing_both 900
+    (keepalive 904 ∷ (seen ++ keepalive 999 ∷ keepalive 1000 ∷ unseen))
     ≡ keepalive 904 ∷ (seen_with [] ++ keepalive 999 ∷ repair)
 
 abbrev pub ForABegin : Type 0
@@ -115,7 +125,8 @@ IsRepaired = repaired_on repairing_both 1000 (seen ++ unseen) ≡ seen ++ unseen
 abbrev pub RepairsWork : Type 0
 RepairsWork =
     mended_work repairing_both.tables
-    ≡ Changed (Update 16386 None (cells 97 49)) (k ∷ []) (Changed (Insert 16386 (cells 99 50)) (k ∷ [])
+    ≡ Changed (Update 16386 None (cells 97 49)) (k ∷ [])
+    (Changed (Insert 16386 (cells 99 50)) (k ∷ [])
     (Changed (Delete 16387 Full (cells 97 49)) (b ∷ []) Nothing))
 
 -- ---- histories and a session of which the laws speak
@@ -129,7 +140,9 @@ one_row letter digit = record { cells = cells letter digit; copies = 1 }
 
 -- The copy has another name under the key 1, and a row under the key 3.
 abbrev pub our_rows : Rows
-our_rows = finite.insert (finite.insert finite.empty (place_of 49) (one_row 98 49)) (place_of 51) (one_row 99 51)
+our_rows =
+    finite.insert (finite.insert finite.empty (place_of 49) (one_row 98 49))
+    (place_of 51) (one_row 99 51)
 
 abbrev pub their_rows : Rows
 their_rows = finite.insert finite.empty (place_of 49) (one_row 97 49)
@@ -143,7 +156,9 @@ repairing_k = record {
   tables =
       record {
         definition = k;
-        changes = Update 16386 None (cells 97 49) ∷ Delete 16386 Key (Null ∷ Text (51 ∷ []) ∷ []) ∷ [];
+        changes =
+            Update 16386 None (cells 97 49)
+            ∷ Delete 16386 Key (Null ∷ Text (51 ∷ []) ∷ []) ∷ [];
       }
       ∷ [];
   clock = pos 7;

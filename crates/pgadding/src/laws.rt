@@ -103,12 +103,12 @@ pub fn sessions_are_passed_on()
 /// gives the server's rows (`rows`); where other tables differ too, those of the tables that are
 /// repaired (`mended`). Below the point the copy is as it was (`unrepaired`), and
 /// whoever follows has a copy of the server's history at each position from the point on (`copy`).
-/// A copy may have any tables before, since some history gives them (`given`): so also that is a copy
-/// of the server's history from the point on (`any`).
+/// A copy may have any tables before, since some history gives them (`given`): so also that is a
+/// copy of the server's history from the point on (`any`).
 ///
-/// Of the server it is asked what `passed_on_is_a_session` says of transactions and keepalives; of a
-/// table that is repaired that the copy has it under the same shape, or not at all, and the server's
-/// history under the definition that comes with its changes.
+/// Of the server it is asked what `passed_on_is_a_session` says of transactions and keepalives; of
+/// a table that is repaired that the copy has it under the same shape, or not at all, and the
+/// server's history under the definition that comes with its changes.
 ///
 /// PostgreSQL documentation, Logical Decoding Concepts, Exported Snapshots; ALTER TABLE, REPLICA
 /// IDENTITY.
@@ -125,9 +125,9 @@ pub fn repaired_copy_is_the_servers()
     ensures any { AnyCopyIsRepaired }
 {}
 
-/// The changes of single rows, by a key and by the whole row; and what is passed on of the session of
-/// `sessions_are_passed_on` where a copy is repaired. Two histories, a session and a repair are as the
-/// laws ask (`example`).
+/// The changes of single rows, by a key and by the whole row; and what is passed on of the session
+/// of `sessions_are_passed_on` where a copy is repaired. Two histories, a session and a repair are
+/// as the laws ask (`example`).
 ///
 /// PostgreSQL documentation, Logical Replication Message Formats.
 pub fn repairs_are_passed_on()

@@ -11,8 +11,8 @@
 //! ```
 //!
 //! Here the table t is added by a slot whose consistent point is 1000. No code here runs:
-//! `connect/pgsub_connect/replacing.py` does what `specs/Passing.antt` defines, and `mending.py` and
-//! `repairing.py` there what `specs/Mended.antt` and `specs/Repairing.antt` do.
+//! `connect/pgsub_connect/replacing.py` does what `specs/Passing.antt` defines, and for a repair
+//! `mending.py` and `repairing.py` there do what `specs/Mended.antt` and `specs/Repairing.antt` do.
 #![tactic(auto)]
 
 pub mod laws;
