@@ -13,8 +13,9 @@ module `replacing` says of the rows of a table that is added:
 
 Unlike there no change is left out, and nothing is noted: where the session is lost before the transaction is stored the copy is as it
 was, and all that the server sends comes again. The changes find their rows and clash with none, since the copy was compared at P.
-The laws of `crates/pgadding` don't speak of such a transaction: theirs is a truncation and Inserts, of a table of which they leave out the
-changes before P, so that it doesn't matter what rows the copy has.
+That is proved by the laws of `crates/pgadding` (specs/Repaired.antt): what is passed on is sessions of a history, and the copy is the
+server's from P on. Of the changes they ask that no key comes twice, and no order. They speak of one repair, and not of a table that is
+added in the same session.
 
 What was found of the tables' rows before they were compared, and may have made them wrong, goes with the repair.
 """

@@ -19,7 +19,7 @@ each_starts is was then (bytes ∷ sessions) [] p h = absurd h
 each_starts is was then (bytes ∷ sessions) (complete ∷ all_complete) p h =
     ((h.0.0, h.0.1, then h.0.0 bytes complete h.0.2), each_starts is was then sessions all_complete (reached (disconnected p) [] complete) h.1)
 
-pub one_session : (v : Version) (a : Addition) (before below above : List Transaction) (s : ℕ) (bytes : List ℕ) (complete : List Sent) → IsAround a before below above
+pub one_session : (v : Version) (a : Addition) (before below above : List Transaction) (s : ℕ) (bytes : List ℕ) (complete : List Sent) → IsAround a.point before below above
     → IsPassedSession v a before below above s bytes complete → IsSession v (with_rows a before below above) s bytes complete
 one_session v a before below above s bytes complete is passed = record {
   sent = passed_on a s passed.sent;
@@ -36,7 +36,7 @@ one_session v a before below above s bytes complete is passed = record {
   short = passed.written.short;
 }
 
-one_incoming : (v : Version) (a : Addition) (before below above : List Transaction) → IsAround a before below above → (s : ℕ) (bytes : List ℕ) (complete : List Sent)
+one_incoming : (v : Version) (a : Addition) (before below above : List Transaction) → IsAround a.point before below above → (s : ℕ) (bytes : List ℕ) (complete : List Sent)
     → IsPassedIncoming v a before below above s bytes complete → IsIncoming v (with_rows a before below above) s bytes complete
 one_incoming v a before below above is s bytes complete (inl passed) = inl (one_session v a before below above s bytes complete is passed)
 one_incoming v a before below above is s bytes complete (inr ends) = inr (ends.0, one_session v a before below above s _ complete is ends.1)

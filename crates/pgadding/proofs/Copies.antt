@@ -34,7 +34,7 @@ stored_without point oid position confirmed [] seen h = tt
 stored_without point oid position confirmed (t ∷ ts) seen h =
     ((λ changes by. h.0 (λ none. changes (nothing_without oid t seen.0.work none)) by), stored_without point oid position confirmed ts seen.1 h.1)
 
-nothing_with_rows : (a : Addition) (before below above : List Transaction) (position confirmed : ℕ) → IsAround a before below above → confirmed < a.point
+nothing_with_rows : (a : Addition) (before below above : List Transaction) (position confirmed : ℕ) → IsAround a.point before below above → confirmed < a.point
     → NothingBetween (before ++ (below ++ above)) position confirmed → NothingBetween (with_rows a before below above) position confirmed
 nothing_with_rows a before below above position confirmed is lt h =
     let each = EachStored position confirmed in
@@ -42,14 +42,14 @@ nothing_with_rows a before below above position confirmed is lt h =
     let rest : AllByRecursion (EachStored position confirmed) (below ++ above) = all_right (EachStored position confirmed) before (below ++ above) h in
     all_both (EachStored position confirmed) before (all_without oid below ++ rows_transaction a ∷ above) (all_left (EachStored position confirmed) before (below ++ above) h)
     (all_both (EachStored position confirmed) (all_without oid below) (rows_transaction a ∷ above)
-    (stored_without a.point oid position confirmed below (all_seen a before below above is) (all_left (EachStored position confirmed) below above rest))
+    (stored_without a.point oid position confirmed below (all_seen a.point before below above is) (all_left (EachStored position confirmed) below above rest))
     ((λ changes by. let late : a.point ≤ confirmed = by in absurd (omega arith)), all_right (EachStored position confirmed) below above rest))
 
 pub seen_stored : (point position confirmed : ℕ) (ts : List Transaction) → point ≤ position → AreSeen point ts → AllByRecursion (EachStored position confirmed) ts
 seen_stored point position confirmed [] le seen = tt
 seen_stored point position confirmed (t ∷ ts) le seen = ((λ changes by. let early : t.end < point = seen.0.ends in omega arith), seen_stored point position confirmed ts le seen.1)
 
-pub nothing_of_server : (a : Addition) (before below above : List Transaction) (position confirmed : ℕ) → IsAround a before below above → a.point ≤ position
+pub nothing_of_server : (a : Addition) (before below above : List Transaction) (position confirmed : ℕ) → IsAround a.point before below above → a.point ≤ position
     → NothingBetween (with_rows a before below above) position confirmed → NothingBetween (before ++ (below ++ above)) position confirmed
 nothing_of_server a before below above position confirmed is le h =
     let oid = a.definition.oid in
@@ -57,11 +57,11 @@ nothing_of_server a before below above position confirmed is le h =
     let rest : AllByRecursion (EachStored position confirmed) behind = all_right (EachStored position confirmed) before behind h in
     let last : AllByRecursion (EachStored position confirmed) (rows_transaction a ∷ above) = all_right (EachStored position confirmed) (all_without oid below) (rows_transaction a ∷ above) rest in
     all_both (EachStored position confirmed) before (below ++ above) (all_left (EachStored position confirmed) before behind h)
-    (all_both (EachStored position confirmed) below above (seen_stored a.point position confirmed below le (all_seen a before below above is)) last.1)
+    (all_both (EachStored position confirmed) below above (seen_stored a.point position confirmed below le (all_seen a.point before below above is)) last.1)
 
 -- ---- the same rows below the point
 
-same_below : (a : Addition) (before below above : List Transaction) (position confirmed : ℕ) → IsAround a before below above → IsBefore a before below position confirmed
+same_below : (a : Addition) (before below above : List Transaction) (position confirmed : ℕ) → IsAround a.point before below above → IsBefore a before below position confirmed
     → all_changes (ended_by position (with_rows a before below above)) ≡ all_changes (ended_by position (before ++ (below ++ above)))
 same_below a before below above position confirmed is at =
     let oid = a.definition.oid in
@@ -70,7 +70,7 @@ same_below a before below above position confirmed is at =
     let low : position < a.point = at.low in
     let late : nat_le a.point position ≡ false = grind (arith, nat_tests) in
     let none = ended-none position below at.missing in
-    copy-changes a position before below above (all_seen a before below above is)
+    copy-changes a position before below above (all_seen a.point before below above is)
     ∙ ap (λ ts. first ++ (other_changes oid (all_changes ts) ++ (rows_changes a position ++ last))) none
     ∙ ap (λ b. first ++ (cond b (surviving_changes (rows_work a)) [] ++ last)) late
     ∙ sym (three position before below above ∙ ap (λ ts. first ++ (all_changes ts ++ last)) none)

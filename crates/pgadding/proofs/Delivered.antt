@@ -21,7 +21,7 @@ pub is_history : WithRowsIsHistory
 is_history = with_rows_history
 
 -- a session that ends between transactions, and starts before the point
-whole_passed : (v : Version) (a : Addition) (before below above : List Transaction) (s : ℕ) (sent : List Sent) → IsAround a before below above → AllByRecursion (λ (t : Transaction). t.end ≤ s) before
+whole_passed : (v : Version) (a : Addition) (before below above : List Transaction) (s : ℕ) (sent : List Sent) → IsAround a.point before below above → AllByRecursion (λ (t : Transaction). t.end ≤ s) before
     → IsWholeSession v (before ++ (below ++ above)) s sent → s < a.point → KeepsDefinition a sent → Delivers v (with_rows a before below above) s (passing a None sent)
 whole_passed v a before below above s sent is stored session lt keeps =
     let shape = session.delivered.shaped in
@@ -36,9 +36,9 @@ whole_passed v a before below above s sent is stored session lt keeps =
       items = refl;
       block = refl;
       here = tt;
-      seen = seen_after a.point s below (all_seen a before below above is);
+      seen = seen_after a.point s below (all_seen a.point before below above is);
       keeps = keeps;
-      follow = subst (λ ts. CommitsFollow [] ts (commits_and_keepalives [] sent)) (after-server a s before below above is lt stored) session.delivered.commits;
+      follow = subst (λ ts. CommitsFollow [] ts (commits_and_keepalives [] sent)) (after-server a.point s before below above is lt stored) session.delivered.commits;
     } in
     record {
       shaped = shaped v (messages_in (passing a None sent)) (passing_order a None sent order);
@@ -47,7 +47,7 @@ whole_passed v a before below above s sent is stored session lt keeps =
     }
 
 -- a session that starts at the point or behind it
-stored_passed : (v : Version) (a : Addition) (before below above : List Transaction) (s : ℕ) (sent : List Sent) → IsAround a before below above → a.point ≤ s
+stored_passed : (v : Version) (a : Addition) (before below above : List Transaction) (s : ℕ) (sent : List Sent) → IsAround a.point before below above → a.point ≤ s
     → Delivers v (before ++ (below ++ above)) s sent → Delivers v (with_rows a before below above) s sent
 stored_passed v a before below above s sent is le delivered = record {
   shaped = delivered.shaped;

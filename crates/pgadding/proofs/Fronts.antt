@@ -10,7 +10,7 @@ use Rattle.pgadding.proofs.Ordered.{MayCome, InOrder}
 
 -- ---- order
 
-items_order : (l lsn : ℕ) (items : List Item) (more : List Sent) → InOrder (Some l) (messages_in more) → InOrder (Some l) (messages_in (items_at lsn items ++ more))
+pub items_order : (l lsn : ℕ) (items : List Item) (more : List Sent) → InOrder (Some l) (messages_in more) → InOrder (Some l) (messages_in (items_at lsn items ++ more))
 items_order l lsn [] more h = h
 items_order l lsn (i ∷ items) more h = (tt, items_order l lsn items more h)
 
@@ -47,7 +47,7 @@ passed_order point oid place (Data start end clock (message.StreamCommit xid lsn
 passed_order point oid place (Data start end clock (message.StreamAbort xid label)) more h rest = (h.0, rest)
 
 -- a first message and those behind it
-first_order : (place : Option ℕ) (m : Sent) (sent : List Sent) → InOrder place (messages_in (m ∷ sent)) → InOrder place (messages_in (m ∷ [])) × InOrder (place_of m place) (messages_in sent)
+pub first_order : (place : Option ℕ) (m : Sent) (sent : List Sent) → InOrder place (messages_in (m ∷ sent)) → InOrder place (messages_in (m ∷ [])) × InOrder (place_of m place) (messages_in sent)
 first_order place (Keepalive end clock reply) sent h = (tt, h)
 first_order place (Data start end clock m) sent h = ((h.0, tt), h.1)
 

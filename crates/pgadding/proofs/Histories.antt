@@ -14,7 +14,7 @@ use Rattle.pgadding.specs.Around.{IsAround, with_rows}
 use Rattle.pgadding.proofs.LeftWork.{is_work, xids-without}
 use Rattle.pgadding.proofs.Following.{IsSeen, AreSeen, AreUnseen, all_without}
 
-abbrev EndBelow : ℕ → List Transaction → Type 0
+abbrev pub EndBelow : ℕ → List Transaction → Type 0
 EndBelow point ts = AllByRecursion (λ (t : Transaction). t.end < point) ts
 
 -- ---- it is a history
@@ -27,7 +27,7 @@ inserted_xids : (def : RelationDef) (rows : List (List Cell)) → xids_of (inser
 inserted_xids def [] = refl
 inserted_xids def (row ∷ rows) = inserted_xids def rows
 
-unseen_history : (point from : ℕ) (above : List Transaction) → AreUnseen point above → IsHistoryFrom from above → IsHistoryFrom point above
+pub unseen_history : (point from : ℕ) (above : List Transaction) → AreUnseen point above → IsHistoryFrom from above → IsHistoryFrom point above
 unseen_history point from [] unseen h = tt
 unseen_history point from (t ∷ above) unseen h = (unseen.0, h.1, h.2, h.3, h.4)
 
@@ -56,7 +56,7 @@ stored_history : (a : Addition) (from : ℕ) (before below above : List Transact
 stored_history a from [] below above lt stored ends unseen h = seen_history a from below above lt ends unseen h
 stored_history a from (t ∷ before) below above lt stored ends unseen h = (h.0, h.1, h.2, h.3, stored_history a t.end before below above stored.0 stored.1 ends unseen h.4)
 
-pub with_rows_history : (a : Addition) (before below above : List Transaction) → IsAround a before below above → IsHistory (with_rows a before below above)
+pub with_rows_history : (a : Addition) (before below above : List Transaction) → IsAround a.point before below above → IsHistory (with_rows a before below above)
 with_rows_history a before below above is = stored_history a 0 before below above (let some : 1 ≤ a.point = is.some in omega arith) is.stored is.seen is.unseen is.history
 
 -- ---- what is known of its transactions
@@ -70,8 +70,8 @@ seen_behind : (point from : ℕ) (before below above : List Transaction) → End
 seen_behind point from [] below above ends h = seen_from point from below above ends h
 seen_behind point from (t ∷ before) below above ends h = seen_behind point t.end before below above ends h.4
 
-pub all_seen : (a : Addition) (before below above : List Transaction) → IsAround a before below above → AreSeen a.point below
-all_seen a before below above is = seen_behind a.point 0 before below above is.seen is.history
+pub all_seen : (point : ℕ) (before below above : List Transaction) → IsAround point before below above → AreSeen point below
+all_seen point before below above is = seen_behind point 0 before below above is.seen is.history
 
 late_ends : (point from : ℕ) (above : List Transaction) → AreUnseen point above → IsHistoryFrom from above → AllByRecursion (λ (t : Transaction). point < t.end) above
 late_ends point from [] unseen h = tt
@@ -97,7 +97,7 @@ after-none s (t ∷ ts) h =
     let isnt : nat_lt s t.end ≡ false = grind (arith, nat_tests) in
     ap (λ b. cond b (t ∷ ended_after s ts) (ended_after s ts)) isnt ∙ after-none s ts h.1
 
-after-all : (s : ℕ) (ts : List Transaction) → AllByRecursion (λ (t : Transaction). s < t.end) ts → ended_after s ts ≡ ts
+pub after-all : (s : ℕ) (ts : List Transaction) → AllByRecursion (λ (t : Transaction). s < t.end) ts → ended_after s ts ≡ ts
 after-all s [] h = refl
 after-all s (t ∷ ts) h =
     let late : s < t.end = h.0 in
@@ -123,27 +123,27 @@ all_kept P s (t ∷ ts) h =
 pub seen_after : (point s : ℕ) (ts : List Transaction) → AreSeen point ts → AreSeen point (ended_after s ts)
 seen_after point s ts h = all_kept (IsSeen point) s ts h
 
-later_starts : (s point : ℕ) (ts : List Transaction) → s ≤ point → AllByRecursion (λ (t : Transaction). point < t.end) ts → AllByRecursion (λ (t : Transaction). s < t.end) ts
+pub later_starts : (s point : ℕ) (ts : List Transaction) → s ≤ point → AllByRecursion (λ (t : Transaction). point < t.end) ts → AllByRecursion (λ (t : Transaction). s < t.end) ts
 later_starts s point [] le h = tt
 later_starts s point (t ∷ ts) le h = ((let late : point < t.end = h.0 in omega arith), later_starts s point ts le h.1)
 
-below_starts : (s point : ℕ) (ts : List Transaction) → point ≤ s → EndBelow point ts → AllByRecursion (λ (t : Transaction). t.end ≤ s) ts
+pub below_starts : (s point : ℕ) (ts : List Transaction) → point ≤ s → EndBelow point ts → AllByRecursion (λ (t : Transaction). t.end ≤ s) ts
 below_starts s point [] le h = tt
 below_starts s point (t ∷ ts) le h = ((let early : t.end < point = h.0 in omega arith), below_starts s point ts le h.1)
 
-pub after-server : (a : Addition) (s : ℕ) (before below above : List Transaction) → IsAround a before below above → s < a.point → AllByRecursion (λ (t : Transaction). t.end ≤ s) before
+pub after-server : (point s : ℕ) (before below above : List Transaction) → IsAround point before below above → s < point → AllByRecursion (λ (t : Transaction). t.end ≤ s) before
     → ended_after s (before ++ (below ++ above)) ≡ ended_after s below ++ above
-after-server a s before below above is lt stored =
+after-server point s before below above is lt stored =
     after-append s before (below ++ above) ∙ ap (λ ts. ts ++ ended_after s (below ++ above)) (after-none s before stored)
     ∙ after-append s below above
-    ∙ ap (λ ts. ended_after s below ++ ts) (after-all s above (later_starts s a.point above (omega arith) (ends_above a.point 0 before below above is.unseen is.history)))
+    ∙ ap (λ ts. ended_after s below ++ ts) (after-all s above (later_starts s point above (omega arith) (ends_above point 0 before below above is.unseen is.history)))
 
 rows_first : (a : Addition) (s : ℕ) (above : List Transaction) → s < a.point → ended_after s above ≡ above → ended_after s (rows_transaction a ∷ above) ≡ rows_transaction a ∷ above
 rows_first a s above lt rest =
     let yes : nat_lt s a.point ≡ true = grind (arith, nat_tests) in
     ap (λ b. cond b (rows_transaction a ∷ ended_after s above) (ended_after s above)) yes ∙ ap (λ ts. rows_transaction a ∷ ts) rest
 
-pub after-copy : (a : Addition) (s : ℕ) (before below above : List Transaction) → IsAround a before below above → s < a.point → AllByRecursion (λ (t : Transaction). t.end ≤ s) before
+pub after-copy : (a : Addition) (s : ℕ) (before below above : List Transaction) → IsAround a.point before below above → s < a.point → AllByRecursion (λ (t : Transaction). t.end ≤ s) before
     → ended_after s (with_rows a before below above) ≡ all_without a.definition.oid (ended_after s below) ++ rows_transaction a ∷ above
 after-copy a s before below above is lt stored =
     let oid = a.definition.oid in

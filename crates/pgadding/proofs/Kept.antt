@@ -116,12 +116,12 @@ unfolding tables_as_of
 other_rows a before below above p tables copy is e f oid isnt =
     sym (others_kept a.definition.oid (all_changes (ended_by p before)) (all_changes (ended_by p below)) (rows_changes a p) (all_changes (ended_by p above)) tables copy (rows_changes_own a p)
     (ap (fold_changes map.empty) (sym (three p before below above)) ∙ e)
-    (ap (fold_changes map.empty) (sym (copy-changes a p before below above (all_seen a before below above is))) ∙ f) oid isnt)
+    (ap (fold_changes map.empty) (sym (copy-changes a p before below above (all_seen a.point before below above is))) ∙ f) oid isnt)
 
 -- ---- the table itself
 
 -- a truncation finds rows or none, and leaves none
-emptied_table : (def : RelationDef) → Table
+abbrev pub emptied_table : RelationDef → Table
 emptied_table def = record { definition = def; rows = map.empty }
 
 found_some : (there : Option Table) (def : RelationDef) → (rows : Rows) × (found_rows there def op.Truncate ≡ Ok rows)
@@ -132,8 +132,8 @@ found_some (Some table) def =
       | false ↦ (map.empty, refl)
     ]
 
-truncated : (def : RelationDef) (tables : Tables) → apply tables (record { definition = def; op = op.Truncate }) ≡ Ok (map.insert tables def.oid (emptied_table def))
-unfolding apply rows_after emptied_table
+pub truncated : (def : RelationDef) (tables : Tables) → apply tables (record { definition = def; op = op.Truncate }) ≡ Ok (map.insert tables def.oid (emptied_table def))
+unfolding apply rows_after
 truncated def tables =
     let found = found_some (map.get tables def.oid) def in
     ap (λ r. r >>= λ rows. rows_after def op.Truncate rows >>= λ left. Ok (map.insert tables def.oid (record { definition = def; rows = left }))) found.1
@@ -183,34 +183,34 @@ rows_made a first both tables e is =
 
 -- ---- at the point and behind it
 
-ended_whole : (point p : ℕ) (ts : List Transaction) → point ≤ p → AllByRecursion (λ (t : Transaction). t.end < point) ts → ended_by p ts ≡ ts
+pub ended_whole : (point p : ℕ) (ts : List Transaction) → point ≤ p → AllByRecursion (λ (t : Transaction). t.end < point) ts → ended_by p ts ≡ ts
 ended_whole point p [] le h = refl
 ended_whole point p (t ∷ ts) le h =
     let early : t.end < point = h.0 in
     let yes : nat_le t.end p ≡ true = grind (arith, nat_tests) in
     ap (λ b. cond b (t ∷ ended_by p ts) (ended_by p ts)) yes ∙ ap (λ rest. t ∷ rest) (ended_whole point p ts le h.1)
 
-pub server-changes : (a : Addition) (p : ℕ) (before below above : List Transaction) → IsAround a before below above → a.point ≤ p
+pub server-changes : (point p : ℕ) (before below above : List Transaction) → IsAround point before below above → point ≤ p
     → all_changes (ended_by p (before ++ (below ++ above))) ≡ all_changes before ++ (all_changes below ++ all_changes (ended_by p above))
-server-changes a p before below above is le =
+server-changes point p before below above is le =
     three p before below above
-    ∙ ap (λ ts. all_changes ts ++ (all_changes (ended_by p below) ++ all_changes (ended_by p above))) (ended_whole a.point p before le is.stored)
-    ∙ ap (λ ts. all_changes before ++ (all_changes ts ++ all_changes (ended_by p above))) (ended_whole a.point p below le is.seen)
+    ∙ ap (λ ts. all_changes ts ++ (all_changes (ended_by p below) ++ all_changes (ended_by p above))) (ended_whole point p before le is.stored)
+    ∙ ap (λ ts. all_changes before ++ (all_changes ts ++ all_changes (ended_by p above))) (ended_whole point p below le is.seen)
 
-pub point-changes : (a : Addition) (before below above : List Transaction) → IsAround a before below above → all_changes (ended_by a.point (before ++ (below ++ above))) ≡ all_changes before ++ all_changes below
-point-changes a before below above is =
-    server-changes a a.point before below above is (omega arith)
-    ∙ ap (λ ts. all_changes before ++ (all_changes below ++ all_changes ts)) (ended-none a.point above (ends_above a.point 0 before below above is.unseen is.history))
+pub point-changes : (point : ℕ) (before below above : List Transaction) → IsAround point before below above → all_changes (ended_by point (before ++ (below ++ above))) ≡ all_changes before ++ all_changes below
+point-changes point before below above is =
+    server-changes point point before below above is (omega arith)
+    ∙ ap (λ ts. all_changes before ++ (all_changes below ++ all_changes ts)) (ended-none point above (ends_above point 0 before below above is.unseen is.history))
     ∙ ap (λ cs. all_changes before ++ cs) (append-nil (all_changes below))
 
-pub copy-behind : (a : Addition) (p : ℕ) (before below above : List Transaction) → IsAround a before below above → a.point ≤ p
+pub copy-behind : (a : Addition) (p : ℕ) (before below above : List Transaction) → IsAround a.point before below above → a.point ≤ p
     → all_changes (ended_by p (with_rows a before below above))
     ≡ all_changes before ++ (other_changes a.definition.oid (all_changes below) ++ (surviving_changes (rows_work a) ++ all_changes (ended_by p above)))
 copy-behind a p before below above is le =
     let oid = a.definition.oid in
     let last = all_changes (ended_by p above) in
     let there : nat_le a.point p ≡ true = grind (arith, nat_tests) in
-    copy-changes a p before below above (all_seen a before below above is)
+    copy-changes a p before below above (all_seen a.point before below above is)
     ∙ ap (λ ts. all_changes ts ++ (other_changes oid (all_changes (ended_by p below)) ++ (rows_changes a p ++ last))) (ended_whole a.point p before le is.stored)
     ∙ ap (λ ts. all_changes before ++ (other_changes oid (all_changes ts) ++ (rows_changes a p ++ last))) (ended_whole a.point p below le is.seen)
     ∙ ap (λ b. all_changes before ++ (other_changes oid (all_changes below) ++ (cond b (surviving_changes (rows_work a)) [] ++ last))) there
@@ -227,8 +227,8 @@ rows_kept a before below above p tables is e rows le =
     let others = other_changes a.definition.oid both in
     let made = surviving_changes (rows_work a) in
     let last = all_changes (ended_by p above) in
-    let at_point : fold_changes map.empty (first ++ both) ≡ Ok tables = ap (fold_changes map.empty) (sym (point-changes a before below above is)) ∙ e in
+    let at_point : fold_changes map.empty (first ++ both) ≡ Ok tables = ap (fold_changes map.empty) (sym (point-changes a.point before below above is)) ∙ e in
     ap (fold_changes map.empty)
     (copy-behind a p before below above is le ∙ ap (λ cs. first ++ cs) (sym (append_assoc others made last)) ∙ sym (append_assoc first (others ++ made) last))
     ∙ then_last (first ++ (others ++ made)) last tables (rows_made a first both tables at_point rows)
-    ∙ sym (ap (fold_changes map.empty) (server-changes a p before below above is le ∙ sym (append_assoc first both last)) ∙ then_last (first ++ both) last tables at_point)
+    ∙ sym (ap (fold_changes map.empty) (server-changes a.point p before below above is le ∙ sym (append_assoc first both last)) ∙ then_last (first ++ both) last tables at_point)

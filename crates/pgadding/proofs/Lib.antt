@@ -19,3 +19,11 @@ mod Copies
 mod NewTables
 mod Worked
 pub mod Delivered
+pub mod MendedRows
+pub mod MendedTables
+pub mod RepairCommit
+pub mod RepairHistories
+pub mod RepairPassed
+pub mod RepairDelivered
+pub mod Given
+mod WorkedRepair

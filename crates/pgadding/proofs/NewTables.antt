@@ -38,7 +38,7 @@ history_without oid from [] rest h = h
 history_without oid from (t ∷ before) rest h =
     (h.0, h.1, is_work oid t.work h.2, subst (λ xs. AllDiffer (t.xid ∷ xs)) (sym (xids-without oid t.work)) h.3, history_without oid t.end before rest h.4)
 
-around_without : (a : Addition) (before below above : List Transaction) → IsAround a before below above → IsAround a (all_without a.definition.oid before) below above
+around_without : (a : Addition) (before below above : List Transaction) → IsAround a.point before below above → IsAround a.point (all_without a.definition.oid before) below above
 around_without a before below above is = record {
   history = history_without a.definition.oid 0 before (below ++ above) is.history;
   some = is.some;
@@ -78,7 +78,7 @@ passed_without v a before below above s bytes complete passed = record {
 
 -- ---- its rows from the point on
 
-new_rows : (a : Addition) (before below above : List Transaction) (p : ℕ) (tables : Tables) → IsAround a before below above → tables_as_of (before ++ (below ++ above)) a.point ≡ Ok tables → AreRowsOf a tables → a.point ≤ p
+new_rows : (a : Addition) (before below above : List Transaction) (p : ℕ) (tables : Tables) → IsAround a.point before below above → tables_as_of (before ++ (below ++ above)) a.point ≡ Ok tables → AreRowsOf a tables → a.point ≤ p
     → tables_as_of (with_rows a (all_without a.definition.oid before) below above) p ≡ tables_as_of (before ++ (below ++ above)) p
 unfolding tables_as_of
 new_rows a before below above p tables is e rows le =
@@ -88,7 +88,7 @@ new_rows a before below above p tables is e rows le =
     let made = surviving_changes (rows_work a) in
     let last = all_changes (ended_by p above) in
     let seen : AreSeen a.point before = seen_from a.point 0 before (below ++ above) is.stored is.history in
-    let at_point : fold_changes map.empty (first ++ both) ≡ Ok tables = ap (fold_changes map.empty) (sym (point-changes a before below above is)) ∙ e in
+    let at_point : fold_changes map.empty (first ++ both) ≡ Ok tables = ap (fold_changes map.empty) (sym (point-changes a.point before below above is)) ∙ e in
     let others : other_changes oid first ++ other_changes oid both ≡ other_changes oid (first ++ both) = sym (others-append oid first both) in
     ap (fold_changes map.empty)
     (copy-behind a p (all_without oid before) below above (around_without a before below above is) le
@@ -97,12 +97,12 @@ new_rows a before below above p tables is e rows le =
     ∙ ap (λ cs. cs ++ (made ++ last)) others
     ∙ sym (append_assoc (other_changes oid (first ++ both)) made last))
     ∙ then_last (other_changes oid (first ++ both) ++ made) last tables (rows_made a [] (first ++ both) tables at_point rows)
-    ∙ sym (ap (fold_changes map.empty) (server-changes a p before below above is le ∙ sym (append_assoc first both last)) ∙ then_last (first ++ both) last tables at_point)
+    ∙ sym (ap (fold_changes map.empty) (server-changes a.point p before below above is le ∙ sym (append_assoc first both last)) ∙ then_last (first ++ both) last tables at_point)
 
 -- ---- whoever follows
 
 -- nothing that changes rows lies between, where that holds without the table up to the position
-nothing_of_all : (a : Addition) (before below above : List Transaction) (position confirmed : ℕ) → IsAround a before below above → a.point ≤ position
+nothing_of_all : (a : Addition) (before below above : List Transaction) (position confirmed : ℕ) → IsAround a.point before below above → a.point ≤ position
     → NothingBetween (all_without a.definition.oid before ++ (below ++ above)) position confirmed → NothingBetween (before ++ (below ++ above)) position confirmed
 nothing_of_all a before below above position confirmed is le h =
     all_both (EachStored position confirmed) before (below ++ above)

@@ -25,7 +25,7 @@ use Rattle.pgadding.proofs.Following.{IsSeen, AreSeen, AreUnseen, all_left, all_
 use Rattle.pgadding.proofs.RowsCommit.{pushed, pushed-commits, pushed-pair, pushed-block, pushed-items}
 use Rattle.pgadding.proofs.Point.{KeepsBy, at_point}
 
-abbrev PlaceSeen : ℕ → Option ℕ → Type 0
+abbrev pub PlaceSeen : ℕ → Option ℕ → Type 0
 PlaceSeen point None = Unit {0}
 PlaceSeen point (Some l) = l < point
 
@@ -89,10 +89,10 @@ told a above below end seen lt h =
     (told_all a.point a.definition.oid end below seen (all_left (λ (t : Transaction). ChangesRows t → end < t.end) below above h))
     ((λ _. lt), all_right (λ (t : Transaction). ChangesRows t → end < t.end) below above h)
 
-not_behind : (point x : ℕ) → nat_le point x ≡ false → x < point
+pub not_behind : (point x : ℕ) → nat_le point x ≡ false → x < point
 not_behind point x e = grind (arith, leb_tells)
 
-is_there : (point x : ℕ) → nat_le point x ≡ true → point ≤ x
+pub is_there : (point x : ℕ) → nat_le point x ≡ true → point ≤ x
 is_there point x e = grind (arith, leb_tells)
 
 -- ---- the session

@@ -9,7 +9,7 @@ use Rattle.pgadding.specs.Around.{IsAround}
 use Rattle.pgadding.specs.Worked.{t, u, row, adding_t, below, above, session, IsExample}
 use Rattle.pgadding.proofs.Ordered.{InOrder, shaped}
 
-around : IsAround adding_t [] below above
+around : IsAround adding_t.point [] below above
 around = record {
   history = (omega arith, omega arith, (tt, refl, (tt, refl, (tt, refl, (tt, refl, tt)))), (refl, tt), (omega arith, omega arith, (tt, refl, tt), (refl, tt), tt));
   some = omega arith;

@@ -21,12 +21,12 @@ use Rattle.pgadding.specs.Passing.{place_behind, place_after, before_rows, behin
 -- The server's history in three parts: the transactions that the store has already, the others that
 -- the snapshot sees, and those that it doesn't see. The point is the end of a record that is no
 -- commit: a commit ends before it, or begins at it or later.
-pub record IsAround (a : Addition) (before below above : List Transaction) : Type 0 where
+pub record IsAround (point : ℕ) (before below above : List Transaction) : Type 0 where
   pub history : IsHistory (before ++ (below ++ above))
-  pub some : 1 ≤ a.point
-  pub stored : AllByRecursion (λ (t : Transaction). t.end < a.point) before
-  pub seen : AllByRecursion (λ (t : Transaction). t.end < a.point) below
-  pub unseen : AllByRecursion (λ (t : Transaction). a.point ≤ t.lsn) above
+  pub some : 1 ≤ point
+  pub stored : AllByRecursion (λ (t : Transaction). t.end < point) before
+  pub seen : AllByRecursion (λ (t : Transaction). t.end < point) below
+  pub unseen : AllByRecursion (λ (t : Transaction). point ≤ t.lsn) above
 
 -- the history that the copy has: the rows' transaction has all that the others do to the table
 abbrev pub with_rows : Addition → List Transaction → List Transaction → List Transaction → List Transaction

@@ -51,6 +51,6 @@ abbrev pub PassedSessionsAreSessions : Type 0
 PassedSessionsAreSessions =
     (v : Version) (a : Addition) (before below above : List Transaction) (p : Progress)
     (sessions : List (List ℕ)) (all_complete : List (List Sent))
-    → IsAround a before below above
+    → IsAround a.point before below above
     → EachStarts (IsPassedIncoming v a before below above) p sessions all_complete
     → AreIncoming v (with_rows a before below above) p sessions all_complete

@@ -30,7 +30,7 @@ abbrev pub StartsSafe : Type 0
 StartsSafe =
     (a : Addition) (before below above : List Transaction)
     (tables : Tables) (position confirmed : ℕ)
-    → IsAround a before below above
+    → IsAround a.point before below above
     → IsBefore a before below position confirmed
     → IsSafe (before ++ (below ++ above)) tables position confirmed
     → IsSafe (with_rows a before below above) tables position confirmed
@@ -41,7 +41,7 @@ abbrev pub EndsSafe : Type 0
 EndsSafe =
     (a : Addition) (before below above : List Transaction)
     (at_point tables : Tables) (position confirmed : ℕ)
-    → IsAround a before below above
+    → IsAround a.point before below above
     → tables_as_of (before ++ (below ++ above)) a.point ≡ Ok at_point
     → AreRowsOf a at_point
     → a.point ≤ position
@@ -53,7 +53,7 @@ abbrev pub CopyIsTheServers : Type 0
 CopyIsTheServers =
     (v : Version) (a : Addition) (before below above : List Transaction) (at_point : Tables)
     (p : Progress) (old new : Replica) (sessions : List (List ℕ)) (all_complete : List (List Sent))
-    → IsAround a before below above
+    → IsAround a.point before below above
     → IsBefore a before below old.position old.confirmed
     → tables_as_of (before ++ (below ++ above)) a.point ≡ Ok at_point
     → AreRowsOf a at_point
@@ -71,7 +71,7 @@ abbrev pub NewTableIsTheServers : Type 0
 NewTableIsTheServers =
     (v : Version) (a : Addition) (before below above : List Transaction) (at_point : Tables)
     (p : Progress) (old new : Replica) (sessions : List (List ℕ)) (all_complete : List (List Sent))
-    → IsAround a before below above
+    → IsAround a.point before below above
     → IsBefore a before below old.position old.confirmed
     → tables_as_of (before ++ (below ++ above)) a.point ≡ Ok at_point
     → AreRowsOf a at_point

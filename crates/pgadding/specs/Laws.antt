@@ -14,7 +14,7 @@ use Rattle.pgadding.specs.Around.{IsAround, IsWholeSession, KeepsDefinition, wit
 abbrev pub WithRowsIsHistory : Type 0
 WithRowsIsHistory =
     (a : Addition) (before below above : List Transaction)
-    → IsAround a before below above
+    → IsAround a.point before below above
     → IsHistory (with_rows a before below above)
 
 -- Of a session of the server's, cut off anywhere, a session of the copy's history is passed on.
@@ -22,7 +22,7 @@ abbrev pub PassedOnIsDelivered : Type 0
 PassedOnIsDelivered =
     (v : Version) (a : Addition) (before below above : List Transaction)
     (s : ℕ) (sent later : List Sent)
-    → IsAround a before below above
+    → IsAround a.point before below above
     → AllByRecursion (λ (t : Transaction). t.end ≤ s) before
     → IsWholeSession v (before ++ (below ++ above)) s (sent ++ later)
     → (s < a.point → KeepsDefinition a (sent ++ later))
@@ -33,7 +33,7 @@ PassedOnIsDelivered =
 abbrev pub PassedOnIsWhole : Type 0
 PassedOnIsWhole =
     (v : Version) (a : Addition) (before below above : List Transaction) (s : ℕ) (sent : List Sent)
-    → IsAround a before below above
+    → IsAround a.point before below above
     → AllByRecursion (λ (t : Transaction). t.end ≤ s) before
     → IsWholeSession v (before ++ (below ++ above)) s sent
     → (s < a.point → KeepsDefinition a sent)

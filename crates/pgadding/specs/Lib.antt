@@ -7,3 +7,9 @@ pub mod Bytes
 pub mod Copies
 pub mod Worked
 pub mod Laws
+pub mod Mended
+pub mod Repair
+pub mod Repairing
+pub mod Repaired
+pub mod WorkedRepair
+pub mod Given

@@ -13,7 +13,7 @@ use Rattle.pgadding.specs.Around.{IsAround, with_rows}
 abbrev pub OtherRowsAreTheServers : Type 0
 OtherRowsAreTheServers =
     (a : Addition) (before below above : List Transaction) (p : ℕ) (tables copy : Tables)
-    → IsAround a before below above
+    → IsAround a.point before below above
     → tables_as_of (before ++ (below ++ above)) p ≡ Ok tables
     → tables_as_of (with_rows a before below above) p ≡ Ok copy
     → (oid : ℕ) → (oid == a.definition.oid) ≡ false → map.get copy oid ≡ map.get tables oid
@@ -30,7 +30,7 @@ pub record AreRowsOf (a : Addition) (tables : Tables) : Type 0 where
 abbrev pub RowsAreTheServers : Type 0
 RowsAreTheServers =
     (a : Addition) (before below above : List Transaction) (p : ℕ) (tables : Tables)
-    → IsAround a before below above
+    → IsAround a.point before below above
     → tables_as_of (before ++ (below ++ above)) a.point ≡ Ok tables
     → AreRowsOf a tables
     → a.point ≤ p

@@ -123,6 +123,6 @@ session = keepalive 904 ∷ (seen_with [] ++ keepalive 999 ∷ keepalive 1000 �
 
 -- they are as the laws ask
 pub record IsExample : Type 0 where
-  pub around : IsAround adding_t [] below above
+  pub around : IsAround adding_t.point [] below above
   pub whole : IsWholeSession Two (below ++ above) 900 session
   pub keeps : KeepsDefinition adding_t session

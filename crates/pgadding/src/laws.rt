@@ -11,6 +11,31 @@ ghost use Rattle.pgadding.specs.Copies.{
   NewTableIsTheServers,
 };
 ghost use Rattle.pgadding.specs.Worked.{BeforeAKeepalive, BeforeABegin, NotYet, NoMore, IsExample};
+ghost use Rattle.pgadding.specs.Repaired.{
+  RepairMakesTheServers,
+  WithRepairIsHistory,
+  RepairedIsDelivered,
+  RepairedSessionsAreSessions,
+  RepairedRowsAreTheServers,
+  MendedRowsAreTheServers,
+  UnrepairedIsTheSame,
+  RepairedCopyIsTheServers,
+};
+ghost use Rattle.pgadding.specs.Given.{AnyTablesAreGiven, AnyCopyIsRepaired};
+ghost use Rattle.pgadding.specs.WorkedRepair.{
+  Comes,
+  IsReplaced,
+  Goes,
+  MoreCome,
+  SomeGo,
+  AllGo,
+  ForAKeepalive,
+  ForABegin,
+  NotRepairedYet,
+  IsRepaired,
+  RepairsWork,
+  IsExampleOfARepair,
+};
 
 /// Whatever is passed on of a server's sessions while a table is added, it is sessions of a history
 /// (`delivered`; `bytes` for their bytes, wherever they end): the server's, in which the
@@ -66,4 +91,56 @@ pub fn sessions_are_passed_on()
     ensures not_yet { NotYet }
     ensures no_more { NoMore }
     ensures example { IsExample }
+{}
+
+/// Where a copy isn't the server's at the point, whatever rows it has, it is after the changes of
+/// what differs (`makes`): by a key an Update where both have a row, else an Insert or a Delete;
+/// without one as many Inserts or Deletes of the whole row as one side has more copies. They may
+/// come in any order of the rows.
+///
+/// They are passed on as one transaction at the point, behind which the session ends. So what is
+/// passed on is sessions (`delivered`; `bytes`) of a history (`history`), which from the point on
+/// gives the server's rows (`rows`); where other tables differ too, those of the tables that are
+/// repaired (`mended`). Below the point the copy is as it was (`unrepaired`), and
+/// whoever follows has a copy of the server's history at each position from the point on (`copy`).
+/// A copy may have any tables before, since some history gives them (`given`): so also that is a
+/// copy of the server's history from the point on (`any`).
+///
+/// Of the server it is asked what `passed_on_is_a_session` says of transactions and keepalives; of
+/// a table that is repaired that the copy has it under the same shape, or not at all, and the
+/// server's history under the definition that comes with its changes.
+///
+/// PostgreSQL documentation, Logical Decoding Concepts, Exported Snapshots; ALTER TABLE, REPLICA
+/// IDENTITY.
+pub fn repaired_copy_is_the_servers()
+    ensures makes { RepairMakesTheServers }
+    ensures history { WithRepairIsHistory }
+    ensures delivered { RepairedIsDelivered }
+    ensures bytes { RepairedSessionsAreSessions }
+    ensures rows { RepairedRowsAreTheServers }
+    ensures mended { MendedRowsAreTheServers }
+    ensures unrepaired { UnrepairedIsTheSame }
+    ensures copy { RepairedCopyIsTheServers }
+    ensures given { AnyTablesAreGiven }
+    ensures any { AnyCopyIsRepaired }
+{}
+
+/// The changes of single rows, by a key and by the whole row; and what is passed on of the session
+/// of `sessions_are_passed_on` where a copy is repaired. Two histories, a session and a repair are
+/// as the laws ask (`example`).
+///
+/// PostgreSQL documentation, Logical Replication Message Formats.
+pub fn repairs_are_passed_on()
+    ensures comes { Comes }
+    ensures replaced { IsReplaced }
+    ensures goes { Goes }
+    ensures more { MoreCome }
+    ensures some { SomeGo }
+    ensures all { AllGo }
+    ensures keepalive { ForAKeepalive }
+    ensures begin { ForABegin }
+    ensures not_yet { NotRepairedYet }
+    ensures no_more { IsRepaired }
+    ensures work { RepairsWork }
+    ensures example { IsExampleOfARepair }
 {}
