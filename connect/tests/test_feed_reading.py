@@ -191,6 +191,24 @@ class Cutting(Case):
         assert commit
         self.assertEqual(commit.end, 0x200)
 
+    def test_the_segment_ends_before_where_the_reader_was(self) -> None:
+        """What was cut comes again in the next segment: the segment stays shorter than it was."""
+        self.feed.commit(0x100, [insert("1", "a")])
+        before = self.file().stat().st_size
+        self.feed.commit(0x200, [insert("2", "b" * 1000)])
+        reader = self.reader()
+        while reader.next():
+            pass
+        os.truncate(self.file(), before)
+        self.feed.at = 0x100
+        self.feed.end()
+        self.feed.commit(0x200, [insert("2", "b" * 1000)])
+        self.assertIsNone(reader.next())
+        self.feed.commit(0x300)
+        commit = reader.next()
+        assert commit
+        self.assertEqual(commit.end, 0x300)
+
 
 class Segments(Case):
     def test_by_their_bases(self) -> None:

@@ -236,8 +236,8 @@ class Reader:
         return False
 
     def look_after(self, segment: Segment) -> None:
-        """Lets go of a segment that was replaced or is gone. (Of one that was cut the same bytes come again, or others, which is seen.)"""
-        if not segment.is_there():
+        """Lets go of a segment that was replaced, is gone, or was cut before where the reader is: it may end there now."""
+        if not segment.is_there() or segment.size() < self.offset:
             self.close()
 
     def own_line(self, commit: Commit) -> bytes:

@@ -1,31 +1,36 @@
 //! A feed: segments that follow each other.
 
-ghost use Rattle.std.specs.Prelude.{◌≡◌, ◌⊎◌, ◌↔◌, ◌++◌, ◌∷◌, [], List, true, false};
+ghost use Rattle.std.specs.Prelude.{◌≡◌, ◌<◌, ◌≤◌, ◌⊎◌, ◌↔◌, ◌++◌, ◌∷◌, [], List, true, false};
 ghost use Rattle.std.specs.Prelude.{IsTrue, OnOk, OnErr, IfErr, length};
 ghost use Rattle.pgapply.specs.Stored.{IsOwnFault};
 ghost use Rattle.pgledger.specs.Entries.{Entry, entry_of};
 ghost use Rattle.pgledger.specs.Ledgers.{Appends, AppendsAtMost, Keeps, Rests, Syncs};
-ghost use Rattle.pgfeed.specs.Feeds.{Goes, KeepsAll, KeepsOn, LastsUpTo, MayEnd, OpensAt};
-ghost use Rattle.pgfeed.specs.Feeds.{IsFull, IsLate, IsOver};
+ghost use Rattle.pgfeed.specs.Feeds.{Ends, Goes, KeepsAll, KeepsOn, LastsUpTo, MayEnd, OpensAt};
+ghost use Rattle.pgfeed.specs.Feeds.{IsFull, IsLate, IsOver, MayGoOver};
 ghost use Rattle.pgfeed.specs.Naming.{head_of};
 ghost use Rattle.pgfeed.specs.Texts.{entry_text};
 
 use crate::fault::FeedFault;
 use crate::folder::{Folder, Names, SegmentLimits};
 use crate::segment::Segment;
-use crate::segments::begin_segment;
+use crate::segments::{begin_segment, close_all};
 use pgapply::{About, Commit, StoreFault};
 use pgledger::{Image, Ledger};
 use pglsn::Lsn;
 use std::alloc::Global;
 
+/// How many segments that have ended stay open at most: each is an open file, of which a process may
+/// have 1,024 where nothing else is set.
+pub const MOST_ENDED: usize = 256;
+
 /// A feed: a ledger over a folder of segments that follow each other. The last one is open; the
 /// others have ended, each with a line that tells the LSN at which it ends and the next one begins.
 ///
-/// A segment ends before a commit that it doesn't take by its limits. It ends only where nothing
-/// was appended since the last sync, so that the position of the store beside it, at which a crash
-/// opens the feed again, is never below where the open segment begins. So commits that the store
-/// settles at once stand in one segment, also where their bytes pass its limits.
+/// A segment ends before a commit that it doesn't take by its limits, also amid commits that the
+/// store beside the feed takes at once. Until the store has taken them, a crash may open the feed
+/// again in a segment that has ended, so the feed keeps it with its file. It lets go of it at the
+/// next commit after a sync: the store has taken all that was synced then, or the feed is stuck.
+/// While it keeps `MOST_ENDED`, the open one doesn't end.
 ///
 /// The time of a commit is compared with that of the first commit that was appended to the segment
 /// since the feed was opened, of those whose time is known.
@@ -33,6 +38,7 @@ use std::alloc::Global;
 pub struct Feed<F: Folder + Drop> {
     alloc: Global,
     folder: F,
+    ended: Vec<Segment<F::File>>,
     segment: Segment<F::File>,
     begins: Lsn,
     synced: Lsn,
@@ -61,6 +67,7 @@ impl<F: Folder + Drop> Feed<F> {
         names: Names,
         limits: SegmentLimits,
     ) -> Feed<F>
+        ensures ended { result.ended.items ≡ [] }
         ensures segment { result.segment ≡ segment }
         ensures begins { result.begins ≡ begins }
         ensures synced { result.synced ≡ segment.last }
@@ -71,6 +78,7 @@ impl<F: Folder + Drop> Feed<F> {
         Feed {
             alloc,
             folder,
+            ended: Vec::new(alloc),
             segment,
             begins,
             synced,
@@ -101,11 +109,13 @@ impl<F: Folder + Drop> Feed<F> {
         self.segment.last()
     }
 
-    /// The folder, and the file of the open segment.
+    /// The folder, which has the files of other segments back, and that of the open one.
     pub fn into_parts(self) -> (F, F::File)
-        ensures { result ≡ (self.folder, self.segment.disk) }
+        ensures { result.1 ≡ self.segment.disk }
     {
-        (self.folder, self.segment.into_disk())
+        let mut folder = self.folder;
+        close_all(&mut folder, self.ended);
+        (folder, self.segment.into_disk())
     }
 
     /// Whether the open segment has a commit, and no room for so many bytes more.
@@ -128,20 +138,58 @@ impl<F: Folder + Drop> Feed<F> {
 
     /// Whether the open segment ends before a commit whose text has so many bytes.
     fn ends_before(&self, about: Option<About>, bytes: usize) -> bool
-        ensures { IsTrue result ↔ ((self.now.synced ≡ self.now.segment.last)
+        ensures { IsTrue result ↔ ((length self.now.ended.items < MOST_ENDED)
             × IsOver self.now.limits.bytes self.now.limits.micros self.now.first
             self.now.segment about bytes) }
     {
-        self.synced == self.segment.last() && (self.is_full(bytes) || self.is_late(about))
+        self.ended.len() < MOST_ENDED && (self.is_full(bytes) || self.is_late(about))
     }
 
-    /// Ends the open segment, and begins the next one where it ends.
+    /// Gives the folder back the files of segments that have ended.
+    fn let_go(&mut self)
+        ensures ended { self.new.ended.items ≡ [] }
+        ensures segment { self.new.segment ≡ self.old.segment }
+        ensures begins { self.new.begins ≡ self.old.begins }
+        ensures synced { self.new.synced ≡ self.old.synced }
+        ensures first { self.new.first ≡ self.old.first }
+        ensures limits { self.new.limits ≡ self.old.limits }
+        ensures names { self.new.names ≡ self.old.names }
+    {
+        let ended = std::mem::replace(&mut self.ended, Vec::new(self.alloc));
+        close_all(&mut self.folder, ended);
+    }
+
+    /// Lets go of segments that have ended where all was synced: the store has taken it since.
+    fn let_settled_go(&mut self)
+        ensures goes { Goes F.File.seen F.File.may_leave self.old.ended.items self.old.segment
+            self.new.ended.items self.new.segment }
+        ensures kept { KeepsOn F.File.seen self.old.begins self.old.ended.items self.old.segment
+            self.new.ended.items self.new.segment }
+        ensures stays { (self.new.ended.items ≡ self.old.ended.items)
+            ⊎ ((self.old.synced ≡ self.old.segment.last) × (self.new.ended.items ≡ [])) }
+        ensures gone { self.old.synced ≡ self.old.segment.last → self.new.ended.items ≡ [] }
+        ensures segment { self.new.segment ≡ self.old.segment }
+        ensures begins { self.new.begins ≡ self.old.begins }
+        ensures synced { self.new.synced ≡ self.old.synced }
+        ensures first { self.new.first ≡ self.old.first }
+        ensures limits { self.new.limits ≡ self.old.limits }
+        ensures names { self.new.names ≡ self.old.names }
+    {
+        if self.synced == self.segment.last() {
+            self.let_go();
+        }
+    }
+
+    /// Ends the open segment, and begins the next one where it ends. The ended one stays open.
     fn begin_next(&mut self) -> Result<(), StoreFault>
-        requires { self.old.synced ≡ self.old.segment.last }
-        ensures goes { Goes F.File.seen F.File.may_leave self.old.segment self.new.segment }
-        ensures kept { KeepsOn F.File.seen self.old.begins self.old.segment self.new.segment }
-        ensures ends { MayEnd F.File.seen F.File.may_leave F.File.is_clean self.old.synced
-            self.old.segment self.new.segment }
+        ensures goes { Goes F.File.seen F.File.may_leave self.old.ended.items self.old.segment
+            self.new.ended.items self.new.segment }
+        ensures kept { KeepsOn F.File.seen self.old.begins self.old.ended.items self.old.segment
+            self.new.ended.items self.new.segment }
+        ensures ends { ((self.new.segment.base ≡ self.old.segment.base)
+            × (self.new.ended.items ≡ self.old.ended.items))
+            ⊎ Ends F.File.seen F.File.may_leave F.File.is_clean self.old.ended.items
+            self.new.ended.items self.old.segment self.new.segment }
         ensures next { OnOk result (self.new.segment.base ≡ self.old.segment.last) }
         ensures told { OnOk result (F.File.seen self.new.segment.disk
             ≡ head_of self.old.names self.old.segment.last) }
@@ -153,12 +201,13 @@ impl<F: Folder + Drop> Feed<F> {
     {
         let base = self.segment.last();
         self.segment.finish()?;
+        self.ended.reserve(1)?;
         let segment = match begin_segment(self.alloc, &mut self.folder, &self.names, base) {
             Ok(segment) => segment,
             Err(fault) => return Err(store_fault(fault)),
         };
         let ended = std::mem::replace(&mut self.segment, segment);
-        self.folder.close(ended.base(), ended.into_disk());
+        self.ended.push_reserved(ended);
         self.first = None;
         Ok(())
     }
@@ -166,17 +215,21 @@ impl<F: Folder + Drop> Feed<F> {
     /// Goes on to the next segment where the open one ends before a commit whose text has so many
     /// bytes.
     fn make_room(&mut self, about: Option<About>, bytes: usize) -> Result<(), StoreFault>
-        ensures goes { Goes F.File.seen F.File.may_leave self.old.segment self.new.segment }
-        ensures kept { KeepsOn F.File.seen self.old.begins self.old.segment self.new.segment }
+        ensures goes { Goes F.File.seen F.File.may_leave self.old.ended.items self.old.segment
+            self.new.ended.items self.new.segment }
+        ensures kept { KeepsOn F.File.seen self.old.begins self.old.ended.items self.old.segment
+            self.new.ended.items self.new.segment }
         ensures ends { MayEnd F.File.seen F.File.may_leave F.File.is_clean self.old.synced
-            self.old.segment self.new.segment }
+            self.old.ended.items self.new.ended.items self.old.segment self.new.segment }
         ensures over { (self.new.segment.base ≡ self.old.segment.base) ⊎
             IsOver self.old.limits.bytes self.old.limits.micros self.old.first self.old.segment
             about bytes }
-        ensures next { OnOk result (self.old.synced ≡ self.old.segment.last →
-            IsOver self.old.limits.bytes self.old.limits.micros self.old.first self.old.segment
-            about bytes →
-            self.new.segment.base ≡ self.old.segment.last) }
+        ensures next { OnOk result (IsOver self.old.limits.bytes self.old.limits.micros
+            self.old.first self.old.segment about bytes →
+            (self.new.segment.base ≡ self.old.segment.last)
+            ⊎ MayGoOver MOST_ENDED self.old.synced self.old.ended.items self.old.segment) }
+        ensures let_go { OnOk result (self.old.synced ≡ self.old.segment.last →
+            length self.new.ended.items ≤ 1) }
         ensures last { self.new.segment.last ≡ self.old.segment.last }
         ensures free { self.old.segment.is_stuck ≡ false →
             OnOk result (self.new.segment.is_stuck ≡ false) }
@@ -184,6 +237,7 @@ impl<F: Folder + Drop> Feed<F> {
         ensures synced { self.new.synced ≡ self.old.synced }
         ensures fault { IfErr result IsOwnFault }
     {
+        self.let_settled_go();
         if self.ends_before(about, bytes) {
             return self.begin_next();
         }
@@ -192,24 +246,29 @@ impl<F: Folder + Drop> Feed<F> {
 
     /// Writes the text of a commit behind the last one, or into the next segment.
     fn write(&mut self, commit: &Commit<'_, '_>, images: &[Image<'_>]) -> Result<(), StoreFault>
-        ensures goes { Goes F.File.seen F.File.may_leave self.old.segment self.new.segment }
+        ensures goes { Goes F.File.seen F.File.may_leave self.old.ended.items self.old.segment
+            self.new.ended.items self.new.segment }
         ensures appended { OnOk result ((es : List Entry) →
-            KeepsAll F.File.seen self.old.begins self.old.segment es →
-            KeepsAll F.File.seen self.old.begins self.new.segment (es ++ (entry_of commit.now.end
-            commit.now.about commit.now.work.now.changes images.now) ∷ [])) }
-        ensures kept { OnErr result
-            (KeepsOn F.File.seen self.old.begins self.old.segment self.new.segment) }
+            KeepsAll F.File.seen self.old.begins self.old.ended.items self.old.segment es →
+            KeepsAll F.File.seen self.old.begins self.new.ended.items self.new.segment (es ++
+            (entry_of commit.now.end commit.now.about commit.now.work.now.changes images.now)
+            ∷ [])) }
+        ensures kept { OnErr result (KeepsOn F.File.seen self.old.begins self.old.ended.items
+            self.old.segment self.new.ended.items self.new.segment) }
         ensures ends { MayEnd F.File.seen F.File.may_leave F.File.is_clean self.old.synced
-            self.old.segment self.new.segment }
+            self.old.ended.items self.new.ended.items self.old.segment self.new.segment }
         ensures over { (self.new.segment.base ≡ self.old.segment.base) ⊎
             IsOver self.old.limits.bytes self.old.limits.micros self.old.first self.old.segment
             commit.now.about (length (entry_text self.old.segment.last (entry_of commit.now.end
             commit.now.about commit.now.work.now.changes images.now))) }
-        ensures next { OnOk result (self.old.synced ≡ self.old.segment.last →
-            IsOver self.old.limits.bytes self.old.limits.micros self.old.first self.old.segment
-            commit.now.about (length (entry_text self.old.segment.last (entry_of commit.now.end
-            commit.now.about commit.now.work.now.changes images.now))) →
-            self.new.segment.base ≡ self.old.segment.last) }
+        ensures next { OnOk result (IsOver self.old.limits.bytes self.old.limits.micros
+            self.old.first self.old.segment commit.now.about (length (entry_text
+            self.old.segment.last (entry_of commit.now.end commit.now.about
+            commit.now.work.now.changes images.now))) →
+            (self.new.segment.base ≡ self.old.segment.last)
+            ⊎ MayGoOver MOST_ENDED self.old.synced self.old.ended.items self.old.segment) }
+        ensures let_go { OnOk result (self.old.synced ≡ self.old.segment.last →
+            length self.new.ended.items ≤ 1) }
         ensures free { self.old.segment.is_stuck ≡ false →
             OnOk result (self.new.segment.is_stuck ≡ false) }
         ensures begins { self.new.begins ≡ self.old.begins }
@@ -225,22 +284,23 @@ impl<F: Folder + Drop> Feed<F> {
 }
 
 impl<F: Folder + Drop> Ledger for Feed<F> {
+    ghost use Rattle.std.specs.Prelude.{[]};
     ghost use Rattle.pgfeed.specs.Feeds.{KeepsAll, LastsUpTo, OpensAt};
     ghost use Rattle.pgfeed.specs.Cutting.Following.{cut_ledger};
     ghost use Rattle.pgfeed.specs.Cutting.Opened.{wants_all};
 
     ghost begins = { λ l. l.begins };
 
-    ghost keeps = { λ l es. KeepsAll F.File.seen l.begins l.segment es };
+    ghost keeps = { λ l es. KeepsAll F.File.seen l.begins l.ended.items l.segment es };
 
-    ghost outlasts = { λ l p. LastsUpTo F.File.may_leave l.segment p };
+    ghost outlasts = { λ l p. LastsUpTo F.File.may_leave l.ended.items l.segment p };
 
     ghost is_stuck = { λ l. l.segment.is_stuck };
 
     ghost is_wanting = { λ _. true };
 
-    ghost reopens = { λ l p other. (other.begins ≡ l.begins)
-        × OpensAt F.File.seen F.File.may_leave l.segment p other.segment };
+    ghost reopens = { λ l p other. (other.begins ≡ l.begins) × (other.ended.items ≡ [])
+        × OpensAt F.File.seen F.File.may_leave l.ended.items l.segment p other.segment };
 
     fn is_stuck(&self) -> bool {
         self.segment.is_stuck()
@@ -251,33 +311,37 @@ impl<F: Folder + Drop> Ledger for Feed<F> {
     }
 
     /// Appends a commit. Where the open segment ends before it, the next one begins where the last
-    /// commit ends, and all was synced up to there.
+    /// commit ends.
     fn append(&mut self, commit: &Commit<'_, '_>, images: &[Image<'_>]) -> Result<(), StoreFault>
         ensures ends { MayEnd F.File.seen F.File.may_leave F.File.is_clean self.old.synced
-            self.old.segment self.new.segment }
+            self.old.ended.items self.new.ended.items self.old.segment self.new.segment }
         ensures over { (self.new.segment.base ≡ self.old.segment.base) ⊎
             IsOver self.old.limits.bytes self.old.limits.micros self.old.first self.old.segment
             commit.now.about (length (entry_text self.old.segment.last (entry_of commit.now.end
             commit.now.about commit.now.work.now.changes images.now))) }
-        ensures next { OnOk result (self.old.synced ≡ self.old.segment.last →
-            IsOver self.old.limits.bytes self.old.limits.micros self.old.first self.old.segment
-            commit.now.about (length (entry_text self.old.segment.last (entry_of commit.now.end
-            commit.now.about commit.now.work.now.changes images.now))) →
-            self.new.segment.base ≡ self.old.segment.last) }
+        ensures next { OnOk result (IsOver self.old.limits.bytes self.old.limits.micros
+            self.old.first self.old.segment commit.now.about (length (entry_text
+            self.old.segment.last (entry_of commit.now.end commit.now.about
+            commit.now.work.now.changes images.now))) →
+            (self.new.segment.base ≡ self.old.segment.last)
+            ⊎ MayGoOver MOST_ENDED self.old.synced self.old.ended.items self.old.segment) }
+        ensures let_go { OnOk result (self.old.synced ≡ self.old.segment.last →
+            length self.new.ended.items ≤ 1) }
         ensures synced { self.new.synced ≡ self.old.synced }
         ensures appended { OnOk result (Appends (λ (l : Feed F F.File) es.
-            KeepsAll F.File.seen l.begins l.segment es) (entry_of commit.now.end commit.now.about
+            KeepsAll F.File.seen l.begins l.ended.items l.segment es) (entry_of commit.now.end commit.now.about
             commit.now.work.now.changes images.now) self.old self.new) }
         ensures was_free { OnOk result (self.old.segment.is_stuck ≡ false) }
         ensures free { OnOk result (self.new.segment.is_stuck ≡ false) }
         ensures refused { OnErr result (AppendsAtMost (λ (l : Feed F F.File) es.
-            KeepsAll F.File.seen l.begins l.segment es) commit.now.end self.old self.new) }
+            KeepsAll F.File.seen l.begins l.ended.items l.segment es) commit.now.end self.old self.new) }
         ensures stuck { OnErr result (self.new.segment.is_stuck ≡ true) }
         ensures fault { IfErr result IsOwnFault }
         ensures rests { Rests (λ (l : Feed F F.File). l.begins) (λ (l : Feed F F.File). true)
-            (λ (l : Feed F F.File) p. LastsUpTo F.File.may_leave l.segment p)
+            (λ (l : Feed F F.File) p. LastsUpTo F.File.may_leave l.ended.items l.segment p)
             (λ (l : Feed F F.File) p (other : Feed F F.File). (other.begins ≡ l.begins)
-            × OpensAt F.File.seen F.File.may_leave l.segment p other.segment) self.old self.new }
+            × (other.ended.items ≡ []) × OpensAt F.File.seen F.File.may_leave l.ended.items
+            l.segment p other.segment) self.old self.new }
     {
         if self.segment.is_stuck() {
             return Err(StoreFault::Refused);
@@ -295,22 +359,24 @@ impl<F: Folder + Drop> Ledger for Feed<F> {
     fn sync(&mut self) -> Result<(), StoreFault>
         ensures up_to { OnOk result (self.new.synced ≡ self.new.segment.last) }
         ensures stays { OnErr result (self.new.synced ≡ self.old.synced) }
+        ensures ended { self.new.ended.items ≡ self.old.ended.items }
         ensures base { self.new.segment.base ≡ self.old.segment.base }
         ensures last { self.new.segment.last ≡ self.old.segment.last }
         ensures synced { OnOk result (Syncs (λ (l : Feed F F.File) es.
-            KeepsAll F.File.seen l.begins l.segment es) (λ (l : Feed F F.File). l.begins)
-            (λ (l : Feed F F.File) p. LastsUpTo F.File.may_leave l.segment p)
+            KeepsAll F.File.seen l.begins l.ended.items l.segment es) (λ (l : Feed F F.File). l.begins)
+            (λ (l : Feed F F.File) p. LastsUpTo F.File.may_leave l.ended.items l.segment p)
             self.old self.new) }
         ensures kept { Keeps (λ (l : Feed F F.File) es.
-            KeepsAll F.File.seen l.begins l.segment es) self.old self.new }
+            KeepsAll F.File.seen l.begins l.ended.items l.segment es) self.old self.new }
         ensures was_free { OnOk result (self.old.segment.is_stuck ≡ false) }
         ensures free { OnOk result (self.new.segment.is_stuck ≡ false) }
         ensures stuck { OnErr result (self.new.segment.is_stuck ≡ true) }
         ensures fault { IfErr result IsOwnFault }
         ensures rests { Rests (λ (l : Feed F F.File). l.begins) (λ (l : Feed F F.File). true)
-            (λ (l : Feed F F.File) p. LastsUpTo F.File.may_leave l.segment p)
+            (λ (l : Feed F F.File) p. LastsUpTo F.File.may_leave l.ended.items l.segment p)
             (λ (l : Feed F F.File) p (other : Feed F F.File). (other.begins ≡ l.begins)
-            × OpensAt F.File.seen F.File.may_leave l.segment p other.segment) self.old self.new }
+            × (other.ended.items ≡ []) × OpensAt F.File.seen F.File.may_leave l.ended.items
+            l.segment p other.segment) self.old self.new }
     {
         self.segment.flush()?;
         self.synced = self.segment.last();
@@ -322,8 +388,8 @@ impl<F: Folder + Drop> Ledger for Feed<F> {
     }
 
     ghost cuts = { λ old new p told later opened kept ends lasting above. cut_ledger F.File.seen
-        F.File.may_leave F.File.seen_may_stay old.begins new.begins old.segment p new.segment told
-        later opened kept ends lasting };
+        F.File.may_leave F.File.seen_may_stay old.begins new.begins old.ended.items new.ended.items
+        old.segment p new.segment told later opened kept ends lasting };
 
     ghost unasked = { λ l no es. wants_all no };
 }

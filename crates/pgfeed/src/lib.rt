@@ -48,7 +48,7 @@ mod values;
 
 pub use entries::entry_text;
 pub use fault::FeedFault;
-pub use feed::Feed;
+pub use feed::{Feed, MOST_ENDED};
 pub use folder::{Folder, Origin, SegmentLimits};
 pub use mark::Mark;
 pub use segment::Segment;

@@ -32,6 +32,21 @@ pub struct Segment<D: Disk + Drop> {
     is_stuck: bool,
 }
 
+/// Makes all that a file has outlast a crash.
+fn sync_file<D: Disk>(disk: &mut D) -> Result<(), StoreFault>
+    requires { IsTrue (D.is_usable disk.old) }
+    ensures durable { OnOk result (Only (D.seen disk.old) (D.may_leave disk.new)) }
+    ensures clean { IsTrue (D.is_clean disk.new) → IsTrue (D.is_clean disk.old) }
+    ensures seen { D.seen disk.new ≡ D.seen disk.old }
+    ensures crash { (c : List ℕ) → D.may_leave disk.new c → D.may_leave disk.old c }
+    ensures fault { IfErr result (λ fault. fault ≡ Refused) }
+{
+    match disk.sync() {
+        Ok(()) => Ok(()),
+        Err(_) => Err(StoreFault::Refused),
+    }
+}
+
 impl<D: Disk + Drop> Segment<D> {
     pub(crate) fn of(alloc: Global, disk: D, base: Lsn, last: Lsn, size: usize) -> Segment<D>
         ensures disk { result.disk ≡ disk }
@@ -170,10 +185,10 @@ impl<D: Disk + Drop> Segment<D> {
             self.is_stuck = true;
             return Err(StoreFault::Refused);
         }
-        let Ok(()) = self.disk.sync() else {
+        if let Err(fault) = sync_file(&mut self.disk) {
             self.is_stuck = true;
-            return Err(StoreFault::Refused);
-        };
+            return Err(fault);
+        }
         Ok(())
     }
 
@@ -218,10 +233,7 @@ impl<D: Disk + Drop> Segment<D> {
         let Ok(()) = self.disk.write_at(self.size, line.as_bytes()) else {
             return Err(StoreFault::Refused);
         };
-        match self.disk.sync() {
-            Ok(()) => Ok(()),
-            Err(_) => Err(StoreFault::Refused),
-        }
+        sync_file(&mut self.disk)
     }
 }
 

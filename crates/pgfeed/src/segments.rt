@@ -121,6 +121,13 @@ fn last_segment<F: Folder>(
     Ok((segment, *first))
 }
 
+/// Gives the folder back the files of segments, the first one first.
+pub(crate) fn close_all<F: Folder>(folder: &mut F, ended: Vec<Segment<F::File>>) {
+    for segment in ended {
+        folder.close(segment.base(), segment.into_disk());
+    }
+}
+
 impl<F: Folder + Drop> Feed<F> {
     /// The feed in a folder, at the position of the store beside it. The last segment that doesn't
     /// begin above the position is opened there, and what lies behind is cut off, the line that
@@ -143,6 +150,7 @@ impl<F: Folder + Drop> Feed<F> {
     ) -> Result<Feed<F>, (FeedFault, F)>
         ensures opened { IfOk result (λ f. OpensSome F.File.seen F.File.may_leave
             (IsTrue (F.File.is_clean f.segment.disk)) position f.segment) }
+        ensures ended { IfOk result (λ f. f.ended.items ≡ []) }
         ensures last { IfOk result (λ f. f.segment.last ≡ position) }
         ensures synced { IfOk result (λ f. f.synced ≡ position) }
         ensures free { IfOk result (λ f. f.segment.is_stuck ≡ false) }
@@ -151,8 +159,8 @@ impl<F: Folder + Drop> Feed<F> {
             origin.now.database.now origin.now.slot.now) }
         ensures limits { IfOk result (λ f. f.limits ≡ limits) }
         ensures begun { IfOk result (λ f. f.begins ≡ position →
-            KeepsAll F.File.seen f.begins f.segment []
-            × LastsUpTo F.File.may_leave f.segment position) }
+            KeepsAll F.File.seen f.begins f.ended.items f.segment []
+            × LastsUpTo F.File.may_leave f.ended.items f.segment position) }
     {
         match open_in(alloc, &mut folder, origin, position) {
             Ok((segment, begins, names)) => {

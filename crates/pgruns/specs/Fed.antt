@@ -42,17 +42,18 @@ abbrev pub is_stuck_feed : {F D : Type 0} → Feed F D → Bool
 is_stuck_feed l = l.segment.is_stuck
 
 abbrev pub FeedKeeps : {F D : Type 0} → (D → List ℕ) → Feed F D → List Entry → Type 0
-FeedKeeps seen l es = KeepsAll seen l.begins l.segment es
+FeedKeeps seen l es = KeepsAll seen l.begins l.ended.items l.segment es
 
 abbrev pub FeedLasts : {F D : Type 0} → (D → List ℕ → Type 0) → Feed F D → ℕ → Type 0
-FeedLasts may_leave l p = LastsUpTo may_leave l.segment p
+FeedLasts may_leave l p = LastsUpTo may_leave l.ended.items l.segment p
 
 abbrev pub FeedReopens : {F D : Type 0} → (D → List ℕ) → (D → List ℕ → Type 0) → Feed F D → ℕ → Feed F D → Type 0
-FeedReopens seen may_leave l p other = (other.begins ≡ l.begins) × OpensAt seen may_leave l.segment p other.segment
+FeedReopens seen may_leave l p other = (other.begins ≡ l.begins) × (other.ended.items ≡ []) × OpensAt seen may_leave l.ended.items l.segment p other.segment
 
 -- It was opened at this LSN. A new one begins there, and keeps nothing yet.
 pub record IsOpenedAt {F D : Type 0} (seen : D → List ℕ) (may_leave : D → List ℕ → Type 0) (is_clean : D → Bool) (p : ℕ) (l : Feed F D) : Type 0 where
   pub opened : OpensSome seen may_leave (IsTrue (is_clean l.segment.disk)) p l.segment
+  pub alone : l.ended.items ≡ []
   pub last : l.segment.last ≡ p
   pub free : l.segment.is_stuck ≡ false
   pub begun : l.begins ≡ p → FeedKeeps seen l [] × FeedLasts may_leave l p

@@ -15,11 +15,52 @@ const TWO: SegmentLimits = SegmentLimits {
     micros: u64::MAX,
 };
 
+/// No more than a single commit.
+const ONE: SegmentLimits = SegmentLimits {
+    bytes: 0,
+    micros: u64::MAX,
+};
+
+/// How a run goes: where its segments end, and how many commits are settled at once.
+#[derive(Clone, Copy, Debug)]
+struct Course {
+    limits: SegmentLimits,
+    group: u64,
+}
+
+/// Each commit is settled by itself.
+const SINGLY: Course = Course {
+    limits: TWO,
+    group: 1,
+};
+
+/// Segments end amid the commits that are settled at once.
+const GROUPED: [Course; 4] = [
+    Course {
+        limits: TWO,
+        group: 2,
+    },
+    Course {
+        limits: TWO,
+        group: 5,
+    },
+    Course {
+        limits: ONE,
+        group: 3,
+    },
+    Course {
+        limits: ONE,
+        group: 5,
+    },
+];
+
 /// One line that ends the first segment, and one that ends the second, without blanks.
 const CLOSING: [&'static str; 2] = ["{\"last\":\"0/300\"}", "{\"last\":\"0/500\"}"];
 
 /// The LSNs at which the commits of a run end.
-const ENDS: [u64; 5] = [0x200, 0x300, 0x400, 0x500, 0x600];
+const ENDS: [u64; 5] = [0x200, 0x300, 0x400, 0x500, LAST];
+
+const LAST: u64 = 0x600;
 
 fn open(
     alloc: Global,
@@ -35,18 +76,24 @@ fn open(
     Feed::open(alloc, folder, &origin, limits, position)
 }
 
-/// Appends the commits that end after this LSN, each settled by itself, and notes up to where that
+/// Appends the commits that end after this LSN, so many settled at once, and notes up to where that
 /// was done.
 fn go_on(
     alloc: Global,
     feed: &mut Feed<MemoryFolder>,
+    group: u64,
     settled: &mut Lsn,
 ) -> Result<(), StoreFault> {
+    let mut staged: u64 = 0;
     for end in ENDS.iter() {
         if settled.0 < *end {
             append_at(alloc, feed, Lsn(*end), None, "1 a")?;
-            feed.sync()?;
-            *settled = Lsn(*end);
+            staged = staged.saturating_add(1);
+            if staged == group || *end == LAST {
+                feed.sync()?;
+                *settled = Lsn(*end);
+                staged = 0;
+            }
         }
     }
     Ok(())
@@ -62,11 +109,17 @@ fn left(feed: Feed<MemoryFolder>) -> Vec<Stored> {
 
 /// Opens a feed over these segments, and goes on until all is settled or it stops. Gives the
 /// segments that are there then.
-fn run(alloc: Global, segments: Vec<Stored>, stop: Stop, settled: &mut Lsn) -> Vec<Stored> {
+fn run(
+    alloc: Global,
+    segments: Vec<Stored>,
+    course: Course,
+    stop: Stop,
+    settled: &mut Lsn,
+) -> Vec<Stored> {
     let folder = MemoryFolder::of(alloc, segments, stop);
-    match open(alloc, folder, TWO, *settled) {
+    match open(alloc, folder, course.limits, *settled) {
         Ok(mut feed) => {
-            let _ended = go_on(alloc, &mut feed, settled);
+            let _ended = go_on(alloc, &mut feed, course.group, settled);
             left(feed)
         }
         Err((_, folder)) => folder.into_segments(),
@@ -74,18 +127,17 @@ fn run(alloc: Global, segments: Vec<Stored>, stop: Stop, settled: &mut Lsn) -> V
 }
 
 /// The segments of an undisturbed run.
-fn whole(alloc: Global) -> Vec<Stored> {
-    run(alloc, Vec::new(alloc), Stop::Never, &mut Lsn(0x100))
+fn whole(alloc: Global, course: Course) -> Vec<Stored> {
+    run(alloc, Vec::new(alloc), course, Stop::Never, &mut Lsn(0x100))
 }
 
 /// Where a run is stopped.
 fn stops(alloc: Global) -> Result<Vec<Stop>, AllocError> {
     let mut all = Vec::new(alloc);
-    for calls in 0..8 {
+    for calls in 0..12 {
         all.push(Stop::Folder(calls))?;
-        for number in 0..3 {
+        for number in 0..6 {
             all.push(Stop::File(number, calls))?;
-            all.push(Stop::File(number, calls + 8))?;
         }
     }
     Ok(all)
@@ -111,7 +163,7 @@ fn sizes(alloc: Global, segments: &[Stored]) -> Result<Vec<(u64, usize)>, AllocE
 #[test]
 fn ends_a_segment_before_the_commit_that_would_pass_its_bytes(rt: HostRuntime) -> Result<(), Fail> {
     let alloc = rt.alloc();
-    let segments = whole(alloc);
+    let segments = whole(alloc, SINGLY);
     assert_eq!(rt;
         sizes(alloc, &segments)?.as_slice(),
         [(0x100, 2158), (0x300, 2158), (0x500, 1463)].as_slice()
@@ -124,29 +176,77 @@ fn ends_a_segment_before_the_commit_that_would_pass_its_bytes(rt: HostRuntime) -
     Ok(())
 }
 
-#[test]
-fn has_the_same_bytes_after_a_stop_at_any_call(rt: HostRuntime) -> Result<(), Fail> {
-    let alloc = rt.alloc();
-    let whole = whole(alloc);
+/// Stops a run at each of its calls, over a folder without segments: opened again and followed on,
+/// the feed has the same bytes.
+fn try_stops(alloc: Global, course: Course) -> Result<(), Fail> {
+    let whole = whole(alloc, course);
     for stop in stops(alloc)? {
         let mut settled = Lsn(0x100);
-        let segments = run(alloc, Vec::new(alloc), stop, &mut settled);
-        let again = run(alloc, segments, Stop::Never, &mut settled);
-        assert!(rt; again.as_slice() == whole.as_slice(), "{stop:?}");
+        let segments = run(alloc, Vec::new(alloc), course, stop, &mut settled);
+        let again = run(alloc, segments, course, Stop::Never, &mut settled);
+        if again.as_slice() != whole.as_slice() {
+            return Err(Fail::from(format!(in alloc; "{course:?} {stop:?}")?));
+        }
+    }
+    Ok(())
+}
+
+/// The same over the segments of a run, which were left with the store at this position.
+fn try_stops_below(alloc: Global, course: Course, position: u64) -> Result<(), Fail> {
+    let whole = whole(alloc, course);
+    for stop in stops(alloc)? {
+        let mut settled = Lsn(position);
+        let segments = run(alloc, whole.clone()?, course, stop, &mut settled);
+        let again = run(alloc, segments, course, Stop::Never, &mut settled);
+        if again.as_slice() != whole.as_slice() {
+            return Err(Fail::from(format!(in alloc; "{course:?} {stop:?} {position}")?));
+        }
+    }
+    Ok(())
+}
+
+#[test]
+fn has_the_same_bytes_after_a_stop_at_any_call(rt: HostRuntime) -> Result<(), Fail> {
+    try_stops(rt.alloc(), SINGLY)
+}
+
+#[test]
+fn has_the_same_bytes_after_a_stop_amid_commits_of_one_settling(
+    rt: HostRuntime,
+) -> Result<(), Fail> {
+    for course in GROUPED {
+        try_stops(rt.alloc(), course)?;
     }
     Ok(())
 }
 
 #[test]
 fn opens_below_segments_after_a_stop_at_any_call(rt: HostRuntime) -> Result<(), Fail> {
+    for position in [0x100, 0x200, 0x300, 0x400] {
+        try_stops_below(rt.alloc(), SINGLY, position)?;
+    }
+    Ok(())
+}
+
+#[test]
+fn opens_within_segments_that_have_ended(rt: HostRuntime) -> Result<(), Fail> {
+    for position in [0x200, 0x400] {
+        try_stops_below(rt.alloc(), GROUPED[1], position)?;
+    }
+    try_stops_below(rt.alloc(), GROUPED[3], 0x300)
+}
+
+#[test]
+fn segments_end_wherever_settlings_fall(rt: HostRuntime) -> Result<(), Fail> {
     let alloc = rt.alloc();
-    let whole = whole(alloc);
-    for stop in stops(alloc)? {
-        for position in [0x100, 0x200, 0x300, 0x400] {
-            let mut settled = Lsn(position);
-            let segments = run(alloc, whole.clone()?, stop, &mut settled);
-            let again = run(alloc, segments, Stop::Never, &mut settled);
-            assert!(rt; again.as_slice() == whole.as_slice(), "{stop:?} {position}");
+    for limits in [ONE, TWO] {
+        let singly = whole(alloc, Course { limits, group: 1 });
+        for group in 2..6 {
+            let grouped = whole(alloc, Course { limits, group });
+            assert!(rt;
+                grouped.as_slice() == singly.as_slice(),
+                "{limits:?} {group}"
+            );
         }
     }
     Ok(())
@@ -154,7 +254,7 @@ fn opens_below_segments_after_a_stop_at_any_call(rt: HostRuntime) -> Result<(), 
 
 /// The bases and sizes of the segments once a feed of all commits is opened at a position, if it is.
 fn opened_at(alloc: Global, position: u64) -> Result<Option<Vec<(u64, usize)>>, Fail> {
-    let whole = whole(alloc);
+    let whole = whole(alloc, SINGLY);
     let folder = MemoryFolder::of(alloc, whole.clone()?, Stop::Never);
     match open(alloc, folder, TWO, Lsn(position)) {
         Ok(feed) => {
@@ -205,7 +305,7 @@ fn names_that_are_too_long_leave_the_folder_as_it_was(rt: HostRuntime) -> Result
         slot: name.as_str(),
     };
     for position in [0x100, 0x400] {
-        let whole = whole(alloc);
+        let whole = whole(alloc, SINGLY);
         let folder = MemoryFolder::of(alloc, whole.clone()?, Stop::Never);
         match Feed::open(alloc, folder, &origin, TWO, Lsn(position)) {
             Ok(_) => return Err(Fail::from("the names are taken")),
@@ -262,18 +362,47 @@ fn ends_a_segment_by_the_times_of_its_commits(rt: HostRuntime) -> Result<(), Fai
 }
 
 #[test]
-fn commits_that_are_settled_at_once_stand_in_one_segment(rt: HostRuntime) -> Result<(), Fail> {
+fn a_segment_ends_amid_commits_that_are_settled_at_once(rt: HostRuntime) -> Result<(), Fail> {
     let alloc = rt.alloc();
     let folder = MemoryFolder::of(alloc, Vec::new(alloc), Stop::Never);
     let mut feed = opened(open(alloc, folder, TWO, Lsn(0x100)))?;
-    for end in [0x200, 0x300, 0x400, 0x500] {
+    let mut bases = Vec::new(alloc);
+    for end in [0x200, 0x300, 0x400, 0x500, 0x600] {
+        append_at(alloc, &mut feed, Lsn(end), None, "1 a")?;
+        bases.push(feed.base().0)?;
+    }
+    assert_eq!(rt;
+        bases.as_slice(),
+        [0x100, 0x100, 0x300, 0x300, 0x500].as_slice()
+    );
+    feed.sync()?;
+    assert_eq!(rt; feed.last(), Lsn(0x600));
+    Ok(())
+}
+
+/// Where the last segment begins after the commits with ends from 1 on, settled at once, of which
+/// no segment takes two, and how many segments there are after one more.
+fn counted(alloc: Global, commits: u64) -> Result<(u64, usize), Fail> {
+    let folder = MemoryFolder::of(alloc, Vec::new(alloc), Stop::Never);
+    let mut feed = opened(open(alloc, folder, ONE, Lsn(0)))?;
+    for end in 1..=commits {
         append_at(alloc, &mut feed, Lsn(end), None, "1 a")?;
     }
     feed.sync()?;
-    assert_eq!(rt; feed.base(), Lsn(0x100));
-    append_at(alloc, &mut feed, Lsn(0x600), None, "1 a")?;
-    assert_eq!(rt; feed.base(), Lsn(0x500));
-    assert_eq!(rt; feed.last(), Lsn(0x600));
+    let base = feed.base();
+    append_at(alloc, &mut feed, Lsn(u64::MAX), None, "1 a")?;
+    if feed.base() != Lsn(commits) {
+        return Err(Fail::from("the open segment goes on where all was settled"));
+    }
+    Ok((base.0, left(feed).len()))
+}
+
+#[test]
+fn so_many_segments_stay_open_and_no_more(rt: HostRuntime) -> Result<(), Fail> {
+    let alloc = rt.alloc();
+    assert_eq!(rt; counted(alloc, 3)?, (2, 4));
+    assert_eq!(rt; counted(alloc, 257)?, (256, 258));
+    assert_eq!(rt; counted(alloc, 270)?, (256, 258));
     Ok(())
 }
 

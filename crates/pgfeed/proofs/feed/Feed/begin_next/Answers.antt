@@ -1,38 +1,69 @@
-use Rattle.std.proofs.Common.{◌≡◌, sym, subst, ◌∙◌}
-use Rattle.pgfeed.specs.Feeds.{Goes, KeepsOn}
-use Rattle.pgfeed.proofs.Following.{goes_behind, goes_next, keeps_behind, keeps_next, writes_line}
+use Rattle.std.proofs.Common.{inr, ◌∙◌}
+use Rattle.pgfeed.proofs.Following.{IsNext, ended_by, goes_behind, goes_stays, keeps_behind, keeps_stays, writes_line}
 use Rattle.pgfeed.proofs.feed.Feed.begin_next.Goals as goal
 
 pub returns-in_err-finish-clause-goes : goal.returns-in_err-finish-clause-goes
 returns-in_err-finish-clause-goes g c =
     let done = c.in_err-finish.ensures in
-    goes_behind _ _ _ _ (writes_line g.F.File.Disk.seen g.F.File.Disk.may_leave c.args.self.now.segment c.finish.new.self done.base done.last done.size done.behind)
+    goes_behind _ _ _ _ _ (writes_line g.F.File.Disk.seen g.F.File.Disk.may_leave c.args.self.now.segment c.finish.new.self done.base done.last done.size done.behind)
 
 pub returns-in_err-finish-clause-kept : goal.returns-in_err-finish-clause-kept
 returns-in_err-finish-clause-kept g c =
     let done = c.in_err-finish.ensures in
-    keeps_behind _ _ _ _ _ (writes_line g.F.File.Disk.seen g.F.File.Disk.may_leave c.args.self.now.segment c.finish.new.self done.base done.last done.size done.behind) done.size done.last
+    keeps_behind _ _ _ _ _ _ (writes_line g.F.File.Disk.seen g.F.File.Disk.may_leave c.args.self.now.segment c.finish.new.self done.base done.last done.size done.behind) done.size done.last
+
+pub returns-in_err-reserve-clause-goes : goal.returns-in_err-reserve-clause-goes
+returns-in_err-reserve-clause-goes g c =
+    let done = c.in_ok-finish.ensures in
+    goes_stays _ _ _ _ _ _ c.reserve.ensures.items (writes_line g.F.File.Disk.seen g.F.File.Disk.may_leave c.args.self.now.segment c.finish.new.self done.base done.last done.size done.behind)
+
+pub returns-in_err-reserve-clause-kept : goal.returns-in_err-reserve-clause-kept
+returns-in_err-reserve-clause-kept g c =
+    let done = c.in_ok-finish.ensures in
+    keeps_stays _ _ _ _ _ _ _ c.reserve.ensures.items (writes_line g.F.File.Disk.seen g.F.File.Disk.may_leave c.args.self.now.segment c.finish.new.self done.base done.last done.size done.behind) done.size done.last
 
 pub returns-in-Err-clause-goes : goal.returns-in-Err-clause-goes
 returns-in-Err-clause-goes g c =
     let done = c.in_ok-finish.ensures in
-    goes_behind _ _ _ _ (writes_line g.F.File.Disk.seen g.F.File.Disk.may_leave c.args.self.now.segment c.finish.new.self done.base done.last done.size done.behind)
+    goes_stays _ _ _ _ _ _ c.reserve.ensures.items (writes_line g.F.File.Disk.seen g.F.File.Disk.may_leave c.args.self.now.segment c.finish.new.self done.base done.last done.size done.behind)
 
 pub returns-in-Err-clause-kept : goal.returns-in-Err-clause-kept
 returns-in-Err-clause-kept g c =
     let done = c.in_ok-finish.ensures in
-    keeps_behind _ _ _ _ _ (writes_line g.F.File.Disk.seen g.F.File.Disk.may_leave c.args.self.now.segment c.finish.new.self done.base done.last done.size done.behind) done.size done.last
+    keeps_stays _ _ _ _ _ _ _ c.reserve.ensures.items (writes_line g.F.File.Disk.seen g.F.File.Disk.may_leave c.args.self.now.segment c.finish.new.self done.base done.last done.size done.behind) done.size done.last
 
 pub returns-clause-goes : goal.returns-clause-goes
 returns-clause-goes g c =
     let begun = c.in-Ok.ensures in
-    let next : c.in-Ok.segment.base ≡ c.args.self.now.segment.last = begun.base ∙ c.last-base.ensures in
-    subst (λ s. Goes g.F.File.Disk.seen g.F.File.Disk.may_leave c.args.self.now.segment s) (sym c.replace-ended.ensures.after)
-    (goes_next g.F.File.Disk.seen g.F.File.Disk.may_leave g.met.F.File.Disk.seen_may_stay c.args.self.now.segment c.in-Ok.segment begun.fresh next)
+    let done = c.in_ok-finish.ensures in
+    let line = writes_line g.F.File.Disk.seen g.F.File.Disk.may_leave c.args.self.now.segment c.finish.new.self done.base done.last done.size done.behind in
+    let next : IsNext g.F.File.Disk.seen g.F.File.Disk.may_leave g.F.File.Disk.is_clean c.args.self.now.segment c.finish.new.self c.in-Ok.segment = record {
+      follows = record { line = line; size_is = done.size; last_is = done.last; fresh = begun.fresh; next = begun.base ∙ c.last-base.ensures };
+      finished = done.finished;
+    } in
+    (ended_by g.F.File.Disk.seen g.F.File.Disk.may_leave g.met.F.File.Disk.seen_may_stay g.F.File.Disk.is_clean c.args.self.now.begins c.args.self.now.ended.items _ _ _ _ _ _ _ next c.reserve.ensures.items
+    c.replace-ended.ensures.value c.push_reserved.ensures.items c.replace-ended.ensures.after).goes
 
 pub returns-clause-kept : goal.returns-clause-kept
 returns-clause-kept g c =
     let begun = c.in-Ok.ensures in
-    let next : c.in-Ok.segment.base ≡ c.args.self.now.segment.last = begun.base ∙ c.last-base.ensures in
-    subst (λ s. KeepsOn g.F.File.Disk.seen c.args.self.now.begins c.args.self.now.segment s) (sym c.replace-ended.ensures.after)
-    (keeps_next g.F.File.Disk.seen g.F.File.Disk.may_leave c.args.self.now.begins c.args.self.now.segment c.in-Ok.segment begun.fresh next)
+    let done = c.in_ok-finish.ensures in
+    let line = writes_line g.F.File.Disk.seen g.F.File.Disk.may_leave c.args.self.now.segment c.finish.new.self done.base done.last done.size done.behind in
+    let next : IsNext g.F.File.Disk.seen g.F.File.Disk.may_leave g.F.File.Disk.is_clean c.args.self.now.segment c.finish.new.self c.in-Ok.segment = record {
+      follows = record { line = line; size_is = done.size; last_is = done.last; fresh = begun.fresh; next = begun.base ∙ c.last-base.ensures };
+      finished = done.finished;
+    } in
+    (ended_by g.F.File.Disk.seen g.F.File.Disk.may_leave g.met.F.File.Disk.seen_may_stay g.F.File.Disk.is_clean c.args.self.now.begins c.args.self.now.ended.items _ _ _ _ _ _ _ next c.reserve.ensures.items
+    c.replace-ended.ensures.value c.push_reserved.ensures.items c.replace-ended.ensures.after).kept
+
+pub returns-clause-ends : goal.returns-clause-ends
+returns-clause-ends g c =
+    let begun = c.in-Ok.ensures in
+    let done = c.in_ok-finish.ensures in
+    let line = writes_line g.F.File.Disk.seen g.F.File.Disk.may_leave c.args.self.now.segment c.finish.new.self done.base done.last done.size done.behind in
+    let next : IsNext g.F.File.Disk.seen g.F.File.Disk.may_leave g.F.File.Disk.is_clean c.args.self.now.segment c.finish.new.self c.in-Ok.segment = record {
+      follows = record { line = line; size_is = done.size; last_is = done.last; fresh = begun.fresh; next = begun.base ∙ c.last-base.ensures };
+      finished = done.finished;
+    } in
+    inr (ended_by g.F.File.Disk.seen g.F.File.Disk.may_leave g.met.F.File.Disk.seen_may_stay g.F.File.Disk.is_clean c.args.self.now.begins c.args.self.now.ended.items _ _ _ _ _ _ _ next c.reserve.ensures.items
+    c.replace-ended.ensures.value c.push_reserved.ensures.items c.replace-ended.ensures.after).ends
