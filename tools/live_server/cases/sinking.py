@@ -189,7 +189,7 @@ def second_sink(place: Place) -> None:
 def in_the_way(place: Place) -> None:
     """What is in the way for now has status 7, and what is for good another one: a Redis that isn't there, is full, or has a password."""
     writer = a_feed(place)
-    redis = RedisServer(place.folder / "redis")
+    redis = RedisServer(place.folder / "redis", "--unixsocket", str(place.folder / "redis/socket"))
     ends(place, redis, PASSING, "Redis at 127.0.0.1")
     started(place, redis)
     client = redis.client()
@@ -209,6 +209,7 @@ def in_the_way(place: Place) -> None:
     ends(place, redis, OK, "all up to 0/200 is written", "--as", "streams", url=other)
     compare("ids", [at for at, _ in client.xrange("stock")], ["256-0", "512-0"])
     client.execute_command("SELECT", 0)
+    ends(place, redis, OK, "all up to 0/200 is written", url=f"unix://{redis.folder}/socket?db=2")
     client.config_set("requirepass", "secret")
     ends(place, redis, SERVER, "uthentication required", url=redis.url())
     ends(place, redis, SERVER, "", url=redis.url().replace("://", "://:wrong@"))
@@ -224,6 +225,9 @@ def too_large(place: Place) -> None:
     writer = a_feed(place)
     nats = NatsServer(place.folder / "nats", 2000)
     ends(place, nats, PASSING, "NATS at 127.0.0.1")
+    redis = RedisServer(place.folder / "redis")
+    started(place, redis)
+    ends(place, redis, PASSING, "it says nothing for 10 seconds", url=redis.url().replace("redis://", "nats://").removesuffix("/0"))
     started(place, nats)
     writer.commit(0x300, [insert("3", "c"), insert("4", "x" * 2000)])
     for _ in range(2):
