@@ -4,6 +4,7 @@ from __future__ import annotations
 
 import argparse
 import contextlib
+import os
 import time
 from typing import TYPE_CHECKING
 
@@ -39,6 +40,9 @@ Redis: a hash's fields are the columns that aren't null, and `pgsub:lsn` has the
 called `schema.table`; in names and keys `%`, `:` and `.` are %25, %3A and %2E, and null is %null. A table's rows go with it to another name
 or shape, by the names of its columns. What lost its name to another table, as one that was dropped does, is `pgsub:old:OID` until it has one
 again. A sink that is started ends one that writes there. A commit is kept in memory.
+
+A stream's entry has `op` (c, u, d, t; r of a row of the export, x of a change that found no row), `oid`, and the rows `before` and `after` as
+objects; a message has them too, and `lsn`, `n`, `schema` and `table`.
 
 NATS: subjects are STREAM.schema.table, and STREAM.commit for the last message of each commit. A commit of which a part was published is
 completed. --table goes by the names that tables have just then. With --reader, an LSN counts after 150 seconds, once the server has synced it.
@@ -89,6 +93,9 @@ class Sink:
         self.reader = Reader(options.feed, engine.at)
         self.poll = Poll(self.reader, not options.once, check)
         self.noted = Noted(options.feed, options.reader, None, options.mode) if options.reader else None
+        if self.noted and not os.path.exists(self.noted.path):
+            # (so that nothing goes before that is known to be on a disk)
+            self.noted.note(engine.at, is_last=True)
         self.check = check
         # since when commits wait to be settled
         self.begun: float | None = None
@@ -144,14 +151,14 @@ class Sink:
         self.begun = None
         self.note()
 
-    def note(self) -> None:
-        if self.noted:
-            self.noted.note(self.engine.safe())
+    def note(self, is_last: bool = False) -> None:
+        """Notes what the engine's disk has."""
+        if self.noted and (at := self.engine.safe()) is not None:
+            self.noted.note(at, is_last)
 
     def finish(self) -> None:
         self.reader.close()
-        if self.noted:
-            self.noted.note(self.engine.safe(), is_last=True)
+        self.note(is_last=True)
 
 
 def wanted_of(options: Options, check: Check) -> Wanted:
