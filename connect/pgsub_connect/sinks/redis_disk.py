@@ -1,5 +1,4 @@
-"""What Redis has on its disk: it writes that on its own, by a log of commands or by whole copies, and after a crash it has what was written.
-"""
+"""What Redis has on its disk, which it writes on its own: by a log of commands, or by whole copies."""
 
 from __future__ import annotations
 
