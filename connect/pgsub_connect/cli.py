@@ -717,7 +717,8 @@ def status_of(ended: FilterEnded) -> int:
 
 
 STATUSES: dict[type[Exception], int] = {
-    Unfit: UNFIT, FileError: FILE, FilterFault: FILE, Passing: PASSING, NoSlot: NO_SLOT, UsageError: USAGE, EngineError: SERVER, TooLarge: REJECTED,
+    Unfit: UNFIT, FileError: FILE, FilterFault: FILE, Passing: PASSING, NoSlot: NO_SLOT, UsageError: USAGE,
+    EngineError: SERVER, TooLarge: REJECTED,
 }
 PASSING_ERRORS = (
     errno.ENOSPC, errno.EDQUOT, errno.ENOMEM, errno.EAGAIN, errno.EMFILE, errno.ENFILE, errno.ESTALE, errno.ETIMEDOUT, errno.EHOSTDOWN,

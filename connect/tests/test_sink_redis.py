@@ -262,6 +262,19 @@ class Others(RedisCase):
         self.take(Line(table(columns=[ID]), "x", ["9"], None, "K"))
         with mock.patch.object(type(self.server), "do_hdel", lambda *_: Said("WRONGTYPE of a key")):
             self.fails(EngineError, "altered by something else, begin anew: WRONGTYPE")
+        self.assertEqual(self.server.at(), None)
+        self.fails(Unfit, "there are keys that begin with stock: already")
+
+    def test_what_is_known_of_tables_is_removed(self) -> None:
+        del self.server.data[b"pgsub:tables"]
+        self.fails(Unfit, "something else has removed pgsub:tables")
+
+    def test_it_isnt_known_at_once_what_the_disk_has(self) -> None:
+        (self.path / "readers").mkdir()
+        (self.path / "readers/redis").write_text("0/50\n")
+        with mock.patch("pgsub_connect.sinks.redis_disk.LATE", 1000.0):
+            self.run_it(reader="redis")
+        self.assertEqual((self.path / "readers/redis").read_text(), "0/50\n")
 
     def test_a_signal_within_a_commit(self) -> None:
         self.take(insert("3", "c"), truncate(), insert("4", "d"))
@@ -440,10 +453,16 @@ class Ends(RedisCase):
 
 class OnTheDisk(unittest.TestCase):
     def test_trail(self) -> None:
-        trail = Trail(5)
+        trail = Trail()
         for at, now in ((10, 1.0), (11, 1.05), (12, 1.2), (13, 9.0)):
             trail.note(at, now)
-        self.assertEqual([trail.pass_to(it) for it in (1.0, 1.09, 1.2, 5.0, 9.05, 9.2)], [5, 5, 11, 12, 12, 13])
+        self.assertEqual([trail.pass_to(it) for it in (1.0, 1.09, 1.2, 5.0, 9.05, 9.2)], [None, None, 11, 12, 12, 13])
+
+    def test_marks_are_few(self) -> None:
+        trail = Trail()
+        for at in range(60000):
+            trail.note(at, float(at))
+        self.assertEqual([trail.pass_to(it) for it in (9000.0, 10001.0, 59000.0)], [None, 10000, 58999])
 
     def moment(self, info: str, save: bytes = b"3600 1", now: float = 1010.0) -> float:
         server = mock.Mock(wraps=None)

@@ -58,7 +58,8 @@ class Bulk(Objects):
         relation = it.relation
         key = key_of(relation)
         if not key:
-            return self.tell(relation.text(), f"{commit.text()}: {relation.text()} has no key, so its rows are no documents and are left out")
+            text = f"{commit.text()}: {relation.text()} has no key, so its rows are no documents and are left out"
+            return self.tell(relation.text(), text)
         index = index_text(relation.namespace, relation.name)
         for cells, row in ((it.before, None), (it.after, self.row(relation, it.after))):
             if cells is not None:
@@ -74,8 +75,8 @@ class Bulk(Objects):
         index = index_text(relation.namespace, relation.name)
         if key_of(relation) and commit.end != self.truncated:
             raise Unfit(
-                f"{commit.text()} truncates {relation.text()}, which no line of a bulk request says: delete all documents of the index {index},"
-                f" and go on with --from {lsn_text(commit.prev)} --truncated {commit.text()}"
+                f"{commit.text()} truncates {relation.text()}, which no line of a bulk request says: delete all documents of the index"
+                f" {index}, and go on with --from {lsn_text(commit.prev)} --truncated {commit.text()}"
             )
         for it in [it for it in left if it[0] == index]:
             del left[it]

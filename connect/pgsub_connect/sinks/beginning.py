@@ -63,7 +63,8 @@ class Exported(Base):
             raise FileError(f"--base {self.path}: its values aren't as the server prints them: make it by `pgsub-connect export --text`")
         columns = [it.name for it in relation.shape.columns]
         if told_columns(columns) != columns:
-            raise Unfit(f"{relation.text()}: names of columns are equal but for case, and an export can't tell them apart: choose other tables")
+            text = "names of columns are equal but for case, and an export can't tell them apart: choose other tables"
+            raise Unfit(f"{relation.text()}: {text}")
 
     def rows(self, relation: Relation) -> Iterator[Cells]:
         for row in self.db.execute(f"SELECT * FROM {identifier(self.names[relation.oid])} ORDER BY rowid"):

@@ -50,8 +50,8 @@ class Engine(Protocol):
     def look(self) -> None:
         """Looks, while there is nothing to take, whether it can go on."""
 
-    def safe(self) -> int:
-        """An LSN whose rows the engine has even if it is lost just now and comes back from its disk."""
+    def safe(self) -> int | None:
+        """An LSN whose rows the engine has even if it is lost just now and comes back from its disk; None where that isn't known."""
 
     def close(self) -> None:
         """Ends the connection."""

@@ -86,11 +86,11 @@ class JetStream:
         raise self.wrong(error)
 
     def wrong(self, error: dict[str, Any]) -> Exception:
-        text = f"{self.where}: {error.get('description', error)}"
-        if error.get("err_code") == OTHER_TOO_LARGE:
-            return TooLarge(text)
-        is_passing = error.get("code") in PASSING and error.get("err_code") not in NO_JETSTREAM or error.get("err_code") == WRONG_SEQUENCE or FULL in str(error.get("description"))
-        return (Passing if is_passing else EngineError)(text)
+        code, kind, about = error.get("code"), error.get("err_code"), str(error.get("description", error))
+        if kind == OTHER_TOO_LARGE:
+            return TooLarge(f"{self.where}: {about}")
+        is_away = code in PASSING and kind not in NO_JETSTREAM
+        return (Passing if is_away or kind == WRONG_SEQUENCE or FULL in about else EngineError)(f"{self.where}: {about}")
 
     def begin(self) -> dict[str, Any]:
         """Makes the stream, where it isn't there. Returns what is told of it."""

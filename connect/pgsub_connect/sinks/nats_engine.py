@@ -42,7 +42,7 @@ class Nats:
         self.looked = time.monotonic()
         # of the commit of which a part is published already: where it ends, and the number of the last change
         self.part: tuple[int, int] | None = None
-        self.trail = Trail(0)
+        self.trail = Trail()
 
     # ---- what is there
 
@@ -77,7 +77,7 @@ class Nats:
         if about != self.about:
             raise Unfit(f"{self.stream.where}: what is kept there is of {about}, and this would be of {self.about}: take another stream")
         self.at = self.end = at
-        self.trail = Trail(at)
+        self.trail.note(at, time.monotonic())
         self.part = None if n is None else (lsn, n)
 
     def begin(self, base: Base) -> None:
@@ -154,7 +154,7 @@ class Nats:
         else:
             self.stream.wire.receive(0.0)
 
-    def safe(self) -> int:
+    def safe(self) -> int | None:
         return self.trail.pass_to(time.monotonic() - SYNCED)
 
     def close(self) -> None:

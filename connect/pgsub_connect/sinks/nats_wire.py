@@ -87,7 +87,9 @@ class Wire:
 
     def log_in(self, parts: urllib.parse.SplitResult) -> None:
         line = self.line(CONNECT)
-        if line is None or not line.upper().startswith(b"INFO "):
+        if line is None:
+            raise Passing(f"{self.where}: it says nothing for {CONNECT:.0f} seconds")
+        if not line.upper().startswith(b"INFO "):
             raise self.wrong(line)
         self.info = self.parsed(line[5:])
         if parts.scheme == "tls" or self.info.get("tls_required"):
@@ -201,9 +203,8 @@ class Wire:
             raise self.wrong(line) from None
         return Message(subject, body[at:-2], status, headers)
 
-    def wrong(self, line: bytes | None) -> EngineError:
-        said = "nothing" if line is None else repr(line[:80].decode(errors="backslashreplace"))
-        return EngineError(f"{self.where}: it said {said}, which isn't NATS' protocol")
+    def wrong(self, line: bytes) -> EngineError:
+        return EngineError(f"{self.where}: it said {line[:80].decode(errors='backslashreplace')!r}, which isn't NATS' protocol")
 
     def parsed(self, text: bytes) -> dict[str, Any]:
         try:

@@ -56,7 +56,9 @@ class Connection:
         except ModuleNotFoundError:
             raise FileError("python3-redis is needed: apt-get install python3-redis") from None
         try:
-            pool = self.redis.ConnectionPool.from_url(url, socket_connect_timeout=CONNECT, socket_timeout=LONGEST, socket_keepalive=True)
+            # (a socket of a file takes neither)
+            more = {} if url.startswith("unix:") else {"socket_connect_timeout": CONNECT, "socket_keepalive": True}
+            pool = self.redis.ConnectionPool.from_url(url, socket_timeout=LONGEST, **more)
             self.connection = pool.make_connection()
         except (ValueError, TypeError) as error:
             raise UsageError(f"the URL of Redis: {error}") from None
@@ -74,7 +76,7 @@ class Connection:
         except errors.ResponseError as error:
             raise raised(Said(self.text(error)), self.where) from None
         except (errors.InvalidResponse, ValueError) as error:
-            raise EngineError(f"{self.where}: it said what isn't Redis' protocol: {error}") from None
+            raise EngineError(f"{self.where}: it said what isn't Redis' protocol: {str(error)[:200]}") from None
         except (errors.RedisError, OSError) as error:
             hint = f" (of {size >> 20} MB that were sent: client-query-buffer-limit may be below that)" if size > MUCH else ""
             raise Passing(f"{self.where}: {str(error) or type(error).__name__}{hint}") from None

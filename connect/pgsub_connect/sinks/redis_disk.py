@@ -1,5 +1,4 @@
-"""What Redis has on its disk: it writes that on its own, by a log of commands or by whole copies, and after a crash it has what was written.
-"""
+"""What Redis has on its disk, which it writes on its own: by a log of commands, or by whole copies."""
 
 from __future__ import annotations
 
@@ -20,16 +19,13 @@ class Disk:
 
     def __init__(self, calls: Calls) -> None:
         self.calls, self.asked = calls, 0.0
-        self.trail: Trail | None = None
+        self.trail = Trail()
 
     def note(self, at: int) -> None:
-        if self.trail is None:
-            self.trail = Trail(at)
         self.trail.note(at, time.time())
 
-    def safe(self) -> int:
+    def safe(self) -> int | None:
         now = time.time()
-        assert self.trail
         if not 0 <= now - self.asked < OFTEN:
             self.asked = now
             self.trail.pass_to(self.moment(now))

@@ -105,11 +105,14 @@ class Redis:
         # (from now on no other sink's MULTI has an effect)
         self.run([("SET", SINK, self.owner)])
         self.lsn = self.run([WATCH, ASK])[1][0]
-        tables, loading = self.run([("MGET", TABLES, LOADING)])[0]
+        about, tables, loading = self.run([("MGET", FEED, TABLES, LOADING)])[0]
         if self.lsn is None:
             self.left = json.loads(loading or b"[]")
             return False
-        self.relations.load((tables or b"").decode())
+        self.check_about(about)
+        if tables is None:
+            raise Unfit(f"{self.calls.where}: something else has removed {TABLES}: remove {LSN} and the rows to begin anew")
+        self.relations.load(tables.decode())
         self.reach(parse_lsn(self.lsn.decode()))
         return True
 
@@ -164,6 +167,8 @@ class Redis:
     def check_done(self, done: list[Any], lsn: bytes | None, after: bytes | None) -> None:
         wrong = [it for it in done if isinstance(it, Said) and not self.form.accepts(it)]
         if wrong:
+            # (the others had their effect, so nothing may go on from there)
+            self.run([("DEL", LSN)])
             raise EngineError(f"{self.calls.where}: keys of the sink were altered by something else, begin anew: {wrong[0]}")
         self.check_lsn(lsn, after)
         self.lsn = after
@@ -180,7 +185,7 @@ class Redis:
             self.transact([("SET", LOADING, names)], self.lsn)
             for kept in tables:
                 self.load(base, kept)
-        self.end = base.lsn
+        self.end, self.relations.is_changed = base.lsn, True
         self.write([("SET", FEED, json.dumps(self.about)), ("DEL", LOADING)])
 
     def load(self, base: Base, kept: Kept) -> None:
@@ -235,7 +240,7 @@ class Redis:
             self.check_owner(found)
             self.check_lsn(found[0], self.lsn)
 
-    def safe(self) -> int:
+    def safe(self) -> int | None:
         return self.disk.safe()
 
     def close(self) -> None:

@@ -153,7 +153,8 @@ class Hashes:
             is_plain = is_same_key and NULL not in key
             other, left = (new.name + key[len(old.name) :], without(value, dropped)) if is_plain else self.rekeyed(old, new, value)
             if other in moved:
-                raise Unfit(f"{new.relation.text()}: two rows have one key, {other}, since the server didn't send what is in it: begin anew")
+                text = f"two rows have one key, {other}, since the server didn't send what is in it: begin anew"
+                raise Unfit(f"{new.relation.text()}: {text}")
             moved[other] = left
         self.waiting.update(dict.fromkeys(rows))
         self.waiting.update(moved)

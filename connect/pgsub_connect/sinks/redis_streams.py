@@ -1,4 +1,4 @@
-"""A stream of Redis for each table: an entry for each change, its id the LSN at which the commit ends and the number of the change in it."""
+"""A stream of Redis for each table: an entry for each change, its id the LSN at which its commit ends and its number in there."""
 
 from __future__ import annotations
 
@@ -51,7 +51,7 @@ class Streams:
             last = self.last(stream, it)
             if last >= first:
                 text = "{}-{} isn't above {}-{}, which it has".format(*first, *last)
-                raise Unfit(f"{self.calls.where}: something else has written the stream {stream}: {text}. Remove it, or take another database")
+                raise Unfit(f"{self.calls.where}: something else has written the stream {stream}: {text}. Take another database")
 
     def last(self, stream: str, said: object) -> tuple[int, int]:
         if isinstance(said, Said):

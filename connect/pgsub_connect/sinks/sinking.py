@@ -4,6 +4,7 @@ from __future__ import annotations
 
 import argparse
 import contextlib
+import os
 import time
 from typing import TYPE_CHECKING
 
@@ -37,11 +38,15 @@ first commit, or with the rows of an export. Values are texts as in the feed.
 
 Redis: a hash's fields are the columns that aren't null, and `pgsub:lsn` has the LSN, of the same MULTI. Tables of schemas but `public` are
 called `schema.table`; in names and keys `%`, `:` and `.` are %25, %3A and %2E, and null is %null. A table's rows go with it to another name
-or shape, by the names of its columns. What lost its name to another table, as one that was dropped does, is `pgsub:old:OID` until it has one
-again. A sink that is started ends one that writes there. A commit is kept in memory.
+or shape, by the names of its columns. What lost its name to another table, as one that was dropped does, is `pgsub:old:OID` until it has
+one again. A sink that is started ends one that writes there. A commit is kept in memory.
+
+A stream's entry has `op` (c, u, d, t; r of a row of the export, x of a change that found no row), `oid`, and the rows `before` and `after`
+as objects; a message has them too, and `lsn`, `n`, `schema` and `table`.
 
 NATS: subjects are STREAM.schema.table, and STREAM.commit for the last message of each commit. A commit of which a part was published is
-completed. --table goes by the names that tables have just then. With --reader, an LSN counts after 150 seconds, once the server has synced it.
+completed. --table goes by the names that tables have just then. With --reader, an LSN counts after 150 seconds, once the server has synced
+it.
 """
 # How long commits wait for others that come to be written together, in seconds.
 LONGEST = 0.5
@@ -54,7 +59,7 @@ def scheme(url: str) -> str:
 
 def url(text: str) -> str:
     if not scheme(text):
-        raise argparse.ArgumentTypeError(f"{text!r} is no URL as redis://localhost:6379/0, rediss://.., unix:///path or nats://localhost:4222")
+        raise argparse.ArgumentTypeError(f"{text!r} is no URL as redis://localhost:6379/0, rediss://.., unix:///path or nats://localhost")
     return text
 
 
@@ -66,7 +71,8 @@ def stream_name(text: str) -> str:
 
 def add_options(parser: argparse.ArgumentParser) -> None:
     add = parser.add_argument
-    add("url", metavar="URL", nargs="?", type=url, default="", help="where to write: redis://[[USER]:PASSWORD@]HOST[:PORT][/NUMBER], nats://HOST[:PORT]")
+    add("url", metavar="URL", nargs="?", type=url, default="",
+        help="where to write: redis://[[USER]:PASSWORD@]HOST[:PORT][/NUMBER] or nats://HOST[:PORT]")
     add("--url-file", metavar="FILE", help="a file whose first line is the URL, for one with a password")
     add("--feed", metavar="FOLDER", required=True, help="the feed")
     begin = parser.add_mutually_exclusive_group().add_argument
@@ -89,6 +95,9 @@ class Sink:
         self.reader = Reader(options.feed, engine.at)
         self.poll = Poll(self.reader, not options.once, check)
         self.noted = Noted(options.feed, options.reader, None, options.mode) if options.reader else None
+        if self.noted and not os.path.exists(self.noted.path):
+            # (so that nothing goes before that is known to be on a disk)
+            self.noted.note(engine.at, is_last=True)
         self.check = check
         # since when commits wait to be settled
         self.begun: float | None = None
@@ -144,14 +153,14 @@ class Sink:
         self.begun = None
         self.note()
 
-    def note(self) -> None:
-        if self.noted:
-            self.noted.note(self.engine.safe())
+    def note(self, is_last: bool = False) -> None:
+        """Notes what the engine's disk has."""
+        if self.noted and (at := self.engine.safe()) is not None:
+            self.noted.note(at, is_last)
 
     def finish(self) -> None:
         self.reader.close()
-        if self.noted:
-            self.noted.note(self.engine.safe(), is_last=True)
+        self.note(is_last=True)
 
 
 def wanted_of(options: Options, check: Check) -> Wanted:
