@@ -109,14 +109,14 @@ def start_server() -> None:
 
 
 class Following:
-    """A follower of README's shop, started by the new user."""
+    """A follower of README's shop, started again by the new user, with the tables that follow."""
 
     def __init__(self, folder: Path) -> None:
         self.folder = folder
         self.log = folder / "follower.log"
         with open(self.log, "a") as log:
             words = ["runuser", "-u", USER, "--", "pgsub-connect", "follow", "--dsn", "dbname=shop", "--store", "copy.db"]
-            words += ["--status-file", "status.json"]
+            words += ["--tables", "rows.db", "--status-file", "status.json"]
             self.process = subprocess.Popen(words, cwd=folder, env={**ENVIRONMENT, "HOME": f"/home/{USER}"}, stderr=log)
 
     def wait_for(self, state: str) -> dict[str, object]:
@@ -139,22 +139,21 @@ class Following:
             raise Wrong(f"the follower ended with status {self.process.returncode}: {self.log.read_text()[-2000:]}")
 
 
-def rows(folder: Path) -> tuple[str, str]:
-    """The rows of the server's table, and those of an export."""
+def rows(folder: Path) -> dict[str, str]:
+    """The rows of the server's table, those of an export, and those of the tables that follow."""
     query = "SELECT sku, quantity FROM stock ORDER BY 1"
-    server = run("psql", "-At", "-c", query, "shop", user=USER)
-    run("pgsub-connect", "export", "--store", str(folder / "copy.db"), "--into", str(folder / "rows.db"), user=USER)
-    return server, run("sqlite3", str(folder / "rows.db"), query, user=USER)
+    found = {"the server": run("psql", "-At", "-c", query, "shop", user=USER)}
+    run("pgsub-connect", "export", "--store", str(folder / "copy.db"), "--into", str(folder / "export.db"), user=USER)
+    for what, name in (("the export", "export.db"), ("rows.db", "rows.db")):
+        found[what] = run("sqlite3", str(folder / name), query, user=USER)
+    return found
 
 
 def wait_for_rows(folder: Path) -> None:
     until = time.monotonic() + SECONDS
-    while True:
-        server, exported = rows(folder)
-        if server == exported:
-            return
+    while len(set((found := rows(folder)).values())) > 1:
         if time.monotonic() > until:
-            raise Wrong(f"the server has\n{server}\nand the export\n{exported}")
+            raise Wrong("\n".join(f"{what} has\n{it}" for what, it in found.items()))
         time.sleep(0.5)
 
 
