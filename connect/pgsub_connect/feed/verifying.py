@@ -35,6 +35,8 @@ from ..texts import counted, lsn_text
 from ..verifying import DIFFERENT, EQUAL, Verifier, settled, tell_left
 from .awaiting import LOOK, read_file
 from .beginning import is_tables
+from .parts import Head
+from .reading import read_source
 from .trail import Trail
 from .viewing import View, check_tables
 
@@ -153,7 +155,7 @@ def followed(options: Options, tables: list[Table]) -> list[Table]:
 def source_of(options: Options, check: Check) -> Source:
     """The server of a file's rows."""
     with contextlib.closing(View(options.tables, check)) as view:
-        head = view.source
+        head = source_in(view, options.feed)
     if head is None:
         raise Passing(f"{options.tables} has followed nothing yet")
     options.slot = head.slot
@@ -214,13 +216,19 @@ def with_file(options: Options, check: Check) -> int:
     return status
 
 
+def source_in(view: View, feed: str) -> Head | None:
+    """What a file's rows are of. One that has taken no commit yet doesn't say it, but its feed does."""
+    folder = feed or view.folder
+    return view.source or (read_source(folder) if os.path.isdir(folder) else None)
+
+
 def check_same_source(one: View, two: View) -> None:
     """Rejects two files that can't be compared by LSNs."""
-    if one.source is None or two.source is None:
-        raise Passing(f"{(two if one.source else one).path} has followed nothing yet")
-    ours, theirs = ((it.source.system, it.source.database) for it in (one, two) if it.source)
-    if ours != theirs:
-        raise Unfit(f"{one.path} has rows of {one.source.text()}, and {two.path} of {two.source.text()}")
+    ours, theirs = source_in(one, ""), source_in(two, "")
+    if ours is None or theirs is None:
+        raise Passing(f"{(two if ours else one).path} has followed nothing yet")
+    if (ours.system, ours.database) != (theirs.system, theirs.database):
+        raise Unfit(f"{one.path} has rows of {ours.text()}, and {two.path} of {theirs.text()}")
 
 
 def trail_to(options: Options, view: View, point: int) -> Trail:
