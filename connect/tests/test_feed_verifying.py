@@ -261,6 +261,15 @@ class Server(VerifyCase):
             self.meanwhile = lambda: self.plant("UPDATE pgsub_position SET lsn = '0/100'")
             self.fails(Passing, "rows.db was taken back to 0/100 meanwhile")
 
+    def test_what_has_taken_no_commit_yet(self) -> None:
+        """The feed says what its rows are of."""
+        self.plant("UPDATE pgsub_feed SET system = NULL, database = NULL, slot = NULL")
+        self.equal()
+        self.assertEqual((self.known.system, self.known.slot), ("7", "pgsub"))
+        for path in self.path.glob("[0-9A-F]" * 16):
+            path.write_bytes(b"")
+        self.fails(Passing, "rows.db has followed nothing yet")
+
     def test_a_file_of_something_else(self) -> None:
         for path, text in ((self.into + ".none", "there is no file"), (str(self.path / "confirmed"), "has no tables that follow a feed")):
             with self.assertRaisesRegex(FileError, text):
@@ -331,7 +340,10 @@ class Files(VerifyCase):
     def test_of_another_server(self) -> None:
         self.plant("UPDATE pgsub_feed SET system = '8'", self.other)
         self.fails(Unfit, "has rows of slot pgsub of database shop, system 8, and", other=self.other)
-        self.plant("UPDATE pgsub_feed SET system = NULL", self.other)
+        self.plant("UPDATE pgsub_feed SET system = NULL, folder = '/nowhere'", self.other)
+        self.fails(Passing, "other.db has followed nothing yet", other=self.other)
+        self.plant("UPDATE pgsub_feed SET system = NULL")
+        self.into, self.other = self.other, self.into
         self.fails(Passing, "other.db has followed nothing yet", other=self.other)
 
 

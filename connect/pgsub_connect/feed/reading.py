@@ -7,6 +7,7 @@ written anew from some commit on, the reader goes on from its LSN.
 
 from __future__ import annotations
 
+import contextlib
 import os
 import re
 from collections.abc import Iterator
@@ -114,6 +115,14 @@ class Segment:
 
     def close(self) -> None:
         os.close(self.file)
+
+
+def read_source(folder: str) -> Head | None:
+    """What a feed is a feed of, by the head of its last segment; None where that isn't there yet."""
+    for base, name in segments(folder)[-1:]:
+        with contextlib.suppress(FileNotFoundError), contextlib.closing(Segment(folder, base, name)) as segment:
+            return segment.head
+    return None
 
 
 class Reader:

@@ -91,7 +91,8 @@ class Trail:
 
 def images_of(commit: Commit, change: Change) -> Iterator[Image]:
     if change.op == "t":
-        raise Passing(f"{commit.text()} truncates {change.relation.text()}, and the feed doesn't have the rows that were in it: compare again")
+        told = f"{commit.text()} truncates {change.relation.text()}, and the feed doesn't have the rows that were in it"
+        raise Passing(f"{told}: compare later, or other tables by --table")
     for cells, sign in ((change.before, 1), (change.after, -1)):
         if cells is not None:
             yield Image(change.relation, cells, sign)

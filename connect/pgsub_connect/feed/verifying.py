@@ -35,6 +35,8 @@ from ..texts import counted, lsn_text
 from ..verifying import DIFFERENT, EQUAL, Verifier, settled, tell_left
 from .awaiting import LOOK, read_file
 from .beginning import is_tables
+from .parts import Head
+from .reading import read_source
 from .trail import Trail
 from .viewing import View, check_tables
 
@@ -52,9 +54,9 @@ class Tables(Sides):
         super().__init__(source, view)
         self.view = view
 
-    def digested(self, plan: Plan) -> tuple[Sums, Sums]:
-        """The sums of both sides of a table with one chunk, by the digests that are kept."""
-        return self.sums(plan), self.view.digested([plan])[plan.table.oid]
+    def digested(self, plans: list[Plan]) -> tuple[dict[int, Sums], dict[int, Sums]]:
+        """The sums of both sides of tables with one chunk, by the digests that are kept."""
+        return {it.table.oid: self.sums(it) for it in plans}, self.view.digested(plans)
 
 
 class Files(Tables):
@@ -64,16 +66,21 @@ class Files(Tables):
 
     def __init__(self, other: View, view: View) -> None:
         self.other, self.view, self.copy = other, view, view
+        # (the sums of all tables are made at once, by one pass over the feed)
+        self.plans: list[Plan] = []
+        self.found: dict[int, Sums] = {}
 
     def plan(self, table: Table) -> Plan:
-        return Plan(table, chunks_for(max(it.counts.get(table.oid, 0) for it in (self.other, self.copy))))
+        self.plans.append(Plan(table, chunks_for(max(it.counts.get(table.oid, 0) for it in (self.other, self.view)))))
+        return self.plans[-1]
 
     def sums(self, plan: Plan) -> Sums:
-        return self.other.sums([plan])[plan.table.oid]
+        if not self.found:
+            self.found = self.other.sums(self.plans)
+        return self.found[plan.table.oid]
 
-    def digested(self, plan: Plan) -> tuple[Sums, Sums]:
-        one, two = (it.digested([plan])[plan.table.oid] for it in (self.other, self.view))
-        return one, two
+    def digested(self, plans: list[Plan]) -> tuple[dict[int, Sums], dict[int, Sums]]:
+        return self.other.digested(plans), self.view.digested(plans)
 
     def differing(self, plan: Plan, chunks: list[int]) -> Iterator[Difference]:
         return differing(self.other.rows(plan, chunks), self.copy.rows(plan, chunks))
@@ -88,17 +95,13 @@ class ByDigests(Verifier):
 
     def run(self, tables: list[Table]) -> bool:
         plans = [Plan(it, 1) for it in tables if self.has_columns(it)]
-        equal = {it.table.oid for it in plans if self.is_same(it)}
-        rows = self.rows
+        theirs, ours = self.both.digested(plans)
+        equal = {oid for oid, sums in theirs.items() if not sums.differing(ours[oid])}
+        rows = sum(it.total() for it in theirs.values())
         if read := [it.table for it in plans if it.table.oid not in equal]:
             super().run(read)
         self.rows, self.different = rows, [it for it in tables if it.oid not in equal]
         return not self.different
-
-    def is_same(self, plan: Plan) -> bool:
-        theirs, ours = self.both.digested(plan)
-        self.rows += theirs.total()
-        return not theirs.differing(ours)
 
 
 def run(options: Options, check: Check) -> int:
@@ -152,7 +155,7 @@ def followed(options: Options, tables: list[Table]) -> list[Table]:
 def source_of(options: Options, check: Check) -> Source:
     """The server of a file's rows."""
     with contextlib.closing(View(options.tables, check)) as view:
-        head = view.source
+        head = source_in(view, options.feed)
     if head is None:
         raise Passing(f"{options.tables} has followed nothing yet")
     options.slot = head.slot
@@ -213,13 +216,19 @@ def with_file(options: Options, check: Check) -> int:
     return status
 
 
+def source_in(view: View, feed: str) -> Head | None:
+    """What a file's rows are of. One that has taken no commit yet doesn't say it, but its feed does."""
+    folder = feed or view.folder
+    return view.source or (read_source(folder) if os.path.isdir(folder) else None)
+
+
 def check_same_source(one: View, two: View) -> None:
     """Rejects two files that can't be compared by LSNs."""
-    if one.source is None or two.source is None:
-        raise Passing(f"{(two if one.source else one).path} has followed nothing yet")
-    ours, theirs = ((it.source.system, it.source.database) for it in (one, two) if it.source)
-    if ours != theirs:
-        raise Unfit(f"{one.path} has rows of {one.source.text()}, and {two.path} of {two.source.text()}")
+    ours, theirs = source_in(one, ""), source_in(two, "")
+    if ours is None or theirs is None:
+        raise Passing(f"{(two if ours else one).path} has followed nothing yet")
+    if (ours.system, ours.database) != (theirs.system, theirs.database):
+        raise Unfit(f"{one.path} has rows of {ours.text()}, and {two.path} of {theirs.text()}")
 
 
 def trail_to(options: Options, view: View, point: int) -> Trail:

@@ -21,7 +21,9 @@ from ..follower import checkpoint_of
 from ..place import MISSED, OK, REJECTED, SERVER, UNFIT, Place
 from ..rows import compare, literal, quoted, rows_of_server
 from .case import Case
+from .common import verify_words
 
+DIFFERENT = 1
 ROUNDS = 8
 # How many commands there are at most between two looks at the rows, and how many are tried for it: most of them the server rejects.
 MOST, TRIED = 6, 60
@@ -146,16 +148,25 @@ def told(place: Place) -> set[int]:
     return found
 
 
-def oids_of(place: Place, schema: str, table: str) -> set[int]:
-    """The tables that have a name at the server, or have it in the copy."""
+def names_in_copy(place: Place) -> dict[int, tuple[str, str]]:
+    """By OID the name that the copy has for each table."""
     with tempfile.TemporaryDirectory() as folder:
         for it in place.files():
             shutil.copy(it, folder)
         with contextlib.closing(sqlite3.connect(Path(folder) / place.store.name)) as base:
-            here = {int(oid) for oid, in base.execute("SELECT oid FROM rel WHERE nsp = ? AND name = ?", (schema, table))}
+            return {int(oid): (schema, table) for oid, schema, table in base.execute("SELECT oid, nsp, name FROM rel")}
+
+
+def oid_of(place: Place, schema: str, table: str) -> set[int]:
+    """That of the table with a name at the server, if there is one."""
     with place.cluster.connect(place.database) as session:
         name = f"{quoted(schema)}.{quoted(table)}"
-        return here | {int(it) for it in session.column(f"SELECT pg_catalog.to_regclass({literal(name)})::oid") if it}
+        return {int(it) for it in session.column(f"SELECT pg_catalog.to_regclass({literal(name)})::oid") if it}
+
+
+def oids_of(place: Place, schema: str, table: str) -> set[int]:
+    """The tables that have a name at the server, or have it in the copy."""
+    return {oid for oid, name in names_in_copy(place).items() if name == (schema, table)} | oid_of(place, schema, table)
 
 
 def check_told(place: Place) -> None:
@@ -174,6 +185,31 @@ def check_told(place: Place) -> None:
             compare({name: there.get(name, collections.Counter())}, {name: here.get(name, collections.Counter())})
 
 
+def check_verified(place: Place) -> None:
+    """Fails where `verify` doesn't tell a published table whose rows differ, or tells one whose rows and columns don't."""
+    there, here, names = rows_of_server(place.cluster, "pgsub", database=place.database), place.rows(), names_in_copy(place)
+    child = place.start()
+    child.wait_for("following slot")
+    verifier = place.started(verify_words(place, "--show", "1000", "--hold", "30"))
+    status, said = verifier.end(), verifier.said()
+    child.signal(SIGTERM)
+    if status not in (OK, DIFFERENT) or child.end() not in (OK, MISSED):
+        raise Failed(f"verify: status {status}: {said}; {child.said()}")
+    told = {it["table"]: it for it in map(json.loads, [it for it in said.splitlines() if it.startswith("{")])}
+    with place.cluster.connect(place.database) as session:
+        published = session.rows("SELECT DISTINCT schemaname, tablename FROM pg_publication_tables WHERE pubname = 'pgsub'")
+    for schema, table in published:
+        name = (schema or "", table or "")
+        oids = {oid for oid, it in names.items() if it == name} | oid_of(place, *name)
+        # (rows of several tables, or of one that had another name, are shown under it)
+        if len(oids) == 1 and names.get(next(iter(oids)), name) == name and is_wrong(told.get(".".join(name)), there.get(name) != here.get(name)):
+            raise Failed(f"{name} {'differs' if there.get(name) != here.get(name) else 'is equal'}, and verify says {said}")
+
+
+def is_wrong(told: dict[str, object] | None, differs: bool) -> bool:
+    return not told if differs else told is not None and "columns" not in told
+
+
 def altered(place: Place) -> None:
     """After random commands the copy has the server's rows, but for those of tables of which it was told what may be wrong with them."""
     rng = random.Random(f"altering {place.options.seed}")
@@ -188,6 +224,7 @@ def altered(place: Place) -> None:
         try:
             if has_followed(place, child):
                 check_told(place)
+                check_verified(place)
         except Failed as error:
             raise Failed(f"{error}; the commands were {commands.done}") from None
 

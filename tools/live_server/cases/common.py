@@ -87,11 +87,11 @@ def undo(place: Place, begin: str, end: str, *more: str) -> str:
 
 
 @contextlib.contextmanager
-def moving(place: Place) -> Iterator[Child]:
+def moving(place: Place, *more: str) -> Iterator[Child]:
     """A follower, while moves between accounts are made, of which some are streamed."""
     place.run(*ACCOUNTS)
     place.set(logical_decoding_work_mem="64kB")
-    child = place.start("--create")
+    child = place.start("--create", *more)
     place.catch_up(child)
     load = Moves(place)
     load.thread.start()
@@ -103,10 +103,10 @@ def moving(place: Place) -> Iterator[Child]:
 
 
 @contextlib.contextmanager
-def changing(place: Place, seed: str) -> Iterator[Child]:
+def changing(place: Place, seed: str, *more: str) -> Iterator[Child]:
     """A follower, while changes of every kind are made. At the end it has caught up."""
     place.run(*SCHEMA, "CREATE PUBLICATION pgsub FOR ALL TABLES")
-    child = place.start("--create")
+    child = place.start("--create", *more)
     place.catch_up(child)
     workers = [Worker(place.cluster, f"{seed} {it}", 0.05) for it in range(3)]
     for it in workers:

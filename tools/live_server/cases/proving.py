@@ -65,37 +65,46 @@ def copy_tables(place: Place, name: str) -> Path:
     return path
 
 
-def started(place: Place, *more: str) -> Child:
+def with_tables(place: Place) -> tuple[str, ...]:
+    return "--tables", str(rows_file(place)), "--digests"
+
+
+def started(place: Place) -> Child:
     """A follower whose tables are there, and keep digests."""
-    child = place.start("--tables", str(rows_file(place)), "--digests", *more)
-    wait_until(rows_file(place).exists, "making the tables", 120, child.check)
+    child = place.start("--create", *with_tables(place))
     place.catch_up(child)
+    wait_until(rows_file(place).exists, "making the tables", 120, child.check)
     now_in_tables(place)
     return child
 
 
 def under_kills(place: Place) -> None:
     """Tables are added, copied anew and taken out of the publication under pgbench's load, while each part is killed: at five moments in
-    between and at the end the store and the tables are the server's, and any two of the moments' tables are equal at the earlier one's LSN."""
+    between and at the end the store and the tables are the server's; and the tables are what a copy of them from before was at its LSN."""
     rng = random.Random(f"proof {place.options.seed}")
     load = PgBench(place.cluster, 1, 50)
     place.run("DROP PUBLICATION pgsub", f"CREATE PUBLICATION pgsub FOR TABLE {', '.join(PUBLISHED)}")
-    words = place.words("--create", "--tables", str(rows_file(place)), "--digests", "--feed-max-age", "1h", "--feed-segment-bytes", "300000")
+    words = place.words("--create", *with_tables(place), "--feed-max-age", "1h", "--feed-segment-bytes", "300000")
     supervisor = Supervisor(words, place.log)
     load.begin()
     supervisor.begin()
     try:
         wait_until(rows_file(place).exists, "the first copy", 180, supervisor.check)
-        copies = [moment(place, rng, supervisor, number) for number in range(5)]
+        for _ in range(5):
+            moment(place, rng, supervisor)
         if not has_history(place):
             place.run(f"ALTER PUBLICATION pgsub ADD TABLE {HISTORY}")
         wait_until(lambda: has_added(place, (*PUBLISHED, HISTORY)), "adding all tables", 180, supervisor.check)
+        # (from here on nothing is truncated)
+        now_in_tables(place)
+        copy = copy_tables(place, "copy.db")
+        time.sleep(2)
         load.end()
         is_proved(place)
         now_in_tables(place)
-        for copy in copies[-1:]:
-            compare(place, "--with", str(copy), "--digests")
-            compare(place, "--with", str(copy))
+        for more in ((), ("--digests",)):
+            compare(place, "--with", str(copy), *more)
+            compare(place, "--with", str(rows_file(place)), *more, path=copy)
     finally:
         load.end()
         supervisor.finish()
@@ -108,8 +117,8 @@ def has_history(place: Place) -> bool:
     return place.value(f"SELECT count(*) FROM pg_publication_tables WHERE tablename = '{HISTORY}'") == "1"
 
 
-def moment(place: Place, rng: random.Random, supervisor: Supervisor, number: int) -> Path:
-    """Two rounds of changes to what is published, with kills; then all has to be equal. Returns a copy of the tables then."""
+def moment(place: Place, rng: random.Random, supervisor: Supervisor) -> None:
+    """Two rounds of changes to what is published, with kills; then all has to be equal."""
     for _ in range(2):
         if rng.random() < 0.5:
             place.run(f"ALTER PUBLICATION pgsub {'DROP' if has_history(place) else 'ADD'} TABLE {HISTORY}")
@@ -125,7 +134,6 @@ def moment(place: Place, rng: random.Random, supervisor: Supervisor, number: int
     if has_history(place):
         wait_until(lambda: has_added(place, (HISTORY,)), "adding a table", 180, supervisor.check)
     is_proved(place)
-    return copy_tables(place, f"moment{number}.db")
 
 
 def swapped(lines: list[Line]) -> list[Line]:
@@ -179,7 +187,6 @@ def planted_here(place: Place, changes: list[str]) -> Iterator[None]:
 def planted_in_tables(place: Place) -> None:
     """Each difference that is planted into the tables is found, and nothing else; the digests that they keep don't know of it."""
     place.run(*TABLES)
-    place.follow("--create")
     child = started(place)
     # (a base's definitions are told with the first change)
     place.run(*(f"INSERT INTO {it} SELECT * FROM {it} WHERE false" for it in ("stock", "other", "log")))
@@ -211,7 +218,6 @@ def renamed(lines: list[Line]) -> list[Line]:
 def planted_at_the_server(place: Place) -> None:
     """Each difference that the server doesn't send is found in the store, in the tables and by their digests; repaired, all is equal."""
     place.run(*TABLES)
-    place.follow("--create")
     child = started(place)
     for name, (_, expected) in PLANTED.items():
         commands = [it.format(row="ctid") for it in CHANGES[name]]
@@ -229,9 +235,8 @@ def planted_at_the_server(place: Place) -> None:
 
 def under_moves(place: Place) -> None:
     """Tables are equal at five moments while moves between accounts are followed, of which some are streamed. Nothing is held."""
-    with moving(place) as child:
-        child.stop()
-        child = started(place)
+    with moving(place, *with_tables(place)) as child:
+        wait_until(rows_file(place).exists, "making the tables", 120, child.check)
         for _ in range(5):
             time.sleep(0.5)
             for more in ((), ("--digests",)):
@@ -244,16 +249,13 @@ def under_moves(place: Place) -> None:
 
 def under_every_change(place: Place) -> None:
     """So it is while changes of every kind are made, TRUNCATEs and altered tables among them."""
-    with changing(place, "proving") as child:
-        child.stop()
-        child = started(place)
+    with changing(place, "proving", *with_tables(place)) as child:
+        wait_until(rows_file(place).exists, "making the tables", 120, child.check)
         for _ in range(5):
             time.sleep(1.0)
             for more in ((), ("--digests",)):
                 settled(place, lambda more=more: place.started(compare_words(place, "--hold", "30", *more)))  # type: ignore[misc]
             child.check()
-        child.stop()
-        child = started(place)
     now_in_tables(place)
     for more in ((), ("--digests",)):
         compare(place, *more)
