@@ -21,7 +21,7 @@ SHARES = {
     "docs/DECISIONS.md": 1300,
     "docs/PERFORMANCE.md": 1000,
     "docs/CONTRIBUTING.md": 1200,
-    "docs/FEED.md": 1000,
+    "docs/FEED.md": 1200,
 }
 WHOLE = 15000
 # folders that no commit has, or that have no document's paths
