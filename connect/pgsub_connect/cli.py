@@ -353,7 +353,8 @@ def add_exporting(parser: argparse.ArgumentParser) -> None:
 
 def add_verifying(parser: argparse.ArgumentParser) -> None:
     add = parser.add_argument
-    add("--store", metavar="FILE", default="", help="the store, which has to be followed meanwhile")
+    add("--store", metavar="FILE", default="",
+        help="the store, which has to be followed meanwhile; with --tables whose publications are meant (default: that of the feed STORE.feed)")
     add("--tables", metavar="FILE", default="", help="compare these tables that follow a feed, and hold nothing meanwhile")
     add("--with", dest="other", metavar="FILE", default="", help="compare --tables with those of this file, and not with the server")
     add("--feed", metavar="FOLDER", default="", help="the feed of --tables (default: the one that the file follows)")

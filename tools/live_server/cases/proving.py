@@ -60,6 +60,8 @@ def is_proved(place: Place) -> None:
 def copy_tables(place: Place, name: str) -> Path:
     """A copy of the file of tables, at whatever LSN it has."""
     path = place.folder / name
+    if path.exists():
+        raise Failed(f"{path} is there")
     with contextlib.closing(sqlite3.connect(rows_file(place), timeout=30)) as base, contextlib.closing(sqlite3.connect(path)) as copy:
         base.backup(copy)
     return path
@@ -97,7 +99,7 @@ def under_kills(place: Place) -> None:
         wait_until(lambda: has_added(place, (*PUBLISHED, HISTORY)), "adding all tables", 180, supervisor.check)
         # (from here on nothing is truncated)
         now_in_tables(place)
-        copy = copy_tables(place, "copy.db")
+        copy = copy_tables(place, "before.db")
         time.sleep(2)
         load.end()
         is_proved(place)
