@@ -20,8 +20,7 @@ from ..place import OK, PASSING, Place
 from .adding import PUBLISHED, has_added, kill
 from .adding import words as add_words
 from .case import Case
-from .common import PLANTED, TABLES, Line, changing, check_slots, moving, verify
-from .feeding import now_in_tables, rows_file
+from .common import PLANTED, TABLES, Line, changing, check_slots, moving, now_in_tables, rows_file, verify
 
 DIFFERENT = 1
 HISTORY = "pgbench_history"

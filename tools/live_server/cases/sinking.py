@@ -22,7 +22,7 @@ from ..patience import Patience
 from ..place import OK, PASSING, REJECTED, SERVER, UNFIT, Place
 from ..sinks import compare, compare_hashes, compare_messages, hashes_of_feed, replay_streams, rows_of_feed, rows_of_server
 from .case import Case
-from .feeding import feed_of
+from .common import feed_of
 
 STOCK = Definition(1, "public", "stock", "d", (Column("id", 23, -1, True), Column("name", 25)))
 # The tables of the load of a server that have a key as long as it runs.
