@@ -176,11 +176,11 @@ class Subscription:
 class Program:
     """`pgsub-connect follow` into a store, with the program as its filter."""
 
-    def __init__(self, servers: Servers, slot: str, proto: int) -> None:
+    def __init__(self, servers: Servers, slot: str, proto: int, *more: str) -> None:
         self.servers, self.slot = servers, slot
         self.name = f"pgsub, version {proto}"
         self.store = servers.options.folder / f"{slot}.db"
-        self.words = servers.options.words(servers.publisher.dsn(), self.store, "--slot", slot, "--proto", str(proto))
+        self.words = servers.options.words(servers.publisher.dsn(), self.store, "--slot", slot, "--proto", str(proto), *more)
         self.child = servers.child(slot, [*self.words, "--create"])
         self.copy()
         self.stop()

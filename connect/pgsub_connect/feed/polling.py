@@ -12,7 +12,7 @@ from .parts import Commit
 from .reading import Reader
 
 # How long to wait at first and at most until the feed is looked at again, in seconds.
-SHORT, LONG = 0.01, 0.05
+SHORT, LONG = 0.005, 0.02
 # For how long what can't be read, or doesn't go on, may be what the filter is about to cut off, in seconds.
 PATIENCE = 3.0
 

@@ -14,6 +14,7 @@ from feed_replay import commits
 
 from ..errors import Failed
 from ..feeds import segments
+from ..follower import wait_until
 from ..load import SCHEMA, Mix, Mixed
 from ..place import OK, Place
 from .case import Case
@@ -68,7 +69,7 @@ def versions(place: Place) -> None:
     load.begin()
     time.sleep(3)
     subtransactions(place, "twice")
-    time.sleep(3)
+    wait_until(lambda: sum(it.committed for it in load.workers) > 300, "making transactions", 120)
     load.end()
     feeds = []
     for proto, slot in ((1, "one"), (2, "two")):
