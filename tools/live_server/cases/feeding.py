@@ -283,6 +283,8 @@ def whole_commits(place: Place) -> None:
             child.kill()
             child = place.start(*words)
             child.wait_for("following slot")
+        # (on a machine that is busy they are away for most of that)
+        wait_until(lambda: len(polling.seen) >= 20 or bool(polling.wrong), "reading 20 states", check=child.check)
     finally:
         load.ended.set()
         load.thread.join(60)
