@@ -12,9 +12,9 @@ import json
 import sqlite3
 import threading
 import time
-from collections.abc import Callable, Iterable, Iterator
+from collections.abc import Callable, Iterable, Iterator, Mapping
 from pathlib import Path
-from typing import Dict, List, NamedTuple, Optional, Tuple, Union
+from typing import Any, Dict, List, NamedTuple, Optional, Tuple, Union
 
 from feed_replay import Replay, commits, lsn_of
 
@@ -253,21 +253,36 @@ def compare_tables(cluster: Cluster, path: Path, *publications: str, database: s
     return compare_file(path, tables_of_server(cluster, *publications, database=database))
 
 
-def digests_of(tables: Tables) -> Dict[Tuple[str, str], int]:
-    """A number for the rows of each table, which is another one for other rows."""
-    return {name: hash(frozenset(it.rows.items())) for name, it in tables.items()}
+# By schema and name of a table that has rows, a number for these, which is another one for other rows.
+Digests = Dict[Tuple[str, str], int]
 
 
-def tables_of_replay(state: Replay) -> Tables:
-    """Those that SQLite has to have for the rows to which a feed has led."""
-    found: Tables = {}
+def digest_of(rows: Mapping[Any, int]) -> int:
+    return hash(frozenset(rows.items()))
+
+
+def digests_of_file(path: Path) -> tuple[Digests, str]:
+    """Those of the tables of a file, and its LSN."""
+    found: Digests = {}
+    with reading(path) as base:
+        (lsn,) = base.execute("SELECT lsn FROM pgsub_position").fetchone()
+        for name, schema, table, _ in base.execute("SELECT * FROM pgsub_tables").fetchall():
+            if rows := collections.Counter(base.execute(f"SELECT * FROM {quoted(name)}")):
+                found[schema, table] = digest_of(rows)
+    return found, lsn
+
+
+def digests_of_replay(state: Replay) -> Digests:
+    """Those of the tables that SQLite has to have for the rows to which a feed has led."""
+    found: Digests = {}
     for oid, rows in state.rows.items():
         definition = state.definitions[oid]
-        kinds = [BY_OID.get(kind, TEXT) for _, kind, _ in definition["columns"]]
-        reads = [read for _, read in kinds]
-        told = (valued(reads, row) for row in (+rows).elements())  # type: ignore[arg-type]
-        if (it := held((kind for kind, _ in kinds), told)).rows:
-            found[definition["schema"], definition["table"]] = it
+        reads = [BY_OID.get(kind, TEXT)[1] for _, kind, _ in definition["columns"]]
+        told = collections.Counter[Any]()
+        for row, count in (+rows).items():
+            told[valued(reads, row)] += count  # type: ignore[arg-type]
+        if told:
+            found[definition["schema"], definition["table"]] = digest_of(told)
     return found
 
 
@@ -277,7 +292,7 @@ class Reader(threading.Thread):
     def __init__(self, path: Path) -> None:
         super().__init__(daemon=True)
         self.path, self.ended = path, threading.Event()
-        self.seen: Dict[int, Dict[Tuple[str, str], int]] = {}
+        self.seen: Dict[int, Digests] = {}
         self.wrong = ""
 
     def run(self) -> None:
@@ -290,18 +305,17 @@ class Reader(threading.Thread):
 
     def read(self) -> None:
         try:
-            tables, text = tables_of_file(self.path)
+            found, text = digests_of_file(self.path)
         except sqlite3.Error as error:
             self.wrong = f"a reader got: {error}"
             return
-        found = digests_of(tables)
         if self.seen.setdefault(lsn_of(text), found) != found:
             self.wrong = f"a reader saw two states at {text}"
 
     def check(self, state: Replay) -> None:
         """Fails where it has seen other rows than those to which the feed leads there."""
         found = self.seen.get(state.at)
-        if found is not None and found != (wanted := digests_of(tables_of_replay(state))):
+        if found is not None and found != (wanted := digests_of_replay(state)):
             names = [".".join(it) for it in {*found, *wanted} if found.get(it) != wanted.get(it)]
             raise Failed(f"at {state.at:X} a reader saw other rows of {', '.join(sorted(names))} than the feed leads to")
 
