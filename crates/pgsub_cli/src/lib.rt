@@ -7,7 +7,6 @@
 //! ```
 #![tactic(auto)]
 
-pub mod applying;
 pub mod comparing;
 pub mod dump;
 mod dumping;
