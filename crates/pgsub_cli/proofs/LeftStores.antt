@@ -1,22 +1,20 @@
 -- What a run leaves of its store, and what a crash may leave of that.
-use Rattle.std.proofs.Common.{◌≡◌, ◌≢◌, ◌≤◌, ◌∙◌, ◌++◌, inl, inr, ℕ, List, [], ◌∷◌, Option, Some, None, Result, Ok, Err, OnOk, OnErr, IfErr, refl, sym, ap, subst, arith, append-nil}
-use Rattle.std.specs.FinMap as map
+use Rattle.std.proofs.Common.{◌≡◌, ◌≢◌, ◌≤◌, ◌∙◌, ◌++◌, inl, inr, ℕ, List, [], ◌∷◌, Option, Some, None, Result, Ok, Err, OnOk, IfErr, refl, sym, ap, subst, arith, append-nil}
 use Rattle.pgcommand.specs.declared.limits.Limits.{Limits}
 use Rattle.pgorder.specs.declared.Version.{Version}
 use Rattle.pgapply.specs.Value.{Tables}
 use Rattle.pgapply.specs.Taken as held
 use Rattle.pgsub_core.specs.declared.fault.Fault.{Fault}
 use Rattle.pgsub_core.specs.declared.fault.Fault.TheVariants as fault
-use Rattle.pgsub_core.specs.declared.session.Session.{Session}
 use Rattle.pgsub_core.specs.Subscriber.Applied.{Applied, IsKept}
-use Rattle.pgsub_core.specs.Subscriber.Crashing.{LeavesOldOr, FedOver, StandsAsFed, IsLeftSafely, LeavesHistory}
+use Rattle.pgsub_core.specs.Subscriber.Crashing.{LeavesOldOr, FedOver, StandsAsFed, IsLeftSafely}
 use Rattle.pgsub_core.specs.Subscriber.Following.{AreFed, FedSessionsAreFollowed, FeedsSessions}
 use Rattle.pgsub_core.specs.Subscriber.Safely.{IsSent}
 use Rattle.pgsub_core.specs.Subscriber.Handled.{fault_in}
 use Rattle.pgsub_core.specs.Server.History.{Transaction, tables_as_of}
 use Rattle.pgsub_core.specs.Subscriber.Safe.{NothingBetween}
 use Rattle.pgsub_core.specs.Server.Stream.{Sent}
-use Rattle.pgsub_core.specs.Subscriber.Subscribed.{Subscribed, bytes_of}
+use Rattle.pgsub_core.specs.Subscriber.Subscribed.{Subscribed}
 use Rattle.pgsub_core.specs.Subscriber.SubscriberValue.{SubscriberValue, seen}
 use Rattle.pgsub_core.proofs.FollowSteps.{follows}
 use Rattle.pgsub_core.proofs.SessionCuts.{sent_front}

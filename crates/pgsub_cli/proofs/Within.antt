@@ -18,7 +18,7 @@ use Rattle.pgsub_cli.specs.declared.storing.Incoming.TheVariants.{Sessions, Raw}
 use Rattle.pgsub_cli.specs.Limits.{clock}
 use Rattle.pgsub_cli.specs.Reports.{incoming_within, input_within}
 use Rattle.pgsub_cli.specs.Runs.{AreRead, ForSessions, Writes}
-use Rattle.pgsub_cli.specs.StoreAfter.{FeedsIncoming, HoldsAfter, HoldsFed, HoldsOver, LeavesFronts, LeavesIncomingHistory, LosesNothing, MayBeLeft}
+use Rattle.pgsub_cli.specs.StoreAfter.{FeedsIncoming, HoldsAfter, HoldsFed, LeavesFronts, LeavesIncomingHistory, LosesNothing, MayBeLeft}
 use Rattle.pgsub_cli.specs.Storing.{PrintsKept, PrintsOver}
 
 -- other lines are written, where these are such lines

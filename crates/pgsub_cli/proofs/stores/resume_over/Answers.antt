@@ -4,7 +4,6 @@ use Rattle.pgstore.specs.StoreValue.{HasTables, Serves}
 use Rattle.pgsub_core.specs.Subscriber.Crashing.{StandsAsFed}
 use Rattle.pgsub_core.specs.Subscriber.Following.{FeedsSessions}
 use Rattle.pgsub_core.specs.Subscriber.Subscribed.{bytes_of}
-use Rattle.pgsub_core.specs.Subscriber.Handled.{fault_in}
 use Rattle.pgsub_cli.specs.DumpText.{resumed_of}
 use Rattle.pgsub_cli.specs.Limits.{clock, default_limits}
 use Rattle.pgsub_cli.specs.Stores.{position_of}
