@@ -343,7 +343,14 @@ fn run_told(rt: &HostRuntime, task: &Task) -> u8 {
         Err(fault) => return tell_stopped(rt.alloc(), task, fault, &mut err),
     };
     let (limits, reporter) = (limits_of(task), reporter_of(rt, task, &input));
-    run_in_memory(rt.alloc(), limits, input, reporter.as_ref(), &mut out, &mut err)
+    run_in_memory(
+        rt.alloc(),
+        limits,
+        input,
+        reporter.as_ref(),
+        &mut out,
+        &mut err,
+    )
 }
 
 /// Tells that there is no memory for the task that the words ask for. Returns the exit status.
