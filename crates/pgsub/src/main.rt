@@ -335,7 +335,8 @@ fn run_live_fed<D: Folder + Drop>(
     ))
 }
 
-/// Applies a recording or a file to a store in memory, which ends with the program, and tells meanwhile how far it is.
+/// Applies a recording or a file to a store in memory, which ends with the program, and tells
+/// meanwhile how far it is.
 fn run_told(rt: &HostRuntime, task: &Task) -> u8 {
     let (mut out, mut err) = (rt.stdout(), rt.stderr());
     let input = match input_of(rt, task) {

@@ -43,7 +43,8 @@ lines_of state = dump_of (dump state.tables) state.position
 abbrev pub resumed_lines_of : Subscribed → List ℕ
 resumed_lines_of state = resumed_of state.position state.confirmed
 
--- These lines are told of the state to which the sessions lead from this one, where this stops them.
+-- These lines are told of the state to which the sessions lead from this one, where this stops
+-- them.
 abbrev pub PrintsLed : (Subscribed → List ℕ) → Subscribed → List (List ℕ) → Option Fault → List ℕ → Type 0
 PrintsLed tells old sessions stopped lines = (state : Subscribed) × LeadsTo old sessions stopped state × (lines ≡ tells state)
 

@@ -95,7 +95,8 @@ Tells takes failed left right (Err f) old new = takes old (stop_line f left righ
 
 -- ---- the lines on standard output
 
--- the position that these sessions leave of an empty store, and what may be confirmed, where this stops them
+-- the position that these sessions leave of an empty store, and what may be confirmed, where this
+-- stops them
 abbrev pub PrintsResumed : List Session → Option Fault → List ℕ → Type 0
 PrintsResumed sessions stopped lines = PrintsLed resumed_lines_of (new_subscriber default_limits Two) (bytes_of sessions) stopped lines
 
@@ -122,8 +123,9 @@ module _ {R : Type 0} (gives begins : R → List ℕ → Type 0) (failed : R →
   AreRead file bytes (Some fault.Read) = begins file bytes × failed file
   AreRead file bytes (Some f) = begins file bytes
 
-  -- This is said of what came, as the bytes of sessions, and of the fault that stopped them: those of a recording, or what was read of a
-  -- file as one session. A read that failed is no fault of theirs.
+  -- This is said of what came, as the bytes of sessions, and of the fault that stopped them: those
+  -- of a recording, or what was read of a file as one session. A read that failed is no fault of
+  -- theirs.
   abbrev pub ForSessions : Incoming R → Option Fault → (List (List ℕ) → Option Fault → Type 0) → Type 0
   ForSessions (Sessions sessions) stopped said = said (bytes_of sessions.items) stopped
   ForSessions (Raw file) stopped said = (bytes : List ℕ) × AreRead file bytes stopped × said (bytes ∷ []) (fault_of_feeding stopped)
@@ -226,7 +228,8 @@ module _ {R W : Type 0} (gives begins : R → List ℕ → Type 0) (read_failed 
       ((f : RunFault) × (ended ≡ Err f) × IsUnread gives read_failed Left file f × (new ≡ old))
       ⊎ ((sessions : List Session) × Records gives file sessions × Writes takes write_failed lost (prints sessions) old new ended)
 
-  -- What comes of a file is applied to an empty store, and the lines of what it leaves are written. Where nothing comes of it, nothing is.
+  -- What comes of a file is applied to an empty store, and the lines of what it leaves are written.
+  -- Where nothing comes of it, nothing is.
   abbrev pub Applies : Limits → Version → Bool → Option R → W → W → Result Ending RunFault → Type 0
   Applies limits version raw file old new ended =
       ((f : RunFault) × (ended ≡ Err f) × ComesNot gives read_failed raw file f × (new ≡ old))

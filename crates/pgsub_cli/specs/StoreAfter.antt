@@ -37,7 +37,8 @@ abbrev pub StandsFed : {C : Type 0} → (C → ℕ) → (SubscriberValue C → O
 StandsFed {C} place fed new = (stopped : Option Fault) × StandsAsFed place (λ (s : SubscriberValue C). fed s stopped) new
 
 module _ {R C : Type 0} (gives begins : R → List ℕ → Type 0) (failed : R → Type 0) (holds : C → Tables → Type 0) (place : C → ℕ) where
-  -- The bytes that were read were fed as one session, up to the first fault of theirs. A read that failed is none.
+  -- The bytes that were read were fed as one session, up to the first fault of theirs. A read that
+  -- failed is none.
   abbrev pub FeedsFile : R → SubscriberValue C → SubscriberValue C → Option Fault → Type 0
   FeedsFile file old new stopped =
       (bytes : List ℕ) × AreRead gives begins failed file bytes stopped × FeedsSessions holds place clock old (bytes ∷ []) new (fault_of_feeding stopped)

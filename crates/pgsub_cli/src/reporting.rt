@@ -264,8 +264,9 @@ fn count_bytes<'a, R: Input + Drop, K: Clock + Drop, E: Output + Drop>(
     }
 }
 
-/// Runs a task over an opened store, as `run_within` does, and tells a reporter meanwhile, where there is one. What is printed, what the
-/// store holds then, what a crash may leave of it, what standard error gets for a fault and the exit status are as without it.
+/// Runs a task over an opened store, as `run_within` does, and tells a reporter meanwhile, where
+/// there is one. What is printed, what the store holds then, what a crash may leave of it, what
+/// standard error gets for a fault and the exit status are as without it.
 pub fn run_opened<
     R: Input + Drop,
     C: ReplicaStore + Drop,
@@ -306,7 +307,8 @@ pub fn run_opened<
     (status, told.into_store())
 }
 
-/// As `run_opened`. The store ends with that. It is of any kind, since the proof that one over given disks is a store gets too large.
+/// As `run_opened`. The store ends with that. It is of any kind, since the proof that one over
+/// given disks is a store gets too large.
 fn run_ending<
     R: Input + Drop,
     S: Alter + Drop,
@@ -334,8 +336,9 @@ fn run_ending<
     status
 }
 
-/// Runs a task over an empty store in memory, which ends with that, and tells a reporter meanwhile, where there is one. Returns the exit
-/// status. What is printed is as `run` says, and with nothing to apply the position 0/0.
+/// Runs a task over an empty store in memory, which ends with that, and tells a reporter meanwhile,
+/// where there is one. Returns the exit status. What is printed is as `run` says, and with nothing
+/// to apply the position 0/0.
 pub fn run_in_memory<R: Input + Drop, K: Clock + Drop, P: Output + Drop, W: Output, E: Output>(
     alloc: Global,
     limits: Limits,

@@ -41,7 +41,8 @@ pub(crate) fn new_store(alloc: Global) -> Result<MemoryStore, Fault>
     }
 }
 
-// Below, a store is of any kind, since the proof that one over given disks is a store gets too large.
+// Below, a store is of any kind, since the proof that one over given disks is a store gets too
+// large.
 
 /// A subscriber over a store.
 pub(crate) fn subscriber_of<S: Alter + Drop>(
@@ -74,7 +75,8 @@ fn apply_to<R: Input + Drop, S: Alter + Drop>(
     printed
 }
 
-/// Follows sessions from what a store holds on, and tells what is reached then, whatever stopped them. The store ends with that.
+/// Follows sessions from what a store holds on, and tells what is reached then, whatever stopped
+/// them. The store ends with that.
 fn resume_over<S: Alter + Drop>(
     alloc: Global,
     store: Store<S>,
@@ -95,9 +97,10 @@ fn resume_over<S: Alter + Drop>(
     }
 }
 
-/// Applies what comes to an empty store, within these limits. The lines are those of the rows and the position that its bytes leave,
-/// whatever they are and whatever stopped them; and where a well-formed server sent them of a history, the rows are those of its
-/// transactions up to the position.
+/// Applies what comes to an empty store, within these limits. The lines are those of the rows and
+/// the position that its bytes leave, whatever they are and whatever stopped them; and where a
+/// well-formed server sent them of a history, the rows are those of its transactions up to the
+/// position.
 ///
 /// It fails where there is no memory for a store, or its rows can't be read.
 pub(crate) fn apply<R: Input + Drop>(
@@ -115,8 +118,8 @@ pub(crate) fn apply<R: Input + Drop>(
     apply_to(alloc, store, limits, version, incoming)
 }
 
-/// Follows sessions from an empty store on. The lines are the position that their bytes leave and the LSN up to which it may be
-/// confirmed to the server, whatever stopped them.
+/// Follows sessions from an empty store on. The lines are the position that their bytes leave and
+/// the LSN up to which it may be confirmed to the server, whatever stopped them.
 ///
 /// It fails where there is no memory for a store or the lines.
 pub(crate) fn resume(alloc: Global, sessions: &[Session]) -> Result<Printed, Fault>

@@ -113,7 +113,8 @@ pub fn store_fault(fault: StoreFault) -> Fault
     }
 }
 
-/// Feeds what comes, if anything does, to a subscriber over a store. Returns the fault that stopped it, and the store.
+/// Feeds what comes, if anything does, to a subscriber over a store. Returns the fault that stopped
+/// it, and the store.
 fn feed_over<R: Input + Drop, C: ReplicaStore + Drop>(
     alloc: Global,
     store: C,
@@ -139,7 +140,8 @@ fn feed_over<R: Input + Drop, C: ReplicaStore + Drop>(
     (stopped, subscriber.into_store())
 }
 
-/// The lines of the rows and the position that a store holds, beside what stopped a run. Nothing changes.
+/// The lines of the rows and the position that a store holds, beside what stopped a run. Nothing
+/// changes.
 fn held_lines<C: ReplicaStore>(
     alloc: Global,
     store: &mut C,
@@ -167,7 +169,8 @@ fn held_lines<C: ReplicaStore>(
     }
 }
 
-/// Applies to a store what comes, if anything does. The lines are those of what it holds then, whatever stopped it.
+/// Applies to a store what comes, if anything does. The lines are those of what it holds then,
+/// whatever stopped it.
 pub(crate) fn apply_over<R: Input + Drop, C: ReplicaStore + Drop>(
     alloc: Global,
     store: C,
