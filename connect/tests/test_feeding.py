@@ -32,6 +32,10 @@ from .test_following import Case
 from .vectors import begin, commit, insert as inserted, keepalive
 
 
+# What a child's code has before it begins.
+QUICK = "from pgsub_connect.feed import noting, polling; noting.OFTEN = 0.05; polling.PATIENCE = 0.2; "
+
+
 def wait_until(holds: Callable[[], object], seconds: float = 20.0) -> bool:
     until = time.monotonic() + seconds
     while not holds() and time.monotonic() < until:
@@ -328,13 +332,16 @@ class Tables(FeedCase):
         self.options = Options(store=str(self.folder / "copy.db"), feed=str(self.path), tables=self.into)
 
     def kept(self, code: str | None = None) -> Beside:
-        """One that runs this in the place of `pgsub-connect tables`; by default that itself, from the beginning of the feed."""
+        """One that runs this in the place of `pgsub-connect tables`; by default that itself, from the beginning of the feed, which notes
+        at once how far it is, and bears for a short time what is wrong."""
         it = Beside(self.options, self.progress)
         if code is not None:
-            it.words = [sys.executable, "-c", code]
+            it.words = [sys.executable, "-S", "-c", code]
         else:
             at = it.words.index("--store")
             it.words = [*it.words[:at], *it.words[at + 2 :]]
+            at = it.words.index("-c") + 1
+            it.words[at] = it.words[at].replace("from pgsub_connect.cli", f"{QUICK}from pgsub_connect.cli")
         self.addCleanup(it.finish)
         it.start()
         return it
