@@ -135,9 +135,10 @@ class Followed(Case):
 
     def unlock(self) -> None:
         """Lets another follower begin."""
-        os.close(self.checkpoint.file)
-        # (the number is closed once more when the test ends)
-        self.checkpoint.file = os.open(os.devnull, os.O_RDONLY)
+        nothing = os.open(os.devnull, os.O_RDONLY)
+        # (the number stays taken until the test ends, which closes it)
+        os.dup2(nothing, self.checkpoint.file, inheritable=False)
+        os.close(nothing)
 
     def test_following_without_it(self) -> None:
         self.follow_once()
