@@ -7,7 +7,5 @@ from pathlib import Path
 
 if os.access("/dev/shm", os.W_OK):
     tempfile.tempdir = "/dev/shm"
-# (argparse looks for a translation of each of its texts, in many files, unless no other language is asked for)
-os.environ["LANGUAGE"] = "C"
 # (what the tools have too: the text of a feed)
 sys.path.append(str(Path(__file__).resolve().parent.parent.parent / "tools"))
