@@ -29,7 +29,8 @@ ROOM = 1 << 20
 PIECE = 1 << 16
 # The headers of payloads up to this length are kept.
 KEPT_HEADERS = 1 << 12
-# For how long one that opens its store is waited for, until it is looked whether the end was asked for, in seconds.
+# For how long one that opens its store is waited for, until it is looked whether the end was asked
+# for, in seconds.
 LOOK = 0.5
 # The size that the pipe to the filter is asked to have.
 PIPE = 1 << 20

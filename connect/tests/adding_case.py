@@ -45,7 +45,8 @@ FILTER = compiled(os.path.join(os.path.dirname(os.path.abspath(__file__)), "row_
 
 
 class Begun:
-    """What a run over a world as it begins leaves, which is the same for all tests: the session, and the files of the store."""
+    """What a run over a world as it begins leaves, which is the same for all tests: the session, and
+    the files of the store."""
 
     sessions: list[tuple[int, str]] = []
     files: dict[str, bytes] = {}

@@ -9,7 +9,8 @@ FILE.says may hold one of these words:
   `bytes HEX`        writes these bytes in place of its first status
   `slow SECONDS`     waits so long before its first status
   `late PATH`        takes no commit before this file is there
-  `parts PATH`       says a line on standard error in two parts, the second one once this file is there, which it takes away
+  `parts PATH`       says a line on standard error in two parts, the second one once this file is
+                     there, which it takes away
   `dies LSN`         kills itself once it has stored the commit with this end, in decimal, and takes the file away
   `rejects LSN N TEXT`  ends at the commit with this end, in decimal, with this status and this line on standard error, and takes the
                      file away; it confirms none of those before, as if all came at once

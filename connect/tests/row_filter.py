@@ -46,8 +46,11 @@ class Fault(Exception):
 class Relation:
     """What a Relation message says."""
 
-    def __init__(self, oid: int, namespace: str, name: str, letter: str, columns: list[tuple[int, str]], raw: bytes) -> None:
-        self.oid, self.namespace, self.name, self.letter, self.columns, self.raw = oid, namespace, name, letter, columns, raw
+    def __init__(
+        self, oid: int, namespace: str, name: str, letter: str, columns: list[tuple[int, str]], raw: bytes
+    ) -> None:
+        self.oid, self.namespace, self.name, self.letter = oid, namespace, name, letter
+        self.columns, self.raw = columns, raw
 
     def is_same(self, other: Relation | None) -> bool:
         return other is not None and vars(self) == vars(other)
@@ -106,7 +109,9 @@ class Store:
     def __init__(self, path: str, own: bool = False) -> None:
         self.path = path
         # (what is in memory is read by several threads of a test, one at a time)
-        self.base = sqlite3.connect(path, isolation_level=None, timeout=0 if own else 5, check_same_thread=path != ":memory:")
+        self.base = sqlite3.connect(
+            path, isolation_level=None, timeout=0 if own else 5, check_same_thread=path != ":memory:"
+        )
         # (it outlasts a kill, and no power cut)
         self.base.execute("PRAGMA synchronous = OFF")
         if own:

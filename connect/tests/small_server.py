@@ -118,7 +118,7 @@ class SmallServer:
                 self.answer(peer, query)
 
     def wait_for(self, *what: socket.socket, seconds: float | None = None) -> None:
-        """Waits until something has come on one of these sockets. Raises where the server has ended."""
+        """Waits until something has come on one of these. Raises where the server has ended."""
         if self.woken in select.select([self.woken, *what], [], [], seconds)[0]:
             raise EOFError
 
@@ -180,7 +180,8 @@ class SmallServer:
             copies.clear()
 
     def send_all(self, peer: socket.socket, copies: threading.Event) -> None:
-        """Sends what there is to send as long as the session copies; what couldn't be sent is left to the next one."""
+        """Sends what there is to send as long as the session copies; what couldn't be sent is left to
+        the next one."""
         with contextlib.suppress(OSError, EOFError):
             while copies.is_set():
                 while self.to_send:

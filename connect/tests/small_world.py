@@ -135,17 +135,21 @@ class WorldServer(SmallServer):
         start = parse_lsn(found[1])
         self.started.append((start, found[2]))
         peer.sendall(COPY_BOTH)
-        ended, asked, sent, at, world = threading.Event(), threading.Event(), set[int](), 0, self.world
+        ended, asked, sent, at = threading.Event(), threading.Event(), set[int](), 0
+        world = self.world
 
         def is_over() -> bool:
             return ended.is_set() or self.ended
+
+        def has_news() -> bool:
+            return is_over() or asked.is_set() or len(world.commits) > at
 
         def send() -> None:
             nonlocal at
             with contextlib.suppress(OSError):
                 while not is_over():
                     with world.news:
-                        world.news.wait_for(lambda: is_over() or asked.is_set() or len(world.commits) > at)
+                        world.news.wait_for(has_news)
                         commits, end = world.commits[at:], world.end
                     at += len(commits)
                     for payload in world.described(start, commits, sent):

@@ -175,7 +175,7 @@ class Altered(Case):
             nonlocal began_waiting
             if name == "Source":
                 began_waiting = self.waits
-            # (what was read of the tables before the wait ended may be from before they were altered)
+            # (what was read of a table before the wait ended may be from before it was altered)
             if name == "make_slot" and began_waiting:
                 raise NoSlot("late")
             if name == "COPY" and self.world.tables[T].identity == "f":

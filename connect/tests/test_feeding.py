@@ -33,7 +33,9 @@ from .vectors import begin, commit, insert as inserted, keepalive
 
 
 # What a child's code has before it begins.
-QUICK = "from pgsub_connect.feed import noting, polling; noting.OFTEN = 0.05; polling.PATIENCE = 0.2; "
+QUICK = (
+    "from pgsub_connect.feed import noting, polling; noting.OFTEN = 0.05; polling.PATIENCE = 0.2; "
+)
 
 
 def wait_until(holds: Callable[[], object], seconds: float = 20.0) -> bool:
@@ -333,8 +335,9 @@ class Tables(FeedCase):
         self.options = Options(store=str(self.folder / "copy.db"), feed=str(self.path), tables=self.into)
 
     def kept(self, code: str | None = None) -> Beside:
-        """One that runs this in the place of `pgsub-connect tables`; by default that itself, from the beginning of the feed, which notes
-        at once how far it is, and bears for a short time what is wrong."""
+        """One that runs this in the place of `pgsub-connect tables`; by default that itself, from the
+        beginning of the feed, which notes at once how far it is, and bears for a short time what is
+        wrong."""
         it = Beside(self.options, self.progress)
         if code is not None:
             it.words = [sys.executable, "-S", "-c", code]
@@ -342,7 +345,9 @@ class Tables(FeedCase):
             at = it.words.index("--store")
             it.words = [*it.words[:at], *it.words[at + 2 :]]
             at = it.words.index("-c") + 1
-            it.words[at] = it.words[at].replace("from pgsub_connect.cli", f"{QUICK}from pgsub_connect.cli")
+            begins = "from pgsub_connect.cli"
+            self.assertIn(begins, it.words[at])
+            it.words[at] = it.words[at].replace(begins, QUICK + begins)
         self.addCleanup(it.finish)
         it.start()
         return it

@@ -67,7 +67,9 @@ class Statuses(Case):
 
     def test_in_parts(self) -> None:
         status = "d\\0\\0\\0\\046r" + "\\0" * 15 + "\\007" + "\\0" * 17
-        child = self.shell(f"printf '{status[:14]}'; read it; printf '{status[14:]}{status}'; cat > /dev/null")
+        child = self.shell(
+            f"printf '{status[:14]}'; read it; printf '{status[14:]}{status}'; cat > /dev/null"
+        )
         parts = list[int]()
 
         def go_on() -> None:
@@ -254,7 +256,10 @@ class Given(Case):
     def test_to_one_that_takes_no_more(self) -> None:
         """Its end tells why."""
         told = self.store + ".told"
-        child = self.shell(f"printf 'd\\0\\0\\0\\046r%033d' 0; exec <&-; until [ -e {told} ]; do sleep 0.01; done; exit 1")
+        child = self.shell(
+            "printf 'd\\0\\0\\0\\046r%033d' 0; exec <&-;"
+            f" until [ -e {told} ]; do sleep 0.01; done; exit 1"
+        )
         child.start()
         until = time.monotonic() + 20
         while child.takes and time.monotonic() < until:

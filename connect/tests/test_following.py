@@ -189,14 +189,19 @@ class Sessions(Case):
         follower, said = self.follower(silence=0.4), "warning: the server said nothing for 0 seconds"
         # (on a busy machine the beginning of a session may take longer)
         follower.was_connected = True
-        self.run_until(follower, lambda: said in self.said and self.server.sessions >= 2 and self.asks() > 0)
+        self.run_until(
+            follower, lambda: said in self.said and self.server.sessions >= 2 and self.asks() > 0
+        )
 
     def asks(self) -> int:
         """How often the server was asked for an answer."""
         return sum(body[-1:] == b"\x01" for _, body in self.server.statuses)
 
     def test_a_quiet_server_that_answers(self) -> None:
-        """It isn't given up, however long it says nothing of itself. (By a clock that goes on here, so that a busy machine does no harm.)"""
+        """It isn't given up, however long it says nothing of itself.
+
+        (By a clock that goes on here, so that a busy machine does no harm.)
+        """
         clock = [100.0]
         self.patch(following, "time", mock.Mock(monotonic=lambda: clock[0], sleep=time.sleep))
 

@@ -110,8 +110,9 @@ class Order(FollowCase):
 
         def holds() -> bool:
             # (the second part of a line is said once the first one was read)
-            if follower.filter.runs and follower.filter.line and (count := follower.filter.missing.total) not in heard:
-                heard.add(count)
+            child = follower.filter
+            if child.runs and child.line and child.missing.total not in heard:
+                heard.add(child.missing.total)
                 Path(self.folder, "goes_on").touch()
             return self.confirmed() >= end
 

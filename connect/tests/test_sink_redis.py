@@ -556,7 +556,8 @@ class AnyTime(RedisCase):
             return
         high, low = (self.server.at() or "").split("/")
         # (it goes on from where the last comparison was)
-        state = self.state = replay(self.path, self.state, until=(int(high, 16) << 32) + int(low, 16))
+        until = (int(high, 16) << 32) + int(low, 16)
+        state = self.state = replay(self.path, self.state, until=until)
         self.assertEqual(f"{state.at >> 32:X}/{state.at & 0xFFFFFFFF:X}", self.server.at())
         noted = json.loads(self.server.data.get(b"pgsub:tables", b'{"kept":[]}'))["kept"]
         ours = {}
