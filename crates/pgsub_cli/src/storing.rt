@@ -261,3 +261,30 @@ pub fn run_within<R: Input + Drop, C: ReplicaStore + Drop, W: Output, E: Output>
     tell(alloc, ended, "", "", err);
     (status(ended), store)
 }
+
+/// `run_within`, within the limits of a command line that names none.
+pub fn run_store<R: Input + Drop, C: ReplicaStore + Drop, W: Output, E: Output>(
+    alloc: Global,
+    store: C,
+    input: Option<(Version, Incoming<R>)>,
+    out: &mut W,
+    err: &mut E,
+) -> (u8, C)
+    ensures status { result.0 ≤ 4 }
+    ensures ends { (ended : Result Ending RunFault) × (result.0 ≡ status_of ended)
+        × Writes W.takes W.failed (λ fault. C.is_honest result.1 → IsReadFault fault)
+        (λ stopped lines. C.is_honest result.1 →
+        PrintsOver R.gives R.begins R.failed C.holds C.place Limits.DEFAULT input store result.1
+        stopped lines) out.old out.new ended × Tells E.takes E.failed [] [] ended err.old err.new }
+    ensures kept { C.serves result.1 →
+        HoldsAfter R.gives R.begins R.failed C.holds C.place Limits.DEFAULT input store result.1 }
+    ensures left { C.is_honest result.1 →
+        MayBeLeft R.gives R.begins R.failed C.holds C.place C.reopens C.serves Limits.DEFAULT
+        input store result.1 }
+    ensures crash { C.is_honest result.1 → C.serves store →
+        LosesNothing R.gives R.begins R.failed C.holds C.place C.reopens Limits.DEFAULT input
+        store result.1 }
+    ensures honest { C.is_honest result.1 → C.is_honest store }
+{
+    run_within(alloc, store, Limits::DEFAULT, input, out, err)
+}
