@@ -1,10 +1,12 @@
 """The decoder as a library for Python.
 
-It loads a shared object that is linked from the static library `pgsub_c` (docs/OPERATING.md), whose header tells what each call does.
-`pgsub-connect` itself doesn't use it.
+It loads a shared object that is linked from the static library of crates/pgsub_c, whose header `pgsub.h` tells what each call does:
 
-    library = Library("libpgsub.so")
-    for line in library.show([b"".join(chunks)]):      # as `pgsub show` prints them
+    cc -shared -o libpgsub.so -Wl,--whole-archive libpgsub_c.a -Wl,--no-whole-archive
+
+A recording's sessions, each as its bytes, have the lines that `pgsub show` prints:
+
+    for line in Library("./libpgsub.so").show(sessions):
         print(line)
 """
 
