@@ -16,6 +16,7 @@
 | the feed of a follower, and tables that follow it | `feeding`, `beside` |
 | readers of a feed of commits | the package `feed` |
 | .. and what they write to other engines | the package `sinks` |
+| the decoder as a library, which nothing else here uses | `embedded` |
 """
 
 VERSION = "0.1.0"

@@ -260,7 +260,8 @@ def groups_of(crates: str) -> dict[str, list[str]]:
         if colon and name.startswith("# "):
             groups[name[2:]] = []
         elif colon and groups:
-            groups[[*groups][-1]].append(name)
+            # (a word may follow that says what is made of it)
+            groups[[*groups][-1]].append(name.split()[0])
     return groups
 
 

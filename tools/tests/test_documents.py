@@ -72,7 +72,7 @@ class Options(Made):
 
 class Groups(Made):
     def groups_wrong(self, text: str) -> list[str]:
-        self.write("crates.txt", "# The crates.\n\n# wire: bytes\nlow: std\nhigh: low\n\n# tests: of others\ntests_low: low\ntrial: low\n")
+        self.write("crates.txt", "# The crates.\n\n# wire: bytes\nlow: std\nhigh staticlib: low\n\n# tests: of others\ntests_low: low\ntrial: low\n")
         self.write("docs/ARCHITECTURE.md", text)
         return checks.check_groups(checks.Tree(self.top))
 
