@@ -50,8 +50,8 @@ class Tables:
             )
 
     def bytes(self, servers: Servers) -> int:
-        """What COPY writes of them."""
-        lengths = "+ 4".join(f"length({it}::text)" for it in ("id", "a", "b", "c"))
+        """What COPY writes of them: three tabs and a line feed a row, too."""
+        lengths = " + ".join(f"length({it}::text)" for it in ("id", "a", "b", "c")) + " + 4"
         return sum(int(servers.session.value(f"SELECT sum({lengths}) FROM {it}")) for it in self.names)
 
 
