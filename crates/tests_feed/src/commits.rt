@@ -1,53 +1,60 @@
 //! Commits of a table of two texts, and their changes.
 
 use pgapply::{About, Commit, Op, StoreFault, Work};
-use pgfeed::{Segment, entry_text};
+use pgfeed::entry_text;
 use pgledger::{Image, Ledger};
-use pglogical::{Column, OldKind, RelationDef};
+use pglogical::{Item, Message, OldKind, RelationDef, decode};
 use pglsn::Lsn;
-use pgtuple::{CellRef, Seq, Text, Tuple};
-use sqlite_disk::Disk;
-use std::alloc::{AllocError, Global};
+use pgtuple::{Tuple, TupleRef, decode_ref};
+use std::alloc::Global;
 
-fn text(alloc: Global, text: &str) -> Result<Text, AllocError> {
-    Ok(Text::from_string(String::from_str(alloc, text)?))
-}
+/// A Relation message of the table `public.t`, whose key is its first column.
+const T: &[u8] =
+    b"R\0\0@\0public\0t\0d\0\x02\x01id\0\0\0\0\x19\xff\xff\xff\xff\0v\0\0\0\0\x19\xff\xff\xff\xff";
 
-fn column(alloc: Global, key: bool, name: &str) -> Result<Column, AllocError> {
-    Ok(Column {
-        key,
-        name: text(alloc, name)?,
-        type_oid: 25,
-        modifier: -1,
-    })
-}
+/// The bytes of a tuple.
+pub(crate) type Row = &'static [u8];
 
-/// The table `public.t`, whose key is its first column.
-fn definition(alloc: Global) -> Result<RelationDef, AllocError> {
-    let mut columns = Vec::new(alloc);
-    columns.push(column(alloc, true, "id")?)?;
-    columns.push(column(alloc, false, "v")?)?;
-    Ok(RelationDef {
-        oid: 16384,
-        namespace: text(alloc, "public")?,
-        name: text(alloc, "t")?,
-        letter: b'd',
-        columns: Seq::from_vec(columns),
-    })
-}
+/// 1, a.
+pub(crate) const ONE_A: Row = b"\0\x02t\0\0\0\x011t\0\0\0\x01a";
 
-/// A tuple of words, of which `null` and `unsent` are cells without a text.
-fn tuple(alloc: Global, words: &str) -> Result<Tuple, StoreFault> {
-    let mut cells = Vec::new(alloc);
-    for word in words.split_whitespace() {
-        let cell = match word {
-            "null" => CellRef::Null,
-            "unsent" => CellRef::Unchanged,
-            text => CellRef::Text(text),
-        };
-        cells.push(cell.to_cell(alloc).map_err(|_| StoreFault::Memory)?)?;
+/// 2, b.
+pub(crate) const TWO_B: Row = b"\0\x02t\0\0\0\x012t\0\0\0\x01b";
+
+/// 1, null.
+const ONE_NULL: Row = b"\0\x02t\0\0\0\x011n";
+
+/// 9, null.
+const NINE_NULL: Row = b"\0\x02t\0\0\0\x019n";
+
+/// 8, and a cell that wasn't sent.
+const EIGHT_UNSENT: Row = b"\0\x02t\0\0\0\x018u";
+
+fn definition(alloc: Global) -> Result<RelationDef, StoreFault> {
+    match decode(alloc, T, false) {
+        Ok(
+            Message::Item {
+                item: Item::Relation(def),
+                ..
+            },
+        ) => Ok(def),
+        Ok(_) => Err(StoreFault::Width),
+        Err(_) => Err(StoreFault::Memory),
     }
-    Tuple::from_cells(cells).ok_or(StoreFault::Width)
+}
+
+fn borrowed(row: Row) -> Result<TupleRef<'static>, StoreFault> {
+    match decode_ref(row) {
+        Ok((row, _)) => Ok(row),
+        Err(_) => Err(StoreFault::Width),
+    }
+}
+
+fn owned(alloc: Global, row: Row) -> Result<Tuple, StoreFault> {
+    match borrowed(row)?.to_tuple(alloc) {
+        Ok(row) => Ok(row),
+        Err(_) => Err(StoreFault::Memory),
+    }
 }
 
 /// A work with the table's definition.
@@ -61,14 +68,82 @@ fn work_of<'a>(alloc: Global) -> Result<Work<'a>, StoreFault> {
     Ok(work)
 }
 
+/// Adds a change of the table.
+fn change<'a>(work: &mut Work<'a>, op: Op<'a>) -> Result<(), StoreFault> {
+    if work.definitions().is_empty() {
+        return Err(StoreFault::Width);
+    }
+    work.change(0, op)
+}
+
+/// What a change did to a row.
+#[derive(Clone, Copy)]
+enum Done {
+    Inserted(Row),
+    Updated(Row, Row),
+    Deleted(Row),
+    Truncated,
+    /// An Update by a key that found no row.
+    Missed(Row, Row),
+}
+
+/// A change of each kind.
+static OF_EACH_KIND: [Done; 5] = [
+    Done::Inserted(ONE_A),
+    Done::Updated(ONE_A, ONE_NULL),
+    Done::Deleted(ONE_NULL),
+    Done::Truncated,
+    Done::Missed(NINE_NULL, EIGHT_UNSENT),
+];
+
+fn image(alloc: Global, done: Done) -> Result<Image<'static>, StoreFault> {
+    Ok(match done {
+        Done::Inserted(row) => Image::Inserted {
+            row: borrowed(row)?,
+        },
+        Done::Updated(old, new) => Image::Updated {
+            old: owned(alloc, old)?,
+            new: owned(alloc, new)?,
+        },
+        Done::Deleted(row) => Image::Deleted {
+            row: owned(alloc, row)?,
+        },
+        Done::Truncated => Image::Truncated,
+        Done::Missed(key, new) => Image::Missed {
+            old: Some((OldKind::Key, borrowed(key)?)),
+            new: Some(borrowed(new)?),
+        },
+    })
+}
+
+fn images(alloc: Global, changes: &[Done]) -> Result<Vec<Image<'static>>, StoreFault> {
+    let mut images = Vec::new(alloc);
+    for done in changes {
+        images.push(image(alloc, *done)?)?;
+    }
+    Ok(images)
+}
+
+/// A work of one Insert.
+fn inserting(alloc: Global, row: Row) -> Result<Work<'static>, StoreFault> {
+    let mut work = work_of(alloc)?;
+    change(
+        &mut work,
+        Op::Insert {
+            row: borrowed(row)?,
+        },
+    )?;
+    Ok(work)
+}
+
 /// Appends a commit of one Insert, about which nothing is told.
-pub(crate) fn append<D: Disk + Drop>(
+pub(crate) fn append<L: Ledger>(
     alloc: Global,
-    segment: &mut Segment<D>,
+    ledger: &mut L,
     end: Lsn,
-    words: &str,
+    row: Row,
 ) -> Result<(), StoreFault> {
-    append_at(alloc, segment, end, None, words)
+    append_at(alloc, ledger, end, None, row)
 }
 
 /// Appends a commit of one Insert, maybe of this time.
@@ -77,23 +152,10 @@ pub(crate) fn append_at<L: Ledger>(
     ledger: &mut L,
     end: Lsn,
     time: Option<i64>,
-    words: &str,
+    row: Row,
 ) -> Result<(), StoreFault> {
-    let row = tuple(alloc, words)?;
-    let mut work = work_of(alloc)?;
-    if work.definitions().is_empty() {
-        return Err(StoreFault::Width);
-    }
-    work.change(
-        0,
-        Op::Insert {
-            row: row.borrowed(),
-        },
-    )?;
-    let mut images = Vec::new(alloc);
-    images.push(Image::Inserted {
-        row: row.borrowed(),
-    })?;
+    let work = inserting(alloc, row)?;
+    let images = images(alloc, &[Done::Inserted(row)])?;
     let about = time.map(|time| About {
         final_lsn: end,
         xid: 739,
@@ -107,34 +169,19 @@ pub(crate) fn append_at<L: Ledger>(
     ledger.append(&commit, images.as_slice())
 }
 
+/// A work with as many changes as there are kinds.
+fn truncating(alloc: Global) -> Result<Work<'static>, StoreFault> {
+    let mut work = work_of(alloc)?;
+    for _ in &OF_EACH_KIND {
+        change(&mut work, Op::Truncate)?;
+    }
+    Ok(work)
+}
+
 /// The text of a commit with a change of each kind.
 pub(crate) fn text_of_all(alloc: Global) -> Result<String, StoreFault> {
-    let row = tuple(alloc, "1 a")?;
-    let key = tuple(alloc, "9 null")?;
-    let missing = tuple(alloc, "8 unsent")?;
-    let mut work = work_of(alloc)?;
-    for _ in 0..5 {
-        if work.definitions().is_empty() {
-            return Err(StoreFault::Width);
-        }
-        work.change(0, Op::Truncate)?;
-    }
-    let mut images = Vec::new(alloc);
-    images.push(Image::Inserted {
-        row: row.borrowed(),
-    })?;
-    images.push(Image::Updated {
-        old: tuple(alloc, "1 a")?,
-        new: tuple(alloc, "1 null")?,
-    })?;
-    images.push(Image::Deleted {
-        row: tuple(alloc, "1 null")?,
-    })?;
-    images.push(Image::Truncated)?;
-    images.push(Image::Missed {
-        old: Some((OldKind::Key, key.borrowed())),
-        new: Some(missing.borrowed()),
-    })?;
+    let work = truncating(alloc)?;
+    let images = images(alloc, &OF_EACH_KIND)?;
     let about = About {
         final_lsn: Lsn(600),
         xid: 739,

@@ -1,6 +1,6 @@
 //! A feed of segments in memory.
 
-use crate::commits::append_at;
+use crate::commits::{ONE_A, append, append_at};
 use crate::folders::{MemoryFolder, Stop, Stored};
 use pgapply::StoreFault;
 use pgfeed::{Feed, FeedFault, Origin, SegmentLimits};
@@ -78,16 +78,16 @@ fn open(
 
 /// Appends the commits that end after this LSN, so many settled at once, and notes up to where that
 /// was done.
-fn go_on(
+fn go_on<L: Ledger>(
     alloc: Global,
-    feed: &mut Feed<MemoryFolder>,
+    feed: &mut L,
     group: u64,
     settled: &mut Lsn,
 ) -> Result<(), StoreFault> {
     let mut staged: u64 = 0;
     for end in ENDS.iter() {
         if settled.0 < *end {
-            append_at(alloc, feed, Lsn(*end), None, "1 a")?;
+            append(alloc, feed, Lsn(*end), ONE_A)?;
             staged = staged.saturating_add(1);
             if staged == group || *end == LAST {
                 feed.sync()?;
@@ -152,7 +152,10 @@ fn opened(
     }
 }
 
-fn sizes(alloc: Global, segments: &[Stored]) -> Result<Vec<(u64, usize)>, AllocError> {
+/// The bases of segments, and how many bytes they have.
+type Sizes = Vec<(u64, usize)>;
+
+fn sizes(alloc: Global, segments: &[Stored]) -> Result<Sizes, AllocError> {
     let mut all = Vec::new(alloc);
     for (base, bytes) in segments.iter() {
         all.push((base.0, bytes.len()))?;
@@ -252,145 +255,221 @@ fn segments_end_wherever_settlings_fall(rt: HostRuntime) -> Result<(), Fail> {
     Ok(())
 }
 
-/// The bases and sizes of the segments once a feed of all commits is opened at a position, if it is.
-fn opened_at(alloc: Global, position: u64) -> Result<Option<Vec<(u64, usize)>>, Fail> {
+/// The bases and sizes of the segments of a feed, which is opened at a position.
+fn sizes_of(alloc: Global, feed: Feed<MemoryFolder>, position: Lsn) -> Result<Sizes, Fail> {
+    if feed.last() != position || feed.begins() != Lsn(0x100) {
+        return Err(Fail::from("it is opened elsewhere"));
+    }
+    let sizes = sizes(alloc, &left(feed))?;
+    if sizes.is_empty() {
+        return Err(Fail::from("it is opened without a segment"));
+    }
+    Ok(sizes)
+}
+
+/// Why a feed isn't opened, where its folder is left as it was.
+fn fault_of(refused: (FeedFault, MemoryFolder), whole: &[Stored]) -> Result<FeedFault, Fail> {
+    let (fault, folder) = refused;
+    if folder.segments() != whole {
+        return Err(Fail::from("the folder isn't as it was"));
+    }
+    Ok(fault)
+}
+
+/// The bases and sizes of the segments once a feed of all commits is opened at a position; of none
+/// where it isn't.
+fn opened_at(alloc: Global, position: u64) -> Result<Sizes, Fail> {
     let whole = whole(alloc, SINGLY);
     let folder = MemoryFolder::of(alloc, whole.clone()?, Stop::Never);
     match open(alloc, folder, TWO, Lsn(position)) {
-        Ok(feed) => {
-            if feed.last() != Lsn(position) || feed.begins() != Lsn(0x100) {
-                return Err(Fail::from("it is opened elsewhere"));
-            }
-            Ok(Some(sizes(alloc, &left(feed))?))
-        }
-        Err((fault, folder)) => {
-            if fault != FeedFault::NotAFeed || folder.segments() != whole.as_slice() {
-                return Err(Fail::from("the folder isn't as it was"));
-            }
-            Ok(None)
-        }
+        Ok(feed) => sizes_of(alloc, feed, Lsn(position)),
+        Err(refused) => match fault_of(refused, whole.as_slice())? {
+            FeedFault::NotAFeed => Ok(Vec::new(alloc)),
+            fault => Err(Fail::from(fault)),
+        },
     }
 }
+
+/// The segments that are there after a feed of all commits is opened at a position, without what is
+/// above it. Where it doesn't fit, there are none, and the folder is left as it was.
+static OPENED: [(u64, &[(u64, usize)]); 12] = [
+    (0x100, &[(0x100, 1024)]),
+    (0x200, &[(0x100, 1463)]),
+    (0x300, &[(0x100, 2158), (0x300, 1024)]),
+    (0x400, &[(0x100, 2158), (0x300, 1463)]),
+    (0, &[]),
+    (0xff, &[]),
+    (0x101, &[]),
+    (0x250, &[]),
+    (0x301, &[]),
+    (0x450, &[]),
+    (0x601, &[]),
+    (0x700, &[]),
+];
 
 #[test]
 fn opening_removes_what_is_above_the_position(rt: HostRuntime) -> Result<(), Fail> {
-    let alloc = rt.alloc();
-    for (position, size) in [(0x100, 1024), (0x200, 1463)] {
-        let found = opened_at(alloc, position)?.unwrap_or(Vec::new(alloc));
-        assert_eq!(rt; found.as_slice(), [(0x100, size)].as_slice());
-    }
-    for (position, size) in [(0x300, 1024), (0x400, 1463)] {
-        let found = opened_at(alloc, position)?.unwrap_or(Vec::new(alloc));
-        assert_eq!(rt; found.as_slice(), [(0x100, 2158), (0x300, size)].as_slice());
+    for &(position, wanted) in &OPENED {
+        let found = opened_at(rt.alloc(), position)?;
+        assert!(rt; found.as_slice() == wanted, "{position}");
     }
     Ok(())
 }
 
-#[test]
-fn a_feed_that_does_not_fit_is_left_as_it_was(rt: HostRuntime) -> Result<(), Fail> {
-    let alloc = rt.alloc();
-    for position in [0, 0xff, 0x101, 0x250, 0x301, 0x450, 0x601, 0x700] {
-        assert!(rt; opened_at(alloc, position)?.is_none(), "{position}");
+/// Why a feed of all commits isn't opened by this slot's name.
+fn refusal_of(alloc: Global, slot: &str, position: u64) -> Result<FeedFault, Fail> {
+    let origin = Origin {
+        system: "7",
+        database: "d",
+        slot,
+    };
+    let whole = whole(alloc, SINGLY);
+    let folder = MemoryFolder::of(alloc, whole.clone()?, Stop::Never);
+    match Feed::open(alloc, folder, &origin, TWO, Lsn(position)) {
+        Ok(_) => Err(Fail::from("the names are taken")),
+        Err(refused) => fault_of(refused, whole.as_slice()),
     }
-    Ok(())
 }
 
 #[test]
 fn names_that_are_too_long_leave_the_folder_as_it_was(rt: HostRuntime) -> Result<(), Fail> {
-    let alloc = rt.alloc();
-    let name = "slot".repeat(alloc, 250)?;
-    let origin = Origin {
-        system: "7",
-        database: "d",
-        slot: name.as_str(),
-    };
+    let name = "slot".repeat(rt.alloc(), 250)?;
     for position in [0x100, 0x400] {
-        let whole = whole(alloc, SINGLY);
-        let folder = MemoryFolder::of(alloc, whole.clone()?, Stop::Never);
-        match Feed::open(alloc, folder, &origin, TWO, Lsn(position)) {
-            Ok(_) => return Err(Fail::from("the names are taken")),
-            Err((fault, folder)) => {
-                assert_eq!(rt; fault, FeedFault::TooLong);
-                assert!(rt; folder.segments() == whole.as_slice());
-            }
-        }
+        let fault = refusal_of(rt.alloc(), name.as_str(), position)?;
+        assert!(rt; fault == FeedFault::TooLong);
     }
     Ok(())
 }
 
-/// The bases of a feed of commits with these times, each settled by itself, of which no segment may
-/// have commits that are a thousand microseconds apart.
-fn bases_by_time(alloc: Global, times: &[Option<i64>]) -> Result<Vec<u64>, Fail> {
-    let limits = SegmentLimits {
-        bytes: u64::MAX,
-        micros: 1000,
-    };
-    let folder = MemoryFolder::of(alloc, Vec::new(alloc), Stop::Never);
-    let mut feed = opened(open(alloc, folder, limits, Lsn(0)))?;
+/// Commits of a new feed by their ends and times, each settled by itself or all at once, the bases
+/// of the segments that they go to, and where the last one ends.
+struct Times {
+    limits: SegmentLimits,
+    begins: u64,
+    is_settled: bool,
+    commits: &'static [(u64, Option<i64>)],
+    bases: &'static [u64],
+    last: u64,
+}
+
+/// No commits that are a thousand microseconds apart.
+const SHORT: SegmentLimits = SegmentLimits {
+    bytes: u64::MAX,
+    micros: 1000,
+};
+
+static TIMES: [Times; 4] = [
+    Times {
+        limits: SHORT,
+        begins: 0,
+        is_settled: true,
+        commits: &[
+            (1, Some(-5)),
+            (2, Some(994)),
+            (3, Some(995)),
+            (4, Some(1994)),
+            (5, Some(1)),
+            (6, Some(1995)),
+        ],
+        bases: &[0, 0, 2, 2, 2, 5],
+        last: 6,
+    },
+    Times {
+        limits: SHORT,
+        begins: 0,
+        is_settled: true,
+        commits: &[
+            (1, None),
+            (2, Some(7)),
+            (3, None),
+            (4, Some(1006)),
+            (5, Some(1007)),
+        ],
+        bases: &[0, 0, 0, 0, 4],
+        last: 5,
+    },
+    Times {
+        limits: SHORT,
+        begins: 0,
+        is_settled: true,
+        commits: &[(1, Some(i64::MIN)), (2, Some(i64::MAX))],
+        bases: &[0, 1],
+        last: 2,
+    },
+    // A segment ends amid commits that are settled at once.
+    Times {
+        limits: TWO,
+        begins: 0x100,
+        is_settled: false,
+        commits: &[
+            (0x200, None),
+            (0x300, None),
+            (0x400, None),
+            (0x500, None),
+            (0x600, None),
+        ],
+        bases: &[0x100, 0x100, 0x300, 0x300, 0x500],
+        last: 0x600,
+    },
+];
+
+/// Appends a commit, and settles it if it is to be.
+fn append_one<L: Ledger>(
+    alloc: Global,
+    feed: &mut L,
+    end: u64,
+    time: Option<i64>,
+    is_settled: bool,
+) -> Result<(), StoreFault> {
+    append_at(alloc, feed, Lsn(end), time, ONE_A)?;
+    if is_settled { feed.sync() } else { Ok(()) }
+}
+
+/// The bases of the segments to which the commits go.
+fn bases_of(alloc: Global, feed: &mut Feed<MemoryFolder>, times: &Times) -> Result<Vec<u64>, Fail> {
     let mut bases = Vec::new(alloc);
-    for (end, time) in (1..100).zip(times) {
-        append_at(alloc, &mut feed, Lsn(end), *time, "1 a")?;
-        feed.sync()?;
+    for &(end, time) in times.commits {
+        append_one(alloc, feed, end, time, times.is_settled)?;
         bases.push(feed.base().0)?;
     }
     Ok(bases)
 }
 
-#[test]
-fn ends_a_segment_by_the_times_of_its_commits(rt: HostRuntime) -> Result<(), Fail> {
-    let alloc = rt.alloc();
-    let times = [
-        Some(-5),
-        Some(994),
-        Some(995),
-        Some(1994),
-        Some(1),
-        Some(1995),
-    ];
-    assert_eq!(rt;
-        bases_by_time(alloc, &times)?.as_slice(),
-        [0, 0, 2, 2, 2, 5].as_slice()
-    );
-    let times = [None, Some(7), None, Some(1006), Some(1007)];
-    assert_eq!(rt;
-        bases_by_time(alloc, &times)?.as_slice(),
-        [0, 0, 0, 0, 4].as_slice()
-    );
-    let times = [Some(i64::MIN), Some(i64::MAX)];
-    assert_eq!(rt; bases_by_time(alloc, &times)?.as_slice(), [0, 1].as_slice());
-    Ok(())
-}
-
-#[test]
-fn a_segment_ends_amid_commits_that_are_settled_at_once(rt: HostRuntime) -> Result<(), Fail> {
-    let alloc = rt.alloc();
+/// The same of a new feed, and the LSN of its last commit once all are settled.
+fn settled_bases(alloc: Global, times: &Times) -> Result<(Vec<u64>, Lsn), Fail> {
     let folder = MemoryFolder::of(alloc, Vec::new(alloc), Stop::Never);
-    let mut feed = opened(open(alloc, folder, TWO, Lsn(0x100)))?;
-    let mut bases = Vec::new(alloc);
-    for end in [0x200, 0x300, 0x400, 0x500, 0x600] {
-        append_at(alloc, &mut feed, Lsn(end), None, "1 a")?;
-        bases.push(feed.base().0)?;
-    }
-    assert_eq!(rt;
-        bases.as_slice(),
-        [0x100, 0x100, 0x300, 0x300, 0x500].as_slice()
-    );
+    let mut feed = opened(open(alloc, folder, times.limits, Lsn(times.begins)))?;
+    let bases = bases_of(alloc, &mut feed, times)?;
     feed.sync()?;
-    assert_eq!(rt; feed.last(), Lsn(0x600));
+    Ok((bases, feed.last()))
+}
+
+#[test]
+fn ends_a_segment_by_bytes_and_times(rt: HostRuntime) -> Result<(), Fail> {
+    for (place, times) in TIMES.iter().enumerate() {
+        let (bases, last) = settled_bases(rt.alloc(), times)?;
+        assert!(rt; bases.as_slice() == times.bases, "{place}");
+        assert!(rt; last == Lsn(times.last), "{place}");
+    }
     Ok(())
 }
 
-/// Where the last segment begins after the commits with ends from 1 on, settled at once, of which
-/// no segment takes two, and how many segments there are after one more.
+/// Appends commits with ends from 1 on, and settles them at once.
+fn append_many<L: Ledger>(alloc: Global, feed: &mut L, commits: u64) -> Result<(), StoreFault> {
+    for end in 1..=commits {
+        append(alloc, feed, Lsn(end), ONE_A)?;
+    }
+    feed.sync()
+}
+
+/// Where the last segment begins after so many commits of which no segment takes two, settled at
+/// once, and how many segments there are after one more.
 fn counted(alloc: Global, commits: u64) -> Result<(u64, usize), Fail> {
     let folder = MemoryFolder::of(alloc, Vec::new(alloc), Stop::Never);
     let mut feed = opened(open(alloc, folder, ONE, Lsn(0)))?;
-    for end in 1..=commits {
-        append_at(alloc, &mut feed, Lsn(end), None, "1 a")?;
-    }
-    feed.sync()?;
+    append_many(alloc, &mut feed, commits)?;
     let base = feed.base();
-    append_at(alloc, &mut feed, Lsn(u64::MAX), None, "1 a")?;
+    append(alloc, &mut feed, Lsn(u64::MAX), ONE_A)?;
     if feed.base() != Lsn(commits) {
         return Err(Fail::from("the open segment goes on where all was settled"));
     }
@@ -399,11 +478,18 @@ fn counted(alloc: Global, commits: u64) -> Result<(u64, usize), Fail> {
 
 #[test]
 fn so_many_segments_stay_open_and_no_more(rt: HostRuntime) -> Result<(), Fail> {
-    let alloc = rt.alloc();
-    assert_eq!(rt; counted(alloc, 3)?, (2, 4));
-    assert_eq!(rt; counted(alloc, 257)?, (256, 258));
-    assert_eq!(rt; counted(alloc, 270)?, (256, 258));
+    for (commits, wanted) in [(3, (2, 4)), (257, (256, 258)), (270, (256, 258))] {
+        assert!(rt; counted(rt.alloc(), commits)? == wanted, "{commits}");
+    }
     Ok(())
+}
+
+/// What a commit, whether the feed is stuck then, and a sync return.
+type Answers = (Result<(), StoreFault>, bool, Result<(), StoreFault>);
+
+fn append_and_sync<L: Ledger>(alloc: Global, feed: &mut L, end: Lsn) -> Answers {
+    let appended = append(alloc, feed, end, ONE_A);
+    (appended, feed.is_stuck(), feed.sync())
 }
 
 #[test]
@@ -411,13 +497,9 @@ fn a_feed_that_has_failed_takes_nothing_more(rt: HostRuntime) -> Result<(), Fail
     let alloc = rt.alloc();
     let folder = MemoryFolder::of(alloc, Vec::new(alloc), Stop::Never);
     let mut feed = opened(open(alloc, folder, TWO, Lsn(0x100)))?;
-    append_at(alloc, &mut feed, Lsn(0x200), None, "1 a")?;
-    assert_eq!(rt;
-        append_at(alloc, &mut feed, Lsn(0x200), None, "1 a"),
-        Err(StoreFault::Refused)
-    );
-    assert!(rt; feed.is_stuck());
-    assert_eq!(rt; feed.sync(), Err(StoreFault::Refused));
-    assert_eq!(rt; feed.last(), Lsn(0x200));
+    append(alloc, &mut feed, Lsn(0x200), ONE_A)?;
+    let found = append_and_sync(alloc, &mut feed, Lsn(0x200));
+    assert!(rt; found == (Err(StoreFault::Refused), true, Err(StoreFault::Refused)));
+    assert!(rt; feed.last() == Lsn(0x200));
     Ok(())
 }

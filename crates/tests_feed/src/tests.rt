@@ -1,6 +1,6 @@
 //! The text of a commit, and a segment in memory.
 
-use crate::commits::{append, text_of_all};
+use crate::commits::{ONE_A, TWO_B, append, text_of_all};
 use pgapply::StoreFault;
 use pgfeed::{FeedFault, Segment};
 use pgledger::Ledger;
@@ -60,20 +60,13 @@ fn open<D: Disk + Drop>(
 
 /// Appends and syncs the commits that end after this LSN, one at 0/200 and one at 0/300, and notes up
 /// to where that was done.
-fn go_on<D: Disk + Drop>(
-    alloc: Global,
-    segment: &mut Segment<D>,
-    settled: &mut Lsn,
-) -> Result<(), StoreFault> {
-    if *settled < Lsn(0x200) {
-        append(alloc, segment, Lsn(0x200), "1 a")?;
-        segment.sync()?;
-        *settled = Lsn(0x200);
-    }
-    if *settled < Lsn(0x300) {
-        append(alloc, segment, Lsn(0x300), "2 b")?;
-        segment.sync()?;
-        *settled = Lsn(0x300);
+fn go_on<L: Ledger>(alloc: Global, segment: &mut L, settled: &mut Lsn) -> Result<(), StoreFault> {
+    for (end, row) in [(Lsn(0x200), ONE_A), (Lsn(0x300), TWO_B)] {
+        if *settled < end {
+            append(alloc, segment, end, row)?;
+            segment.sync()?;
+            *settled = end;
+        }
     }
     Ok(())
 }
@@ -198,20 +191,22 @@ fn has_the_same_bytes_after_a_stop_at_any_call(rt: HostRuntime) -> Result<(), Fa
     Ok(())
 }
 
+/// What two commits return, and whether the segment is stuck between them.
+type Answers = (Result<(), StoreFault>, bool, Result<(), StoreFault>);
+
+fn append_two<L: Ledger>(alloc: Global, segment: &mut L, first: Lsn, second: Lsn) -> Answers {
+    let appended = append(alloc, segment, first, TWO_B);
+    let is_stuck = segment.is_stuck();
+    (appended, is_stuck, append(alloc, segment, second, TWO_B))
+}
+
 #[test]
 fn takes_no_commit_that_does_not_end_later(rt: HostRuntime) -> Result<(), Fail> {
     let alloc = rt.alloc();
     let mut segment = unopened(create(alloc, Memory::new(alloc)))?;
-    append(alloc, &mut segment, Lsn(0x200), "1 a")?;
-    assert_eq!(rt;
-        append(alloc, &mut segment, Lsn(0x200), "2 b"),
-        Err(StoreFault::Refused)
-    );
-    assert!(rt; segment.is_stuck());
-    assert_eq!(rt;
-        append(alloc, &mut segment, Lsn(0x300), "2 b"),
-        Err(StoreFault::Refused)
-    );
-    assert_eq!(rt; segment.size(), 1463);
+    append(alloc, &mut segment, Lsn(0x200), ONE_A)?;
+    let found = append_two(alloc, &mut segment, Lsn(0x200), Lsn(0x300));
+    assert!(rt; found == (Err(StoreFault::Refused), true, Err(StoreFault::Refused)));
+    assert!(rt; segment.size() == 1463);
     Ok(())
 }
