@@ -1,4 +1,6 @@
 //! The form of the worked rows.
+//!
+//! Others have the tables of rows by a call: the proof of a function that names a table carries all of it.
 
 use pgsub_core::Fault;
 

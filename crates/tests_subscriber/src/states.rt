@@ -7,7 +7,7 @@ use pgsub_core::Fault::{Closed, Order, Wire};
 use pgwire::WireFault::AfterDone;
 
 /// Steps under version 2.
-pub(crate) static STATES: &[Row] = &[
+static STATES: &[Row] = &[
     Row {
         shows: "replies inside a pair and after it",
         limit: AMPLE,
@@ -137,8 +137,12 @@ pub(crate) static STATES: &[Row] = &[
     },
 ];
 
+pub(crate) fn states() -> &'static [Row] {
+    STATES
+}
+
 /// A status, and a step that version 1 rejects.
-pub(crate) static VERSION_1: &[Row] = &[Row {
+static VERSION_1: &[Row] = &[Row {
     shows: "a block in version 1",
     limit: AMPLE,
     steps: &[
@@ -156,3 +160,7 @@ pub(crate) static VERSION_1: &[Row] = &[Row {
         Feed("t1", Err(Closed)),
     ],
 }];
+
+pub(crate) fn states_in_version_1() -> &'static [Row] {
+    VERSION_1
+}

@@ -77,9 +77,10 @@ fn append_message(alloc: Global, bytes: &mut Vec<u8>, message: &str) -> Result<(
     Ok(())
 }
 
-/// The digits of a word in a table.
-fn found(table: &[(&'static str, &'static str)], word: &str) -> Option<&'static str> {
-    for &(name, digits) in table {
+/// The digits of a word, among lines that begin with theirs.
+fn found(lines: &'static str, word: &str) -> Option<&'static str> {
+    for line in lines.lines() {
+        let (name, digits) = line.split_once(' ')?;
         if name == word {
             return Some(digits);
         }
@@ -89,8 +90,8 @@ fn found(table: &[(&'static str, &'static str)], word: &str) -> Option<&'static 
 
 /// The digits of a word.
 fn digits_of(word: &str) -> Option<&'static str> {
-    for table in [BOUNDS, ITEMS, BLOCK_ITEMS, FRAMES] {
-        if let Some(digits) = found(table, word) {
+    for lines in [BOUNDS, ITEMS, BLOCK_ITEMS, FRAMES] {
+        if let Some(digits) = found(lines, word) {
             return Some(digits);
         }
     }

@@ -1,10 +1,10 @@
 //! The worked rows by each form of spools over each form of store.
 
-use crate::blocks::BLOCKS;
+use crate::blocks::blocks;
 use crate::row::{AT_ONCE, Row};
-use crate::states::{STATES, VERSION_1};
+use crate::states::{states, states_in_version_1};
 use crate::steps::{Way, check};
-use crate::transactions::{BAD_CHANGES, TRANSACTIONS};
+use crate::transactions::{bad_changes, transactions};
 use pgapply::ReplicaStore;
 use pgorder::Version;
 use std::process::Abort;
@@ -88,8 +88,8 @@ fn check_on_disks(rt: &(impl Abort + AllocGlobal), rows: &[Row], way: Way) -> Re
 #[test]
 fn transactions_in_memory(rt: HostRuntime) -> Result<(), Fail> {
     for way in [ENCODED_IN_BYTES, DECODED_AT_ONCE, IN_VERSION_1] {
-        check_in_memory(&rt, TRANSACTIONS, way)?;
-        check_in_memory(&rt, BAD_CHANGES, way)?;
+        check_in_memory(&rt, transactions(), way)?;
+        check_in_memory(&rt, bad_changes(), way)?;
     }
     Ok(())
 }
@@ -97,26 +97,26 @@ fn transactions_in_memory(rt: HostRuntime) -> Result<(), Fail> {
 #[test]
 fn blocks_in_memory(rt: HostRuntime) -> Result<(), Fail> {
     for way in [ENCODED_IN_CHUNKS, ENCODED_AT_ONCE, DECODED_IN_BYTES] {
-        check_in_memory(&rt, BLOCKS, way)?;
-        check_in_memory(&rt, STATES, way)?;
+        check_in_memory(&rt, blocks(), way)?;
+        check_in_memory(&rt, states(), way)?;
     }
     Ok(())
 }
 
 #[test]
 fn version_1_has_no_blocks(rt: HostRuntime) -> Result<(), Fail> {
-    check_in_memory(&rt, VERSION_1, IN_VERSION_1)
+    check_in_memory(&rt, states_in_version_1(), IN_VERSION_1)
 }
 
 #[test]
 fn transactions_on_disks(rt: HostRuntime) -> Result<(), Fail> {
-    check_on_disks(&rt, TRANSACTIONS, ENCODED_IN_CHUNKS)?;
-    check_on_disks(&rt, BAD_CHANGES, DECODED_AT_ONCE)
+    check_on_disks(&rt, transactions(), ENCODED_IN_CHUNKS)?;
+    check_on_disks(&rt, bad_changes(), DECODED_AT_ONCE)
 }
 
 #[test]
 fn blocks_on_disks(rt: HostRuntime) -> Result<(), Fail> {
-    check_on_disks(&rt, BLOCKS, ENCODED_IN_BYTES)?;
-    check_on_disks(&rt, BLOCKS, DECODED_AT_ONCE)?;
-    check_on_disks(&rt, STATES, DECODED_IN_BYTES)
+    check_on_disks(&rt, blocks(), ENCODED_IN_BYTES)?;
+    check_on_disks(&rt, blocks(), DECODED_AT_ONCE)?;
+    check_on_disks(&rt, states(), DECODED_IN_BYTES)
 }
