@@ -1,6 +1,6 @@
 //! Stores over connections that others have filled, in memory and on disks in memory.
 
-use crate::cases::{Change, FILLED};
+use crate::cases::{Change, filled};
 use crate::lines::shown;
 use crate::stores::{
     Kept, Tables, TablesTrial, Trial, adopt, in_memory, on_connections, on_memory_disks,
@@ -70,8 +70,8 @@ struct GoesOn;
 
 impl Trial for GoesOn {
     fn run<R: Abort + AllocGlobal, C: Kept>(&self, rt: &R, store: C) -> Result<(), Fail> {
-        let again = go_on(rt, store, 0x0100_0000_0000_0130, FILLED.0, FILLED.2)?;
-        let _last = go_on(rt, again, 0x0100_0000_0000_0131, &[], FILLED.2)?;
+        let again = go_on(rt, store, 0x0100_0000_0000_0130, filled().0, filled().2)?;
+        let _last = go_on(rt, again, 0x0100_0000_0000_0131, &[], filled().2)?;
         Ok(())
     }
 }
@@ -93,8 +93,8 @@ impl TablesTrial for BeginsAnew {
     ) -> Result<(), Fail> {
         let mut store: C = adopt(rt, tables)?;
         expect(rt, &mut store, 0, "")?;
-        take(rt, &mut store, 0x130, FILLED.0)?;
-        expect(rt, &mut store, 0x130, FILLED.2)
+        take(rt, &mut store, 0x130, filled().0)?;
+        expect(rt, &mut store, 0x130, filled().2)
     }
 }
 
@@ -217,7 +217,7 @@ struct Changed {
 
 impl Trial for Changed {
     fn run<R: Abort + AllocGlobal, C: Kept>(&self, rt: &R, mut store: C) -> Result<(), Fail> {
-        take(rt, &mut store, 0x130, FILLED.0)?;
+        take(rt, &mut store, 0x130, filled().0)?;
         let mut tables = store.into_tables()?;
         tables.execute(self.change)?;
         if !self.is_right {
@@ -260,6 +260,10 @@ const DROPPED: &[(&str, Option<u64>)] = &[
     ("DROP TABLE held; CREATE TABLE other (x INTEGER)", None),
 ];
 
+fn dropped() -> &'static [(&'static str, Option<u64>)] {
+    DROPPED
+}
+
 /// A store of which tables were dropped is adopted without rows at the position, takes rows, and is adopted again.
 fn check_remade<R: Abort + AllocGlobal, C: Kept>(
     rt: &R,
@@ -268,7 +272,7 @@ fn check_remade<R: Abort + AllocGlobal, C: Kept>(
 ) -> Result<(), Fail> {
     let mut store: C = adopt(rt, tables)?;
     expect(rt, &mut store, position, "")?;
-    let _again = go_on(rt, store, 0x230, FILLED.0, FILLED.2)?;
+    let _again = go_on(rt, store, 0x230, filled().0, filled().2)?;
     Ok(())
 }
 
@@ -281,7 +285,7 @@ struct Dropped {
 
 impl Trial for Dropped {
     fn run<R: Abort + AllocGlobal, C: Kept>(&self, rt: &R, mut store: C) -> Result<(), Fail> {
-        take(rt, &mut store, 0x130, FILLED.0)?;
+        take(rt, &mut store, 0x130, filled().0)?;
         let mut tables = store.into_tables()?;
         tables.execute(self.drops)?;
         match self.position {
@@ -293,7 +297,7 @@ impl Trial for Dropped {
 
 #[test]
 fn dropped_tables_are_made(rt: HostRuntime) -> Result<(), Fail> {
-    for (drops, position) in DROPPED {
+    for (drops, position) in dropped() {
         let (drops, position) = (*drops, *position);
         in_memory(&rt, &Dropped { drops, position })?;
         on_memory_disks(&rt, &Dropped { drops, position })?;
@@ -306,7 +310,7 @@ struct KeepsDefinitions;
 
 impl Trial for KeepsDefinitions {
     fn run<R: Abort + AllocGlobal, C: Kept>(&self, rt: &R, mut store: C) -> Result<(), Fail> {
-        take(rt, &mut store, 0x130, FILLED.0)?;
+        take(rt, &mut store, 0x130, filled().0)?;
         let mut tables = store.into_tables()?;
         tables.execute("DROP TABLE held")?;
         let store: C = adopt(rt, tables)?;

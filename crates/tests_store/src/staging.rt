@@ -238,6 +238,10 @@ const FIRST_MISSED: StagedCase = (
 
 const CASES: &'static [StagedCase] = &[SETTLED, REFUSED, UNSTAGED, READ, MISSED, FIRST_MISSED];
 
+fn cases() -> &'static [StagedCase] {
+    CASES
+}
+
 /// How many changes found no row, with the commit and the relation of the first.
 fn missed<C: Kept>(store: &C) -> (u64, Option<(u64, u32)>) {
     let misses = store.misses();
@@ -304,7 +308,7 @@ impl Trial for MakesCalls {
 
 #[test]
 fn staged_commits_in_memory(rt: HostRuntime) -> Result<(), Fail> {
-    for case in CASES {
+    for case in cases() {
         in_memory(&rt, &MakesCalls { case: *case })?;
     }
     Ok(())
@@ -312,7 +316,7 @@ fn staged_commits_in_memory(rt: HostRuntime) -> Result<(), Fail> {
 
 #[test]
 fn staged_commits_on_memory_disks(rt: HostRuntime) -> Result<(), Fail> {
-    for case in CASES {
+    for case in cases() {
         on_memory_disks(&rt, &MakesCalls { case: *case })?;
     }
     Ok(())
