@@ -1,4 +1,6 @@
 //! What a server sends, and the stores that it leads to.
+//!
+//! Others have the recordings by a call: the proof of a function that names one carries all of it.
 
 use std::alloc::Global;
 use std::test::Fail;
@@ -30,7 +32,7 @@ const ONE_A_NULL: Cells = &[Some("1"), Some("a"), None];
 const TWO_B_C: Cells = &[Some("2"), Some("b"), Some("c")];
 
 /// Two transactions in blocks that alternate, with subtransactions that are rolled back.
-pub(crate) static IN_BLOCKS: Recording = Recording {
+static IN_BLOCKS: Recording = Recording {
     messages: &[
         "53 0000000a 01",
         "52 0000000a 00004000 7075626c696300 7400 64 0002 01 696400 00000017 ffffffff 00 7600 00000019 ffffffff",
@@ -57,8 +59,12 @@ pub(crate) static IN_BLOCKS: Recording = Recording {
     states: &[(0, &[]), (0x330, &[ONE_E]), (0x430, &[ONE_L, TWO_M])],
 };
 
+pub(crate) fn in_blocks() -> &'static Recording {
+    &IN_BLOCKS
+}
+
 /// A table to which a column is added, so that its row is carried over.
-pub(crate) static CARRIED: Recording = Recording {
+static CARRIED: Recording = Recording {
     messages: &[
         "42 0000000000000100 0000000000000000 0000000a",
         "52 00004000 7075626c696300 7400 64 0002 01 696400 00000017 ffffffff 00 7600 00000019 ffffffff",
@@ -71,6 +77,10 @@ pub(crate) static CARRIED: Recording = Recording {
     ],
     states: &[(0, &[]), (0x130, &[ONE_A]), (0x230, &[ONE_A_NULL, TWO_B_C])],
 };
+
+pub(crate) fn carried() -> &'static Recording {
+    &CARRIED
+}
 
 /// The bytes of hexadecimal digits in groups.
 fn unhex(alloc: Global, digits: &str) -> Result<Vec<u8>, Fail> {

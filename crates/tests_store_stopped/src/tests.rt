@@ -1,7 +1,7 @@
 //! Each number of calls that a disk passes on before it stops.
 
 use crate::disks::{Calls, Left, NEVER, nothing, try_in_files, try_over};
-use crate::recordings::{CARRIED, IN_BLOCKS, Recording, bytes_of};
+use crate::recordings::{Recording, bytes_of, carried, in_blocks};
 use crate::runs::{GoesOn, Stops};
 use crate::staged::{GROUPS, Puts, PutsMore, end_of};
 use sqlite::Files;
@@ -67,22 +67,22 @@ fn sweep(alloc: Global, recording: &Recording, is_log: bool) -> Result<(), Fail>
 
 #[test]
 fn the_log_stops_in_blocks(rt: HostRuntime) -> Result<(), Fail> {
-    sweep(rt.alloc(), &IN_BLOCKS, true)
+    sweep(rt.alloc(), in_blocks(), true)
 }
 
 #[test]
 fn the_database_file_stops_in_blocks(rt: HostRuntime) -> Result<(), Fail> {
-    sweep(rt.alloc(), &IN_BLOCKS, false)
+    sweep(rt.alloc(), in_blocks(), false)
 }
 
 #[test]
 fn the_log_stops_while_rows_are_carried(rt: HostRuntime) -> Result<(), Fail> {
-    sweep(rt.alloc(), &CARRIED, true)
+    sweep(rt.alloc(), carried(), true)
 }
 
 #[test]
 fn the_database_file_stops_while_rows_are_carried(rt: HostRuntime) -> Result<(), Fail> {
-    sweep(rt.alloc(), &CARRIED, false)
+    sweep(rt.alloc(), carried(), false)
 }
 
 /// The end of the first group that ends behind this position, else the position.
@@ -152,7 +152,7 @@ fn the_database_file_stops_while_groups_are_settled(rt: HostRuntime) -> Result<(
 #[test]
 fn stopped_files_are_opened_again(rt: HostRuntime) -> Result<(), Fail> {
     let alloc = rt.alloc();
-    let bytes = bytes_of(alloc, CARRIED.messages)?;
+    let bytes = bytes_of(alloc, carried().messages)?;
     let new = Files {
         log: Memory::new(alloc),
         db: Memory::new(alloc),
@@ -163,12 +163,12 @@ fn stopped_files_are_opened_again(rt: HostRuntime) -> Result<(), Fail> {
     let files = try_in_files(alloc, new, &mut first)?;
     let mut second = GoesOn {
         bytes: bytes.as_slice(),
-        recording: &CARRIED,
+        recording: carried(),
         state: None,
     };
     let _files = try_in_files(alloc, files, &mut second)?;
     match second.state {
-        Some(state) if state.saturating_add(1) == CARRIED.states.len() => Ok(()),
+        Some(state) if state.saturating_add(1) == carried().states.len() => Ok(()),
         _ => Err(Fail::from("it isn't the last state")),
     }
 }
