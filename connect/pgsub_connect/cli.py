@@ -5,6 +5,7 @@ from __future__ import annotations
 import argparse
 import dataclasses
 import errno
+import functools
 import os
 import shutil
 import signal
@@ -415,8 +416,9 @@ COMMANDS: dict[str, tuple[str, Sequence[Callable[[argparse.ArgumentParser], None
 }
 
 
-def arguments(words: Sequence[str]) -> Options:
-    """Reads the command line. Without a subcommand it is `follow` where a store is named, and else `record`."""
+@functools.cache
+def parsers_of_commands() -> tuple[argparse.ArgumentParser, dict[str, argparse.ArgumentParser]]:
+    """What reads the command line, and what reads the words of each command."""
     parser = argparse.ArgumentParser(
         prog=log.PROGRAM, description=ABOUT, epilog=MORE + ENDS, formatter_class=argparse.RawDescriptionHelpFormatter
     )
@@ -430,6 +432,12 @@ def arguments(words: Sequence[str]) -> Options:
         )
         for add in adds:
             add(parsers[name])
+    return parser, parsers
+
+
+def arguments(words: Sequence[str]) -> Options:
+    """Reads the command line. Without a subcommand it is `follow` where a store is named, and else `record`."""
+    parser, parsers = parsers_of_commands()
     if words and words[0] not in (*COMMANDS, "-h", "--help", "--version"):
         has_store = any(word == "--store" or word.startswith("--store=") for word in words)
         words = ["follow" if has_store else "record", *words]

@@ -29,6 +29,9 @@ ROOM = 1 << 20
 PIECE = 1 << 16
 # The headers of payloads up to this length are kept.
 KEPT_HEADERS = 1 << 12
+# For how long one that opens its store is waited for, until it is looked whether the end was asked
+# for, in seconds.
+LOOK = 0.5
 # The size that the pipe to the filter is asked to have.
 PIPE = 1 << 20
 # The statuses with which a filter ends by itself.
@@ -189,7 +192,7 @@ class Filter:
         try:
             while not self.status:
                 check()
-                self.serve(0.5)
+                self.serve(LOOK)
         except BaseException:
             self.kill()
             raise

@@ -5,9 +5,11 @@ from __future__ import annotations
 import collections
 import contextlib
 import os
+import py_compile
 import threading
 import time
 from collections.abc import Callable, Sequence
+from pathlib import Path
 from unittest import mock
 
 from pgsub_connect import adding, following, postgres, watching
@@ -26,8 +28,42 @@ from .row_filter import Store
 from .small_world import World, WorldServer, WorldSource, catalog_table, delete, insert, table, update
 from .vectors import a_catalog
 
-FILTER = os.path.join(os.path.dirname(os.path.abspath(__file__)), "row_filter.py")
 T, OTHER, THIRD = 16385, 16390, 16395
+# How many commits a world begins with.
+FIRST = 25
+
+
+def compiled(path: str) -> str:
+    """A script, compiled where that can be kept: at each start of Python it would be again."""
+    try:
+        return py_compile.compile(path, doraise=True) or path
+    except OSError:
+        return path
+
+
+FILTER = compiled(os.path.join(os.path.dirname(os.path.abspath(__file__)), "row_filter.py"))
+
+
+class Begun:
+    """What a run over a world as it begins leaves, which is the same for all tests: the session, and
+    the files of the store."""
+
+    sessions: list[tuple[int, str]] = []
+    files: dict[str, bytes] = {}
+
+    @classmethod
+    def keep(cls, case: Case) -> None:
+        cls.sessions = list(case.server.started)
+        cls.files = {it.name: it.read_bytes() for it in Path(case.folder).iterdir() if it.is_file()}
+
+    @classmethod
+    def put(cls, case: Case) -> None:
+        case.server.started += cls.sessions
+        case.server.sessions = len(cls.sessions)
+        for name, content in cls.files.items():
+            file = os.open(f"{case.folder}/{name}", os.O_WRONLY | os.O_CREAT | os.O_EXCL, 0o600)
+            with open(file, "wb") as out:
+                out.write(content)
 
 
 class Run:
@@ -121,7 +157,7 @@ class Case(Quiet):
         WorldSource.open = 0
         self.addCleanup(setattr, WorldSource, "hook", staticmethod(lambda name: None))
         self.next = 100
-        for key in range(25):
+        for key in range(FIRST):
             self.world.commit(insert(T, (key, "a")), insert(OTHER, (key, "b")))
 
     def patch(self, where: object, name: str, by: object) -> None:
@@ -149,10 +185,16 @@ class Case(Quiet):
 
     def followed(self) -> None:
         """Follows until all is stored, and ends."""
+        is_first = not self.server.started and len(self.world.commits) == FIRST
+        if is_first and Begun.files:
+            Begun.put(self)
+            return
         run = Run(self)
         self.assertTrue(run.until(lambda: self.is_stored(run)), (self.said, run.raised))
         run.end()
         self.assertIsNone(run.raised)
+        if is_first:
+            Begun.keep(self)
 
     def want(self, *oids: int) -> None:
         Remembered(self.store).want(oids)

@@ -1,4 +1,4 @@
-#!/usr/bin/python3
+#!/usr/bin/python3 -SE
 """A filter in the place of `pgsub follow`: it stores nothing but its position, and says what the tests ask it to.
 
 usage: fake_filter follow --store FILE [--proto N] [--feed FOLDER --feed-system TEXT --feed-database TEXT --feed-slot TEXT] ..
@@ -8,28 +8,31 @@ FILE.says may hold one of these words:
   `status N TEXT`    ends at the first frame, with this status and this line on standard error
   `bytes HEX`        writes these bytes in place of its first status
   `slow SECONDS`     waits so long before its first status
-  `late SECONDS`     waits so long before it takes a commit
-  `parts SECONDS`    says a line on standard error in two parts, the second one so long after the first
+  `late PATH`        takes no commit before this file is there
+  `parts PATH`       says a line on standard error in two parts, the second one once this file is
+                     there, which it takes away
   `dies LSN`         kills itself once it has stored the commit with this end, in decimal, and takes the file away
   `rejects LSN N TEXT`  ends at the commit with this end, in decimal, with this status and this line on standard error, and takes the
                      file away; it confirms none of those before, as if all came at once
+
+The tests start it often, so it imports little.
 """
 
 from __future__ import annotations
 
 import os
-import signal
 import struct
 import sys
 import time
-from collections.abc import Iterator
-from pathlib import Path
-from typing import TYPE_CHECKING
 
+TYPE_CHECKING = False
 if TYPE_CHECKING:
+    from collections.abc import Iterator
+
     from feed_text import Writer
 
-TOOLS = Path(__file__).resolve().parent.parent.parent / "tools"
+# The signal that can't be handled.
+KILL = 9
 BEGIN, COMMIT, STREAM_COMMIT, DELETE = ord("B"), ord("C"), ord("c"), ord("D")
 MISSED = 16
 
@@ -41,6 +44,11 @@ def frames() -> Iterator[tuple[bytes, bytes]]:
         payload = source.read(length := int.from_bytes(head[1:], "big") - 4)
         if len(payload) == length:
             yield head[:1], payload
+
+
+def wait_for(path: str) -> None:
+    while not os.path.exists(path):
+        time.sleep(0.005)
 
 
 class Fake:
@@ -57,11 +65,14 @@ class Fake:
         self.confirmed, self.inside, self.received = self.position, False, 0
         self.feed: Writer | None = None
 
-    def open_feed(self, folder: Path, named: tuple[str, str, str]) -> bool:
+    def open_feed(self, name: str, named: tuple[str, str, str]) -> bool:
         """Begins a feed, or goes on with one whose last commit is the store's. Returns false where it isn't that of the store."""
-        sys.path.append(str(TOOLS))
+        from pathlib import Path
+
+        sys.path.append(str(Path(__file__).resolve().parent.parent.parent / "tools"))
         from feed_text import COMMIT_SIZE, Writer, lsn_text
 
+        folder = Path(name)
         there = sorted(it for it in folder.iterdir() if len(it.name) == 16)
         if there:
             last = there[-1].read_bytes()
@@ -77,7 +88,7 @@ class Fake:
 
     def keep(self, end: int) -> None:
         if self.says[:1] == ["late"]:
-            time.sleep(float(self.says[1]))
+            wait_for(self.says[1])
         if self.says[:2] == ["rejects", str(end)]:
             os.unlink(self.store + ".says")
             status, line = self.says[2].split(" ", 1)
@@ -93,7 +104,7 @@ class Fake:
             file.write(str(self.position))
         if self.says[:2] == ["dies", str(end)]:
             os.unlink(self.store + ".says")
-            os.kill(os.getpid(), signal.SIGKILL)
+            os.kill(os.getpid(), KILL)
         self.tell(end)
 
     def tell(self, end: int) -> None:
@@ -106,8 +117,10 @@ class Fake:
         oid, lsn = self.first
         line = f"pgsub: rows not found: {self.count}, first in relation {oid} at {lsn >> 32:X}/{lsn & 0xFFFFFFFF:X}\n".encode()
         cut = 25 if self.says[:1] == ["parts"] else 0
-        os.write(2, line[:cut])
-        time.sleep(float(self.says[1]) if cut else 0.0)
+        if cut:
+            os.write(2, line[:cut])
+            wait_for(self.says[1])
+            os.unlink(self.says[1])
         os.write(2, line[cut:])
 
     def take(self, payload: bytes) -> None:
@@ -144,7 +157,7 @@ def main(words: list[str]) -> int:
     fake = Fake(store, says)
     if "--feed" in words:
         folder, *named = (words[words.index(f"--feed{it}") + 1] for it in ("", "-system", "-database", "-slot"))
-        if not fake.open_feed(Path(folder), (named[0], named[1], named[2])):
+        if not fake.open_feed(folder, (named[0], named[1], named[2])):
             print("pgsub: feed 1 NotAFeed", file=sys.stderr, flush=True)
             return 3
     if says[:1] == ["slow"]:

@@ -65,6 +65,8 @@ class FakeNats:
                 connection, _ = self.listening.accept()
             except OSError:
                 return
+            # (as the real one: a line doesn't wait until the one before it is acknowledged)
+            connection.setsockopt(socket.IPPROTO_TCP, socket.TCP_NODELAY, 1)
             with connection, contextlib.suppress(OSError, ValueError, EOFError):
                 self.session(connection, connection.makefile("rb"))
 

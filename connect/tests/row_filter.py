@@ -1,4 +1,4 @@
-#!/usr/bin/python3
+#!/usr/bin/python3 -SE
 """A filter in the place of `pgsub follow` that keeps rows, in a file of the store's format: for tests that compare rows.
 
 usage: row_filter follow --store FILE [--proto N] [--max-buffered N] [--max-frame N] ..
@@ -6,22 +6,24 @@ usage: row_filter follow --store FILE [--proto N] [--max-buffered N] [--max-fram
 
 It is a plain reading of docs/PROTOCOL.md, slow, and checks no more than it needs to. The file FILE.dies may hold an LSN in decimal: the
 filter kills itself before it stores the commit with that end, and takes the file away.
+
+The tests start it often, so it imports little.
 """
 
 from __future__ import annotations
 
 import collections
-import contextlib
-import dataclasses
-import json
 import os
-import signal
 import sqlite3
 import struct
 import sys
-from collections.abc import Iterator
-from typing import Optional
 
+TYPE_CHECKING = False
+if TYPE_CHECKING:
+    from collections.abc import Iterator
+
+# The signal that can't be handled.
+KILL = 9
 Cell = tuple[str, bytes]
 Item = tuple[int, bytes]
 SCHEMA = (
@@ -41,16 +43,17 @@ class Fault(Exception):
         self.status = status
 
 
-@dataclasses.dataclass
 class Relation:
     """What a Relation message says."""
 
-    oid: int
-    namespace: str
-    name: str
-    letter: str
-    columns: list[tuple[int, str]]
-    raw: bytes
+    def __init__(
+        self, oid: int, namespace: str, name: str, letter: str, columns: list[tuple[int, str]], raw: bytes
+    ) -> None:
+        self.oid, self.namespace, self.name, self.letter = oid, namespace, name, letter
+        self.columns, self.raw = columns, raw
+
+    def is_same(self, other: Relation | None) -> bool:
+        return other is not None and vars(self) == vars(other)
 
     def is_keyed(self) -> bool:
         return self.letter in "di" and any(key for key, _ in self.columns)
@@ -105,7 +108,10 @@ class Store:
 
     def __init__(self, path: str, own: bool = False) -> None:
         self.path = path
-        self.base = sqlite3.connect(path, isolation_level=None, timeout=0 if own else 5)
+        # (what is in memory is read by several threads of a test, one at a time)
+        self.base = sqlite3.connect(
+            path, isolation_level=None, timeout=0 if own else 5, check_same_thread=path != ":memory:"
+        )
         # (it outlasts a kill, and no power cut)
         self.base.execute("PRAGMA synchronous = OFF")
         if own:
@@ -140,7 +146,7 @@ class Store:
         if letter == "T":
             self.base.execute("DELETE FROM held WHERE oid = ?", (oid,))
         before = self.described.get(oid)
-        if before != relation:
+        if not relation.is_same(before):
             if before is not None and before.shape() != relation.shape():
                 self.carry(before, relation)
             self.described[oid] = relation
@@ -182,7 +188,7 @@ class Store:
         else:
             self.base.execute("INSERT INTO held VALUES (?, ?, ?, 1)", (relation.oid, ident, spelled(cells)))
 
-    def replace(self, relation: Relation, old: list[Cell], new: Optional[list[Cell]]) -> None:
+    def replace(self, relation: Relation, old: list[Cell], new: list[Cell] | None) -> None:
         where = (relation.oid, self.ident(relation, old))
         found = self.base.execute("SELECT body, copies FROM held WHERE oid = ? AND ident = ?", where).fetchone()
         if found is None:
@@ -195,9 +201,9 @@ class Store:
             kept = read_tuple(found[0], 0)[0]
             self.put(relation, [was if it[0] == "u" else it for it, was in zip(new, kept)])
 
-    def rows(self) -> dict[int, collections.Counter[tuple[Optional[str], ...]]]:
+    def rows(self) -> dict[int, collections.Counter[tuple[str | None, ...]]]:
         """Each table's rows, and how often each is there."""
-        found: dict[int, collections.Counter[tuple[Optional[str], ...]]] = {}
+        found: dict[int, collections.Counter[tuple[str | None, ...]]] = {}
         for oid, body, copies in self.base.execute("SELECT oid, body, copies FROM held"):
             cells = tuple(None if letter == "n" else value.decode() for letter, value in read_tuple(body, 0)[0])
             found.setdefault(oid, collections.Counter())[cells] += copies
@@ -216,7 +222,7 @@ class Subscriber:
         self.open: dict[int, list[Item]] = {}
         self.cost = 0
         self.relations: dict[int, Relation] = {}
-        self.inside: Optional[int] = None
+        self.inside: int | None = None
         self.is_pair = False
         self.received = self.confirmed
         self.lsn = 0
@@ -308,7 +314,7 @@ class Subscriber:
                 dies = int(file.read()) in (end, 0)
             if dies:
                 os.unlink(path)
-                os.kill(os.getpid(), signal.SIGKILL)
+                os.kill(os.getpid(), KILL)
 
 
 def pieces(limit: int) -> Iterator[tuple[bytes, bytes]]:
@@ -339,6 +345,8 @@ def follow(store: Store, most: int, limit: int) -> None:
 
 
 def dump(store: Store) -> None:
+    import json
+
     for oid, rows in sorted(store.rows().items()):
         it = store.described[oid]
         for row, count in rows.items():
@@ -359,15 +367,16 @@ def main(words: list[str]) -> int:
     except sqlite3.OperationalError as error:
         print(f"row_filter: {error}", file=sys.stderr)
         return 12
-    with contextlib.closing(store.base):
-        try:
-            if words[0] == "dump":
-                dump(store)
-            else:
-                follow(store, value("--max-buffered", 1 << 26), value("--max-frame", 1 << 24))
-        except Fault as fault:
-            print(fault, file=sys.stderr, flush=True)
-            return fault.status
+    try:
+        if words[0] == "dump":
+            dump(store)
+        else:
+            follow(store, value("--max-buffered", 1 << 26), value("--max-frame", 1 << 24))
+    except Fault as fault:
+        print(fault, file=sys.stderr, flush=True)
+        return fault.status
+    finally:
+        store.base.close()
     return 0
 
 

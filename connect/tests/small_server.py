@@ -59,7 +59,8 @@ class SmallServer:
         self.path = f"{folder}/.s.PGSQL.{port}"
         self.listener.bind(self.path)
         self.listener.listen(50)
-        self.ended = False
+        # (a pipe, whose end wakes all that wait)
+        self.ended, (self.woken, self.wake) = False, os.pipe()
         self.threads: list[threading.Thread] = []
         self.begin(self.accept)
 
@@ -69,21 +70,31 @@ class SmallServer:
         thread.start()
 
     def close(self) -> None:
+        if self.ended:
+            return
         self.ended = True
+        os.close(self.wake)
         for thread in self.threads:
-            thread.join(5)
+            thread.join(20)
+        os.close(self.woken)
         self.listener.close()
         with contextlib.suppress(FileNotFoundError):
             os.unlink(self.path)
+
+    def forget(self) -> None:
+        """Forgets what it was told, once it has heard that nobody is connected any more."""
+        for thread in self.threads[1:]:
+            thread.join(20)
+        self.statuses.clear()
 
     def dsn(self) -> str:
         return f"host={self.folder} port={self.port} dbname=shop user=u"
 
     def accept(self) -> None:
-        while not self.ended:
-            if select.select([self.listener], [], [], 0.02)[0]:
-                with contextlib.suppress(OSError):
-                    self.begin(self.serve, self.listener.accept()[0])
+        with contextlib.suppress(OSError, EOFError):
+            while True:
+                self.wait_for(self.listener)
+                self.begin(self.serve, self.listener.accept()[0])
 
     def serve(self, peer: socket.socket) -> None:
         with peer, contextlib.suppress(OSError, EOFError):
@@ -106,17 +117,18 @@ class SmallServer:
             for query in self.queries(peer):
                 self.answer(peer, query)
 
-    def pause(self) -> None:
-        if self.ended:
+    def wait_for(self, *what: socket.socket, seconds: float | None = None) -> None:
+        """Waits until something has come on one of these. Raises where the server has ended."""
+        if self.woken in select.select([self.woken, *what], [], [], seconds)[0]:
             raise EOFError
-        time.sleep(0.01)
+
+    def pause(self) -> None:
+        self.wait_for(seconds=0.01)
 
     def read(self, peer: socket.socket, size: int) -> bytes:
         found = b""
         while len(found) < size:
-            while not select.select([peer], [], [], 0.02)[0]:
-                if self.ended:
-                    raise EOFError
+            self.wait_for(peer)
             piece = peer.recv(size - len(found))
             if not piece:
                 raise EOFError
@@ -152,19 +164,27 @@ class SmallServer:
         """A session: sends what there is to send, and notes what it is told."""
         self.sessions += 1
         peer.sendall(COPY_BOTH)
-        self.begin(self.send_all, peer)
-        for tag, body in self.messages(peer):
-            if tag == b"c":
-                peer.sendall(message(b"c", b"") + message(b"C", b"COPY 0\0") + READY)
-                return
-            if tag == b"d":
-                self.statuses.append((time.monotonic(), body))
-                if body[-1:] == b"\x01" and self.answers_asking:
-                    peer.sendall(message(b"d", b"k" + body[9:17] + bytes(8) + b"\0"))
+        copies = threading.Event()
+        copies.set()
+        self.begin(self.send_all, peer, copies)
+        try:
+            for tag, body in self.messages(peer):
+                if tag == b"c":
+                    peer.sendall(message(b"c", b"") + message(b"C", b"COPY 0\0") + READY)
+                    return
+                if tag == b"d":
+                    self.statuses.append((time.monotonic(), body))
+                    if body[-1:] == b"\x01" and self.answers_asking:
+                        peer.sendall(message(b"d", b"k" + body[9:17] + bytes(8) + b"\0"))
+        finally:
+            copies.clear()
 
-    def send_all(self, peer: socket.socket) -> None:
+    def send_all(self, peer: socket.socket, copies: threading.Event) -> None:
+        """Sends what there is to send as long as the session copies; what couldn't be sent is left to
+        the next one."""
         with contextlib.suppress(OSError, EOFError):
-            while True:
+            while copies.is_set():
                 while self.to_send:
-                    peer.sendall(message(b"d", self.to_send.pop(0)))
+                    peer.sendall(message(b"d", self.to_send[0]))
+                    del self.to_send[:1]
                 self.pause()

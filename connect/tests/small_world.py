@@ -65,19 +65,32 @@ class World:
         self.end, self.xid = 0x1000000, 700
         self.commits: list[tuple[int, list[bytes]]] = []
         self.lock = threading.RLock()
+        # what the first commits make, how many they are, and how tables were described then
+        self.made, self.taken, self.as_known = Subscriber(Store(":memory:")), 0, self.known
+        # (notified where sessions may have something to do)
+        self.news = threading.Condition(self.lock)
+
+    def tell(self) -> None:
+        with self.news:
+            self.news.notify_all()
 
     def commit(self, *changes: bytes) -> None:
         with self.lock:
             lsn, self.end, self.xid = self.end, self.end + RECORD, self.xid + 1
             self.commits.append((self.end, [begin(lsn, self.xid), *changes, commit(lsn, self.end)]))
+            self.tell()
 
     def rows(self) -> dict[int, collections.Counter[tuple[str | None, ...]]]:
         """The rows of each table now."""
-        subscriber = Subscriber(Store(":memory:"))
         with self.lock:
-            for payload in self.described(0, self.commits):
-                subscriber.take(payload)
-        return {oid: rows for oid, rows in subscriber.store.rows().items() if rows}
+            if self.as_known != self.known:
+                self.made.store.base.close()
+                self.made, self.taken = Subscriber(Store(":memory:")), 0
+            self.as_known = dict(self.known)
+            for payload in self.described(0, self.commits[self.taken :], set(self.made.relations)):
+                self.made.take(payload)
+            self.taken = len(self.commits)
+            return {oid: rows for oid, rows in self.made.store.rows().items() if rows}
 
     def rows_of(self, *oids: int) -> dict[int, collections.Counter[tuple[str | None, ...]]]:
         return {oid: rows for oid, rows in self.rows().items() if oid in oids}
@@ -123,20 +136,27 @@ class WorldServer(SmallServer):
         self.started.append((start, found[2]))
         peer.sendall(COPY_BOTH)
         ended, asked, sent, at = threading.Event(), threading.Event(), set[int](), 0
+        world = self.world
+
+        def is_over() -> bool:
+            return ended.is_set() or self.ended
+
+        def has_news() -> bool:
+            return is_over() or asked.is_set() or len(world.commits) > at
 
         def send() -> None:
             nonlocal at
             with contextlib.suppress(OSError):
-                while not ended.is_set() and not self.ended:
-                    with self.world.lock:
-                        commits, end = self.world.commits[at:], self.world.end
+                while not is_over():
+                    with world.news:
+                        world.news.wait_for(has_news)
+                        commits, end = world.commits[at:], world.end
                     at += len(commits)
-                    for payload in self.world.described(start, commits, sent):
+                    for payload in world.described(start, commits, sent):
                         peer.sendall(message(b"d", payload))
                     if asked.is_set():
                         asked.clear()
                         peer.sendall(message(b"d", keepalive(end)))
-                    time.sleep(0.005)
 
         self.begin(send)
         try:
@@ -148,8 +168,10 @@ class WorldServer(SmallServer):
                 self.statuses.append((time.monotonic(), body))
                 if body[-1:] == b"\x01":
                     asked.set()
+                    world.tell()
         finally:
             ended.set()
+            world.tell()
 
 
 class WorldSource:

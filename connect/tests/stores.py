@@ -3,6 +3,7 @@
 from __future__ import annotations
 
 import contextlib
+import functools
 import sqlite3
 import struct
 import tempfile
@@ -24,6 +25,13 @@ Cell = str | bytes | None
 
 
 def spelled(cells: Sequence[Cell]) -> bytes:
+    """How a store has cells."""
+    return spelled_once(tuple(cells))
+
+
+# (tests write the same rows again and again)
+@functools.cache
+def spelled_once(cells: tuple[Cell, ...]) -> bytes:
     parts = [struct.pack(">H", len(cells))]
     for cell in cells:
         body = cell.encode() if isinstance(cell, str) else cell

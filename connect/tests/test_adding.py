@@ -169,9 +169,14 @@ class Altered(Case):
 
     def described(self, **options: object) -> Run:
         """Begins to add tables, and lets their changes come, which are left out."""
+        began_waiting = True
 
         def hook(name: str) -> None:
-            if name == "make_slot" and self.waits:
+            nonlocal began_waiting
+            if name == "Source":
+                began_waiting = self.waits
+            # (what was read of a table before the wait ended may be from before it was altered)
+            if name == "make_slot" and began_waiting:
                 raise NoSlot("late")
             if name == "COPY" and self.world.tables[T].identity == "f":
                 self.alter(False)

@@ -32,6 +32,12 @@ from .test_following import Case
 from .vectors import begin, commit, insert as inserted, keepalive
 
 
+# What a child's code has before it begins.
+QUICK = (
+    "from pgsub_connect.feed import noting, polling; noting.OFTEN = 0.05; polling.PATIENCE = 0.2; "
+)
+
+
 def wait_until(holds: Callable[[], object], seconds: float = 20.0) -> bool:
     until = time.monotonic() + seconds
     while not holds() and time.monotonic() < until:
@@ -131,9 +137,10 @@ class Followed(Case):
 
     def unlock(self) -> None:
         """Lets another follower begin."""
-        os.close(self.checkpoint.file)
-        # (the number is closed once more when the test ends)
-        self.checkpoint.file = os.open(os.devnull, os.O_RDONLY)
+        nothing = os.open(os.devnull, os.O_RDONLY)
+        # (the number stays taken until the test ends, which closes it)
+        os.dup2(nothing, self.checkpoint.file, inheritable=False)
+        os.close(nothing)
 
     def test_following_without_it(self) -> None:
         self.follow_once()
@@ -328,13 +335,19 @@ class Tables(FeedCase):
         self.options = Options(store=str(self.folder / "copy.db"), feed=str(self.path), tables=self.into)
 
     def kept(self, code: str | None = None) -> Beside:
-        """One that runs this in the place of `pgsub-connect tables`; by default that itself, from the beginning of the feed."""
+        """One that runs this in the place of `pgsub-connect tables`; by default that itself, from the
+        beginning of the feed, which notes at once how far it is, and bears for a short time what is
+        wrong."""
         it = Beside(self.options, self.progress)
         if code is not None:
-            it.words = [sys.executable, "-c", code]
+            it.words = [sys.executable, "-S", "-c", code]
         else:
             at = it.words.index("--store")
             it.words = [*it.words[:at], *it.words[at + 2 :]]
+            at = it.words.index("-c") + 1
+            begins = "from pgsub_connect.cli"
+            self.assertIn(begins, it.words[at])
+            it.words[at] = it.words[at].replace(begins, QUICK + begins)
         self.addCleanup(it.finish)
         it.start()
         return it

@@ -3,10 +3,13 @@
 from __future__ import annotations
 
 import os
+import select
 import time
 import unittest
+from pathlib import Path
 from unittest import mock
 
+from pgsub_connect import filtering
 from pgsub_connect.errors import FilterFault, Stopped
 from pgsub_connect.filtering import (
     COPY_DONE, HEADERS, MISSED, PIECE, ROOM, STATUS_HEAD, Filter, FilterEnded, Missing, asking, flushed, header, missing_of, without_received,
@@ -64,8 +67,17 @@ class Statuses(Case):
 
     def test_in_parts(self) -> None:
         status = "d\\0\\0\\0\\046r" + "\\0" * 15 + "\\007" + "\\0" * 17
-        child = self.shell(f"printf '{status[:14]}'; sleep 0.05; printf '{status[14:]}{status}'; cat > /dev/null")
-        self.assertEqual(child.start(), 7)
+        child = self.shell(
+            f"printf '{status[:14]}'; read it; printf '{status[14:]}{status}'; cat > /dev/null"
+        )
+        parts = list[int]()
+
+        def go_on() -> None:
+            if child.partial and not parts:
+                parts.append(len(child.partial))
+                child.push(b"x\n")
+
+        self.assertEqual((child.start(go_on), parts), (7, [7]))
 
     def test_what_isnt_one(self) -> None:
         for script in ("printf '%050d' 5", "printf 'd\\0\\0\\0\\047r%040d' 5", "printf 'd\\0\\0\\0\\046k%040d' 5"):
@@ -128,7 +140,7 @@ class Ends(Case):
                 raise Stopped
 
         child, began = self.filter(), time.monotonic()
-        with self.assertRaises(Stopped):
+        with mock.patch.object(filtering, "LOOK", 0.02), self.assertRaises(Stopped):
             child.start(check)
         self.assertLess(time.monotonic() - began, 10.0)
         self.assertFalse(child.is_running())
@@ -168,9 +180,8 @@ class Misses(Case):
         child.start()
         child.push_payloads([begin(0x100, 7), delete(3), delete(4), commit(0x100, 0x108)])
         child.write()
-        while not os.path.exists(self.store):
-            time.sleep(0.01)
-        time.sleep(0.2)
+        # (what it says comes before its status)
+        self.assertTrue(select.select([child.up], [], [], 20.0)[0])
         with mock.patch("select.select", lambda *_: ([child.up], [], [])):
             self.assertEqual(len(child.serve(1.0)[2]), 1)
         self.assertEqual(child.missing, Missing(2, 0x108, 3))
@@ -185,15 +196,17 @@ class Misses(Case):
     def test_a_line_in_two_parts(self) -> None:
         """Each of which is read by itself."""
         child = self.shell(
-            f"printf '{self.STATUS}'; printf 'pgsub: rows not fou' >&2; sleep 0.3; printf 'nd: {self.LINE[23:]}\\nmore' >&2;"
-            f" printf '{self.STATUS}'; sleep 0.3; printf '!\\n' >&2; cat > /dev/null"
+            f"printf '{self.STATUS}'; printf 'pgsub: rows not fou' >&2; read it; printf 'nd: {self.LINE[23:]}\\nmore' >&2;"
+            f" printf '{self.STATUS}'; read it; printf '!\\n' >&2; cat > /dev/null"
         )
         child.start()
         while not child.line:
             child.serve(0.01)
         self.assertEqual((child.line, child.missing), (b"pgsub: rows not fou", Missing()))
+        child.push(b"x\n")
         self.statuses(child)
         self.assertEqual((child.missing, child.line, self.said), (Missing(3, 0x1A2B3C8, 16385), b"more", []))
+        child.push(b"x\n")
         while child.line:
             child.serve(0.01)
         self.assertEqual(self.said, ["filter: more!"])
@@ -242,13 +255,18 @@ class Given(Case):
 
     def test_to_one_that_takes_no_more(self) -> None:
         """Its end tells why."""
-        child = self.shell("printf 'd\\0\\0\\0\\046r%033d' 0; exec <&-; sleep 0.2; exit 1")
+        told = self.store + ".told"
+        child = self.shell(
+            "printf 'd\\0\\0\\0\\046r%033d' 0; exec <&-;"
+            f" until [ -e {told} ]; do sleep 0.01; done; exit 1"
+        )
         child.start()
         until = time.monotonic() + 20
         while child.takes and time.monotonic() < until:
             child.push_payloads([keepalive(1)] * 10)
         child.push_payloads([keepalive(1)] * 10)
         child.write()
+        Path(told).touch()
         self.assertEqual(self.end(child).status, 1)
 
     def test_bytes(self) -> None:

@@ -7,6 +7,7 @@ import os
 import signal
 import unittest
 from collections.abc import Sequence
+from pathlib import Path
 from unittest import mock
 
 from pgsub_connect import cli
@@ -48,6 +49,17 @@ class FollowCase(Case):
     def says(self, text: str) -> None:
         with open(self.store + ".says", "w", encoding="ascii") as file:
             file.write(text)
+
+    def takes_late(self, follower: Follower) -> None:
+        """Has the filter take no commit before it was told that nothing more comes."""
+        self.says(f"late {self.folder}/goes_on")
+        finish = follower.filter.finish
+
+        def finishes() -> None:
+            finish()
+            Path(self.folder, "goes_on").touch()
+
+        self.patch(follower.filter, "finish", finishes)
 
     def stored(self) -> int:
         with open(self.store, encoding="ascii") as file:
@@ -92,20 +104,29 @@ class Order(FollowCase):
         return happened
 
     def run_with(self, payloads: Sequence[bytes], end: int) -> list[tuple[str, int, int]]:
-        follower = self.follower(heartbeat=0.01)
+        follower, heard = self.follower(heartbeat=0.01), set[int]()
         happened = self.events(follower)
         self.server.to_send = list(payloads)
-        self.run_until(follower, lambda: self.confirmed() >= end)
+
+        def holds() -> bool:
+            # (the second part of a line is said once the first one was read)
+            child = follower.filter
+            if child.runs and child.line and child.missing.total not in heard:
+                heard.add(child.missing.total)
+                Path(self.folder, "goes_on").touch()
+            return self.confirmed() >= end
+
+        self.run_until(follower, holds)
         return happened
 
     def test_missing_ones_are_counted_before_they_are_confirmed(self) -> None:
         for late in (False, True):
             with self.subTest(late=late):
                 if late:
-                    self.says("parts 0.2")
+                    self.says(f"parts {self.folder}/goes_on")
                     os.unlink(self.store)
                     os.unlink(self.store + ".connector")
-                    self.server.statuses.clear()
+                    self.server.forget()
                 happened = self.run_with([*ONE, *missing_commit(0x110, 2), *missing_commit(0x120)], 0x128)
                 for lsn, count in ((0x118, 2), (0x128, 3)):
                     first = next(index for index, it in enumerate(happened) if it[0] == "sent" and it[1] >= lsn)
@@ -226,7 +247,7 @@ class Calls(FollowCase):
 
             self.patch(follower, "session", session)
             self.server.to_send = [*ONE, *[it for lsn in range(0x200, 0x300, 16) for it in (begin(lsn, 7), insert(1), commit(lsn, lsn + 8))]]
-            self.server.statuses.clear()
+            self.server.forget()
             self.run_until(follower, lambda: self.confirmed() == 0x2F8)
         return waiting, told
 
@@ -310,8 +331,8 @@ class Killed(FollowCase):
 
     def test_no_filter_is_killed_where_something_else_ends_the_run(self) -> None:
         """It would leave commits of which nobody knows."""
-        self.says("late 0.2")
         follower = self.follower()
+        self.takes_late(follower)
         self.server.to_send = [*ONE, *missing_commit(0x110)]
 
         def tend(*_: object) -> bool:
@@ -443,8 +464,8 @@ class Told(FollowCase):
 
     def test_what_comes_at_the_very_end(self) -> None:
         """The filter may store a commit after the end was asked for."""
-        self.says("late 0.3")
         follower = self.follower()
+        self.takes_late(follower)
         self.server.to_send = missing_commit(0x100)
         self.run_until(follower, lambda: follower.noting.commits == 1 and not follower.filter.waiting)
         self.assertEqual((self.counted(), len(self.lines())), (Counted(0, 0x108, 1, 0x108, 1), 1))

@@ -94,7 +94,7 @@ class Queries(Case):
         connection.check = StopsLater(2)
         with self.assertRaises(Stopped):
             connection.rows("SELECT")
-        until = time.monotonic() + 5
+        until = time.monotonic() + 20
         while not self.server.canceled and time.monotonic() < until:
             time.sleep(0.01)
         self.assertEqual(self.server.canceled, 1)
@@ -209,7 +209,7 @@ class Copies(Case):
         connection = self.connect()
         connection.run("START_REPLICATION", COPY_BOTH, 5.0)
         payloads: list[bytes] = []
-        until = time.monotonic() + 5
+        until = time.monotonic() + 20
         while len(payloads) < 2 and time.monotonic() < until:
             if payload := connection.next_payload():
                 payloads.append(payload)
@@ -231,7 +231,7 @@ class Copies(Case):
         for quick in (True, False):
             server = self.start(5433 + quick)
             server.to_send = list(sent)
-            connection, lots, more, until = self.connect(server.dsn()), list[list[bytes]](), True, time.monotonic() + 10
+            connection, lots, more, until = self.connect(server.dsn()), list[list[bytes]](), True, time.monotonic() + 20
             connection.run("START_REPLICATION", COPY_BOTH, 5.0)
             with mock.patch.object(postgres, "GET_COPY_DATA", postgres.GET_COPY_DATA if quick else None):
                 while sum(map(len, lots)) < len(sent) and time.monotonic() < until:
@@ -253,7 +253,7 @@ class Copies(Case):
             with mock.patch.object(small_server, "COPY_BOTH", body), mock.patch.object(
                 postgres, "GET_COPY_DATA", postgres.GET_COPY_DATA if quick else None
             ):
-                connection, found, until = self.connect(), list[bytes](), time.monotonic() + 10
+                connection, found, until = self.connect(), list[bytes](), time.monotonic() + 20
                 connection.run("START_REPLICATION", COPY_BOTH, 5.0)
                 with self.assertRaisesRegex(ServerError, "terminating") as raised:
                     while time.monotonic() < until:

@@ -55,7 +55,7 @@ class Case(Quiet):
 
     def statuses(self, count: int) -> list[int]:
         """What the server was told to be flushed, once it was told so often."""
-        until = time.monotonic() + 10
+        until = time.monotonic() + 20
         while len(self.server.statuses) < count and time.monotonic() < until:
             time.sleep(0.01)
         return [flushed(body) for _, body in self.server.statuses]

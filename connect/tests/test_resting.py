@@ -188,7 +188,7 @@ class Asked(Case):
         with open(self.path + ".request", "w") as file:
             json.dump({"into": "/rows.db"}, file)
         with self.followed():
-            until = time.monotonic() + 5
+            until = time.monotonic() + 20
             while "error" not in (found := resting.read_request(self.path + ".request")) and time.monotonic() < until:
                 time.sleep(0.01)
         self.assertEqual(found, {"into": "/rows.db", "error": "the copy has to be a new file in the store's folder"})

@@ -521,6 +521,7 @@ class AnyTime(RedisCase):
                 self.feed.path.unlink()
                 self.feed.at = self.at = 0
                 self.feed.begin()
+                self.state = Replay()
                 self.go(random.Random(seed))
 
     def go(self, rng: random.Random) -> None:
@@ -554,7 +555,10 @@ class AnyTime(RedisCase):
         if self.server.at() is None:
             return
         high, low = (self.server.at() or "").split("/")
-        state = replay(self.path, until=(int(high, 16) << 32) + int(low, 16))
+        # (it goes on from where the last comparison was)
+        until = (int(high, 16) << 32) + int(low, 16)
+        state = self.state = replay(self.path, self.state, until=until)
+        self.assertEqual(f"{state.at >> 32:X}/{state.at & 0xFFFFFFFF:X}", self.server.at())
         noted = json.loads(self.server.data.get(b"pgsub:tables", b'{"kept":[]}'))["kept"]
         ours = {}
         for name, it in noted:

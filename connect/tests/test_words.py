@@ -10,7 +10,6 @@ import pty
 import signal
 import subprocess
 import sys
-import time
 import unittest
 from collections.abc import Callable
 from unittest import mock
@@ -141,16 +140,17 @@ class Ends(Quiet):
         """The first one asks for the end, the second one is the end."""
         code = (
             "import os, sys, time\nfrom pgsub_connect.cli import Start, stop_by_signals\nstart = Start()\nstop_by_signals(start)\n"
-            "print('ready', flush=True)\nwhile True:\n    time.sleep(0.01)\n"
+            "print('ready', flush=True)\nwhile not start.stop_asked:\n    time.sleep(0.01)\n"
+            "print('asked', flush=True)\nwhile True:\n    time.sleep(0.01)\n"
         )
         with subprocess.Popen([sys.executable, "-c", code], cwd=CONNECT, stdout=subprocess.PIPE) as child:
             assert child.stdout
             child.stdout.readline()
             child.send_signal(signal.SIGTERM)
-            time.sleep(0.1)
+            self.assertEqual(child.stdout.readline(), b"asked\n")
             self.assertIsNone(child.poll())
             child.send_signal(signal.SIGTERM)
-            self.assertEqual(child.wait(10), 128 + signal.SIGTERM)
+            self.assertEqual(child.wait(20), 128 + signal.SIGTERM)
 
 
 class Asks(Quiet):

@@ -12,13 +12,12 @@ use pgorder::Version;
 use pgruns::{
     FeedPlan, FileFolder, apply_fed_to_file, apply_to_file, dump_file, follow_fed_file, follow_file,
 };
-use pgstore::Store;
 use pgsub_cli::fault::RunFault;
-use pgsub_cli::reporting::Reporter;
-use pgsub_cli::storing::{Incoming, read_input, store_fault, tell_stopped};
-use pgsub_cli::{MissedLines, run, run_opened, store_path};
+use pgsub_cli::reporting::{Reporter, run_in_memory};
+use pgsub_cli::storing::{Incoming, read_input, tell_stopped};
+use pgsub_cli::{MissedLines, run, store_path};
 use pgsub_core::Side;
-use sqlite::{Alter, Unknown};
+use sqlite::Unknown;
 use std::alloc::AllocError;
 use std::cell::RefCell;
 use std::fs::File;
@@ -336,40 +335,23 @@ fn run_live_fed<D: Folder + Drop>(
     ))
 }
 
-/// Runs a task over a store in memory, and tells meanwhile how far it is.
-fn run_told<S: Alter + Drop>(
-    rt: &HostRuntime,
-    task: &Task,
-    input: Option<(Version, Incoming<File>)>,
-    store: Store<S>,
-) -> (u8, Store<S>) {
+/// Applies a recording or a file to a store in memory, which ends with the program, and tells
+/// meanwhile how far it is.
+fn run_told(rt: &HostRuntime, task: &Task) -> u8 {
     let (mut out, mut err) = (rt.stdout(), rt.stderr());
-    let reporter = reporter_of(rt, task, &input);
-    run_opened(
+    let input = match input_of(rt, task) {
+        Ok(input) => input,
+        Err(fault) => return tell_stopped(rt.alloc(), task, fault, &mut err),
+    };
+    let (limits, reporter) = (limits_of(task), reporter_of(rt, task, &input));
+    run_in_memory(
         rt.alloc(),
-        store,
-        limits_of(task),
+        limits,
         input,
         reporter.as_ref(),
         &mut out,
         &mut err,
     )
-}
-
-/// Applies a recording or a file to a store in memory, which ends with the program, and tells meanwhile how far it is.
-fn run_in_memory(rt: &HostRuntime, task: &Task) -> u8 {
-    let mut err = rt.stderr();
-    let input = match input_of(rt, task) {
-        Ok(input) => input,
-        Err(fault) => return tell_stopped(rt.alloc(), task, fault, &mut err),
-    };
-    match Store::on_memory_disks(rt.alloc()) {
-        Ok(store) => status_of(run_told(rt, task, input, store)),
-        Err(fault) => {
-            let stopped = RunFault::Stream(store_fault(fault));
-            tell_stopped(rt.alloc(), task, stopped, &mut err)
-        }
-    }
 }
 
 /// Tells that there is no memory for the task that the words ask for. Returns the exit status.
@@ -411,7 +393,7 @@ fn run_words(rt: &HostRuntime, words: &[String]) -> u8 {
         return run_over(rt, &task, path);
     }
     if let Task::Apply { progress: true, .. } = &task {
-        return run_in_memory(rt, &task);
+        return run_told(rt, &task);
     }
     let (left, right) = files_of(rt, &task);
     let (mut out, mut err) = (rt.stdout(), rt.stderr());

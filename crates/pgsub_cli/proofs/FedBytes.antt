@@ -18,8 +18,8 @@ use Rattle.pgsub_core.specs.Subscriber.Crashing.{LeavesOldOr, FedOver, StandsAsF
 use Rattle.pgsub_core.proofs.Crashes.{leaves_as}
 use Rattle.pgsub_core.proofs.FollowSteps.{until_of}
 use Rattle.pgsub_core.proofs.Pumped.{pumps_session}
-use Rattle.pgsub_cli.specs.Fed.{FeedsFile}
 use Rattle.pgsub_cli.specs.Limits.{clock}
+use Rattle.pgsub_cli.specs.StoreAfter.{FeedsFile}
 use Rattle.pgsub_cli.specs.Runs.{AreRead, fault_of_feeding}
 
 -- each piece has a byte
@@ -42,26 +42,12 @@ given (Some known) None bytes read end = absurd read
 given (Some known) (Some more) bytes read end = sym (read ∙ ap (λ (r : List ℕ). bytes ++ r) end ∙ append-nil bytes)
 
 feeding_is : (f : Fault) → f ≢ fault.Read → fault_of_feeding (Some f) ≡ Some f
-feeding_is (fault.Wire k) other = refl
-feeding_is (fault.Decode k) other = refl
-feeding_is (fault.Order k) other = refl
-feeding_is (fault.Relation k) other = refl
-feeding_is (fault.Spool k) other = refl
-feeding_is (fault.Store k) other = refl
 feeding_is fault.Read other = absurd (other refl)
-feeding_is fault.Closed other = refl
-feeding_is fault.Memory other = refl
+feeding_is f other = refl
 
 read_until : {R : Type 0} (gives begins : R → List ℕ → Type 0) (failed : R → Type 0) (file : R) (bytes : List ℕ) (f : Fault) → f ≢ fault.Read → begins file bytes → AreRead gives begins failed file bytes (Some f)
-read_until gives begins failed file bytes (fault.Wire k) other first = first
-read_until gives begins failed file bytes (fault.Decode k) other first = first
-read_until gives begins failed file bytes (fault.Order k) other first = first
-read_until gives begins failed file bytes (fault.Relation k) other first = first
-read_until gives begins failed file bytes (fault.Spool k) other first = first
-read_until gives begins failed file bytes (fault.Store k) other first = first
 read_until gives begins failed file bytes fault.Read other first = absurd (other refl)
-read_until gives begins failed file bytes fault.Closed other first = first
-read_until gives begins failed file bytes fault.Memory other first = first
+read_until gives begins failed file bytes f other first = first
 
 module _ {C : Type 0} (holds : C → Tables → Type 0) (place : C → ℕ) (old mid : SubscriberValue C) (same : mid.applied.store ≡ old.applied.store) (first : (tables : Tables) → seen place mid tables ≡ disconnect (seen place old tables)) where
   held : (tables : Tables) → holds old.applied.store tables → holds mid.applied.store tables
@@ -130,14 +116,7 @@ module _ {C : Type 0} (holds : C → Tables → Type 0) (place : C → ℕ) (old
         by_fault : (f : Fault) → (f ≡ fault.Read → Pumps holds place clock unread rest reads reads' mid new) → (f ≢ fault.Read → PumpsUntil holds place clock unread rest mid new f)
             → FeedsFile gives begins (λ _. ⊤) holds place file old new (Some f)
         by_fault fault.Read failed refused = failing unread rest reads reads' new is (failed refl)
-        by_fault (fault.Wire k) failed refused = let other : fault.Wire k ≢ fault.Read = λ e. absurd (cc) in until unread rest new (fault.Wire k) is other (refused other)
-        by_fault (fault.Decode k) failed refused = let other : fault.Decode k ≢ fault.Read = λ e. absurd (cc) in until unread rest new (fault.Decode k) is other (refused other)
-        by_fault (fault.Order k) failed refused = let other : fault.Order k ≢ fault.Read = λ e. absurd (cc) in until unread rest new (fault.Order k) is other (refused other)
-        by_fault (fault.Relation k) failed refused = let other : fault.Relation k ≢ fault.Read = λ e. absurd (cc) in until unread rest new (fault.Relation k) is other (refused other)
-        by_fault (fault.Spool k) failed refused = let other : fault.Spool k ≢ fault.Read = λ e. absurd (cc) in until unread rest new (fault.Spool k) is other (refused other)
-        by_fault (fault.Store k) failed refused = let other : fault.Store k ≢ fault.Read = λ e. absurd (cc) in until unread rest new (fault.Store k) is other (refused other)
-        by_fault fault.Closed failed refused = let other : fault.Closed ≢ fault.Read = λ e. absurd (cc) in until unread rest new fault.Closed is other (refused other)
-        by_fault fault.Memory failed refused = let other : fault.Memory ≢ fault.Read = λ e. absurd (cc) in until unread rest new fault.Memory is other (refused other)
+        by_fault f failed refused = let other : f ≢ fault.Read = λ e. absurd (cc) in until unread rest new f is other (refused other)
 
     -- one that memory stopped, of which this stands
     pub file_stands : (unread rest : Option (List ℕ)) (new : SubscriberValue C) → unread ≡ remaining file → {A : Type 0} (r : Result A Fault)

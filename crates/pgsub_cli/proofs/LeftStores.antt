@@ -1,81 +1,81 @@
 -- What a run leaves of its store, and what a crash may leave of that.
-use Rattle.std.proofs.Common.{◌≡◌, ◌≢◌, ◌≤◌, ◌∙◌, ◌++◌, inl, inr, ℕ, List, [], ◌∷◌, Option, Some, None, Result, Ok, Err, OnOk, OnErr, IfErr, refl, sym, ap, subst, arith, append-nil}
-use Rattle.std.specs.FinMap as map
+use Rattle.std.proofs.Common.{◌≡◌, ◌≢◌, ◌≤◌, ◌∙◌, ◌++◌, inl, inr, ℕ, List, [], ◌∷◌, Option, Some, None, Result, Ok, Err, OnOk, IfErr, refl, sym, ap, subst, arith, append-nil}
 use Rattle.pgcommand.specs.declared.limits.Limits.{Limits}
 use Rattle.pgorder.specs.declared.Version.{Version}
 use Rattle.pgapply.specs.Value.{Tables}
 use Rattle.pgapply.specs.Taken as held
 use Rattle.pgsub_core.specs.declared.fault.Fault.{Fault}
 use Rattle.pgsub_core.specs.declared.fault.Fault.TheVariants as fault
-use Rattle.pgsub_core.specs.declared.session.Session.{Session}
 use Rattle.pgsub_core.specs.Subscriber.Applied.{Applied, IsKept}
-use Rattle.pgsub_core.specs.Subscriber.Crashing.{LeavesOldOr, FedOver, StandsAsFed, IsLeftSafely, LeavesHistory}
+use Rattle.pgsub_core.specs.Subscriber.Crashing.{LeavesOldOr, FedOver, StandsAsFed, IsLeftSafely}
 use Rattle.pgsub_core.specs.Subscriber.Following.{AreFed, FedSessionsAreFollowed, FeedsSessions}
 use Rattle.pgsub_core.specs.Subscriber.Safely.{IsSent}
 use Rattle.pgsub_core.specs.Subscriber.Handled.{fault_in}
 use Rattle.pgsub_core.specs.Server.History.{Transaction, tables_as_of}
 use Rattle.pgsub_core.specs.Subscriber.Safe.{NothingBetween}
 use Rattle.pgsub_core.specs.Server.Stream.{Sent}
-use Rattle.pgsub_core.specs.Subscriber.Subscribed.{Subscribed, bytes_of}
+use Rattle.pgsub_core.specs.Subscriber.Subscribed.{Subscribed}
 use Rattle.pgsub_core.specs.Subscriber.SubscriberValue.{SubscriberValue, seen}
 use Rattle.pgsub_core.proofs.FollowSteps.{follows}
 use Rattle.pgsub_core.proofs.SessionCuts.{sent_front}
 use Rattle.pgsub_cli.specs.declared.storing.Incoming.{Incoming}
 use Rattle.pgsub_cli.specs.declared.storing.Incoming.TheVariants.{Sessions, Raw}
-use Rattle.pgsub_cli.specs.Fed.{FeedsFile}
-use Rattle.pgsub_cli.specs.Followed.{subscriber_over}
+use Rattle.pgsub_cli.specs.Followed.{LeadsTo, subscriber_over}
 use Rattle.pgsub_cli.specs.Limits.{clock}
 use Rattle.pgsub_cli.specs.Runs.{AreRead, fault_of_feeding}
-use Rattle.pgsub_cli.specs.StoreAfter.{BeginsOver, IsReadFrom, FeedsIncoming, StandsFed, LeavesFileHistory, LeavesIncomingHistory, LeavesFronts, HoldsFed, HoldsAfter, MayBeLeft, LosesNothing}
+use Rattle.pgsub_cli.specs.StoreAfter.{BeginsOver, IsReadFrom, FeedsFile, FeedsIncoming, StandsFed, LeavesFileHistory, LeavesIncomingHistory, LeavesFronts, HoldsFed, HoldsOver, MayBeLeft, LosesNothing}
+use Rattle.pgsub_cli.proofs.Came.{for_sessions}
 
 -- ---- reading the rows afterwards changes nothing
 
-module _ {C : Type 0} (place : C → ℕ) (mid new : SubscriberValue C) (same : (tables : Tables) → seen place new tables ≡ seen place mid tables) where
-  pub place_same : place new.applied.store ≡ place mid.applied.store
-  place_same = ap (λ (s : Subscribed). s.position) (same map.empty)
+module _ {R C : Type 0} (gives begins : R → List ℕ → Type 0) (failed : R → Type 0) (holds : C → Tables → Type 0) (place : C → ℕ) (limits : Limits) (old mid new : C) (at : place new ≡ place mid) where
+  pub holds_still : held.Stays holds mid new → (input : Option (Version × Incoming R)) (stopped : Option Fault) → HoldsOver gives begins failed holds place limits input old mid stopped
+      → HoldsOver gives begins failed holds place limits input old new stopped
+  holds_still stays None stopped h = (h.0, (λ tables k. stays tables (h.1 tables k)), at ∙ h.2)
+  holds_still stays (Some (version, incoming)) stopped h =
+      for_sessions gives begins failed incoming stopped (λ sessions f. HoldsFed holds place limits version old sessions mid f) (λ sessions f. HoldsFed holds place limits version old sessions new f)
+      (λ sessions f fed tables k. let a = fed tables k in (a.0, a.1, stays a.0.tables a.2, at ∙ a.3)) h
 
-  confirmed_same : new.applied.confirmed ≡ mid.applied.confirmed
-  confirmed_same = ap (λ (s : Subscribed). s.confirmed) (same map.empty)
+  module _ (reopens : C → C → Type 0) (back : (other : C) → reopens new other → reopens mid other) where
+    pub left_still : (serves : C → Type 0) (input : Option (Version × Incoming R)) → MayBeLeft gives begins failed holds place reopens serves limits input old mid → MayBeLeft gives begins failed holds place reopens serves limits input old new
+    left_still serves None h = λ other r. h other (back other r)
+    left_still serves (Some (version, incoming)) (begun, over, leaves) = (
+      begun,
+      over,
+      λ other r. elim (leaves other (back other r)) [
+        | inl was ↦ inl (was.0, at ∙ was.1)
+        | inr fed ↦ let le : place mid ≤ place other = fed.1 in inr (fed.0, omega (arith, at, le), fed.2)
+      ],
+    )
 
-  kept_same : (a : Applied C) → IsKept place a mid.applied → IsKept place a new.applied
-  kept_same a k = record {
-    position = place_same ∙ k.position;
-    confirmed = confirmed_same ∙ k.confirmed;
-    received = ap (λ (s : Subscribed). s.received) (same map.empty) ∙ k.received;
-    version = ap (λ (s : Subscribed). s.version) (same map.empty) ∙ k.version;
-    limit = ap (λ (s : Subscribed). s.limit) (same map.empty) ∙ k.limit;
-    replies = ap (λ (s : Subscribed). s.replies) (same map.empty) ∙ k.replies;
-  }
+    -- the subscriber as it would be over the new store
+    module _ (history : List Transaction) (ended : SubscriberValue C) (is : ended.applied.store ≡ mid) where
+      abbrev over_new : SubscriberValue C
+      over_new = record ended { applied = record ended.applied { store = new } }
 
-  pub stands_same : (fed : SubscriberValue C → Option Fault → Type 0) → StandsFed place fed mid → StandsFed place fed new
-  stands_same fed stands = let s = stands.1 in (stands.0, (s.0, kept_same s.0.applied s.1, s.2))
+      there : place new ≡ place ended.applied.store
+      there = at ∙ sym (ap place is)
 
-  pub fronts_same : (reopens : C → C → Type 0) (serves : C → Type 0) (is : C → Type 0) (old : C) → ((other : C) → reopens new.applied.store other → reopens mid.applied.store other)
-      → LeavesOldOr place reopens serves is old mid.applied.store → LeavesOldOr place reopens serves is old new.applied.store
-  fronts_same reopens serves is old back leaves other r =
-      elim (leaves other (back other r)) [
-        | inl was ↦ inl (was.0, place_same ∙ was.1)
-        | inr fed ↦ let at = place_same in let le : place mid.applied.store ≤ place other = fed.1 in inr (fed.0, omega (arith, at, le), fed.2)
-      ]
+      kept_over : (a : Applied C) → IsKept place a ended.applied → IsKept place a over_new.applied
+      kept_over a k = record { position = there ∙ k.position; confirmed = k.confirmed; received = k.received; version = k.version; limit = k.limit; replies = k.replies }
 
-  pub safely_same : (holds : C → Tables → Type 0) (history : List Transaction) (other : C) → IsLeftSafely holds place history mid other → IsLeftSafely holds place history new other
-  safely_same holds history other left = record {
-    tables = left.tables;
-    held = left.held;
-    same = left.same;
-    position = let at = place_same in let le = left.position in omega (arith, at, le);
-    stored = subst (NothingBetween history (place other)) (sym confirmed_same) left.stored;
-  }
+      again : (other : C) → reopens new other → reopens ended.applied.store other
+      again other r = subst (λ (c : C). reopens c other) (sym is) (back other r)
 
-  pub fed_same : (holds : C → Tables → Type 0) (old : SubscriberValue C) (sessions : List (List ℕ)) (stopped : Option Fault) → held.Stays holds mid.applied.store new.applied.store
-      → FeedsSessions holds place clock old sessions mid stopped → FeedsSessions holds place clock old sessions new stopped
-  fed_same holds old sessions stopped stays fed tables h =
-      let a = fed tables h in
-      (a.0, stays a.0 a.1, subst (λ (s : Subscribed). AreFed clock (seen place old tables) sessions s stopped) (sym (same a.0)) a.2)
+      safely_over : (other : C) → IsLeftSafely holds place history ended other → IsLeftSafely holds place history over_new other
+      safely_over other left = record { tables = left.tables; held = left.held; same = left.same; position = let le = left.position in omega (arith, there, le); stored = left.stored }
 
-  pub file_fed_same : {R : Type 0} (holds : C → Tables → Type 0) (gives begins : R → List ℕ → Type 0) (failed : R → Type 0) (file : R) (old : SubscriberValue C) (stopped : Option Fault) → held.Stays holds mid.applied.store new.applied.store
-      → FeedsFile gives begins failed holds place file old mid stopped → FeedsFile gives begins failed holds place file old new stopped
-  file_fed_same holds gives begins failed file old stopped stays fed = (fed.0, fed.1, fed_same holds old (fed.0 ∷ []) (fault_of_feeding stopped) stays fed.2)
+    leaves_over : (incoming : Incoming R) (begun ended : SubscriberValue C) (is : ended.applied.store ≡ mid) → LeavesIncomingHistory gives begins failed holds place reopens incoming begun ended
+        → LeavesIncomingHistory gives begins failed holds place reopens incoming begun (over_new [] ended is)
+    leaves_over (Sessions sessions) begun ended is leaves = λ history all_complete tables h sent other r.
+        safely_over history ended is other (leaves history all_complete tables h sent other (again history ended is other r))
+    leaves_over (Raw file) begun ended is leaves = λ history bytes all_complete tables from h sent other r.
+        safely_over history ended is other (leaves history bytes all_complete tables from h sent other (again history ended is other r))
+
+    pub loses_still : (input : Option (Version × Incoming R)) → LosesNothing gives begins failed holds place reopens limits input old mid → LosesNothing gives begins failed holds place reopens limits input old new
+    loses_still None h = λ other r. h other (back other r)
+    loses_still (Some (version, incoming)) (begun, ended, over, is, stands, leaves) =
+        (begun, over_new [] ended is, over, refl, (stands.0, (stands.1.0, kept_over [] ended is stands.1.0.applied stands.1.1, stands.1.2)), leaves_over incoming begun ended is leaves)
 
 -- ---- whatever is returned
 
@@ -86,10 +86,11 @@ module _ {C : Type 0} (place : C → ℕ) (serves : C → Type 0) (fed : Subscri
   stands_itself : (stopped : Option Fault) → fed new stopped → StandsFed place fed new
   stands_itself stopped so = (stopped, (new, kept_itself place new.applied, so))
 
-  pub stands_either : {A : Type 0} (r : Result A Fault) → OnOk r (serves new.applied.store) → (serves new.applied.store → fed new (fault_in r))
-      → OnErr r (StandsAsFed place (λ s. fed s (Some fault.Memory)) new) → StandsFed place fed new
-  stands_either (Ok done) own so stands = stands_itself None (so own)
-  stands_either (Err f) own so stands = (Some fault.Memory, stands)
+  -- as one that was fed up to the fault that is returned
+  pub stands_as : {A : Type 0} (r : Result A Fault) → OnOk r (serves new.applied.store) → (serves new.applied.store → fed new (fault_in r)) → IfErr r (λ f. StandsAsFed place (λ s. fed s (Some f)) new)
+      → StandsAsFed place (λ s. fed s (fault_in r)) new
+  stands_as (Ok done) own so stands = (new, kept_itself place new.applied, so own)
+  stands_as (Err f) own so stands = stands
 
   -- of a file, of which a read may fail
   pub stands_read : {A : Type 0} (r : Result A Fault) → OnOk r (serves new.applied.store) → (r ≡ Err fault.Read → serves new.applied.store) → (serves new.applied.store → fed new (fault_in r))
@@ -99,14 +100,7 @@ module _ {C : Type 0} (place : C → ℕ) (serves : C → Type 0) (fed : Subscri
     where
       by_fault : (f : Fault) → (f ≡ fault.Read → serves new.applied.store) → (serves new.applied.store → fed new (Some f)) → (f ≢ fault.Read → StandsAsFed place (λ s. fed s (Some fault.Memory)) new) → StandsFed place fed new
       by_fault fault.Read failed so stands = stands_itself (Some fault.Read) (so (failed refl))
-      by_fault (fault.Wire k) failed so stands = let other : fault.Wire k ≢ fault.Read = λ e. absurd (cc) in (Some fault.Memory, stands other)
-      by_fault (fault.Decode k) failed so stands = let other : fault.Decode k ≢ fault.Read = λ e. absurd (cc) in (Some fault.Memory, stands other)
-      by_fault (fault.Order k) failed so stands = let other : fault.Order k ≢ fault.Read = λ e. absurd (cc) in (Some fault.Memory, stands other)
-      by_fault (fault.Relation k) failed so stands = let other : fault.Relation k ≢ fault.Read = λ e. absurd (cc) in (Some fault.Memory, stands other)
-      by_fault (fault.Spool k) failed so stands = let other : fault.Spool k ≢ fault.Read = λ e. absurd (cc) in (Some fault.Memory, stands other)
-      by_fault (fault.Store k) failed so stands = let other : fault.Store k ≢ fault.Read = λ e. absurd (cc) in (Some fault.Memory, stands other)
-      by_fault fault.Closed failed so stands = let other : fault.Closed ≢ fault.Read = λ e. absurd (cc) in (Some fault.Memory, stands other)
-      by_fault fault.Memory failed so stands = let other : fault.Memory ≢ fault.Read = λ e. absurd (cc) in (Some fault.Memory, stands other)
+      by_fault f failed so stands = let other : f ≢ fault.Read = λ e. absurd (cc) in (Some fault.Memory, stands other)
 
 -- ---- the bytes of a file, as a session of a history
 
@@ -120,14 +114,7 @@ module _ {R C : Type 0} (gives begins : R → List ℕ → Type 0) (failed : R �
   front_read bytes read None from (inl all) = ([], sym (from.all read all) ∙ sym (append-nil read))
   front_read bytes read None from (inr most) = from.first read most.0
   front_read bytes read (Some fault.Read) from so = from.first read so.0
-  front_read bytes read (Some (fault.Wire k)) from so = from.first read so
-  front_read bytes read (Some (fault.Decode k)) from so = from.first read so
-  front_read bytes read (Some (fault.Order k)) from so = from.first read so
-  front_read bytes read (Some (fault.Relation k)) from so = from.first read so
-  front_read bytes read (Some (fault.Spool k)) from so = from.first read so
-  front_read bytes read (Some (fault.Store k)) from so = from.first read so
-  front_read bytes read (Some fault.Closed) from so = from.first read so
-  front_read bytes read (Some fault.Memory) from so = from.first read so
+  front_read bytes read (Some f) from so = from.first read so
 
   module _ (reopens : C → C → Type 0) (serves : C → Type 0) (old new : SubscriberValue C) where
     -- a subscriber that was fed the file
@@ -171,58 +158,27 @@ module _ {R C : Type 0} (gives begins : R → List ℕ → Type 0) (failed : R �
               }
         ]
 
--- ---- what came, of a recording
-
-module _ {R C : Type 0} (gives begins : R → List ℕ → Type 0) (failed : R → Type 0) (holds : C → Tables → Type 0) (place : C → ℕ) (incoming : Incoming R) (sessions : _) (given : List Session) (is : incoming ≡ Sessions sessions) (same : given ≡ sessions.items) (old new : SubscriberValue C) where
-  pub sessions_fed : (stopped : Option Fault) × FeedsSessions holds place clock old (bytes_of given) new stopped → (stopped : Option Fault) × FeedsIncoming gives begins failed holds place incoming old new stopped
-  sessions_fed fed =
-      subst (λ (i : Incoming R). (stopped : Option Fault) × FeedsIncoming gives begins failed holds place i old new stopped) (sym is)
-      (subst (λ (ss : List Session). (stopped : Option Fault) × FeedsSessions holds place clock old (bytes_of ss) new stopped) same fed)
-
-  pub sessions_stand : StandsFed place (FeedsSessions holds place clock old (bytes_of given)) new → StandsFed place (FeedsIncoming gives begins failed holds place incoming old) new
-  sessions_stand stands =
-      subst (λ (i : Incoming R). StandsFed place (FeedsIncoming gives begins failed holds place i old) new) (sym is)
-      (subst (λ (ss : List Session). StandsFed place (FeedsSessions holds place clock old (bytes_of ss)) new) same stands)
-
-  module _ (reopens : C → C → Type 0) where
-    pub sessions_leave : (serves : C → Type 0) → LeavesOldOr place reopens serves (FedOver (λ s. FeedsSessions holds place clock old (bytes_of given) s (Some fault.Memory))) old.applied.store new.applied.store
-        → LeavesFronts gives begins failed holds place reopens serves incoming old old.applied.store new.applied.store
-    sessions_leave serves leaves =
-        subst (λ (i : Incoming R). LeavesFronts gives begins failed holds place reopens serves i old old.applied.store new.applied.store) (sym is)
-        (subst (λ (ss : List Session). LeavesOldOr place reopens serves (FedOver (λ s. FeedsSessions holds place clock old (bytes_of ss) s (Some fault.Memory))) old.applied.store new.applied.store) same leaves)
-
-    pub sessions_safe : LeavesHistory holds place reopens old (bytes_of given) new → LeavesIncomingHistory gives begins failed holds place reopens incoming old new
-    sessions_safe leaves =
-        subst (λ (i : Incoming R). LeavesIncomingHistory gives begins failed holds place reopens i old new) (sym is)
-        (subst (λ (ss : List Session). LeavesHistory holds place reopens old (bytes_of ss) new) same leaves)
-
 -- ---- the store of a run
 
+-- what was fed to a subscriber over a store leads on from what that held
+pub leads_on : {C : Type 0} (place : C → ℕ) → FedSessionsAreFollowed → (store : C) (limits : Limits) (version : Version) (old new : SubscriberValue C) → BeginsOver place limits version store old → (sessions : List (List ℕ)) (stopped : Option Fault) (tables tables' : Tables)
+    → AreFed clock (seen place old tables) sessions (seen place new tables') stopped → LeadsTo (subscriber_over limits tables (place store) version) sessions stopped (seen place new tables')
+leads_on place followed store limits version old new over sessions stopped tables tables' fed =
+    let begun = subscriber_over limits tables (place store) version in
+    let so : AreFed clock begun sessions (seen place new tables') stopped = subst (λ (s : Subscribed). AreFed clock s sessions (seen place new tables') stopped) (over.1 tables) fed in
+    record { fed = so; followed = λ history all_complete sent. followed clock history sessions all_complete begun (seen place new tables') stopped sent so }
+
+pub began_with : {C : Type 0} (holds : C → Tables → Type 0) (place : C → ℕ) (store : C) (limits : Limits) (version : Version) (old : SubscriberValue C) → BeginsOver place limits version store old → (tables : Tables) → holds store tables → holds old.applied.store tables
+began_with {C} holds place store limits version old over tables h = subst (λ (s : C). holds s tables) (sym over.0) h
+
 module _ {R C : Type 0} (gives begins : R → List ℕ → Type 0) (failed : R → Type 0) (holds : C → Tables → Type 0) (place : C → ℕ) where
-  -- what was fed to a subscriber over a store leads on from what that held
-  leads_on : FedSessionsAreFollowed → (store : C) (limits : Limits) (version : Version) (old new : SubscriberValue C) → BeginsOver place limits version store old → (sessions : List (List ℕ)) (stopped : Option Fault)
-      → FeedsSessions holds place clock old sessions new stopped → HoldsFed holds place limits version store sessions new.applied.store stopped
-  leads_on followed store limits version old new over sessions stopped fed tables h =
-      let a = fed tables (subst (λ (s : C). holds s tables) (sym over.0) h) in
-      let state = seen place new a.0 in
-      let so : AreFed clock (subscriber_over limits tables (place store) version) sessions state stopped = subst (λ (s : Subscribed). AreFed clock s sessions state stopped) (over.1 tables) a.2 in (
-        state,
-        record { fed = so; followed = λ history all_complete sent. followed clock history sessions all_complete (subscriber_over limits tables (place store) version) state stopped sent so },
-        a.1,
-        refl,
-      )
-
-  holds_fed : FedSessionsAreFollowed → (store : C) (limits : Limits) (version : Version) (old new : SubscriberValue C) → BeginsOver place limits version store old → (incoming : Incoming R)
-      → (stopped : Option Fault) × FeedsIncoming gives begins failed holds place incoming old new stopped → HoldsAfter gives begins failed holds place limits (Some (version, incoming)) store new.applied.store
-  holds_fed followed store limits version old new over (Sessions sessions) fed = (fed.0, leads_on followed store limits version old new over (bytes_of sessions.items) fed.0 fed.1)
-  holds_fed followed store limits version old new over (Raw file) fed =
-      (fed.0, fed.1.0, fed.1.1, leads_on followed store limits version old new over (fed.1.0 ∷ []) (fault_of_feeding fed.0) fed.1.2)
-
   module _ (store given : C) (limits : Limits) (version : Version) (incoming : Incoming R) (input : Option (Version × Incoming R)) (is : input ≡ Some (version, incoming)) (old new : SubscriberValue C) (over : BeginsOver place limits version store old) (back : given ≡ new.applied.store) where
-    pub holds_after : FedSessionsAreFollowed → (stopped : Option Fault) × FeedsIncoming gives begins failed holds place incoming old new stopped → HoldsAfter gives begins failed holds place limits input store given
-    holds_after followed fed =
-        subst (λ (i : Option (Version × Incoming R)). HoldsAfter gives begins failed holds place limits i store given) (sym is)
-        (subst (HoldsAfter gives begins failed holds place limits (Some (version, incoming)) store) (sym back) (holds_fed followed store limits version old new over incoming fed))
+    pub holds_over : FedSessionsAreFollowed → (stopped : Option Fault) → FeedsIncoming gives begins failed holds place incoming old new stopped → HoldsOver gives begins failed holds place limits input store given stopped
+    holds_over followed stopped fed =
+        subst (λ (i : Option (Version × Incoming R)). HoldsOver gives begins failed holds place limits i store given stopped) (sym is)
+        (subst (λ (s : C). HoldsOver gives begins failed holds place limits (Some (version, incoming)) store s stopped) (sym back)
+        (for_sessions gives begins failed incoming stopped (λ sessions f. FeedsSessions holds place clock old sessions new f) (λ sessions f. HoldsFed holds place limits version store sessions new.applied.store f)
+        (λ sessions f so tables h. let a = so tables (began_with holds place store limits version old over tables h) in (seen place new a.0, leads_on place followed store limits version old new over sessions f tables a.0 a.2, a.1, refl)) fed))
 
     module _ (reopens : C → C → Type 0) (serves : C → Type 0) where
       pub may_be_left : LeavesFronts gives begins failed holds place reopens serves incoming old old.applied.store new.applied.store → MayBeLeft gives begins failed holds place reopens serves limits input store given

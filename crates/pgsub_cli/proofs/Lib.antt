@@ -1,4 +1,4 @@
-pub mod AppliedLines
+pub mod Came
 pub mod DumpLines
 pub mod FedBytes
 pub mod Reading
@@ -6,10 +6,9 @@ pub mod Writing
 pub mod ComparedSides
 pub mod ShownLines
 pub mod BothRead
-pub mod KeptLines
+mod PrintedOver
 mod LeftStores
-mod LeftWithin
-mod WithinLines
+mod Within
 pub mod Ended
 mod FollowStatuses
 pub mod LineSteps

@@ -26,12 +26,7 @@ module _ {W : Type 0} (takes : W → List ℕ → W → Type 0) (failed : W → 
   writes_as (Ok Differs) h = h
   writes_as (Err (run.Stream f)) (inl (gone, same)) = inl (lost_is made lost loses f gone, same)
   writes_as (Err (run.Stream f)) (inr (lines, printed, wrote)) = inr (lines, printed_is made prints is (Some f) lines printed, wrote)
-  writes_as (Err (run.OfSide side f)) h = h
-  writes_as (Err (run.NotHexadecimal line)) h = h
-  writes_as (Err run.TooLong) h = h
-  writes_as (Err (run.CannotRead side)) h = h
-  writes_as (Err run.CannotWrite) h = h
-  writes_as (Err run.NotAnLsn) h = h
+  writes_as (Err f) h = h
 
 -- the lines of the sessions that were read
 pub prints_sessions : {R W : Type 0} (gives begins : R → List ℕ → Type 0) (read_failed : R → Type 0) (takes : W → List ℕ → W → Type 0) (write_failed : W → Type 0) (lost : Fault → Type 0)

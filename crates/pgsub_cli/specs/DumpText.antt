@@ -1,24 +1,11 @@
 -- How a dump is printed: a line a row, in JSON, and the position behind them.
-use Rattle.std.specs.Prelude.{ℕ, List, [], ◌∷◌, ◌++◌, map, true, codes}
+use Rattle.std.specs.Prelude.{ℕ, List, [], ◌∷◌, ◌++◌, codes}
 use Rattle.std.specs.List.{flat_map}
-use Rattle.hex.specs.Hex.{encode_lower}
-use Rattle.serde_json.specs.Data.{Data, null, boolean, number, unsigned, string, array, item, no_items, object, member, no_members}
-use Rattle.serde_json.specs.View.{items_of}
+use Rattle.serde_json.specs.Data.{Data, number, unsigned, string, array, item, no_items}
 use Rattle.serde_json.specs.Written.{compact_text}
 use Rattle.pglsn.specs.Texts.{lsn_text}
-use Rattle.pgtuple.specs.declared.cell.Cell.{Cell}
-use Rattle.pgtuple.specs.declared.cell.Cell.TheVariants.{Null, Unchanged, Text, Binary}
 use Rattle.pgapply.specs.declared.rows.DumpRow.{DumpRow}
-
--- a text is a string, bytes stand in hexadecimal
-abbrev pub cell_data : Cell → Data
-cell_data Null = null
-cell_data Unchanged = object (member (codes "unchanged") (boolean true) no_members)
-cell_data (Text bytes) = string bytes
-cell_data (Binary bytes) = object (member (codes "hex") (string (encode_lower bytes)) no_members)
-
-abbrev pub cells_data : List Cell → Data
-cells_data cells = array (items_of (map cell_data cells))
+use Rattle.pgjson.specs.Cells.{cells_data}
 
 -- namespace, name, cells and copies
 abbrev pub row_data : DumpRow → Data

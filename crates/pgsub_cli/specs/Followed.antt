@@ -1,5 +1,5 @@
 -- What following sessions leaves of a new subscriber, and what is printed of it.
-use Rattle.std.specs.Prelude.{◌≡◌, ◌++◌, ℕ, List, [], ◌∷◌, Option, codes}
+use Rattle.std.specs.Prelude.{◌≡◌, ℕ, List, Option}
 use Rattle.std.specs.FinMap as map
 use Rattle.pgcommand.specs.declared.limits.Limits.{Limits}
 use Rattle.pgorder.specs.declared.Version.{Version}
@@ -11,10 +11,8 @@ use Rattle.pgsub_core.specs.Server.Stream.{Sent}
 use Rattle.pgsub_core.specs.Subscriber.Subscribed.{Subscribed, newly}
 use Rattle.pgsub_core.specs.Subscriber.Safely.{IsSent}
 use Rattle.pgsub_core.specs.Subscriber.Handled.{IsFollowed}
-use Rattle.pgsub_core.specs.Subscriber.Following.{AreFed, Becomes}
-use Rattle.pgsub_core.specs.Subscriber.SubscriberValue.{SubscriberValue, seen}
-use Rattle.pglsn.specs.Texts.{lsn_text}
-use Rattle.pgsub_cli.specs.DumpText.{dump_of, position_line}
+use Rattle.pgsub_core.specs.Subscriber.Following.{AreFed}
+use Rattle.pgsub_cli.specs.DumpText.{dump_of, resumed_of}
 use Rattle.pgsub_cli.specs.Limits.{clock, longest_within}
 
 -- over an empty store, within these limits
@@ -43,13 +41,15 @@ lines_of state = dump_of (dump state.tables) state.position
 
 -- the position, and the LSN up to which it may be confirmed
 abbrev pub resumed_lines_of : Subscribed → List ℕ
-resumed_lines_of state = position_line state.position ++ (codes "confirmed " ++ (lsn_text state.confirmed ++ 10 ∷ []))
+resumed_lines_of state = resumed_of state.position state.confirmed
+
+-- These lines are told of the state to which the sessions lead from this one, where this stops
+-- them.
+abbrev pub PrintsLed : (Subscribed → List ℕ) → Subscribed → List (List ℕ) → Option Fault → List ℕ → Type 0
+PrintsLed tells old sessions stopped lines = (state : Subscribed) × LeadsTo old sessions stopped state × (lines ≡ tells state)
 
 module _ {C : Type 0} (holds : C → Tables → Type 0) (place : C → ℕ) where
-  -- whatever tables the store holds, these are the lines of its rows and its position
-  abbrev pub Shows : SubscriberValue C → List ℕ → Type 0
-  Shows s lines = (tables : Tables) → holds s.applied.store tables → lines ≡ lines_of (seen place s tables)
-
-  -- whatever tables the store held, it holds others, with which the sessions were fed and these are the lines
-  abbrev pub ShowsFed : SubscriberValue C → List (List ℕ) → SubscriberValue C → Option Fault → List ℕ → Type 0
-  ShowsFed old sessions new stopped lines = Becomes holds place clock (λ s s'. AreFed clock s sessions s' stopped × (lines ≡ lines_of s')) old new
+  -- so it is from whatever tables the store holds on, and its position
+  abbrev pub PrintsFrom : (Subscribed → List ℕ) → Limits → Version → C → List (List ℕ) → Option Fault → List ℕ → Type 0
+  PrintsFrom tells limits version store sessions stopped lines =
+      (tables : Tables) → holds store tables → PrintsLed tells (subscriber_over limits tables (place store) version) sessions stopped lines

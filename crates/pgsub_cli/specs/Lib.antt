@@ -1,7 +1,6 @@
 pub mod Limits
 pub mod DumpText
 pub mod FaultTexts
-pub mod Fed
 pub mod Followed
 pub mod Recorded
 pub mod Shown

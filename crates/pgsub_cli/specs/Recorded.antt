@@ -1,11 +1,14 @@
--- The sessions of a recording.
-use Rattle.std.specs.Prelude.{◌≡◌, ◌≤◌, ◌<◌, ℕ, List, length, Ok, Err, Option, Some, IfSome, IsSome}
+-- The sessions of a recording, and what comes of a file.
+use Rattle.std.specs.Prelude.{◌≡◌, ◌≤◌, ◌<◌, ℕ, Bool, true, false, List, length, Ok, Err, Option, None, Some, IfSome, IsSome}
 use Rattle.pgsub_core.specs.declared.fault.Fault.TheVariants as fault
 use Rattle.pgsub_core.specs.declared.session.Session.{Session}
 use Rattle.pgsub_core.specs.declared.converging.Side.{Side}
+use Rattle.pgsub_core.specs.declared.converging.Side.TheVariants.{Left}
 use Rattle.pgcapture.specs.Capture.{sessions_of}
 use Rattle.pgsub_cli.specs.declared.fault.RunFault.{RunFault}
 use Rattle.pgsub_cli.specs.declared.fault.RunFault.TheVariants as run
+use Rattle.pgsub_cli.specs.declared.storing.Incoming.{Incoming}
+use Rattle.pgsub_cli.specs.declared.storing.Incoming.TheVariants.{Sessions, Raw}
 use Rattle.pgsub_cli.specs.Limits.{longest_recording}
 
 module _ {R : Type 0} (gives : R → List ℕ → Type 0) where
@@ -31,3 +34,14 @@ module _ {R : Type 0} (gives : R → List ℕ → Type 0) where
   IsUnread failed side file (run.CannotRead s) = (s ≡ side) × IfSome file failed
   IsUnread failed side file run.CannotWrite = ⊥
   IsUnread failed side file run.NotAnLsn = ⊥
+
+  module _ (failed : R → Type 0) where
+    -- this comes of a file: with `raw` its bytes, and else the sessions of the recording in it
+    abbrev pub ComesOf : Bool → Option R → Incoming R → Type 0
+    ComesOf raw file (Sessions sessions) = (raw ≡ false) × Records file sessions.items
+    ComesOf raw file (Raw source) = (raw ≡ true) × (file ≡ Some source)
+
+    -- why nothing comes of it: a file whose bytes are fed has only to be opened
+    abbrev pub ComesNot : Bool → Option R → RunFault → Type 0
+    ComesNot true file f = (file ≡ None) × (f ≡ run.CannotRead Left)
+    ComesNot false file f = IsUnread failed Left file f

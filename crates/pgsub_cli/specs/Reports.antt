@@ -3,6 +3,7 @@ use Rattle.std.specs.Prelude.{◌≡◌, ◌≤◌, ◌+◌, ◌-◌, ◌^◌, �
 use Rattle.std.specs.Time.{instant_nanos}
 use Rattle.std.specs.declared.time.Instant.{Instant}
 use Rattle.pglsn.specs.Texts.{lsn_text}
+use Rattle.pgorder.specs.declared.Version.{Version}
 use Rattle.pgsub_cli.specs.declared.reported.Settling.{Settling}
 use Rattle.pgsub_cli.specs.declared.reporting.Progress.{Progress}
 use Rattle.pgsub_cli.specs.declared.storing.Incoming.{Incoming}
@@ -41,8 +42,11 @@ module _ {E : Type 0} (takes : E → List ℕ → E → Type 0) (failed : E → 
   abbrev pub TellsProgress : Instant → Instant → Progress → E → E → Type 0
   TellsProgress last last' p old new = (new ≡ old) ⊎ ((instant_nanos last + 1000000000 ≤ instant_nanos last') × (takes old (progress_line p) new ⊎ failed old))
 
--- the same comes, of a file within another one
-abbrev pub CountsIncoming : {R Q : Type 0} → (Q → R) → Incoming R → Incoming Q → Type 0
-CountsIncoming within (Sessions sessions) (Sessions same) = same ≡ sessions
-CountsIncoming within (Raw reader) (Raw counted) = within counted ≡ reader
-CountsIncoming within _ _ = ⊥
+-- what comes, of the file within another one
+abbrev pub incoming_within : {R Q : Type 0} → (Q → R) → Incoming Q → Incoming R
+incoming_within inner (Sessions sessions) = Sessions sessions
+incoming_within inner (Raw file) = Raw (inner file)
+
+abbrev pub input_within : {R Q : Type 0} → (Q → R) → Option (Version × Incoming Q) → Option (Version × Incoming R)
+input_within inner None = None
+input_within inner (Some (version, incoming)) = Some (version, incoming_within inner incoming)

@@ -1,11 +1,13 @@
 -- How a run ends, and what was printed then.
-use Rattle.std.specs.Prelude.{◌≡◌, ◌⊎◌, ◌++◌, ◌≤◌, ◌-◌, ◌^◌, ℕ, List, [], ◌∷◌, true, false, Option, None, Some, Result, Ok, Err, codes, decimal, length, String, option_map, string_bytes}
+use Rattle.std.specs.Prelude.{◌≡◌, ◌⊎◌, ◌++◌, ◌≤◌, ◌-◌, ◌^◌, ℕ, List, [], ◌∷◌, Bool, Option, None, Some, Result, Ok, Err, codes, decimal, length, String, option_map, string_bytes}
 use Rattle.std.specs.declared.alloc.AllocError.{AllocError}
 use Rattle.std.specs.declared.alloc.Global.{Global}
+use Rattle.std.specs.FinMap as map
 use Rattle.pglsn.specs.Texts.{ReadsAs, lsn_text}
 use Rattle.pgorder.specs.declared.Version.{Version}
 use Rattle.pgorder.specs.declared.Version.TheVariants.{Two}
 use Rattle.pgcommand.specs.declared.limits.Limits.{Limits}
+use Rattle.pgapply.specs.Dump.{dump}
 use Rattle.pgcommand.specs.declared.task.Task.{Task}
 use Rattle.pgcommand.specs.declared.task.Task.TheVariants as task
 use Rattle.pgsub_core.specs.declared.converging.ConvergeFault.{ConvergeFault}
@@ -24,10 +26,13 @@ use Rattle.pgsub_cli.specs.declared.fault.Ending.TheVariants.{Done, Differs}
 use Rattle.pgsub_cli.specs.declared.fault.RunFault.{RunFault}
 use Rattle.pgsub_cli.specs.declared.fault.RunFault.TheVariants as run
 use Rattle.pgsub_cli.specs.declared.printed.Printed.{Printed}
+use Rattle.pgsub_cli.specs.declared.storing.Incoming.{Incoming}
+use Rattle.pgsub_cli.specs.declared.storing.Incoming.TheVariants.{Sessions, Raw}
+use Rattle.pgsub_cli.specs.DumpText.{dump_of}
 use Rattle.pgsub_cli.specs.FaultTexts.{stop_line, memory_line}
-use Rattle.pgsub_cli.specs.Followed.{Leaves, lines_of, resumed_lines_of}
+use Rattle.pgsub_cli.specs.Followed.{Leaves, PrintsLed, lines_of, new_subscriber, resumed_lines_of}
 use Rattle.pgsub_cli.specs.Limits.{default_limits}
-use Rattle.pgsub_cli.specs.Recorded.{Records, IsUnread}
+use Rattle.pgsub_cli.specs.Recorded.{ComesOf, ComesNot, Records, IsUnread}
 use Rattle.pgsub_cli.specs.Shown.{AreShown}
 
 -- ---- the exit status: 0 done, 1 a stream that is rejected or memory that ran out, 2 usage, 3 a fault of a file, 4 a difference
@@ -90,13 +95,10 @@ Tells takes failed left right (Err f) old new = takes old (stop_line f left righ
 
 -- ---- the lines on standard output
 
--- what these sessions leave of an empty store, where this stops them
-abbrev pub PrintsApplied : Limits → Version → List Session → Option Fault → List ℕ → Type 0
-PrintsApplied limits version sessions stopped lines = (state : Subscribed) × Leaves limits version (bytes_of sessions) stopped state × (lines ≡ lines_of state)
-
--- the position, and what may be confirmed
+-- the position that these sessions leave of an empty store, and what may be confirmed, where this
+-- stops them
 abbrev pub PrintsResumed : List Session → Option Fault → List ℕ → Type 0
-PrintsResumed sessions stopped lines = (state : Subscribed) × Leaves default_limits Two (bytes_of sessions) stopped state × (lines ≡ resumed_lines_of state)
+PrintsResumed sessions stopped lines = PrintsLed resumed_lines_of (new_subscriber default_limits Two) (bytes_of sessions) stopped lines
 
 abbrev pub PrintsShown : Version → List Session → Option Fault → List ℕ → Type 0
 PrintsShown version sessions stopped lines = AreShown version (bytes_of sessions) lines stopped
@@ -121,11 +123,22 @@ module _ {R : Type 0} (gives begins : R → List ℕ → Type 0) (failed : R →
   AreRead file bytes (Some fault.Read) = begins file bytes × failed file
   AreRead file bytes (Some f) = begins file bytes
 
-  -- what a file's bytes, as one session, leave of an empty store
-  abbrev pub PrintsBytes : Limits → Version → R → Option Fault → List ℕ → Type 0
-  PrintsBytes limits version file stopped lines =
-      (bytes : List ℕ) × AreRead file bytes stopped
-      × (state : Subscribed) × Leaves limits version (bytes ∷ []) (fault_of_feeding stopped) state × (lines ≡ lines_of state)
+  -- This is said of what came, as the bytes of sessions, and of the fault that stopped them: those
+  -- of a recording, or what was read of a file as one session. A read that failed is no fault of
+  -- theirs.
+  abbrev pub ForSessions : Incoming R → Option Fault → (List (List ℕ) → Option Fault → Type 0) → Type 0
+  ForSessions (Sessions sessions) stopped said = said (bytes_of sessions.items) stopped
+  ForSessions (Raw file) stopped said = (bytes : List ℕ) × AreRead file bytes stopped × said (bytes ∷ []) (fault_of_feeding stopped)
+
+  -- the rows and the position that what comes leaves of an empty store
+  abbrev pub PrintsApplied : Limits → Version → Incoming R → Option Fault → List ℕ → Type 0
+  PrintsApplied limits version incoming stopped lines =
+      ForSessions incoming stopped (λ sessions f. PrintsLed lines_of (new_subscriber limits version) sessions f lines)
+
+  -- so it is by what comes, if anything does
+  abbrev pub PrintsNew : Limits → Option (Version × Incoming R) → Option Fault → List ℕ → Type 0
+  PrintsNew limits None stopped lines = (stopped ≡ None) × (lines ≡ dump_of (dump map.empty) 0)
+  PrintsNew limits (Some (version, incoming)) stopped lines = PrintsApplied limits version incoming stopped lines
 
 abbrev pub verdict_line : Verdict → List ℕ
 verdict_line (verdict.Same p) = codes "same " ++ (lsn_text p ++ 10 ∷ [])
@@ -215,11 +228,13 @@ module _ {R W : Type 0} (gives begins : R → List ℕ → Type 0) (read_failed 
       ((f : RunFault) × (ended ≡ Err f) × IsUnread gives read_failed Left file f × (new ≡ old))
       ⊎ ((sessions : List Session) × Records gives file sessions × Writes takes write_failed lost (prints sessions) old new ended)
 
-  -- The bytes of a file are fed as they are read, and the lines of what they leave are written.
-  abbrev pub PrintsFile : Limits → Version → Option R → W → W → Result Ending RunFault → Type 0
-  PrintsFile limits version None old new ended = (ended ≡ Err (run.CannotRead Left)) × (new ≡ old)
-  PrintsFile limits version (Some file) old new ended =
-      Writes takes write_failed IsReadFault (PrintsBytes gives begins read_failed limits version file) old new ended
+  -- What comes of a file is applied to an empty store, and the lines of what it leaves are written.
+  -- Where nothing comes of it, nothing is.
+  abbrev pub Applies : Limits → Version → Bool → Option R → W → W → Result Ending RunFault → Type 0
+  Applies limits version raw file old new ended =
+      ((f : RunFault) × (ended ≡ Err f) × ComesNot gives read_failed raw file f × (new ≡ old))
+      ⊎ ((incoming : Incoming R) × ComesOf gives read_failed raw file incoming
+      × Writes takes write_failed IsReadFault (PrintsApplied gives begins read_failed limits version incoming) old new ended)
 
   -- Why two recordings aren't read: both are opened first, and then the left one is read before the right one.
   abbrev pub AreUnread : Option R → Option R → RunFault → Type 0
@@ -237,8 +252,7 @@ module _ {R W : Type 0} (gives begins : R → List ℕ → Type 0) (read_failed 
   -- How each task ends that names no store. Of `show` no line is lost; the others lose theirs where the store can't be read or memory runs out.
   abbrev pub Ends : Task → Option R → Option R → W → W → Result Ending RunFault → Type 0
   Ends (task.Show version file) left right old new ended = Prints (λ f. ⊥) (PrintsShown version) left old new ended
-  Ends (task.Apply version limits false progress store cache feed file) left right old new ended = Prints IsReadFault (PrintsApplied limits version) left old new ended
-  Ends (task.Apply version limits true progress store cache feed file) left right old new ended = PrintsFile limits version left old new ended
+  Ends (task.Apply version limits raw progress store cache feed file) left right old new ended = Applies limits version raw left old new ended
   Ends (task.Dump store cache) left right old new ended = ⊥
   Ends (task.Follow version limits store cache feed) left right old new ended = ⊥
   Ends (task.Same version file other) left right old new ended = Compares version left right old new ended

@@ -17,10 +17,9 @@ use Rattle.pgsub_core.specs.Subscriber.Subscribed.{Subscribed, bytes_of}
 use Rattle.pgsub_core.specs.Subscriber.SubscriberValue.{SubscriberValue, seen}
 use Rattle.pgsub_cli.specs.declared.storing.Incoming.{Incoming}
 use Rattle.pgsub_cli.specs.declared.storing.Incoming.TheVariants.{Sessions, Raw}
-use Rattle.pgsub_cli.specs.Fed.{FeedsFile}
 use Rattle.pgsub_cli.specs.Followed.{LeadsTo, subscriber_over}
 use Rattle.pgsub_cli.specs.Limits.{clock}
-use Rattle.pgsub_cli.specs.Runs.{AreRead, fault_of_feeding}
+use Rattle.pgsub_cli.specs.Runs.{AreRead, ForSessions, fault_of_feeding}
 
 -- a subscriber over this store, as a run begins with it
 abbrev pub BeginsOver : {C : Type 0} → (C → ℕ) → Limits → Version → C → SubscriberValue C → Type 0
@@ -38,10 +37,15 @@ abbrev pub StandsFed : {C : Type 0} → (C → ℕ) → (SubscriberValue C → O
 StandsFed {C} place fed new = (stopped : Option Fault) × StandsAsFed place (λ (s : SubscriberValue C). fed s stopped) new
 
 module _ {R C : Type 0} (gives begins : R → List ℕ → Type 0) (failed : R → Type 0) (holds : C → Tables → Type 0) (place : C → ℕ) where
+  -- The bytes that were read were fed as one session, up to the first fault of theirs. A read that
+  -- failed is none.
+  abbrev pub FeedsFile : R → SubscriberValue C → SubscriberValue C → Option Fault → Type 0
+  FeedsFile file old new stopped =
+      (bytes : List ℕ) × AreRead gives begins failed file bytes stopped × FeedsSessions holds place clock old (bytes ∷ []) new (fault_of_feeding stopped)
+
   -- what came was fed, up to this fault
   abbrev pub FeedsIncoming : Incoming R → SubscriberValue C → SubscriberValue C → Option Fault → Type 0
-  FeedsIncoming (Sessions sessions) old new stopped = FeedsSessions holds place clock old (bytes_of sessions.items) new stopped
-  FeedsIncoming (Raw file) old new stopped = FeedsFile gives begins failed holds place file old new stopped
+  FeedsIncoming incoming old new stopped = ForSessions gives begins failed incoming stopped (λ sessions f. FeedsSessions holds place clock old sessions new f)
 
   module _ (reopens : C → C → Type 0) where
     -- Of whatever history the file's bytes are a session, and whatever tables the store held: all that a crash may leave holds the
@@ -70,12 +74,15 @@ module _ {C : Type 0} (holds : C → Tables → Type 0) (place : C → ℕ) wher
       → (state : Subscribed) × LeadsTo (subscriber_over limits tables (place old) version) sessions stopped state × holds new state.tables × (place new ≡ state.position)
 
 module _ {R C : Type 0} (gives begins : R → List ℕ → Type 0) (failed : R → Type 0) (holds : C → Tables → Type 0) (place : C → ℕ) where
-  -- However a run ended: the store holds what some front of what came leads to, and with nothing to apply what it held.
+  -- The store holds what came leads to, up to this fault, and with nothing to apply what it held.
+  abbrev pub HoldsOver : Limits → Option (Version × Incoming R) → C → C → Option Fault → Type 0
+  HoldsOver limits None old new stopped = (stopped ≡ None) × Stays holds old new × (place new ≡ place old)
+  HoldsOver limits (Some (version, incoming)) old new stopped =
+      ForSessions gives begins failed incoming stopped (λ sessions f. HoldsFed holds place limits version old sessions new f)
+
+  -- However a run ended: so it is of some front of what came.
   abbrev pub HoldsAfter : Limits → Option (Version × Incoming R) → C → C → Type 0
-  HoldsAfter limits None old new = Stays holds old new × (place new ≡ place old)
-  HoldsAfter limits (Some (version, Sessions sessions)) old new = (stopped : Option Fault) × HoldsFed holds place limits version old (bytes_of sessions.items) new stopped
-  HoldsAfter limits (Some (version, Raw file)) old new =
-      (stopped : Option Fault) × (bytes : List ℕ) × AreRead gives begins failed file bytes stopped × HoldsFed holds place limits version old (bytes ∷ []) new (fault_of_feeding stopped)
+  HoldsAfter limits input old new = (stopped : Option Fault) × HoldsOver limits input old new stopped
 
   module _ (reopens : C → C → Type 0) where
     -- Of any bytes: what a crash may leave of the store could be left before the run; or it is as one whose subscriber, begun over the

@@ -10,7 +10,7 @@ use Rattle.pgorder.specs.declared.Version.{Version}
 use Rattle.pgapply.specs.Value.{Tables}
 use Rattle.pgstore.specs.Acts.{committed_of}
 use Rattle.pgstore.specs.Spelled.{IsStored}
-use Rattle.pgstore.specs.StoreValue.{StoreValue}
+use Rattle.pgstore.specs.StoreValue.{Serves, StoreValue}
 use Rattle.pgsub_core.specs.Subscriber.SubscriberValue.{SubscriberValue, seen}
 use Rattle.pgsub_cli.specs.Followed.{new_subscriber}
 
@@ -22,6 +22,12 @@ holds_tables store tables = IsStored tables (committed_of over_files store.rows)
 
 abbrev pub position_of : {S : Type 0} → StoreValue S → ℕ
 position_of store = store.position
+
+-- it is open and has no tables, at 0/0
+pub record IsEmpty (store : InMemory) : Type 0 where
+  pub serves : Serves over_files store
+  pub held : holds_tables store map.empty
+  pub position : position_of store ≡ 0
 
 -- a new subscriber over an empty store
 pub record IsNew (limits : Limits) (version : Version) (s : SubscriberValue InMemory) : Type 0 where

@@ -1,17 +1,16 @@
 //! Comparing what two recordings leave.
 
-ghost use Rattle.std.specs.Prelude.{◌≡◌, ◌⊎◌, IfOk, IfErr, string_bytes};
+ghost use Rattle.std.specs.Prelude.{◌≡◌, ◌⊎◌, IfOk, IfErr};
 ghost use Rattle.pgstore.specs.StoreValue.{HasTables, IsHonest, StoreValue};
 ghost use Rattle.pgsub_core.specs.declared.converging.Side.TheVariants.{Left};
 ghost use Rattle.pgsub_core.specs.Machine.Faults.{IsReadFault};
 ghost use Rattle.pgsub_core.specs.Subscriber.Subscribed.{bytes_of};
 ghost use Rattle.pgsub_cli.specs.Compared.{EndsBesideNew, EndsOver};
-ghost use Rattle.pgsub_cli.specs.Runs.{AreComparedAs, IsUncompared, ending_of, verdict_line};
+ghost use Rattle.pgsub_cli.specs.Runs.{AreComparedAs, IsUncompared};
 ghost use Rattle.pgsub_cli.specs.Stores.{IsNew, position_of};
 
-use crate::fault::Ending;
 use crate::limits::{CLOCK, Limits};
-use crate::stores::{MemoryStore, new_subscriber};
+use crate::stores::{MemoryStore, new_store, subscriber_of};
 use pgapply::ReplicaStore;
 use pgorder::Version;
 use pgspool::{ByteSpools, Spools};
@@ -19,7 +18,7 @@ use pgstore::Store;
 use pgstore::laws::stores_on_memory_disks_are_honest;
 use pgsub_core::{ConvergeFault, Fault, Session, Side, Subscriber, Verdict, converge};
 use sqlite::Alter;
-use std::alloc::{AllocError, Global};
+use std::alloc::Global;
 
 /// The fault of a side, or, where its rows can't be read any more, the one of reading them. So what is told as the fault of a stream
 /// isn't that of a store that has shut meanwhile.
@@ -87,8 +86,8 @@ fn new_side(
     ensures new { IfOk result (IsNew Limits.DEFAULT version) }
     ensures fault { IfErr result (λ stopped. (stopped.side ≡ Left) × IsReadFault stopped.fault) }
 {
-    match new_subscriber(alloc, Limits::DEFAULT, version) {
-        Ok(subscriber) => Ok(subscriber),
+    match new_store(alloc) {
+        Ok(store) => Ok(subscriber_of(alloc, store, Limits::DEFAULT, version)),
         Err(fault) => Err(ConvergeFault {
             side: Side::Left,
             fault,
@@ -128,25 +127,4 @@ pub fn compare(
     stores_on_memory_disks_are_honest();
     let subscriber = new_side(alloc, version)?;
     compare_with_new(alloc, version, subscriber, left, right)
-}
-
-/// The line of a verdict.
-pub(crate) fn verdict_text(alloc: Global, verdict: Verdict) -> Result<String, AllocError>
-    ensures { IfOk result (λ line. string_bytes line ≡ verdict_line verdict) }
-{
-    match verdict {
-        Verdict::Same(at) => format!(in alloc; "same {at}\n"),
-        Verdict::Positions(left, right) => format!(in alloc; "positions {left} {right}\n"),
-        Verdict::Rows(at) => format!(in alloc; "rows differ at {at}\n"),
-    }
-}
-
-/// How a run ends with this verdict.
-pub(crate) fn ending(verdict: Verdict) -> Ending
-    ensures { result ≡ ending_of verdict }
-{
-    match verdict {
-        Verdict::Same(_) => Ending::Done,
-        Verdict::Positions(..) | Verdict::Rows(_) => Ending::Differs,
-    }
 }

@@ -1,43 +1,15 @@
 //! The printed form of rows and position.
-ghost use Rattle.std.specs.Prelude.{◌≡◌, ◌++◌, IfOk, OnOk, map, string_bytes, true, false};
-ghost use Rattle.serde_json.specs.View.{view, items_view, items_of};
-ghost use Rattle.serde_json.specs.Written.{compact_text, has_float};
-ghost use Rattle.pgtuple.specs.Lent.{cell_value};
-ghost use Rattle.pgsub_cli.specs.DumpText.{cell_data, cells_data, row_data, row_line, position_line, dump_of, resumed_of};
+ghost use Rattle.std.specs.Prelude.{◌≡◌, ◌++◌, IfOk, OnOk, string_bytes};
+ghost use Rattle.serde_json.specs.View.{view};
+ghost use Rattle.serde_json.specs.Written.{compact_text};
+ghost use Rattle.pgsub_cli.specs.DumpText.{row_data, row_line, position_line, dump_of, resumed_of};
 
 use pgapply::DumpRow;
+use pgjson::cells_json;
 use pglsn::Lsn;
-use pgtuple::{CellRef, TupleRef};
 use serde_json::{Value, json};
 use std::alloc::{AllocError, Global};
 use std::fmt::Write;
-
-/// A cell in JSON: a text is a string, and bytes stand in hexadecimal.
-pub fn cell_json(alloc: Global, cell: CellRef<'_>) -> Result<Value, AllocError>
-    ensures { IfOk result (λ value. view value ≡ cell_data (cell_value cell.entry)) }
-{
-    match cell {
-        CellRef::Null => Ok(Value::Null),
-        CellRef::Unchanged => json!(in alloc; {"unchanged": true}),
-        CellRef::Text(text) => Ok(Value::String(String::from_str(alloc, text)?)),
-        CellRef::Binary(bytes) => {
-            let digits = hex::encode(alloc, bytes)?;
-            json!(in alloc; {"hex": digits})
-        }
-    }
-}
-
-/// The cells of a tuple in JSON.
-pub fn cells_json(alloc: Global, tuple: &TupleRef<'_>) -> Result<Value, AllocError>
-    ensures { IfOk result (λ value. view value ≡ cells_data tuple.now) }
-{
-    let mut values = Vec::with_capacity(alloc, tuple.width())?;
-    for place in 0..tuple.width() {
-        let cell = tuple.get(place).unwrap();
-        values.push(cell_json(alloc, cell)?)?;
-    }
-    Ok(Value::Array(values))
-}
 
 /// A row in JSON: namespace, name, cells and copies.
 fn row_json(alloc: Global, row: &DumpRow) -> Result<Value, AllocError>

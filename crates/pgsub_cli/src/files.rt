@@ -6,8 +6,7 @@ ghost use Rattle.std.specs.Prelude.{◌≡◌, ◌≤◌, ◌<◌, ◌++◌, ℕ
 ghost use Rattle.std.specs.Io.KnownBytes.{Appends};
 ghost use Rattle.pgsub_core.specs.Subscriber.Crashing.{LeavesOldOr, FedOver};
 ghost use Rattle.pgsub_core.specs.Subscriber.Handled.{fault_in};
-ghost use Rattle.pgsub_cli.specs.Fed.{FeedsFile};
-ghost use Rattle.pgsub_cli.specs.StoreAfter.{StandsFed};
+ghost use Rattle.pgsub_cli.specs.StoreAfter.{FeedsFile, StandsFed};
 
 use crate::limits::CLOCK;
 use pgapply::ReplicaStore;

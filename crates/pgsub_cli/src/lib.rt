@@ -7,7 +7,6 @@
 //! ```
 #![tactic(auto)]
 
-pub mod applying;
 pub mod comparing;
 pub mod dump;
 mod dumping;
@@ -34,4 +33,4 @@ pub use pgcommand::{Limits, Task};
 pub use reported::Reported;
 pub use reporting::run_opened;
 pub use running::{run, store_path};
-pub use storing::{run_store, run_within};
+pub use storing::run_within;

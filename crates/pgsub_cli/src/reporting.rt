@@ -1,23 +1,31 @@
 //! Tells, while a store takes commits, how far that is. What a reader gives and what a store holds are as without it.
 
 ghost use Rattle.std.specs.Prelude.{◌≡◌, ◌≤◌, ◌+◌, ◌⊎◌, [], Result, Some, IfOk};
+ghost use Rattle.pgstore.specs.StoreValue.{HasTables, IsHonest, StoreValue};
 ghost use Rattle.pgsub_core.specs.Machine.Faults.{IsReadFault};
 ghost use Rattle.pgsub_cli.specs.declared.fault.Ending.{Ending};
 ghost use Rattle.pgsub_cli.specs.declared.fault.RunFault.{RunFault};
-ghost use Rattle.pgsub_cli.specs.Reports.{CountsIncoming, IsCounted, TellsProgress, bytes_text, nothing_of, progress_line, with_bytes, with_commits};
-ghost use Rattle.pgsub_cli.specs.Runs.{Tells, Writes, status_of};
+ghost use Rattle.pgsub_cli.specs.Reports.{IsCounted, TellsProgress, bytes_text, input_within, nothing_of, progress_line, with_bytes, with_commits};
+ghost use Rattle.pgsub_cli.specs.Runs.{PrintsNew, Tells, Writes, status_of};
 ghost use Rattle.pgsub_cli.specs.StoreAfter.{HoldsAfter, MayBeLeft, LosesNothing};
+ghost use Rattle.pgsub_cli.specs.Stores.{position_of};
 ghost use Rattle.pgsub_cli.specs.Storing.{PrintsOver};
 
+use crate::fault::RunFault;
 use crate::files::{Input, Output, ReadListener};
 use crate::limits::Limits;
 use crate::reported::{Listener, Reported, Settling};
+use crate::running::{status, tell};
+use crate::stores::new_store;
 use crate::storing::{Incoming, run_within};
 use pgapply::ReplicaStore;
 use pglsn::Lsn;
 use pgorder::Version;
 use pgspool::Spools;
+use pgstore::Store;
+use pgstore::laws::stores_on_memory_disks_are_honest;
 use pgsub_core::{Fault, Subscriber};
+use sqlite::Alter;
 use std::alloc::Global;
 use std::cell::RefCell;
 use std::time::{Clock, Duration, Instant};
@@ -169,42 +177,48 @@ impl<K: Clock + Drop, E: Output + Drop> Reporter<K, E> {
     }
 }
 
-/// Tells a reporter of each settling.
+/// Tells a reporter of each settling, where there is one.
 #[derive(Drop)]
 struct Commits<'a, K: Clock + Drop, E: Output + Drop> {
-    reporter: &'a RefCell<Reporter<K, E>>,
+    reporter: Option<&'a RefCell<Reporter<K, E>>>,
 }
 
 impl<K: Clock + Drop, E: Output + Drop> Listener for Commits<'_, K, E> {
     fn hear(&mut self, settling: &Settling) {
-        if let Ok(mut reporter) = self.reporter.try_borrow_mut() {
+        let Some(reporter) = self.reporter else {
+            return;
+        };
+        if let Ok(mut reporter) = reporter.try_borrow_mut() {
             reporter.note_commits(settling);
         }
     }
 }
 
-/// Tells a reporter of each read, and then another listener.
+/// Tells a listener of each read, and a reporter, where there is one.
 #[derive(Drop)]
 struct Bytes<'a, K: Clock + Drop, E: Output + Drop, L: ReadListener + Drop> {
-    reporter: &'a RefCell<Reporter<K, E>>,
+    reporter: Option<&'a RefCell<Reporter<K, E>>>,
     next: L,
 }
 
 impl<K: Clock + Drop, E: Output + Drop, L: ReadListener + Drop> ReadListener
     for Bytes<'_, K, E, L> {
     fn hear(&mut self, count: u64) {
-        if let Ok(mut reporter) = self.reporter.try_borrow_mut() {
+        self.next.hear(count);
+        let Some(reporter) = self.reporter else {
+            return;
+        };
+        if let Ok(mut reporter) = reporter.try_borrow_mut() {
             reporter.note_bytes(count);
         }
-        self.next.hear(count);
     }
 }
 
-/// What a file gives, of which a reporter is told as it is read.
+/// What a file gives, of which a reporter, where there is one, is told as it is read.
 #[derive(Drop)]
 pub struct Counted<'a, R: Input + Drop, K: Clock + Drop, E: Output + Drop> {
     file: R,
-    reporter: &'a RefCell<Reporter<K, E>>,
+    reporter: Option<&'a RefCell<Reporter<K, E>>>,
 }
 
 impl<R: Input + Drop, K: Clock + Drop, E: Output + Drop> Input for Counted<'_, R, K, E> {
@@ -232,69 +246,27 @@ impl<R: Input + Drop, K: Clock + Drop, E: Output + Drop> Input for Counted<'_, R
     }
 }
 
-/// What comes, of which the bytes are told as they are read.
+/// What comes, if anything does, of which the bytes are told as they are read.
 fn count_bytes<'a, R: Input + Drop, K: Clock + Drop, E: Output + Drop>(
-    incoming: Incoming<R>,
-    reporter: &'a RefCell<Reporter<K, E>>,
-) -> Incoming<Counted<'a, R, K, E>>
-    ensures { CountsIncoming (λ c. c.file) incoming result }
+    input: Option<(Version, Incoming<R>)>,
+    reporter: Option<&'a RefCell<Reporter<K, E>>>,
+) -> Option<(Version, Incoming<Counted<'a, R, K, E>>)>
+    ensures { input_within (λ c. c.file) result ≡ input }
 {
-    match incoming {
-        Incoming::Sessions(sessions) => Incoming::Sessions(sessions),
-        Incoming::Raw(file) => Incoming::Raw(Counted { file, reporter }),
+    match input {
+        None => None,
+        Some((version, Incoming::Sessions(sessions))) => {
+            Some((version, Incoming::Sessions(sessions)))
+        }
+        Some((version, Incoming::Raw(file))) => {
+            Some((version, Incoming::Raw(Counted { file, reporter })))
+        }
     }
 }
 
-/// Applies to an opened store what comes, and tells the reporter meanwhile.
-fn run_reported<
-    R: Input + Drop,
-    C: ReplicaStore + Drop,
-    K: Clock + Drop,
-    P: Output + Drop,
-    W: Output,
-    E: Output,
->(
-    alloc: Global,
-    store: C,
-    limits: Limits,
-    version: Version,
-    incoming: Incoming<R>,
-    reporter: &RefCell<Reporter<K, P>>,
-    out: &mut W,
-    err: &mut E,
-) -> (u8, C)
-    ensures status { result.0 ≤ 4 }
-    ensures ends { (ended : Result Ending RunFault) × (result.0 ≡ status_of ended)
-        × Writes W.takes W.failed (λ fault. C.is_honest result.1 → IsReadFault fault)
-        (λ stopped lines. C.is_honest result.1 →
-        PrintsOver R.gives R.begins R.failed C.holds C.place
-        limits (Some (version, incoming)) store result.1 stopped lines) out.old out.new ended
-        × Tells E.takes E.failed [] [] ended err.old err.new }
-    ensures kept { C.serves result.1 →
-        HoldsAfter R.gives R.begins R.failed C.holds C.place
-        limits (Some (version, incoming)) store result.1 }
-    ensures left { C.is_honest result.1 →
-        MayBeLeft R.gives R.begins R.failed C.holds C.place
-        C.reopens C.serves limits (Some (version, incoming)) store result.1 }
-    ensures crash { C.is_honest result.1 → C.serves store →
-        LosesNothing R.gives R.begins R.failed C.holds C.place
-        C.reopens limits (Some (version, incoming)) store result.1 }
-    ensures honest { C.is_honest result.1 → C.is_honest store }
-{
-    let input = Some((version, count_bytes(incoming, reporter)));
-    let (status, told) = run_within(
-        alloc,
-        Reported::new(store, Commits { reporter }),
-        limits,
-        input,
-        out,
-        err,
-    );
-    (status, told.into_store())
-}
-
-/// Runs a task over an opened store, as `run_within` does, and tells a reporter meanwhile, where there is one. What is printed, what the
-/// store holds then, what a crash may leave of it, what standard error gets for a fault and the exit status are as without it.
+/// Runs a task over an opened store, as `run_within` does, and tells a reporter meanwhile, where
+/// there is one. What is printed, what the store holds then, what a crash may leave of it, what
+/// standard error gets for a fault and the exit status are as without it.
 pub fn run_opened<
     R: Input + Drop,
     C: ReplicaStore + Drop,
@@ -329,10 +301,64 @@ pub fn run_opened<
         C.reopens limits input store result.1 }
     ensures honest { C.is_honest result.1 → C.is_honest store }
 {
-    match (input, reporter) {
-        (Some((version, incoming)), Some(reporter)) => {
-            run_reported(alloc, store, limits, version, incoming, reporter, out, err)
+    let store = Reported::new(store, Commits { reporter });
+    let counted = count_bytes(input, reporter);
+    let (status, told) = run_within(alloc, store, limits, counted, out, err);
+    (status, told.into_store())
+}
+
+/// As `run_opened`. The store ends with that. It is of any kind, since the proof that one over
+/// given disks is a store gets too large.
+fn run_ending<
+    R: Input + Drop,
+    S: Alter + Drop,
+    K: Clock + Drop,
+    P: Output + Drop,
+    W: Output,
+    E: Output,
+>(
+    alloc: Global,
+    store: Store<S>,
+    limits: Limits,
+    input: Option<(Version, Incoming<R>)>,
+    reporter: Option<&RefCell<Reporter<K, P>>>,
+    out: &mut W,
+    err: &mut E,
+) -> u8
+    ensures status { result ≤ 4 }
+    ensures ends { ((s : StoreValue S) → IsHonest S.Store s) → (ended : Result Ending RunFault)
+        × (result ≡ status_of ended)
+        × Writes W.takes W.failed IsReadFault (λ stopped lines. (new : StoreValue S) ×
+        PrintsOver R.gives R.begins R.failed (HasTables S.Store) position_of limits input store new
+        stopped lines) out.old out.new ended × Tells E.takes E.failed [] [] ended err.old err.new }
+{
+    let (status, _) = run_opened(alloc, store, limits, input, reporter, out, err);
+    status
+}
+
+/// Runs a task over an empty store in memory, which ends with that, and tells a reporter meanwhile,
+/// where there is one. Returns the exit status. What is printed is as `run` says, and with nothing
+/// to apply the position 0/0.
+pub fn run_in_memory<R: Input + Drop, K: Clock + Drop, P: Output + Drop, W: Output, E: Output>(
+    alloc: Global,
+    limits: Limits,
+    input: Option<(Version, Incoming<R>)>,
+    reporter: Option<&RefCell<Reporter<K, P>>>,
+    out: &mut W,
+    err: &mut E,
+) -> u8
+    ensures status { result ≤ 4 }
+    ensures ends { (ended : Result Ending RunFault) × (result ≡ status_of ended)
+        × Writes W.takes W.failed IsReadFault (PrintsNew R.gives R.begins R.failed limits input)
+        out.old out.new ended × Tells E.takes E.failed [] [] ended err.old err.new }
+{
+    stores_on_memory_disks_are_honest();
+    match new_store(alloc) {
+        Ok(store) => run_ending(alloc, store, limits, input, reporter, out, err),
+        Err(fault) => {
+            let ended = Err(RunFault::Stream(fault));
+            tell(alloc, ended, "", "", err);
+            status(ended)
         }
-        (input, _) => run_within(alloc, store, limits, input, out, err),
     }
 }

@@ -5,9 +5,8 @@ ghost use Rattle.pgsub_core.specs.Machine.Faults.{IsReadFault};
 ghost use Rattle.pgsub_cli.specs.declared.fault.Ending.{Ending};
 ghost use Rattle.pgsub_cli.specs.declared.fault.RunFault.{RunFault};
 ghost use Rattle.pgsub_cli.specs.FaultTexts.{stop_line};
-ghost use Rattle.pgsub_cli.specs.Runs.{Compares, ComparesSessions, Ends, Prints, PrintsApplied, PrintsFile, PrintsResumed, PrintsShown, Tells, WritesVerdict, left_path, right_path, store_path, status_of, status_of_stream};
+ghost use Rattle.pgsub_cli.specs.Runs.{Applies, Compares, ComparesSessions, Ends, Prints, PrintsResumed, PrintsShown, Tells, WritesVerdict, left_path, right_path, store_path, status_of, status_of_stream};
 
-use crate::applying::{apply, apply_bytes, resume};
 use crate::comparing::compare;
 use crate::fault::{Ending, RunFault};
 use crate::fault_text::StopLine;
@@ -17,6 +16,8 @@ use crate::numbering::write_number;
 use crate::printed::{write_line, write_printed};
 use crate::recorded::read_sessions;
 use crate::showing::show;
+use crate::stores::{apply, resume};
+use crate::storing::read_input;
 use pgcommand::Task;
 use pgorder::Version;
 use pgsub_core::{Fault, Session, Side, Verdict};
@@ -124,36 +125,20 @@ fn show_recording<R: Input + Drop, W: Output>(
     write_printed(Ok(show(alloc, version, sessions.as_slice())), out)
 }
 
-/// Applies the sessions of a recording, and prints what is stored then.
-fn apply_recording<R: Input + Drop, W: Output>(
-    alloc: Global,
-    limits: Limits,
-    version: Version,
-    file: Option<R>,
-    out: &mut W,
-) -> Result<Ending, RunFault>
-    ensures { Prints R.gives R.begins R.failed W.takes W.failed IsReadFault
-        (PrintsApplied limits version) file out.old out.new result }
-{
-    let sessions = read_sessions(alloc, Side::Left, file)?;
-    write_printed(apply(alloc, limits, version, sessions.as_slice()), out)
-}
-
-/// Feeds the bytes of a file, and prints what is stored then.
+/// Applies what comes of a file, and prints what is stored then.
 fn apply_file<R: Input + Drop, W: Output>(
     alloc: Global,
     limits: Limits,
     version: Version,
+    raw: bool,
     file: Option<R>,
     out: &mut W,
 ) -> Result<Ending, RunFault>
-    ensures { PrintsFile R.gives R.begins R.failed W.takes W.failed limits version file out.old
+    ensures { Applies R.gives R.begins R.failed W.takes W.failed limits version raw file out.old
         out.new result }
 {
-    let Some(file) = file else {
-        return Err(RunFault::CannotRead(Side::Left));
-    };
-    write_printed(apply_bytes(alloc, limits, version, file), out)
+    let incoming = read_input(alloc, raw, file)?;
+    write_printed(apply(alloc, limits, version, incoming), out)
 }
 
 /// Applies the sessions of a recording, and prints where a server would be asked to go on.
@@ -246,13 +231,7 @@ fn run_task<R: Input + Drop, W: Output>(
             limits,
             raw,
             ..
-        } => {
-            if *raw {
-                apply_file(alloc, *limits, *version, left, out)
-            } else {
-                apply_recording(alloc, *limits, *version, left, out)
-            }
-        }
+        } => apply_file(alloc, *limits, *version, *raw, left, out),
         Task::Same { version, .. } => compare_recordings(alloc, *version, left, right, out),
         Task::Resume { .. } => resume_recording(alloc, left, out),
         Task::Lsn { text } => write_number(alloc, text.as_str(), out),

@@ -1,24 +1,25 @@
 //! Runs a task over a store that outlasts it, wherever that keeps what it holds.
 
-ghost use Rattle.std.specs.Prelude.{◌≡◌, ◌≤◌, [], Option, Result, Err, IfOk, IfErr, string_bytes};
+ghost use Rattle.std.specs.Prelude.{◌≡◌, ◌≤◌, [], Option, Result, Err, IfOk, IfErr, OnOk, string_bytes};
 ghost use Rattle.pgapply.specs.Taken.{Stays};
 ghost use Rattle.pgapply.specs.Value.{Tables};
 ghost use Rattle.pgsub_core.specs.Machine.Faults.{IsReadFault, fault_of_store};
+ghost use Rattle.pgsub_core.specs.Subscriber.Handled.{fault_in};
 ghost use Rattle.pgsub_core.specs.Subscriber.SubscriberValue.{seen};
 ghost use Rattle.pgsub_cli.specs.declared.fault.Ending.{Ending};
 ghost use Rattle.pgsub_cli.specs.declared.fault.RunFault.{RunFault};
 ghost use Rattle.pgsub_cli.specs.declared.fault.RunFault.TheVariants.{Stream};
 ghost use Rattle.pgsub_cli.specs.Followed.{subscriber_over};
+ghost use Rattle.pgsub_cli.specs.Recorded.{ComesOf, ComesNot};
 ghost use Rattle.pgsub_cli.specs.Runs.{Tells, Writes, left_path, right_path, status_of};
-ghost use Rattle.pgsub_cli.specs.StoreAfter.{FeedsIncoming, StandsFed, LeavesFronts, LeavesIncomingHistory, HoldsAfter, MayBeLeft, LosesNothing};
-ghost use Rattle.pgsub_cli.specs.Storing.{ComesOf, ComesNot, PrintsHeld, PrintsOver, ShowsIncoming, status_of_unopened};
+ghost use Rattle.pgsub_cli.specs.StoreAfter.{FeedsIncoming, StandsFed, LeavesFronts, LeavesIncomingHistory, HoldsAfter, HoldsOver, MayBeLeft, LosesNothing};
+ghost use Rattle.pgsub_cli.specs.Storing.{PrintsOver, ShowsHeld, status_of_unopened};
 ghost use Rattle.pgsub_core.specs.declared.fault.Fault.TheVariants.{Store};
 
-use crate::applying::{apply_input, apply_sessions};
 use crate::dump::dump_text;
 use crate::fault::{Ending, RunFault};
-use crate::files::{Input, Output};
-use crate::limits::{Limits, max_frame};
+use crate::files::{Input, Output, Unheard};
+use crate::limits::{CLOCK, Limits, max_frame};
 use crate::printed::{Printed, write_printed};
 use crate::recorded::read_sessions;
 use crate::running::{left_path, right_path, status, tell};
@@ -26,7 +27,7 @@ use pgapply::{ReplicaStore, StoreFault};
 use pgcommand::Task;
 use pgorder::Version;
 use pgspool::{ByteSpools, Spools};
-use pgsub_core::{Fault, Session, Side, Subscriber, fed_sessions_are_followed};
+use pgsub_core::{Fault, Session, Side, Subscriber, fed_sessions_are_followed, follow};
 use std::alloc::{AllocError, Global};
 
 /// What is applied to a store.
@@ -57,19 +58,14 @@ pub fn read_input<R: Input + Drop>(
     Ok(Incoming::Sessions(sessions))
 }
 
-/// Feeds what comes, and reads what is stored then, whatever stopped it.
+/// Feeds a subscriber what comes.
 fn feed_incoming<R: Input + Drop, P: Spools + Drop, C: ReplicaStore + Drop>(
-    alloc: Global,
     subscriber: &mut Subscriber<P, C>,
     incoming: Incoming<R>,
-) -> Result<Printed, Fault>
-    ensures applied { C.is_honest subscriber.new.applied.store →
-        IfOk result (λ printed. ShowsIncoming R.gives R.begins R.failed C.holds C.place incoming
-        subscriber.old subscriber.new printed.stopped (string_bytes printed.lines)) }
-    ensures fault { C.is_honest subscriber.new.applied.store → IfErr result IsReadFault }
-    ensures kept { C.serves subscriber.new.applied.store → (stopped : Option Fault)
-        × FeedsIncoming R.gives R.begins R.failed C.holds C.place incoming subscriber.old
-        subscriber.new stopped }
+) -> Result<(), Fault>
+    ensures fed { C.serves subscriber.new.applied.store →
+        FeedsIncoming R.gives R.begins R.failed C.holds C.place incoming subscriber.old
+        subscriber.new (fault_in result) }
     ensures stands { C.is_honest subscriber.new.applied.store →
         C.serves subscriber.old.applied.store → StandsFed C.place
         (FeedsIncoming R.gives R.begins R.failed C.holds C.place incoming subscriber.old)
@@ -84,9 +80,11 @@ fn feed_incoming<R: Input + Drop, P: Spools + Drop, C: ReplicaStore + Drop>(
     ensures honest { C.is_honest subscriber.new.applied.store →
         C.is_honest subscriber.old.applied.store }
 {
+    // where it stands tells what a crash leaves at the start
+    let _start = subscriber.position();
     match incoming {
-        Incoming::Sessions(sessions) => apply_sessions(alloc, subscriber, sessions.as_slice()),
-        Incoming::Raw(file) => apply_input(alloc, subscriber, file),
+        Incoming::Sessions(sessions) => follow(subscriber, sessions.as_slice(), CLOCK),
+        Incoming::Raw(file) => file.feed_to(subscriber, Unheard),
     }
 }
 
@@ -115,12 +113,45 @@ pub fn store_fault(fault: StoreFault) -> Fault
     }
 }
 
-/// The lines of the rows and the position that a store holds. Nothing changes.
-fn held_lines<C: ReplicaStore>(alloc: Global, store: &mut C) -> Result<Printed, Fault>
-    ensures held { C.is_honest store.new → IfOk result
-        (λ printed. PrintsHeld C.holds C.place store.old store.new printed.stopped
-        (string_bytes printed.lines)) }
+/// Feeds what comes, if anything does, to a subscriber over a store. Returns the fault that stopped
+/// it, and the store.
+fn feed_over<R: Input + Drop, C: ReplicaStore + Drop>(
+    alloc: Global,
+    store: C,
+    limits: Limits,
+    input: Option<(Version, Incoming<R>)>,
+) -> (Option<Fault>, C)
+    ensures held { C.serves result.1 →
+        HoldsOver R.gives R.begins R.failed C.holds C.place limits input store result.1 result.0 }
+    ensures left { C.is_honest result.1 →
+        MayBeLeft R.gives R.begins R.failed C.holds C.place C.reopens C.serves limits input
+        store result.1 }
+    ensures crash { C.is_honest result.1 → C.serves store →
+        LosesNothing R.gives R.begins R.failed C.holds C.place C.reopens limits input store
+        result.1 }
+    ensures honest { C.is_honest result.1 → C.is_honest store }
+{
+    fed_sessions_are_followed();
+    let Some((version, incoming)) = input else {
+        return (None, store);
+    };
+    let mut subscriber = subscriber_over(alloc, store, limits, version);
+    let stopped = feed_incoming(&mut subscriber, incoming).err();
+    (stopped, subscriber.into_store())
+}
+
+/// The lines of the rows and the position that a store holds, beside what stopped a run. Nothing
+/// changes.
+fn held_lines<C: ReplicaStore>(
+    alloc: Global,
+    store: &mut C,
+    stopped: Option<Fault>,
+) -> Result<Printed, Fault>
+    ensures held { C.is_honest store.new → IfOk result (λ printed. (printed.stopped ≡ stopped)
+        × ShowsHeld C.holds C.place store.old store.new (string_bytes printed.lines)) }
     ensures fault { C.is_honest store.new → IfErr result IsReadFault }
+    ensures open { C.is_honest store.new → OnOk result (C.serves store.old) }
+    ensures served { C.serves store.new → C.serves store.old }
     ensures stays { C.serves store.new → Stays C.holds store.old store.new }
     ensures position { C.place store.new ≡ C.place store.old }
     ensures crash { C.is_honest store.new → (other : C) → C.reopens store.new other →
@@ -133,18 +164,16 @@ fn held_lines<C: ReplicaStore>(alloc: Global, store: &mut C) -> Result<Printed, 
         Err(fault) => return Err(store_fault(fault)),
     };
     match dump_text(alloc, rows.as_slice(), position) {
-        Ok(lines) => Ok(Printed {
-            lines,
-            stopped: None,
-        }),
+        Ok(lines) => Ok(Printed { lines, stopped }),
         Err(AllocError) => Err(Fault::Memory),
     }
 }
 
-/// Applies to a store what comes, if anything does. The lines are those of what it holds then.
-fn apply_over<R: Input + Drop, C: ReplicaStore + Drop>(
+/// Applies to a store what comes, if anything does. The lines are those of what it holds then,
+/// whatever stopped it.
+pub(crate) fn apply_over<R: Input + Drop, C: ReplicaStore + Drop>(
     alloc: Global,
-    mut store: C,
+    store: C,
     limits: Limits,
     input: Option<(Version, Incoming<R>)>,
 ) -> (Result<Printed, Fault>, C)
@@ -162,14 +191,9 @@ fn apply_over<R: Input + Drop, C: ReplicaStore + Drop>(
         result.1 }
     ensures honest { C.is_honest result.1 → C.is_honest store }
 {
-    fed_sessions_are_followed();
-    let Some((version, incoming)) = input else {
-        let printed = held_lines(alloc, &mut store);
-        return (printed, store);
-    };
-    let mut subscriber = subscriber_over(alloc, store, limits, version);
-    let printed = feed_incoming(alloc, &mut subscriber, incoming);
-    (printed, subscriber.into_store())
+    let (stopped, mut store) = feed_over(alloc, store, limits, input);
+    let printed = held_lines(alloc, &mut store, stopped);
+    (printed, store)
 }
 
 /// Tells why a task was stopped before it opened its store. Returns the exit status.
@@ -236,31 +260,4 @@ pub fn run_within<R: Input + Drop, C: ReplicaStore + Drop, W: Output, E: Output>
     let ended = write_printed(printed, out);
     tell(alloc, ended, "", "", err);
     (status(ended), store)
-}
-
-/// `run_within`, within the limits of a command line that names none.
-pub fn run_store<R: Input + Drop, C: ReplicaStore + Drop, W: Output, E: Output>(
-    alloc: Global,
-    store: C,
-    input: Option<(Version, Incoming<R>)>,
-    out: &mut W,
-    err: &mut E,
-) -> (u8, C)
-    ensures status { result.0 ≤ 4 }
-    ensures ends { (ended : Result Ending RunFault) × (result.0 ≡ status_of ended)
-        × Writes W.takes W.failed (λ fault. C.is_honest result.1 → IsReadFault fault)
-        (λ stopped lines. C.is_honest result.1 →
-        PrintsOver R.gives R.begins R.failed C.holds C.place Limits.DEFAULT input store result.1
-        stopped lines) out.old out.new ended × Tells E.takes E.failed [] [] ended err.old err.new }
-    ensures kept { C.serves result.1 →
-        HoldsAfter R.gives R.begins R.failed C.holds C.place Limits.DEFAULT input store result.1 }
-    ensures left { C.is_honest result.1 →
-        MayBeLeft R.gives R.begins R.failed C.holds C.place C.reopens C.serves Limits.DEFAULT
-        input store result.1 }
-    ensures crash { C.is_honest result.1 → C.serves store →
-        LosesNothing R.gives R.begins R.failed C.holds C.place C.reopens Limits.DEFAULT input
-        store result.1 }
-    ensures honest { C.is_honest result.1 → C.is_honest store }
-{
-    run_within(alloc, store, Limits::DEFAULT, input, out, err)
 }

@@ -5,9 +5,7 @@ use pgapply::{ReplicaStore, StoreFault};
 use pgcommand::{DEFAULT_CACHE, Limits, Task};
 use pgorder::Version;
 use pgsub_cli::fault::RunFault;
-use pgsub_cli::storing::{
-    Incoming, read_input, run_store, run_within, tell_stopped, tell_unopened,
-};
+use pgsub_cli::storing::{Incoming, read_input, run_within, tell_stopped, tell_unopened};
 use pgsub_core::Side;
 use std::process::Abort;
 use std::test::Fail;
@@ -27,7 +25,7 @@ impl<R: Abort + AllocGlobal> Trial<R> for FeedsBytes {
         };
         let input = Some((Version::Two, Incoming::Raw(bytes)));
         let (mut out, mut err) = (Vec::new(alloc), Vec::new(alloc));
-        let (status, _) = run_store(alloc, store, input, &mut out, &mut err);
+        let (status, _) = run_within(alloc, store, Limits::DEFAULT, input, &mut out, &mut err);
         assert_eq!(rt; out.as_slice(), b"position 0/0\n".as_slice());
         assert_eq!(rt;
             err.as_slice(),

@@ -4,7 +4,7 @@ use crate::fault::Wrong;
 use pgapply::ReplicaStore;
 use pgorder::Version;
 use pgsub_cli::storing::{Incoming, read_input};
-use pgsub_cli::{run_dump, run_store};
+use pgsub_cli::{Limits, run_dump, run_within};
 use std::alloc::{AllocError, Global};
 
 /// A run: `apply` of a recording, or `dump` where there is none, and what comes of it.
@@ -66,7 +66,7 @@ pub(crate) fn check_run<C: ReplicaStore + Drop>(
     run: &Run,
 ) -> Result<C, Wrong> {
     let (mut out, mut err) = (Vec::new(alloc), Vec::new(alloc));
-    let (status, store) = run_store(alloc, store, input, &mut out, &mut err);
+    let (status, store) = run_within(alloc, store, Limits::DEFAULT, input, &mut out, &mut err);
     compare(run, out.as_slice(), err.as_slice(), status)?;
     Ok(store)
 }

@@ -3,7 +3,7 @@ use Rattle.std.specs.String.{string_bytes}
 use Rattle.pgapply.specs.Dump.{dump}
 use Rattle.pgsub_cli.specs.DumpText.{dump_of}
 use Rattle.pgsub_cli.specs.Dumped.{PrintsLines}
-use Rattle.pgsub_cli.proofs.AppliedLines.{if_ok}
+use Rattle.pgsub_cli.proofs.Came.{if_ok}
 use Rattle.pgsub_cli.proofs.LineSteps.{begins, dumped, unbegun}
 use Rattle.pgsub_cli.proofs.dumping.write_rows.Goals as goal
 

@@ -41,7 +41,8 @@ returns-clause-goes g c =
       follows = record { line = line; size_is = done.size; last_is = done.last; fresh = begun.fresh; next = begun.base ∙ c.last-base.ensures };
       finished = done.finished;
     } in
-    (ended_by g.F.File.Disk.seen g.F.File.Disk.may_leave g.met.F.File.Disk.seen_may_stay g.F.File.Disk.is_clean c.args.self.now.begins c.args.self.now.ended.items _ _ _ _ _ _ _ next c.reserve.ensures.items
+    (ended_by g.F.File.Disk.seen g.F.File.Disk.may_leave g.met.F.File.Disk.seen_may_stay g.F.File.Disk.is_clean c.args.self.now.begins c.args.self.now.ended.items c.reserve.new.self.items
+    c.push_reserved.new.self.items c.args.self.now.segment c.finish.new.self c.replace-ended.result c.in-Ok.segment c.replace-ended.new.dest next c.reserve.ensures.items
     c.replace-ended.ensures.value c.push_reserved.ensures.items c.replace-ended.ensures.after).goes
 
 pub returns-clause-kept : goal.returns-clause-kept
@@ -53,7 +54,8 @@ returns-clause-kept g c =
       follows = record { line = line; size_is = done.size; last_is = done.last; fresh = begun.fresh; next = begun.base ∙ c.last-base.ensures };
       finished = done.finished;
     } in
-    (ended_by g.F.File.Disk.seen g.F.File.Disk.may_leave g.met.F.File.Disk.seen_may_stay g.F.File.Disk.is_clean c.args.self.now.begins c.args.self.now.ended.items _ _ _ _ _ _ _ next c.reserve.ensures.items
+    (ended_by g.F.File.Disk.seen g.F.File.Disk.may_leave g.met.F.File.Disk.seen_may_stay g.F.File.Disk.is_clean c.args.self.now.begins c.args.self.now.ended.items c.reserve.new.self.items
+    c.push_reserved.new.self.items c.args.self.now.segment c.finish.new.self c.replace-ended.result c.in-Ok.segment c.replace-ended.new.dest next c.reserve.ensures.items
     c.replace-ended.ensures.value c.push_reserved.ensures.items c.replace-ended.ensures.after).kept
 
 pub returns-clause-ends : goal.returns-clause-ends
@@ -65,5 +67,6 @@ returns-clause-ends g c =
       follows = record { line = line; size_is = done.size; last_is = done.last; fresh = begun.fresh; next = begun.base ∙ c.last-base.ensures };
       finished = done.finished;
     } in
-    inr (ended_by g.F.File.Disk.seen g.F.File.Disk.may_leave g.met.F.File.Disk.seen_may_stay g.F.File.Disk.is_clean c.args.self.now.begins c.args.self.now.ended.items _ _ _ _ _ _ _ next c.reserve.ensures.items
+    inr (ended_by g.F.File.Disk.seen g.F.File.Disk.may_leave g.met.F.File.Disk.seen_may_stay g.F.File.Disk.is_clean c.args.self.now.begins c.args.self.now.ended.items c.reserve.new.self.items
+    c.push_reserved.new.self.items c.args.self.now.segment c.finish.new.self c.replace-ended.result c.in-Ok.segment c.replace-ended.new.dest next c.reserve.ensures.items
     c.replace-ended.ensures.value c.push_reserved.ensures.items c.replace-ended.ensures.after).ends
