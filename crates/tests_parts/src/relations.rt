@@ -57,7 +57,7 @@ enum Name {
 
 use Name::{ByIndex, F, N, Renamed, Swapped, T, TWithZ, Unflagged};
 
-fn table(oid: u32, name: &'static str, letter: u8, columns: Columns) -> Table {
+fn new_table(oid: u32, name: &'static str, letter: u8, columns: Columns) -> Table {
     Table {
         oid,
         name,
@@ -68,14 +68,14 @@ fn table(oid: u32, name: &'static str, letter: u8, columns: Columns) -> Table {
 
 fn table_of(name: Name) -> Table {
     match name {
-        T => table(16384, "t", b'd', T_COLUMNS),
-        TWithZ => table(16384, "t", b'd', T_WITH_Z_COLUMNS),
-        Swapped => table(16384, "u", b'f', &[(true, "v", 17), (true, "id", 20)]),
-        Renamed => table(16384, "t", b'd', &[(true, "ID", 23), (false, "vv", 25)]),
-        F => table(16386, "f", b'f', F_COLUMNS),
-        N => table(16387, "n", b'n', N_COLUMNS),
-        ByIndex => table(16388, "i", b'i', BY_INDEX_COLUMNS),
-        Unflagged => table(1, "u", b'd', &[(false, "v", 25), (false, "w", 25)]),
+        T => new_table(16384, "t", b'd', T_COLUMNS),
+        TWithZ => new_table(16384, "t", b'd', T_WITH_Z_COLUMNS),
+        Swapped => new_table(16384, "u", b'f', &[(true, "v", 17), (true, "id", 20)]),
+        Renamed => new_table(16384, "t", b'd', &[(true, "ID", 23), (false, "vv", 25)]),
+        F => new_table(16386, "f", b'f', F_COLUMNS),
+        N => new_table(16387, "n", b'n', N_COLUMNS),
+        ByIndex => new_table(16388, "i", b'i', BY_INDEX_COLUMNS),
+        Unflagged => new_table(1, "u", b'd', &[(false, "v", 25), (false, "w", 25)]),
     }
 }
 
@@ -130,7 +130,7 @@ const UNSENT: CellRef<'static> = CellRef::Unchanged;
 
 /// Whether a table with this letter and these columns is keyed.
 fn is_keyed(alloc: Global, letter: u8, columns: Columns) -> Result<bool, AllocError> {
-    Ok(keyed(&relation(alloc, &table(1, "u", letter, columns))?))
+    Ok(keyed(&relation(alloc, &new_table(1, "u", letter, columns))?))
 }
 
 static KEYED: [(u8, Columns, bool); 8] = [
@@ -158,7 +158,7 @@ fn keyed_tables_and_bags(rt: HostRuntime) -> Result<(), Fail> {
 /// Whether the table t and one with this letter and these columns have one shape, asked from both sides.
 fn has_shape_of_t(alloc: Global, letter: u8, columns: Columns) -> Result<(bool, bool), AllocError> {
     let t = relation_of(alloc, T)?;
-    let other = relation(alloc, &table(7, "other", letter, columns))?;
+    let other = relation(alloc, &new_table(7, "other", letter, columns))?;
     Ok((same_shape(&t, &other), same_shape(&other, &t)))
 }
 
@@ -451,7 +451,7 @@ fn book_is_a_map(rt: HostRuntime) -> Result<(), Fail> {
 /// Puts a table without columns under each of these OIDs.
 fn put_many(alloc: Global, book: &mut Book, count: u32) -> Result<(), RelFault> {
     for oid in 0..count {
-        put(alloc, book, &table(oid, "r", b'n', &[]))?;
+        put(alloc, book, &new_table(oid, "r", b'n', &[]))?;
     }
     Ok(())
 }
