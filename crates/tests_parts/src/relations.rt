@@ -1,6 +1,4 @@
 //! Identities, shapes and definitions of a few tables.
-ghost use Rattle.std.specs.Prelude.{◌≡◌, IfOk};
-
 use pglogical::OldKind;
 use pgrel::{
     Book, Column, RelFault, RelationDef, carry, check_insert, keyed, resolve, row_identity,
@@ -8,7 +6,6 @@ use pgrel::{
 };
 use pgtuple::{CellRef, Seq, Text, Tuple};
 use std::alloc::{AllocError, Global};
-use std::process::Abort;
 use std::test::Fail;
 
 fn text(alloc: Global, text: &str) -> Result<Text, AllocError> {
@@ -29,58 +26,61 @@ struct Table {
 
 const T_COLUMNS: Columns = &[(true, "id", 23), (false, "v", 25)];
 
-/// Replica identity DEFAULT, with the primary key id.
-const T: Table = Table {
-    oid: 16384,
-    name: "t",
-    letter: b'd',
-    columns: T_COLUMNS,
-};
-
 const T_WITH_Z_COLUMNS: Columns = &[(true, "id", 23), (false, "v", 25), (false, "z", 25)];
-
-/// The table t with a third column.
-const T_WITH_Z: Table = Table {
-    oid: 16384,
-    name: "t",
-    letter: b'd',
-    columns: T_WITH_Z_COLUMNS,
-};
 
 const F_COLUMNS: Columns = &[(true, "v", 25)];
 
-/// Replica identity FULL.
-const F: Table = Table {
-    oid: 16386,
-    name: "f",
-    letter: b'f',
-    columns: F_COLUMNS,
-};
-
 const N_COLUMNS: Columns = &[(false, "v", 25)];
-
-/// Replica identity NOTHING.
-const N: Table = Table {
-    oid: 16387,
-    name: "n",
-    letter: b'n',
-    columns: N_COLUMNS,
-};
 
 const BY_INDEX_COLUMNS: Columns = &[(true, "a", 23), (false, "b", 25), (true, "c", 25)];
 
-/// Replica identity USING INDEX, over the first and the last column.
-const BY_INDEX: Table = Table {
-    oid: 16388,
-    name: "i",
-    letter: b'i',
-    columns: BY_INDEX_COLUMNS,
-};
+/// The tables that rows name.
+#[derive(Clone, Copy)]
+enum Name {
+    /// Replica identity DEFAULT, with the primary key id.
+    T,
+    /// The table t with a third column.
+    TWithZ,
+    /// The table t with its two columns in the other order, of other types and under other flags.
+    Swapped,
+    /// The table t with its columns renamed.
+    Renamed,
+    /// Replica identity FULL.
+    F,
+    /// Replica identity NOTHING.
+    N,
+    /// Replica identity USING INDEX, over the first and the last column.
+    ByIndex,
+    /// Replica identity DEFAULT, without a key.
+    Unflagged,
+}
+
+use Name::{ByIndex, F, N, Renamed, Swapped, T, TWithZ, Unflagged};
+
+fn new_table(oid: u32, name: &'static str, letter: u8, columns: Columns) -> Table {
+    Table {
+        oid,
+        name,
+        letter,
+        columns,
+    }
+}
+
+fn table_of(name: Name) -> Table {
+    match name {
+        T => new_table(16384, "t", b'd', T_COLUMNS),
+        TWithZ => new_table(16384, "t", b'd', T_WITH_Z_COLUMNS),
+        Swapped => new_table(16384, "u", b'f', &[(true, "v", 17), (true, "id", 20)]),
+        Renamed => new_table(16384, "t", b'd', &[(true, "ID", 23), (false, "vv", 25)]),
+        F => new_table(16386, "f", b'f', F_COLUMNS),
+        N => new_table(16387, "n", b'n', N_COLUMNS),
+        ByIndex => new_table(16388, "i", b'i', BY_INDEX_COLUMNS),
+        Unflagged => new_table(1, "u", b'd', &[(false, "v", 25), (false, "w", 25)]),
+    }
+}
 
 /// What a Relation message says of the table.
-fn relation(alloc: Global, table: &Table) -> Result<RelationDef, AllocError>
-    ensures { IfOk result (λ def. def.oid ≡ table.now.oid) }
-{
+fn relation(alloc: Global, table: &Table) -> Result<RelationDef, AllocError> {
     let mut columns = Vec::new(alloc);
     for &(key, name, type_oid) in table.columns {
         columns.push(Column {
@@ -99,129 +99,38 @@ fn relation(alloc: Global, table: &Table) -> Result<RelationDef, AllocError>
     })
 }
 
-fn row(alloc: Global, cells: &[CellRef<'_>]) -> Result<Tuple, Fail> {
-    let mut owned = Vec::new(alloc);
-    for cell in cells {
-        owned.push(cell.to_cell(alloc)?)?;
-    }
-    Ok(Tuple::from_cells(owned).ok_or("beyond the limits of a tuple")?)
-}
-
-/// Whether the cell is this one.
-fn is_cell(found: Option<CellRef<'_>>, cell: &CellRef<'_>) -> bool {
-    match (found, *cell) {
-        (Some(CellRef::Null), CellRef::Null) => true,
-        (Some(CellRef::Unchanged), CellRef::Unchanged) => true,
-        (Some(CellRef::Text(found)), CellRef::Text(text)) => found == text,
-        (Some(CellRef::Binary(found)), CellRef::Binary(bytes)) => found == bytes,
-        _ => false,
-    }
-}
-
-/// Whether the call answered these cells. Want of memory goes on as an error.
-fn gives(answer: Result<Tuple, RelFault>, cells: &[CellRef<'_>]) -> Result<bool, RelFault> {
-    match answer {
-        Ok(tuple) => {
-            let lent = tuple.borrowed();
-            let same = cells
-                .iter()
-                .enumerate()
-                .all(|(k, cell)| is_cell(lent.get(k), cell));
-            Ok(same && tuple.width() == cells.len())
-        }
-        Err(RelFault::Memory) => Err(RelFault::Memory),
-        Err(_) => Ok(false),
-    }
-}
-
-/// Whether the call answered this fault. Want of memory goes on as an error.
-fn refuses(answer: Result<Tuple, RelFault>, fault: RelFault) -> Result<bool, RelFault> {
-    match answer {
-        Ok(_) => Ok(false),
-        Err(RelFault::Memory) => Err(RelFault::Memory),
-        Err(found) => Ok(found == fault),
-    }
-}
-
-/// Whether the call answered these cells, or this fault. Want of memory goes on as an error.
-fn answers(
-    answer: Result<Tuple, RelFault>,
-    wanted: Result<&[CellRef<'_>], RelFault>,
-) -> Result<bool, RelFault> {
-    match wanted {
-        Ok(cells) => gives(answer, cells),
-        Err(fault) => refuses(answer, fault),
-    }
-}
-
-/// The identity that an update without an old tuple searches.
-fn of_new(
-    alloc: Global,
-    def: &RelationDef,
-    new: &[CellRef<'_>],
-) -> Result<Result<Tuple, RelFault>, Fail> {
-    let new = row(alloc, new)?;
-    Ok(search_identity(alloc, def, None, Some(new.borrowed())))
-}
-
-/// The identity that an update with an old tuple searches.
-fn of_old(
-    alloc: Global,
-    def: &RelationDef,
-    kind: OldKind,
-    old: &[CellRef<'_>],
-    new: &[CellRef<'_>],
-) -> Result<Result<Tuple, RelFault>, Fail> {
-    let old = row(alloc, old)?;
-    let new = row(alloc, new)?;
-    let prior = Some((kind, old.borrowed()));
-    Ok(search_identity(alloc, def, prior, Some(new.borrowed())))
-}
-
-/// The identity that a delete searches.
-fn of_delete(
-    alloc: Global,
-    def: &RelationDef,
-    kind: OldKind,
-    old: &[CellRef<'_>],
-) -> Result<Result<Tuple, RelFault>, Fail> {
-    let old = row(alloc, old)?;
-    Ok(search_identity(alloc, def, Some((kind, old.borrowed())), None))
+fn relation_of(alloc: Global, name: Name) -> Result<RelationDef, AllocError> {
+    relation(alloc, &table_of(name))
 }
 
 /// The cells of a tuple.
 type Cells = &'static [CellRef<'static>];
 
-/// The tuples of an update or a delete.
-#[derive(Clone, Copy)]
-enum Sent {
-    New(Cells),
-    OldAndNew(OldKind, Cells, Cells),
-    Old(OldKind, Cells),
-}
-
-/// The identity that the change searches.
-fn searched(alloc: Global, table: &Table, sent: Sent) -> Result<Result<Tuple, RelFault>, Fail> {
-    let def = relation(alloc, table)?;
-    match sent {
-        Sent::New(new) => of_new(alloc, &def, new),
-        Sent::OldAndNew(kind, old, new) => of_old(alloc, &def, kind, old, new),
-        Sent::Old(kind, old) => of_delete(alloc, &def, kind, old),
+fn row(alloc: Global, cells: Cells) -> Result<Tuple, RelFault> {
+    let mut owned = Vec::new(alloc);
+    for cell in cells {
+        owned.push(cell.to_cell(alloc).map_err(|_| RelFault::Memory)?)?;
     }
+    Tuple::from_cells(owned).ok_or(RelFault::Width)
 }
 
-/// A change of a table, and the identity that it searches or why there is none.
-type Search = (Table, Sent, Result<Cells, RelFault>);
+const ONE: CellRef<'static> = CellRef::Text("1");
+
+const TWO: CellRef<'static> = CellRef::Text("2");
+
+const X: CellRef<'static> = CellRef::Text("x");
+
+const Y: CellRef<'static> = CellRef::Text("y");
+
+const BYTES: CellRef<'static> = CellRef::Binary(&[0, 255]);
+
+const NULL: CellRef<'static> = CellRef::Null;
+
+const UNSENT: CellRef<'static> = CellRef::Unchanged;
 
 /// Whether a table with this letter and these columns is keyed.
 fn is_keyed(alloc: Global, letter: u8, columns: Columns) -> Result<bool, AllocError> {
-    let table = Table {
-        oid: 1,
-        name: "u",
-        letter,
-        columns,
-    };
-    Ok(keyed(&relation(alloc, &table)?))
+    Ok(keyed(&relation(alloc, &new_table(1, "u", letter, columns))?))
 }
 
 static KEYED: [(u8, Columns, bool); 8] = [
@@ -248,14 +157,8 @@ fn keyed_tables_and_bags(rt: HostRuntime) -> Result<(), Fail> {
 
 /// Whether the table t and one with this letter and these columns have one shape, asked from both sides.
 fn has_shape_of_t(alloc: Global, letter: u8, columns: Columns) -> Result<(bool, bool), AllocError> {
-    let table = Table {
-        oid: 7,
-        name: "other",
-        letter,
-        columns,
-    };
-    let t = relation(alloc, &T)?;
-    let other = relation(alloc, &table)?;
+    let t = relation_of(alloc, T)?;
+    let other = relation(alloc, &new_table(7, "other", letter, columns))?;
     Ok((same_shape(&t, &other), same_shape(&other, &t)))
 }
 
@@ -278,269 +181,246 @@ fn shapes(rt: HostRuntime) -> Result<(), Fail> {
     Ok(())
 }
 
-const ONE: CellRef<'static> = CellRef::Text("1");
-
-const TWO: CellRef<'static> = CellRef::Text("2");
-
-const X: CellRef<'static> = CellRef::Text("x");
-
-const Y: CellRef<'static> = CellRef::Text("y");
-
-const BYTES: CellRef<'static> = CellRef::Binary(&[0, 255]);
-
-const NULL: CellRef<'static> = CellRef::Null;
-
-const UNSENT: CellRef<'static> = CellRef::Unchanged;
-
-static SEARCHES: [Search; 17] = [
-    (
-        T,
-        Sent::OldAndNew(OldKind::Key, &[ONE, NULL], &[TWO, UNSENT]),
-        Ok(&[ONE]),
-    ),
-    (T, Sent::New(&[TWO, UNSENT]), Ok(&[TWO])),
-    (T, Sent::Old(OldKind::Full, &[TWO, X]), Ok(&[TWO])),
-    (T, Sent::Old(OldKind::Key, &[NULL, NULL]), Ok(&[NULL])),
-    (
-        BY_INDEX,
-        Sent::Old(OldKind::Key, &[ONE, NULL, BYTES]),
-        Ok(&[ONE, BYTES]),
-    ),
-    (
-        T,
-        Sent::OldAndNew(OldKind::Key, &[UNSENT], &[ONE, X]),
-        Err(RelFault::Width),
-    ),
-    (
-        T,
-        Sent::OldAndNew(OldKind::Key, &[UNSENT, NULL], &[ONE]),
-        Err(RelFault::Width),
-    ),
-    (
-        T,
-        Sent::OldAndNew(OldKind::Key, &[UNSENT, NULL], &[ONE, X]),
-        Err(RelFault::UnknownIdentity),
-    ),
-    (T, Sent::New(&[UNSENT, X]), Err(RelFault::UnknownIdentity)),
-    (F, Sent::OldAndNew(OldKind::Full, &[X], &[Y]), Ok(&[X])),
-    (F, Sent::New(&[X]), Err(RelFault::NoIdentity)),
-    (
-        F,
-        Sent::OldAndNew(OldKind::Key, &[X], &[Y]),
-        Err(RelFault::NoIdentity),
-    ),
-    (
-        F,
-        Sent::Old(OldKind::Full, &[UNSENT]),
-        Err(RelFault::UnknownIdentity),
-    ),
-    (N, Sent::New(&[X]), Err(RelFault::NoIdentity)),
-    (N, Sent::Old(OldKind::Full, &[X]), Err(RelFault::NoIdentity)),
-    (N, Sent::New(&[X, Y]), Err(RelFault::Width)),
-    (
-        N,
-        Sent::OldAndNew(OldKind::Key, &[X, Y], &[X]),
-        Err(RelFault::Width),
-    ),
-];
-
-#[test]
-fn searched_identities(rt: HostRuntime) -> Result<(), Fail> {
-    for (place, (table, sent, wanted)) in SEARCHES.iter().enumerate() {
-        let answer = searched(rt.alloc(), table, *sent)?;
-        assert!(rt; answers(answer, *wanted)?, "search {place}");
-    }
-    Ok(())
+/// A call that returns a tuple.
+#[derive(Clone, Copy)]
+enum Call {
+    /// The identity that an update without an old tuple searches.
+    New(Cells),
+    /// The identity that an update with an old tuple searches.
+    OldAndNew(OldKind, Cells, Cells),
+    /// The identity that a delete searches.
+    Old(OldKind, Cells),
+    /// The identity of a row.
+    Identity(Cells),
+    /// The new row, with the cells of the old row where none was sent.
+    Resolve(Cells, Cells),
+    /// A row of the table as it stands in the other one.
+    Carry(Name, Cells),
 }
 
-/// The identity of a row of the table.
-fn identity_of(
+use Call::{Carry, Identity, New, Old, OldAndNew, Resolve};
+
+fn of_new(alloc: Global, def: &RelationDef, new: Cells) -> Result<Tuple, RelFault> {
+    let new = row(alloc, new)?;
+    search_identity(alloc, def, None, Some(new.borrowed()))
+}
+
+fn of_old(
     alloc: Global,
-    table: &Table,
-    cells: Cells,
-) -> Result<Result<Tuple, RelFault>, Fail> {
-    let def = relation(alloc, table)?;
-    let row = row(alloc, cells)?;
-    Ok(row_identity(alloc, &def, &row.borrowed()))
-}
-
-/// Replica identity DEFAULT, without a key.
-const UNFLAGGED: Table = Table {
-    oid: 1,
-    name: "u",
-    letter: b'd',
-    columns: &[(false, "v", 25), (false, "w", 25)],
-};
-
-static IDENTITIES: [(Table, Cells, Result<Cells, RelFault>); 4] = [
-    (T, &[UNSENT, X], Ok(&[UNSENT])),
-    (F, &[UNSENT], Ok(&[UNSENT])),
-    (UNFLAGGED, &[UNSENT, X], Ok(&[UNSENT, X])),
-    (T, &[UNSENT], Err(RelFault::Width)),
-];
-
-#[test]
-fn identities_of_rows(rt: HostRuntime) -> Result<(), Fail> {
-    for (place, (table, cells, wanted)) in IDENTITIES.iter().enumerate() {
-        let answer = identity_of(rt.alloc(), table, *cells)?;
-        assert!(rt; answers(answer, *wanted)?, "row {place}");
-    }
-    Ok(())
-}
-
-/// Whether a row may be inserted into the table t.
-fn inserted(alloc: Global, cells: Cells) -> Result<Result<(), RelFault>, Fail> {
-    let def = relation(alloc, &T)?;
-    let row = row(alloc, cells)?;
-    Ok(check_insert(&def, &row.borrowed()))
-}
-
-static INSERTED: [(Cells, Result<(), RelFault>); 3] = [
-    (&[ONE, NULL], Ok(())),
-    (&[ONE, UNSENT], Err(RelFault::UnchangedInInsert)),
-    (&[UNSENT], Err(RelFault::Width)),
-];
-
-#[test]
-fn inserted_rows(rt: HostRuntime) -> Result<(), Fail> {
-    for (place, (cells, wanted)) in INSERTED.iter().enumerate() {
-        assert!(rt; inserted(rt.alloc(), *cells)? == *wanted, "row {place}");
-    }
-    Ok(())
-}
-
-/// The new row with the old row's cells in place of those that weren't sent.
-fn resolved(
-    rt: &impl Abort,
-    alloc: Global,
-    new: Cells,
+    def: &RelationDef,
+    kind: OldKind,
     old: Cells,
-) -> Result<Result<Tuple, RelFault>, Fail> {
+    new: Cells,
+) -> Result<Tuple, RelFault> {
+    let old = row(alloc, old)?;
+    let new = row(alloc, new)?;
+    search_identity(
+        alloc,
+        def,
+        Some((kind, old.borrowed())),
+        Some(new.borrowed()),
+    )
+}
+
+fn of_delete(
+    alloc: Global,
+    def: &RelationDef,
+    kind: OldKind,
+    old: Cells,
+) -> Result<Tuple, RelFault> {
+    let old = row(alloc, old)?;
+    search_identity(alloc, def, Some((kind, old.borrowed())), None)
+}
+
+fn identity_of(alloc: Global, def: &RelationDef, cells: Cells) -> Result<Tuple, RelFault> {
+    row_identity(alloc, def, &row(alloc, cells)?.borrowed())
+}
+
+fn resolved(alloc: Global, new: Cells, old: Cells) -> Result<Tuple, RelFault> {
     let new = row(alloc, new)?;
     let old = row(alloc, old)?;
-    assert!(rt; new.width() == old.width());
-    Ok(resolve(alloc, &new.borrowed(), &old.borrowed()))
-}
-
-static RESOLVED: [(Cells, Cells, Cells); 3] = [
-    (&[ONE, Y, UNSENT], &[ONE, X, BYTES], &[ONE, Y, BYTES]),
-    (&[NULL], &[BYTES], &[NULL]),
-    (&[UNSENT, UNSENT], &[NULL, X], &[NULL, X]),
-];
-
-#[test]
-fn unsent_cells_are_the_old_rows(rt: HostRuntime) -> Result<(), Fail> {
-    for (place, &(new, old, whole)) in RESOLVED.iter().enumerate() {
-        let answer = resolved(&rt, rt.alloc(), new, old)?;
-        assert!(rt; gives(answer, whole)?, "row {place}");
+    if new.width() != old.width() {
+        return Err(RelFault::Width);
     }
-    Ok(())
+    resolve(alloc, &new.borrowed(), &old.borrowed())
 }
 
-/// A row as it stands under another definition.
 fn carried(
-    rt: &impl Abort,
     alloc: Global,
     old: &RelationDef,
     new: &RelationDef,
     cells: Cells,
-) -> Result<Result<Tuple, RelFault>, Fail> {
-    assert!(rt; new.spellable());
+) -> Result<Tuple, RelFault> {
     let row = row(alloc, cells)?;
-    assert!(rt; row.width() == old.columns.len());
-    Ok(carry(alloc, old, new, &row.borrowed()))
+    if !new.spellable() || row.width() != old.columns.len() {
+        return Err(RelFault::Width);
+    }
+    carry(alloc, old, new, &row.borrowed())
 }
 
-/// The row of one table as it stands in the other.
-fn carried_between(
-    rt: &impl Abort,
+fn returned(alloc: Global, name: Name, call: Call) -> Result<Tuple, RelFault> {
+    let def = relation_of(alloc, name)?;
+    match call {
+        New(new) => of_new(alloc, &def, new),
+        OldAndNew(kind, old, new) => of_old(alloc, &def, kind, old, new),
+        Old(kind, old) => of_delete(alloc, &def, kind, old),
+        Identity(cells) => identity_of(alloc, &def, cells),
+        Resolve(new, old) => resolved(alloc, new, old),
+        Carry(new, cells) => carried(alloc, &def, &relation_of(alloc, new)?, cells),
+    }
+}
+
+/// Whether the tuple has these cells.
+fn has_cells(alloc: Global, found: &Tuple, cells: Cells) -> Result<bool, RelFault> {
+    Ok(*found == row(alloc, cells)?)
+}
+
+/// Whether a call returned these cells, or this fault. Out of memory goes on as an error.
+fn is_wanted(
     alloc: Global,
-    old: &Table,
-    new: &Table,
-    cells: Cells,
-) -> Result<Result<Tuple, RelFault>, Fail> {
-    let old = relation(alloc, old)?;
-    let new = relation(alloc, new)?;
-    carried(rt, alloc, &old, &new, cells)
+    found: Result<Tuple, RelFault>,
+    wanted: Result<Cells, RelFault>,
+) -> Result<bool, RelFault> {
+    match found {
+        Ok(found) => match wanted {
+            Ok(cells) => has_cells(alloc, &found, cells),
+            Err(_) => Ok(false),
+        },
+        Err(RelFault::Memory) => Err(RelFault::Memory),
+        Err(fault) => Ok(wanted.err() == Some(fault)),
+    }
 }
 
-/// The table t with its two columns in the other order, of other types and under other flags.
-const SWAPPED: Table = Table {
-    oid: 16384,
-    name: "u",
-    letter: b'f',
-    columns: &[(true, "v", 17), (true, "id", 20)],
-};
-
-/// The table t with its columns renamed.
-const RENAMED: Table = Table {
-    oid: 16384,
-    name: "t",
-    letter: b'd',
-    columns: &[(true, "ID", 23), (false, "vv", 25)],
-};
-
-static CARRIED: [(Table, Table, Cells, Cells); 6] = [
-    (T, T, &[ONE, BYTES], &[ONE, BYTES]),
-    (T, T_WITH_Z, &[ONE, X], &[ONE, X, NULL]),
-    (T_WITH_Z, T, &[ONE, X, Y], &[ONE, X]),
-    (T, SWAPPED, &[ONE, X], &[X, ONE]),
-    (T, RENAMED, &[ONE, X], &[NULL, NULL]),
-    (T, BY_INDEX, &[ONE, X], &[NULL, NULL, NULL]),
+/// Calls of a table, and what they return.
+static CALLS: [(Name, Call, Result<Cells, RelFault>); 30] = [
+    (
+        T,
+        OldAndNew(OldKind::Key, &[ONE, NULL], &[TWO, UNSENT]),
+        Ok(&[ONE]),
+    ),
+    (T, New(&[TWO, UNSENT]), Ok(&[TWO])),
+    (T, Old(OldKind::Full, &[TWO, X]), Ok(&[TWO])),
+    (T, Old(OldKind::Key, &[NULL, NULL]), Ok(&[NULL])),
+    (
+        ByIndex,
+        Old(OldKind::Key, &[ONE, NULL, BYTES]),
+        Ok(&[ONE, BYTES]),
+    ),
+    (
+        T,
+        OldAndNew(OldKind::Key, &[UNSENT], &[ONE, X]),
+        Err(RelFault::Width),
+    ),
+    (
+        T,
+        OldAndNew(OldKind::Key, &[UNSENT, NULL], &[ONE]),
+        Err(RelFault::Width),
+    ),
+    (
+        T,
+        OldAndNew(OldKind::Key, &[UNSENT, NULL], &[ONE, X]),
+        Err(RelFault::UnknownIdentity),
+    ),
+    (T, New(&[UNSENT, X]), Err(RelFault::UnknownIdentity)),
+    (F, OldAndNew(OldKind::Full, &[X], &[Y]), Ok(&[X])),
+    (F, New(&[X]), Err(RelFault::NoIdentity)),
+    (
+        F,
+        OldAndNew(OldKind::Key, &[X], &[Y]),
+        Err(RelFault::NoIdentity),
+    ),
+    (
+        F,
+        Old(OldKind::Full, &[UNSENT]),
+        Err(RelFault::UnknownIdentity),
+    ),
+    (N, New(&[X]), Err(RelFault::NoIdentity)),
+    (N, Old(OldKind::Full, &[X]), Err(RelFault::NoIdentity)),
+    (N, New(&[X, Y]), Err(RelFault::Width)),
+    (
+        N,
+        OldAndNew(OldKind::Key, &[X, Y], &[X]),
+        Err(RelFault::Width),
+    ),
+    (T, Identity(&[UNSENT, X]), Ok(&[UNSENT])),
+    (F, Identity(&[UNSENT]), Ok(&[UNSENT])),
+    (Unflagged, Identity(&[UNSENT, X]), Ok(&[UNSENT, X])),
+    (T, Identity(&[UNSENT]), Err(RelFault::Width)),
+    (
+        T,
+        Resolve(&[ONE, Y, UNSENT], &[ONE, X, BYTES]),
+        Ok(&[ONE, Y, BYTES]),
+    ),
+    (T, Resolve(&[NULL], &[BYTES]), Ok(&[NULL])),
+    (T, Resolve(&[UNSENT, UNSENT], &[NULL, X]), Ok(&[NULL, X])),
+    (T, Carry(T, &[ONE, BYTES]), Ok(&[ONE, BYTES])),
+    (T, Carry(TWithZ, &[ONE, X]), Ok(&[ONE, X, NULL])),
+    (TWithZ, Carry(T, &[ONE, X, Y]), Ok(&[ONE, X])),
+    (T, Carry(Swapped, &[ONE, X]), Ok(&[X, ONE])),
+    (T, Carry(Renamed, &[ONE, X]), Ok(&[NULL, NULL])),
+    (T, Carry(ByIndex, &[ONE, X]), Ok(&[NULL, NULL, NULL])),
 ];
 
+/// The calls. They are behind a call of ours, since the proof of who names a table carries all of it.
+fn calls() -> &'static [(Name, Call, Result<Cells, RelFault>)] {
+    &CALLS
+}
+
 #[test]
-fn rows_carried_to_another_shape(rt: HostRuntime) -> Result<(), Fail> {
-    for (place, (old, new, cells, whole)) in CARRIED.iter().enumerate() {
-        let answer = carried_between(&rt, rt.alloc(), old, new, *cells)?;
-        assert!(rt; gives(answer, *whole)?, "row {place}");
+fn calls_that_return_tuples(rt: HostRuntime) -> Result<(), Fail> {
+    for (place, &(name, call, wanted)) in calls().iter().enumerate() {
+        let found = returned(rt.alloc(), name, call);
+        assert!(rt; is_wanted(rt.alloc(), found, wanted)?, "call {place}");
     }
     Ok(())
 }
 
-/// Puts the table's definition, which can be spelled.
-fn put(rt: &impl Abort, alloc: Global, book: &mut Book, table: &Table) -> Result<(), RelFault> {
+/// Why a row may not be inserted into the table t.
+fn refusal_of(alloc: Global, cells: Cells) -> Result<Option<RelFault>, RelFault> {
+    let def = relation_of(alloc, T)?;
+    Ok(check_insert(&def, &row(alloc, cells)?.borrowed()).err())
+}
+
+static INSERTED: [(Cells, Option<RelFault>); 3] = [
+    (&[ONE, NULL], None),
+    (&[ONE, UNSENT], Some(RelFault::UnchangedInInsert)),
+    (&[UNSENT], Some(RelFault::Width)),
+];
+
+#[test]
+fn inserted_rows(rt: HostRuntime) -> Result<(), Fail> {
+    for (place, &(cells, wanted)) in INSERTED.iter().enumerate() {
+        assert!(rt; refusal_of(rt.alloc(), cells)? == wanted, "row {place}");
+    }
+    Ok(())
+}
+
+/// Puts the table's definition, if it can be spelled.
+fn put(alloc: Global, book: &mut Book, table: &Table) -> Result<(), RelFault> {
     let def = relation(alloc, table)?;
-    assert!(rt; def.spellable());
+    if !def.spellable() {
+        return Err(RelFault::Width);
+    }
     book.set(def)
 }
 
-/// The number of columns of the last definition of this OID.
-fn columns(book: &Book, oid: u32) -> Result<usize, RelFault> {
-    Ok(book.get(oid)?.columns.len())
-}
-
-/// Stops unless the last definition of this OID has so many columns, or none is known.
-fn has_columns(rt: &impl Abort, book: &Book, oid: u32, wanted: Option<usize>) {
-    assert!(rt; columns(book, oid) == wanted.ok_or(RelFault::UnknownRelation(oid)));
-}
-
-/// Whether the last definition of this OID has the name.
-fn is_named(book: &Book, oid: u32, name: &str) -> bool {
+/// Whether the last definition of this OID has the name and so many columns, or none is known.
+fn is_known(book: &Book, oid: u32, name: &str, columns: Option<usize>) -> bool {
     match book.get(oid) {
-        Ok(def) => def.name.as_str() == name,
-        Err(_) => false,
+        Ok(def) => def.name.as_str() == name && columns == Some(def.columns.len()),
+        Err(fault) => columns.is_none() && fault == RelFault::UnknownRelation(oid),
     }
 }
 
-/// Stops unless the definitions of the tables t and f have so many columns, and no other is known.
-fn knows(rt: &impl Abort, book: &Book, t: Option<usize>, f: Option<usize>) {
-    has_columns(rt, book, 16384, t);
-    has_columns(rt, book, 16386, f);
-    has_columns(rt, book, 0, None);
-    assert!(rt; is_named(book, 16384, "t") == t.is_some());
-    assert!(rt; is_named(book, 16386, "f") == f.is_some());
+/// Whether the definitions of the tables t and f have so many columns, and no other is known.
+fn knows(book: &Book, t: Option<usize>, f: Option<usize>) -> bool {
+    is_known(book, 16384, "t", t) && is_known(book, 16386, "f", f) && is_known(book, 0, "", None)
 }
 
 /// Puts the table's definition, or forgets all.
-fn put_or_clear(
-    rt: &impl Abort,
-    alloc: Global,
-    book: &mut Book,
-    table: &Option<Table>,
-) -> Result<(), RelFault> {
-    match table {
-        Some(table) => put(rt, alloc, book, table),
+fn put_or_clear(alloc: Global, book: &mut Book, name: Option<Name>) -> Result<(), RelFault> {
+    match name {
+        Some(name) => put(alloc, book, &table_of(name)),
         None => {
             book.clear();
             Ok(())
@@ -549,10 +429,10 @@ fn put_or_clear(
 }
 
 /// A table whose definition is put, or none where all are forgotten, and how many columns of t and of f are then known.
-static BOOK: [(Option<Table>, Option<usize>, Option<usize>); 5] = [
+static BOOK: [(Option<Name>, Option<usize>, Option<usize>); 5] = [
     (Some(T), Some(2), None),
     (Some(F), Some(2), Some(1)),
-    (Some(T_WITH_Z), Some(3), Some(1)),
+    (Some(TWithZ), Some(3), Some(1)),
     (None, None, None),
     (Some(T), Some(2), None),
 ];
@@ -560,30 +440,29 @@ static BOOK: [(Option<Table>, Option<usize>, Option<usize>); 5] = [
 #[test]
 fn book_is_a_map(rt: HostRuntime) -> Result<(), Fail> {
     let mut book = Book::new(rt.alloc());
-    knows(&rt, &book, None, None);
-    for (table, t, f) in &BOOK {
-        put_or_clear(&rt, rt.alloc(), &mut book, table)?;
-        knows(&rt, &book, *t, *f);
+    assert!(rt; knows(&book, None, None));
+    for (place, &(name, t, f)) in BOOK.iter().enumerate() {
+        put_or_clear(rt.alloc(), &mut book, name)?;
+        assert!(rt; knows(&book, t, f), "after {place}");
+    }
+    Ok(())
+}
+
+/// Puts a table without columns under each of these OIDs.
+fn put_many(alloc: Global, book: &mut Book, count: u32) -> Result<(), RelFault> {
+    for oid in 0..count {
+        put(alloc, book, &new_table(oid, "r", b'n', &[]))?;
     }
     Ok(())
 }
 
 #[test]
 fn many_relations(rt: HostRuntime) -> Result<(), Fail> {
-    let alloc = rt.alloc();
-    let mut book = Book::new(alloc);
+    let mut book = Book::new(rt.alloc());
+    put_many(rt.alloc(), &mut book, 300)?;
     for oid in 0..300 {
-        let table = Table {
-            oid,
-            name: "r",
-            letter: b'n',
-            columns: &[],
-        };
-        put(&rt, alloc, &mut book, &table)?;
+        assert!(rt; is_known(&book, oid, "r", Some(0)));
     }
-    for oid in 0..300 {
-        has_columns(&rt, &book, oid, Some(0));
-    }
-    has_columns(&rt, &book, 300, None);
+    assert!(rt; is_known(&book, 300, "r", None));
     Ok(())
 }

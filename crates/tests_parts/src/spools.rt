@@ -1,100 +1,176 @@
 //! Both spools over the same tables of steps.
 
-use pglogical::{Column, Item, RelationDef};
+use pglogical::{DecodeFault, Item, ItemRef, MessageRef, decode_ref};
 use pgspool::{ByteSpools, ListSpools, SpoolFault, Spools, copy_items, hold_one};
-use pgtuple::{Cell, Seq, Text, Tuple};
-use std::alloc::{AllocError, Global};
+use std::alloc::Global;
 use std::process::Abort;
 use std::test::Fail;
 
-/// Columns: of each its key flag, its name and its type's OID.
-type Columns = &'static [(bool, &'static str, u32)];
+// Items of the tables t (id integer key, v text) and w (id integer key, v text, w text), by their bytes.
 
-/// An item of the tables t (id integer key, v text) and w (id integer key, v text, w text).
-#[derive(Clone, Copy)]
-enum Sample {
-    Relation(u32, &'static str, Columns),
-    Insert(u32, &'static [&'static str]),
-    Truncate(u32),
-}
+const REL_T: &[u8] =
+    b"R\0\0@\0public\0t\0d\0\x02\x01id\0\0\0\0\x17\xff\xff\xff\xff\0v\0\0\0\0\x19\xff\xff\xff\xff";
 
-const REL_T: Sample = Sample::Relation(16384, "t", &[(true, "id", 23), (false, "v", 25)]);
+const REL_W: &[u8] =
+    b"R\0\0@\x01public\0w\0d\0\x03\x01id\0\0\0\0\x17\xff\xff\xff\xff\0v\0\0\0\0\x19\xff\xff\xff\xff\0w\0\0\0\0\x19\xff\xff\xff\xff";
 
-const REL_W: Sample = Sample::Relation(
-    16385,
-    "w",
-    &[(true, "id", 23), (false, "v", 25), (false, "w", 25)],
-);
+const T_1A: &[u8] = b"I\0\0@\0N\0\x02t\0\0\0\x011t\0\0\0\x01a";
 
-fn text(alloc: Global, bytes: &str) -> Result<Text, AllocError> {
-    Ok(Text::from_string(String::from_str(alloc, bytes)?))
-}
+const T_2B: &[u8] = b"I\0\0@\0N\0\x02t\0\0\0\x012t\0\0\0\x01b";
 
-fn relation(alloc: Global, oid: u32, name: &str, table: Columns) -> Result<RelationDef, Fail> {
-    let mut columns = Vec::new(alloc);
-    for &(key, name, type_oid) in table {
-        columns.push(Column {
-            key,
-            name: text(alloc, name)?,
-            type_oid,
-            modifier: -1,
-        })?;
-    }
-    Ok(RelationDef {
-        oid,
-        namespace: text(alloc, "public")?,
-        name: text(alloc, name)?,
-        letter: b'd',
-        columns: Seq::from_vec(columns),
-    })
-}
+const T_3C: &[u8] = b"I\0\0@\0N\0\x02t\0\0\0\x013t\0\0\0\x01c";
 
-fn row(alloc: Global, cells: &[&str]) -> Result<Tuple, Fail> {
-    let mut row = Vec::new(alloc);
-    for cell in cells {
-        row.push(Cell::Text(text(alloc, cell)?))?;
-    }
-    Ok(Tuple::from_cells(row).ok_or("within the limits")?)
-}
+const T_4D: &[u8] = b"I\0\0@\0N\0\x02t\0\0\0\x014t\0\0\0\x01d";
 
-fn item(alloc: Global, sample: Sample) -> Result<Item, Fail> {
-    Ok(match sample {
-        Sample::Relation(oid, name, columns) => {
-            Item::Relation(relation(alloc, oid, name, columns)?)
-        }
-        Sample::Insert(oid, cells) => Item::Insert {
-            oid,
-            row: row(alloc, cells)?,
-        },
-        Sample::Truncate(oid) => Item::Truncate {
-            options: 3,
-            oids: Seq::from_vec(vec![in alloc; oid, 16384]?),
-        },
-    })
-}
+const W_1PQ: &[u8] = b"I\0\0@\x01N\0\x03t\0\0\0\x011t\0\0\0\x01pt\0\0\0\x01q";
+
+const W_2RS: &[u8] = b"I\0\0@\x01N\0\x03t\0\0\0\x012t\0\0\0\x01rt\0\0\0\x01s";
+
+/// A row without cells, of the largest OID.
+const EMPTY: &[u8] = b"I\xff\xff\xff\xffN\0\0";
+
+/// A Truncate of the largest OID and t, with both options.
+const TRUNCATE: &[u8] = b"T\0\0\0\x02\x03\xff\xff\xff\xff\0\0@\0";
 
 /// One call.
 #[derive(Clone, Copy)]
 enum Step {
     Open(u32),
-    Push(u32, u32, Sample),
+    Push(u32, u32, &'static [u8]),
     /// A push that passes the limit.
-    Full(u32, u32, Sample),
+    Full(u32, u32, &'static [u8]),
     Cut(u32, u32),
     DropXid(u32),
     Clear,
 }
 
-fn push<P: Spools>(
-    rt: &impl Abort,
-    spools: &mut P,
+use Step::{Clear, Cut, DropXid, Full, Open, Push};
+
+/// A step, and after it the bytes of all items and the number of one transaction's.
+type Row = (Step, u64, usize);
+
+/// Steps of new spools that may hold so many bytes, and the items that the transaction has in the end.
+struct Case {
+    shows: &'static str,
+    limit: u64,
     xid: u32,
-    subxid: u32,
-    item: &Item,
-) -> Result<(), SpoolFault> {
-    assert!(rt; spools.is_open(xid));
-    assert!(rt; item.borrowed().spellable());
-    spools.push(xid, subxid, &item.borrowed())
+    steps: &'static [Row],
+    left: &'static [&'static [u8]],
+}
+
+static CASES: [Case; 6] = [
+    // The transaction 20 with the subtransactions 21 and 22, which are both rolled back before two more items come.
+    Case {
+        shows: "bytes follow pushes, cuts and drops",
+        limit: 253,
+        xid: 20,
+        steps: &[
+            (Open(20), 0, 0),
+            (Push(20, 20, REL_T), 48, 1),
+            (Push(20, 20, T_1A), 76, 2),
+            (Push(20, 21, REL_W), 135, 3),
+            (Push(20, 21, W_1PQ), 169, 4),
+            (Push(20, 21, T_2B), 197, 5),
+            (Push(20, 22, T_3C), 225, 6),
+            (Push(20, 21, T_4D), 253, 7),
+            (Cut(20, 22), 197, 5),
+            (Cut(20, 21), 76, 2),
+            (Push(20, 20, REL_W), 135, 3),
+            (Push(20, 20, W_2RS), 169, 4),
+        ],
+        left: &[REL_T, T_1A, REL_W, W_2RS],
+    },
+    Case {
+        shows: "they are full one byte below",
+        limit: 252,
+        xid: 20,
+        steps: &[
+            (Open(20), 0, 0),
+            (Push(20, 20, REL_T), 48, 1),
+            (Push(20, 20, T_1A), 76, 2),
+            (Push(20, 21, REL_W), 135, 3),
+            (Push(20, 21, W_1PQ), 169, 4),
+            (Push(20, 21, T_2B), 197, 5),
+            (Push(20, 22, T_3C), 225, 6),
+            (Full(20, 21, T_4D), 225, 6),
+            (Cut(20, 22), 197, 5),
+            (Push(20, 21, T_4D), 225, 6),
+            (DropXid(20), 0, 0),
+        ],
+        left: &[],
+    },
+    Case {
+        shows: "they are full below one overhead",
+        limit: 7,
+        xid: 20,
+        steps: &[(Open(20), 0, 0), (Full(20, 20, T_1A), 0, 0)],
+        left: &[],
+    },
+    Case {
+        shows: "a cut starts at the first item of its subtransaction",
+        limit: 1000,
+        xid: 50,
+        steps: &[
+            (Open(50), 0, 0),
+            (Push(50, 51, T_1A), 28, 1),
+            (Push(50, 52, T_2B), 56, 2),
+            (Push(50, 51, T_3C), 84, 3),
+            (Cut(50, 53), 84, 3),
+            (Cut(60, 51), 84, 3),
+            (DropXid(60), 84, 3),
+            (Cut(50, 52), 28, 1),
+            (Cut(50, 52), 28, 1),
+            (Push(50, 52, T_4D), 56, 2),
+            (Cut(50, 51), 0, 0),
+            (Push(50, 50, T_2B), 28, 1),
+        ],
+        left: &[T_2B],
+    },
+    // Xids and OIDs up to the largest; the limit is over all transactions.
+    Case {
+        shows: "no transaction touches another one's items",
+        limit: 121,
+        xid: 4294967295,
+        steps: &[
+            (Open(4294967295), 0, 0),
+            (Open(0), 0, 0),
+            (Push(0, 4294967294, T_1A), 28, 0),
+            (Push(4294967295, 4294967295, TRUNCATE), 50, 1),
+            (Push(4294967295, 4294967294, EMPTY), 66, 2),
+            (Push(4294967295, 0, T_2B), 94, 3),
+            (Full(0, 0, T_1A), 94, 3),
+            (Cut(0, 4294967294), 66, 3),
+            (DropXid(0), 66, 3),
+            (Cut(4294967295, 0), 38, 2),
+        ],
+        left: &[TRUNCATE, EMPTY],
+    },
+    Case {
+        shows: "clear forgets all",
+        limit: 56,
+        xid: 1,
+        steps: &[
+            (Open(1), 0, 0),
+            (Push(1, 1, T_1A), 28, 1),
+            (Open(2), 28, 1),
+            (Clear, 0, 0),
+            (Open(1), 0, 0),
+            (Push(1, 1, T_1A), 28, 1),
+        ],
+        left: &[T_1A],
+    },
+];
+
+/// The cases. They are behind a call, since the proof of who names a table carries all of it.
+fn cases() -> &'static [Case] {
+    &CASES
+}
+
+fn item(bytes: &[u8]) -> Result<ItemRef<'_>, Fail> {
+    match decode_ref(bytes, false)? {
+        MessageRef::Item { item, .. } => Ok(item),
+        _ => Err(Fail::from("it is no item")),
+    }
 }
 
 fn open<P: Spools>(rt: &impl Abort, spools: &mut P, xid: u32) -> Result<(), SpoolFault> {
@@ -102,249 +178,107 @@ fn open<P: Spools>(rt: &impl Abort, spools: &mut P, xid: u32) -> Result<(), Spoo
     spools.open(xid)
 }
 
-/// What a push of the sample's item answers.
-fn pushed<P: Spools>(
+fn push<P: Spools>(
     rt: &impl Abort,
-    alloc: Global,
     spools: &mut P,
     xid: u32,
     subxid: u32,
-    sample: Sample,
+    item: &ItemRef<'_>,
+) -> Result<(), SpoolFault> {
+    assert!(rt; spools.is_open(xid) && item.spellable());
+    spools.push(xid, subxid, item)
+}
+
+/// What a push of the item that these bytes encode returns.
+fn pushed<P: Spools>(
+    rt: &impl Abort,
+    spools: &mut P,
+    xid: u32,
+    subxid: u32,
+    bytes: &[u8],
 ) -> Result<Result<(), SpoolFault>, Fail> {
-    let item = item(alloc, sample)?;
+    let item = item(bytes)?;
     Ok(push(rt, spools, xid, subxid, &item))
 }
 
-fn take<P: Spools>(rt: &impl Abort, alloc: Global, spools: &mut P, step: Step) -> Result<(), Fail> {
+fn take<P: Spools>(rt: &impl Abort, spools: &mut P, step: Step) -> Result<(), Fail> {
     match step {
-        Step::Open(xid) => open(rt, spools, xid)?,
-        Step::Push(xid, subxid, sample) => pushed(rt, alloc, spools, xid, subxid, sample)??,
-        Step::Full(xid, subxid, sample) => {
-            let found = pushed(rt, alloc, spools, xid, subxid, sample)?;
+        Open(xid) => open(rt, spools, xid)?,
+        Push(xid, subxid, bytes) => pushed(rt, spools, xid, subxid, bytes)??,
+        Full(xid, subxid, bytes) => {
+            let found = pushed(rt, spools, xid, subxid, bytes)?;
             assert!(rt; found == Err(SpoolFault::SpoolFull));
         }
-        Step::Cut(xid, subxid) => spools.cut(xid, subxid),
-        Step::DropXid(xid) => spools.drop_xid(xid),
-        Step::Clear => spools.clear(),
+        Cut(xid, subxid) => spools.cut(xid, subxid),
+        DropXid(xid) => spools.drop_xid(xid),
+        Clear => spools.clear(),
     }
     Ok(())
 }
 
-/// A step, and behind it the bytes of all items and the number of one transaction's.
-type Row = (Step, u64, usize);
-
-/// Takes the steps, and stops at the first one behind which bytes or number differ.
-fn take_all<P: Spools>(
-    rt: &impl Abort,
-    alloc: Global,
-    spools: &mut P,
-    xid: u32,
-    steps: &[Row],
-) -> Result<(), Fail> {
-    let limit = spools.limit();
-    for (place, &(step, bytes, count)) in steps.iter().enumerate() {
-        take(rt, alloc, spools, step)?;
+/// Takes the steps, and stops at the first one after which bytes, number or limit differ.
+fn take_all<P: Spools>(rt: &impl Abort, spools: &mut P, case: &Case) -> Result<(), Fail> {
+    for (place, &(step, bytes, count)) in case.steps.iter().enumerate() {
+        take(rt, spools, step)?;
+        let found = (spools.bytes(), spools.count(case.xid), spools.limit());
         assert!(rt;
-            spools.bytes() == bytes && spools.count(xid) == count,
-            "step {place}"
+            found == (bytes, count, case.limit),
+            "{}: step {place}",
+            case.shows
         );
-        assert!(rt; spools.limit() == limit);
     }
     Ok(())
 }
 
-/// Takes the steps, and stops where the spools then hold other items than these.
-fn holds_after<P: Spools>(
+/// Whether each item up to this number is lent, and none after.
+fn lends<P: Spools>(spools: &P, xid: u32, count: usize) -> bool {
+    for index in 0..count {
+        if spools.item(xid, index).is_none() {
+            return false;
+        }
+    }
+    spools.item(xid, count).is_none()
+}
+
+/// Whether these are the items that the bytes encode.
+fn are_items(alloc: Global, held: &[Item], left: &[&[u8]]) -> Result<bool, Fail> {
+    for (found, bytes) in held.iter().zip(left) {
+        if *found != item(bytes)?.to_item(alloc)? {
+            return Ok(false);
+        }
+    }
+    Ok(held.len() == left.len())
+}
+
+/// Whether a transaction holds these items, told by copies and one by one.
+fn holds<P: Spools>(alloc: Global, spools: &P, xid: u32, left: &[&[u8]]) -> Result<bool, Fail> {
+    let held = copy_items(alloc, spools, xid)?;
+    Ok(lends(spools, xid, left.len()) && are_items(alloc, &held, left)?)
+}
+
+fn check<P: Spools>(
     rt: &impl Abort,
     alloc: Global,
     spools: &mut P,
-    xid: u32,
-    steps: &[Row],
-    left: &[Sample],
+    case: &Case,
 ) -> Result<(), Fail> {
-    take_all(rt, alloc, spools, xid, steps)?;
-    holds(rt, alloc, spools, xid, left)
-}
-
-/// The same on both spools under one limit.
-fn both_hold(
-    rt: &impl Abort,
-    alloc: Global,
-    max_bytes: u64,
-    xid: u32,
-    steps: &[Row],
-    left: &[Sample],
-) -> Result<(), Fail> {
-    let mut lists = ListSpools::new(alloc, max_bytes);
-    holds_after(rt, alloc, &mut lists, xid, steps, left)?;
-    let mut bytes = ByteSpools::new(alloc, max_bytes);
-    holds_after(rt, alloc, &mut bytes, xid, steps, left)
-}
-
-fn is_sample(alloc: Global, found: &Item, sample: Sample) -> Result<bool, Fail> {
-    let item = item(alloc, sample)?;
-    Ok(*found == item)
-}
-
-/// Stops where these are other items than the samples'.
-fn are_samples(rt: &impl Abort, alloc: Global, held: &[Item], left: &[Sample]) -> Result<(), Fail> {
-    assert!(rt; held.len() == left.len());
-    for (index, (found, sample)) in held.iter().zip(left).enumerate() {
-        assert!(rt; is_sample(alloc, found, *sample)?, "item {index}");
-    }
+    take_all(rt, spools, case)?;
+    assert!(rt;
+        holds(alloc, spools, case.xid, case.left)?,
+        "{}",
+        case.shows
+    );
     Ok(())
 }
 
-/// Stops unless each item up to this number is lent, and none behind.
-fn lends<P: Spools>(rt: &impl Abort, spools: &P, xid: u32, count: usize) {
-    for index in 0..count {
-        assert!(rt; spools.item(xid, index).is_some());
+#[test]
+fn both_spools_take_the_steps(rt: HostRuntime) -> Result<(), Fail> {
+    let alloc = rt.alloc();
+    for case in cases() {
+        check(&rt, alloc, &mut ListSpools::new(alloc, case.limit), case)?;
+        check(&rt, alloc, &mut ByteSpools::new(alloc, case.limit), case)?;
     }
-    assert!(rt; spools.item(xid, count).is_none());
-}
-
-/// Stops where a transaction holds other items than these, told by copies and one by one.
-fn holds<P: Spools>(
-    rt: &impl Abort,
-    alloc: Global,
-    spools: &P,
-    xid: u32,
-    left: &[Sample],
-) -> Result<(), Fail> {
-    lends(rt, spools, xid, left.len());
-    let held = copy_items(alloc, spools, xid)?;
-    are_samples(rt, alloc, &held, left)
-}
-
-const T_1A: Sample = Sample::Insert(16384, &["1", "a"]);
-
-const T_2B: Sample = Sample::Insert(16384, &["2", "b"]);
-
-const T_3C: Sample = Sample::Insert(16384, &["3", "c"]);
-
-const T_4D: Sample = Sample::Insert(16384, &["4", "d"]);
-
-const W_1PQ: Sample = Sample::Insert(16385, &["1", "p", "q"]);
-
-const W_2RS: Sample = Sample::Insert(16385, &["2", "r", "s"]);
-
-static ROLLED_BACK: [Row; 12] = [
-    (Step::Open(20), 0, 0),
-    (Step::Push(20, 20, REL_T), 48, 1),
-    (Step::Push(20, 20, T_1A), 76, 2),
-    (Step::Push(20, 21, REL_W), 135, 3),
-    (Step::Push(20, 21, W_1PQ), 169, 4),
-    (Step::Push(20, 21, T_2B), 197, 5),
-    (Step::Push(20, 22, T_3C), 225, 6),
-    (Step::Push(20, 21, T_4D), 253, 7),
-    (Step::Cut(20, 22), 197, 5),
-    (Step::Cut(20, 21), 76, 2),
-    (Step::Push(20, 20, REL_W), 135, 3),
-    (Step::Push(20, 20, W_2RS), 169, 4),
-];
-
-// The transaction 20 with the subtransactions 21 and 22, which are both rolled back before two more items come.
-#[test]
-fn bytes_follow_pushes_cuts_and_drops(rt: HostRuntime) -> Result<(), Fail> {
-    both_hold(
-        &rt,
-        rt.alloc(),
-        253,
-        20,
-        &ROLLED_BACK,
-        &[REL_T, T_1A, REL_W, W_2RS],
-    )
-}
-
-static FULL: [Row; 11] = [
-    (Step::Open(20), 0, 0),
-    (Step::Push(20, 20, REL_T), 48, 1),
-    (Step::Push(20, 20, T_1A), 76, 2),
-    (Step::Push(20, 21, REL_W), 135, 3),
-    (Step::Push(20, 21, W_1PQ), 169, 4),
-    (Step::Push(20, 21, T_2B), 197, 5),
-    (Step::Push(20, 22, T_3C), 225, 6),
-    (Step::Full(20, 21, T_4D), 225, 6),
-    (Step::Cut(20, 22), 197, 5),
-    (Step::Push(20, 21, T_4D), 225, 6),
-    (Step::DropXid(20), 0, 0),
-];
-
-#[test]
-fn full_one_byte_below(rt: HostRuntime) -> Result<(), Fail> {
-    both_hold(&rt, rt.alloc(), 252, 20, &FULL, &[])
-}
-
-static SMALL: [Row; 2] = [(Step::Open(20), 0, 0), (Step::Full(20, 20, T_1A), 0, 0)];
-
-#[test]
-fn full_below_one_overhead(rt: HostRuntime) -> Result<(), Fail> {
-    both_hold(&rt, rt.alloc(), 7, 20, &SMALL, &[])
-}
-
-static RETURNING: [Row; 12] = [
-    (Step::Open(50), 0, 0),
-    (Step::Push(50, 51, T_1A), 28, 1),
-    (Step::Push(50, 52, T_2B), 56, 2),
-    (Step::Push(50, 51, T_3C), 84, 3),
-    (Step::Cut(50, 53), 84, 3),
-    (Step::Cut(60, 51), 84, 3),
-    (Step::DropXid(60), 84, 3),
-    (Step::Cut(50, 52), 28, 1),
-    (Step::Cut(50, 52), 28, 1),
-    (Step::Push(50, 52, T_4D), 56, 2),
-    (Step::Cut(50, 51), 0, 0),
-    (Step::Push(50, 50, T_2B), 28, 1),
-];
-
-#[test]
-fn a_cut_starts_at_the_first_item_of_its_subtransaction(rt: HostRuntime) -> Result<(), Fail> {
-    both_hold(&rt, rt.alloc(), 1000, 50, &RETURNING, &[T_2B])
-}
-
-static APART: [Row; 10] = [
-    (Step::Open(4294967295), 0, 0),
-    (Step::Open(0), 0, 0),
-    (Step::Push(0, 4294967294, T_1A), 28, 0),
-    (
-        Step::Push(4294967295, 4294967295, Sample::Truncate(4294967295)),
-        50,
-        1,
-    ),
-    (
-        Step::Push(4294967295, 4294967294, Sample::Insert(4294967295, &[])),
-        66,
-        2,
-    ),
-    (Step::Push(4294967295, 0, T_2B), 94, 3),
-    (Step::Full(0, 0, T_1A), 94, 3),
-    (Step::Cut(0, 4294967294), 66, 3),
-    (Step::DropXid(0), 66, 3),
-    (Step::Cut(4294967295, 0), 38, 2),
-];
-
-// Xids and OIDs up to the largest; the limit is over all transactions, and no transaction touches another one's items.
-#[test]
-fn each_transaction_has_its_own_items(rt: HostRuntime) -> Result<(), Fail> {
-    let left: &[Sample] = &[
-        Sample::Truncate(4294967295),
-        Sample::Insert(4294967295, &[]),
-    ];
-    both_hold(&rt, rt.alloc(), 121, 4294967295, &APART, left)
-}
-
-static CLEARED: [Row; 6] = [
-    (Step::Open(1), 0, 0),
-    (Step::Push(1, 1, T_1A), 28, 1),
-    (Step::Open(2), 28, 1),
-    (Step::Clear, 0, 0),
-    (Step::Open(1), 0, 0),
-    (Step::Push(1, 1, T_1A), 28, 1),
-];
-
-#[test]
-fn clear_forgets_all(rt: HostRuntime) -> Result<(), Fail> {
-    both_hold(&rt, rt.alloc(), 56, 1, &CLEARED, &[T_1A])
+    Ok(())
 }
 
 /// Holds one item of a new transaction.
@@ -352,11 +286,10 @@ fn hold<P: Spools>(
     rt: &impl Abort,
     spools: &mut P,
     xid: u32,
-    item: &Item,
+    item: &ItemRef<'_>,
 ) -> Result<(), SpoolFault> {
-    assert!(rt; !spools.is_open(xid));
-    assert!(rt; item.borrowed().spellable());
-    hold_one(spools, xid, &item.borrowed())
+    assert!(rt; !spools.is_open(xid) && item.spellable());
+    hold_one(spools, xid, item)
 }
 
 /// Stops unless the bytes of all items and the number of one transaction's are these.
@@ -364,27 +297,29 @@ fn measures<P: Spools>(rt: &impl Abort, spools: &P, xid: u32, bytes: u64, count:
     assert!(rt; spools.bytes() == bytes && spools.count(xid) == count);
 }
 
-/// Holds the item in one transaction, and finds no place for it in another.
-fn hold_once<P: Spools>(rt: &impl Abort, spools: &mut P, item: &Item) -> Result<(), SpoolFault> {
+/// Holds the item in one transaction, and finds no room for it in another.
+fn hold_once<P: Spools>(
+    rt: &impl Abort,
+    spools: &mut P,
+    item: &ItemRef<'_>,
+) -> Result<(), SpoolFault> {
     hold(rt, spools, 7, item)?;
     measures(rt, spools, 7, 28, 1);
-    assert!(rt; hold(rt, spools, 8, item) == Err(SpoolFault::SpoolFull));
-    assert!(rt; !spools.is_open(8));
+    assert!(rt; hold(rt, spools, 8, item) == Err(SpoolFault::SpoolFull) && !spools.is_open(8));
     Ok(())
-}
-
-fn hold_item_once<P: Spools>(rt: &impl Abort, alloc: Global, spools: &mut P) -> Result<(), Fail> {
-    let item = item(alloc, T_1A)?;
-    Ok(hold_once(rt, spools, &item)?)
 }
 
 #[test]
 fn one_item_opens_its_transaction(rt: HostRuntime) -> Result<(), Fail> {
-    hold_item_once(&rt, rt.alloc(), &mut ByteSpools::new(rt.alloc(), 28))
+    Ok(hold_once(&rt, &mut ByteSpools::new(rt.alloc(), 28), &item(T_1A)?)?)
 }
 
 /// Pushes the item twice for each of 10,000 subtransactions.
-fn push_many<P: Spools>(rt: &impl Abort, spools: &mut P, item: &Item) -> Result<(), SpoolFault> {
+fn push_many<P: Spools>(
+    rt: &impl Abort,
+    spools: &mut P,
+    item: &ItemRef<'_>,
+) -> Result<(), SpoolFault> {
     for subxid in 2..10002u32 {
         push(rt, spools, 1, subxid, item)?;
         push(rt, spools, 1, subxid, item)?;
@@ -399,7 +334,7 @@ fn cut_many<P: Spools>(spools: &mut P) {
     }
 }
 
-fn fill<P: Spools>(rt: &impl Abort, spools: &mut P, item: &Item) -> Result<(), SpoolFault> {
+fn fill<P: Spools>(rt: &impl Abort, spools: &mut P, item: &ItemRef<'_>) -> Result<(), SpoolFault> {
     open(rt, spools, 1)?;
     push_many(rt, spools, item)?;
     measures(rt, spools, 1, 560000, 20000);
@@ -407,7 +342,11 @@ fn fill<P: Spools>(rt: &impl Abort, spools: &mut P, item: &Item) -> Result<(), S
     Ok(())
 }
 
-fn fill_and_cut<P: Spools>(rt: &impl Abort, spools: &mut P, item: &Item) -> Result<(), SpoolFault> {
+fn fill_and_cut<P: Spools>(
+    rt: &impl Abort,
+    spools: &mut P,
+    item: &ItemRef<'_>,
+) -> Result<(), SpoolFault> {
     fill(rt, spools, item)?;
     cut_many(spools);
     measures(rt, spools, 1, 560, 20);
@@ -416,27 +355,28 @@ fn fill_and_cut<P: Spools>(rt: &impl Abort, spools: &mut P, item: &Item) -> Resu
     Ok(())
 }
 
-fn roll_back_many<P: Spools>(rt: &impl Abort, alloc: Global, spools: &mut P) -> Result<(), Fail> {
-    let item = item(alloc, T_1A)?;
-    Ok(fill_and_cut(rt, spools, &item)?)
-}
-
 #[test]
 fn many_subtransactions_are_cut(rt: HostRuntime) -> Result<(), Fail> {
-    roll_back_many(&rt, rt.alloc(), &mut ListSpools::new(rt.alloc(), 560000))?;
-    roll_back_many(&rt, rt.alloc(), &mut ByteSpools::new(rt.alloc(), 560000))
+    let item = item(T_1A)?;
+    fill_and_cut(&rt, &mut ListSpools::new(rt.alloc(), 560000), &item)?;
+    Ok(fill_and_cut(&rt, &mut ByteSpools::new(rt.alloc(), 560000), &item)?)
 }
 
 /// Opens once more where memory was refused, which changes nothing.
 fn open_in_the_end<P: Spools>(rt: &impl Abort, spools: &mut P, xid: u32) {
     if open(rt, spools, xid) == Err(SpoolFault::Memory) {
-        assert!(rt; !spools.is_open(xid));
-        assert!(rt; open(rt, spools, xid).is_ok());
+        assert!(rt; !spools.is_open(xid) && open(rt, spools, xid).is_ok());
     }
 }
 
 /// Pushes once more where memory was refused, which changes nothing.
-fn push_in_the_end<P: Spools>(rt: &impl Abort, spools: &mut P, xid: u32, subxid: u32, item: &Item) {
+fn push_in_the_end<P: Spools>(
+    rt: &impl Abort,
+    spools: &mut P,
+    xid: u32,
+    subxid: u32,
+    item: &ItemRef<'_>,
+) {
     let before = (spools.bytes(), spools.count(xid));
     if push(rt, spools, xid, subxid, item) == Err(SpoolFault::Memory) {
         assert!(rt; (spools.bytes(), spools.count(xid)) == before);
@@ -444,17 +384,18 @@ fn push_in_the_end<P: Spools>(rt: &impl Abort, spools: &mut P, xid: u32, subxid:
     }
 }
 
-/// Forty items in each of nine transactions, and then three.
-fn refuse_one<P: Spools>(rt: &impl Abort, spools: &mut P, item: &Item) {
-    for xid in 1..10u32 {
-        open_in_the_end(rt, spools, xid);
-    }
+/// Pushes forty items in each of nine transactions, in turn.
+fn push_all<P: Spools>(rt: &impl Abort, spools: &mut P, item: &ItemRef<'_>) {
     for round in 0..40u32 {
         for xid in 1..10u32 {
             push_in_the_end(rt, spools, xid, xid + round, item);
         }
     }
     assert!(rt; spools.bytes() == 40 * 9 * 28);
+}
+
+/// Cuts them after three, twice.
+fn cut_all<P: Spools>(rt: &impl Abort, spools: &mut P, item: &ItemRef<'_>) {
     for xid in 1..10u32 {
         spools.cut(xid, xid + 3);
         push_in_the_end(rt, spools, xid, xid + 3, item);
@@ -464,10 +405,19 @@ fn refuse_one<P: Spools>(rt: &impl Abort, spools: &mut P, item: &Item) {
     assert!(rt; spools.bytes() == 3 * 9 * 28);
 }
 
+/// Forty items in each of nine transactions, and then three.
+fn refuse_one<P: Spools>(rt: &impl Abort, spools: &mut P, item: &ItemRef<'_>) {
+    for xid in 1..10u32 {
+        open_in_the_end(rt, spools, xid);
+    }
+    push_all(rt, spools, item);
+    cut_all(rt, spools, item);
+}
+
 // Run it with each allocation failing in turn: a call that is refused changes nothing, and succeeds when it comes once more.
 #[test]
 fn refused_memory_changes_nothing(rt: HostRuntime) -> Result<(), Fail> {
-    let item = item(rt.alloc(), T_1A)?;
+    let item = item(T_1A)?;
     refuse_one(&rt, &mut ListSpools::new(rt.alloc(), 100000), &item);
     refuse_one(&rt, &mut ByteSpools::new(rt.alloc(), 100000), &item);
     Ok(())
