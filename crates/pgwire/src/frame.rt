@@ -43,22 +43,3 @@ pub fn payload_len(tag: u8, length: u32, max_frame: u32) -> Result<usize, WireFa
     }
     Ok(payload_len as usize)
 }
-
-#[cfg(test)]
-mod tests {
-    use super::*;
-
-    #[test]
-    fn lengths_at_the_limits(rt: HostRuntime) {
-        for (length, max_frame, expected) in [
-            (16777220u32, 16777216u32, Ok(16777216usize)),
-            (16777221, 16777216, Err(WireFault::TooLarge)),
-            (2147483647, 2147483643, Ok(2147483643)),
-            (2147483648, 2147483643, Err(WireFault::BadLength)),
-            (4294967295, 2147483643, Err(WireFault::BadLength)),
-            (3, 2147483643, Err(WireFault::BadLength)),
-        ] {
-            assert_eq!(rt; payload_len(b'd', length, max_frame), expected, "{length}");
-        }
-    }
-}

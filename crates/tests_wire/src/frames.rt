@@ -1,0 +1,223 @@
+ghost use Rattle.std.specs.Prelude.{◌+◌, ◌≤◌};
+ghost use Rattle.pgwire.specs.Frames.{max_length};
+
+use pgwire::{Deframer, Frame, WireFault, decode_server};
+use std::alloc::{AllocError, Global};
+use std::process::Abort;
+
+// Feeds the bytes in chunks of `step` bytes and writes each frame as it is released: a letter, the payload's length and the
+// payload. A chunk that was refused for being out of memory is fed again, so many times.
+fn read(
+    rt: &(impl Abort + AllocGlobal),
+    bytes: &[u8],
+    step: usize,
+    retries: usize,
+) -> Result<(Vec<u8>, Option<WireFault>), AllocError> {
+    let mut deframer = Deframer::new(rt.alloc(), 64);
+    let mut log = Vec::new(rt.alloc());
+    let mut left = retries;
+    for piece in bytes.chunks(step.max(1)) {
+        let mut taken = 0;
+        for _ in 0..10000 {
+            let rest = piece.get(taken..).unwrap_or(&[]);
+            match deframer.feed(rest) {
+                Ok(n) => {
+                    taken = taken.saturating_add(n);
+                    match deframer.whole() {
+                        Some(Frame::Data(payload)) => {
+                            let len = (payload.len() % 256) as u8;
+                            log.extend_from_slice(&[b'd', len])?;
+                            log.extend_from_slice(payload)?;
+                        }
+                        Some(Frame::Done) => log.extend_from_slice(b"c")?,
+                        None => break,
+                    }
+                    deframer.release();
+                }
+                Err(WireFault::Memory) if left > 0 => {
+                    assert!(rt; deframer.whole().is_none());
+                    left = left.saturating_sub(1);
+                }
+                Err(fault) => {
+                    assert!(rt; deframer.feed(&[]) == Err(fault), "{fault:?} is forgotten");
+                    deframer.reset();
+                    assert!(rt; deframer.feed(&[b'c', 0, 0, 0, 4]) == Ok(5));
+                    assert!(rt; deframer.whole() == Some(Frame::Done));
+                    return Ok((log, Some(fault)));
+                }
+            }
+        }
+    }
+    Ok((log, None))
+}
+
+// In chunks of any length the stream gives these frames, and then this fault.
+fn check(
+    rt: &(impl Abort + AllocGlobal),
+    bytes: &[u8],
+    frames: &[u8],
+    fault: Option<WireFault>,
+) -> Result<(), AllocError> {
+    for step in [1usize, 2, 3, 4, 5, 6, 7, 64, 1000] {
+        let (log, found) = read(rt, bytes, step, 0)?;
+        assert!(rt; log.as_slice() == frames, "frames of {bytes:?} by {step}");
+        assert!(rt; found == fault, "fault of {bytes:?} by {step}");
+    }
+    Ok(())
+}
+
+// The fault of a header of a frame.
+fn header_fault(alloc: Global, max_frame: u32, header: &[u8]) -> Option<WireFault>
+    requires { max_frame + 4 ≤ max_length }
+{
+    Deframer::new(alloc, max_frame).feed(header).err()
+}
+
+#[test]
+fn frames_in_any_chunks(rt: HostRuntime) -> Result<(), AllocError> {
+    for (bytes, frames) in [
+        (&b""[..], &b""[..]),
+        (b"d\0\0\0\x04", b"d\0"),
+        (b"d\0\0\0\x06hid\0\0\0\x05!", b"d\x02hid\x01!"),
+        (b"d\0\0\0\x06hid\0\0", b"d\x02hi"),
+        (b"d\0\0\0\x06hidxyz", b"d\x02hi"),
+        (b"d\0\0\0\x06hid\0\0\0\x44xyz", b"d\x02hi"),
+        (b"d\0\0\0\x04c\0\0\0\x04", b"d\0c"),
+    ] {
+        check(&rt, bytes, frames, None)?;
+    }
+    Ok(())
+}
+
+#[test]
+fn faults_in_any_chunks(rt: HostRuntime) -> Result<(), AllocError> {
+    for (bytes, frames, fault) in [
+        (&b"\x78"[..], &b""[..], WireFault::UnknownFrame(120)),
+        (b"d\0\0\0\x04xd", b"d\0", WireFault::UnknownFrame(120)),
+        (b"d\0\0\0\x03", b"", WireFault::BadLength),
+        (b"d\x80\0\0\0", b"", WireFault::BadLength),
+        (b"c\0\0\0\x05", b"", WireFault::BadLength),
+        (b"d\0\0\0\x45", b"", WireFault::TooLarge),
+        (b"d\x7f\xff\xff\xff", b"", WireFault::TooLarge),
+        (
+            b"d\0\0\0\x06hid\0\0\0\x45!",
+            b"d\x02hi",
+            WireFault::TooLarge,
+        ),
+        (b"c\0\0\0\x04d", b"c", WireFault::AfterDone),
+        (b"c\0\0\0\x04\x78", b"c", WireFault::AfterDone),
+    ] {
+        check(&rt, bytes, frames, Some(fault))?;
+    }
+    Ok(())
+}
+
+// The fault of the payload of a frame that is fed in chunks of `step` bytes.
+fn payload_fault(
+    rt: &(impl Abort + AllocGlobal),
+    frame: &[u8],
+    step: usize,
+) -> Option<WireFault> {
+    let mut deframer = Deframer::new(rt.alloc(), 64);
+    for piece in frame.chunks(step.max(1)) {
+        assert!(rt; deframer.feed(piece) == Ok(piece.len()));
+    }
+    let Some(Frame::Data(payload)) = deframer.whole() else {
+        return None;
+    };
+    match decode_server(payload) {
+        Ok(_) => None,
+        Err(fault) => Some(fault),
+    }
+}
+
+#[test]
+fn payload_faults_in_any_chunks(rt: HostRuntime) {
+    for (frame, fault) in [
+        (&b"d\0\0\0\x04"[..], WireFault::Short),
+        (b"d\0\0\0\x05x", WireFault::UnknownServerMessage(120)),
+        (b"d\0\0\0\x1cw01234567012345670123456", WireFault::Short),
+        (b"d\0\0\0\x15k0123456701234567", WireFault::Short),
+        (b"d\0\0\0\x16k0123456701234567\x02", WireFault::BadReplyByte),
+        (b"d\0\0\0\x17k0123456701234567\x02\0", WireFault::Trailing),
+    ] {
+        for step in [1usize, 5, 1000] {
+            assert!(rt;
+                payload_fault(&rt, frame, step) == Some(fault),
+                "{frame:?} by {step}"
+            );
+        }
+    }
+}
+
+// Run it with each allocation failing in turn: the payloads grow in many steps, and a refused one is fed again. It alone takes
+// Memory for an answer.
+#[test]
+fn refused_memory_changes_nothing(rt: HostRuntime) -> Result<(), AllocError> {
+    let mut bytes = [7u8; 113];
+    bytes[..5].copy_from_slice(&[b'd', 0, 0, 0, 43]);
+    bytes[44..49].copy_from_slice(&[b'd', 0, 0, 0, 68]);
+    let mut frames = [7u8; 107];
+    frames[..2].copy_from_slice(&[b'd', 39]);
+    frames[41..43].copy_from_slice(&[b'd', 64]);
+    for step in [1usize, 2, 3, 4, 5, 6, 7, 64, 1000] {
+        let (log, fault) = read(&rt, &bytes, step, 1)?;
+        assert!(rt; fault.is_none());
+        assert!(rt; log.as_slice() == frames.as_slice());
+    }
+    Ok(())
+}
+
+/// The length of the first frame, the most that a payload may have, and the fault of the header.
+static LIMITS: [(u32, u32, Option<WireFault>); 6] = [
+    (16777220, 16777216, None),
+    (16777221, 16777216, Some(WireFault::TooLarge)),
+    (2147483647, 2147483643, None),
+    (2147483648, 2147483643, Some(WireFault::BadLength)),
+    (4294967295, 2147483643, Some(WireFault::BadLength)),
+    (3, 2147483643, Some(WireFault::BadLength)),
+];
+
+#[test]
+fn lengths_at_the_limits(rt: HostRuntime) {
+    for &(length, max_frame, fault) in &LIMITS {
+        let [a, b, c, d] = length.to_be_bytes();
+        let found = header_fault(rt.alloc(), max_frame.min(2147483643), &[b'd', a, b, c, d]);
+        assert!(rt; found == fault, "{length}");
+    }
+}
+
+// Whatever payload a header claims, there is room for twice the bytes that have come at most.
+#[test]
+fn room_for_what_has_come(rt: HostRuntime) {
+    let mut deframer = Deframer::new(rt.alloc(), 16777216);
+    assert_eq!(rt; deframer.feed(&[b'd', 1, 0, 0, 4]), Ok(5));
+    assert!(rt; deframer.room() == 0);
+    for come in 1..10usize {
+        assert_eq!(rt; deframer.feed(&[7]), Ok(1));
+        assert!(rt; deframer.room() <= come.saturating_mul(2));
+    }
+    deframer.reset();
+    assert!(rt; deframer.room() == 0);
+}
+
+#[test]
+fn takes_no_more_than_a_frame(rt: HostRuntime) {
+    let mut deframer = Deframer::new(rt.alloc(), 64);
+    assert_eq!(rt; deframer.feed(&[b'c', 0, 0, 0, 4, b'x']), Ok(5));
+    assert_eq!(rt; deframer.feed(b"x"), Ok(0));
+    assert!(rt; deframer.whole() == Some(Frame::Done));
+    assert!(rt; !deframer.is_done());
+    deframer.release();
+    deframer.release();
+    assert!(rt; deframer.is_done());
+    assert_eq!(rt; deframer.feed(&[]), Ok(0));
+    assert_eq!(rt; deframer.feed(&[b'd']), Err(WireFault::AfterDone));
+    assert_eq!(rt; deframer.feed(&[]), Err(WireFault::AfterDone));
+    deframer.reset();
+    assert!(rt; !deframer.is_done());
+    assert_eq!(rt; deframer.feed(&[b'd', 0, 0, 0, 0x44]), Ok(5));
+    assert!(rt; deframer.whole().is_none());
+    assert_eq!(rt; deframer.feed(&[7; 70]), Ok(64));
+    assert!(rt; deframer.whole() == Some(Frame::Data(&[7; 64])));
+}

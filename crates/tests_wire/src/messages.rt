@@ -1,0 +1,49 @@
+use pglsn::Lsn;
+use pgwire::{ServerMsg, WireFault, decode_server};
+
+#[test]
+fn reads_messages(rt: HostRuntime) {
+    let mut data =
+        *b"w\x01\x02\x03\x04\x05\x06\x07\x08\xff\xfe\xfd\xfc\xfb\xfa\xf9\xf8\xff\xff\xff\xff\xff\xff\xff\xfehi";
+    let expected = ServerMsg::Data {
+        start: Lsn(0x0102030405060708),
+        end: Lsn(0xfffefdfcfbfaf9f8),
+        clock: -2,
+        body: &data[25..],
+    };
+    assert_eq!(rt; decode_server(&data), Ok(expected));
+    data[0] = b'x';
+    assert_eq!(rt;
+        decode_server(&data),
+        Err(WireFault::UnknownServerMessage(120))
+    );
+    let keepalive = b"k\0\0\0\0\0\0\x01\x80\0\0\0\0\0\0\0\x09\x01";
+    let expected = ServerMsg::Keepalive {
+        end: Lsn(0x180),
+        clock: 9,
+        reply: true,
+    };
+    assert_eq!(rt; decode_server(keepalive), Ok(expected));
+}
+
+#[test]
+fn refuses_other_payloads(rt: HostRuntime) {
+    assert_eq!(rt; decode_server(b""), Err(WireFault::Short));
+    assert_eq!(rt;
+        decode_server(b"x"),
+        Err(WireFault::UnknownServerMessage(120))
+    );
+    assert_eq!(rt;
+        decode_server(b"w01234567012345670123456"),
+        Err(WireFault::Short)
+    );
+    assert_eq!(rt; decode_server(b"k0123456701234567"), Err(WireFault::Short));
+    assert_eq!(rt;
+        decode_server(b"k0123456701234567\x02"),
+        Err(WireFault::BadReplyByte)
+    );
+    assert_eq!(rt;
+        decode_server(b"k0123456701234567\x02\0"),
+        Err(WireFault::Trailing)
+    );
+}

@@ -1,0 +1,49 @@
+use bytes::BytesMut;
+use pglsn::Lsn;
+use pgwire::{Status, WireFault, encode_status};
+
+#[test]
+fn appends_the_frame(rt: HostRuntime) {
+    let status = Status {
+        written: Lsn(0x0180),
+        flushed: Lsn(0x0130),
+        applied: Lsn(0x0120),
+        clock: -2,
+        ask: true,
+    };
+    let mut out = BytesMut::new(rt.alloc());
+    assert_eq!(rt; encode_status(&status, &mut out), Ok(()));
+    let frame =
+        b"d\0\0\0\x26r\0\0\0\0\0\0\x01\x80\0\0\0\0\0\0\x01\x30\0\0\0\0\0\0\x01\x20\xff\xff\xff\xff\xff\xff\xff\xfe\x01";
+    assert!(rt; out.as_slice() == frame.as_slice());
+}
+
+// Run it with each allocation failing in turn: a refused status leaves those before it, and is appended at the next call. It alone
+// takes Memory for an answer.
+#[test]
+fn refused_memory_changes_nothing(rt: HostRuntime) {
+    let mut out = BytesMut::new(rt.alloc());
+    for turn in 1..20u8 {
+        let status = Status {
+            written: Lsn(1),
+            flushed: Lsn(2),
+            applied: Lsn(3),
+            clock: i64::from(turn),
+            ask: false,
+        };
+        let len = out.len();
+        if encode_status(&status, &mut out) == Err(WireFault::Memory) {
+            assert_eq!(rt; out.len(), len);
+            assert_eq!(rt; encode_status(&status, &mut out), Ok(()));
+        }
+    }
+    assert_eq!(rt; out.len(), 19 * 39);
+    for (place, frame) in out.as_slice().chunks(39).enumerate() {
+        assert!(rt;
+            frame.starts_with(b"d\0\0\0\x26r\0\0\0\0\0\0\0\x01"),
+            "frame {place}"
+        );
+        let turn = ((place + 1) % 256) as u8;
+        assert!(rt; frame.get(37) == Some(&turn), "clock of {place}");
+    }
+}
