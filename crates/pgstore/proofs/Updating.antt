@@ -1,6 +1,6 @@
 -- The changes of a keyed table that are one statement: a row that was sent whole and stays at its place, and a row that goes.
 use Rattle.std.proofs.Common.{◌≡◌, ◌⊎◌, ◌≤◌, ◌-◌, ℕ, List, ◌∷◌, true, false, cond, Option, Some, None, Ok, refl, sym, ap, subst, ◌∙◌, inl, inr, arith}
-use Rattle.std.specs.Prelude.{if◌then◌else◌, is_some, nat_lt}
+use Rattle.std.specs.Prelude.{if◌then◌else◌, is_some, nat_lt, not}
 use Rattle.std.specs.Ordering.{nat_cmp, eq_by_cmp}
 use Rattle.std.specs.Cmp.Lexicographic.{slice_cmp, nat_list_cmp_total}
 use Rattle.std.specs.FinMap as map
@@ -12,14 +12,14 @@ use Rattle.pgtuple.specs.Cells.{tuple_spelling}
 use Rattle.pgtuple.specs.Limits.{IsWireTuple}
 use Rattle.pglogical.specs.declared.item.RelationDef.{RelationDef}
 use Rattle.pglogical.specs.declared.item.OldKind.{OldKind}
-use Rattle.pgrel.specs.Identity.{keyed, searched_identity}
+use Rattle.pgrel.specs.Identity.{keyed, has_unchanged, identity, lacks_identity, new_has_width, old_has_width, searched_identity}
 use Rattle.pgrel.proofs.Rows.{sent_stays}
 use Rattle.pgtables.specs.Kept as stored
 use Rattle.pgrows.specs.Rows.{with_row_if_there}
 use Rattle.pgapply.specs.declared.op.Op.TheVariants.{Update, Delete}
 use Rattle.pgapply.specs.Value.{Row, Rows, Tables, most_copies}
 use Rattle.pgapply.specs.Apply.{with_row, without_row, rows_after}
-use Rattle.pgapply.proofs.KeepsForm.{same_place}
+use Rattle.pgapply.proofs.KeepsForm.{new_checked, refused, same_ok, same_place}
 use Rattle.pgstore.specs.Spelled.{IsChanging}
 use Rattle.pgstore.specs.Acts.{IsFound, MakesOf, StaysWhole, taken_row}
 use Rattle.pgstore.proofs.Acting.{moved_same, was_there}
@@ -28,6 +28,19 @@ use Rattle.pgstore.proofs.Deciding.{updated_not, updated_one, deleted_not, delet
 cases_Option : {X : Type 0} (o : Option X) → (o ≡ None) ⊎ ((x : X) × (o ≡ Some x))
 cases_Option None = inl refl
 cases_Option (Some x) = inr (x, refl)
+
+-- a row that was sent whole, and no old row with it, stays at the place where its row is searched
+pub searched_whole : (def : RelationDef) (row searched : List Cell) → keyed def ≡ true → has_unchanged row ≡ false → searched_identity def None (Some row) ≡ Ok searched
+    → StaysWhole def (tuple_spelling searched) row
+searched_whole def row searched key sent e =
+    let widths = (refused (not (new_has_width def (Some row))) _ _ searched (refused (not (old_has_width def None)) _ _ searched e).1).1 in
+    let known = (refused (has_unchanged (identity def row)) _ _ searched (refused (lacks_identity def None) _ _ searched widths).1).1 in
+    record {
+      keyed = key;
+      place_is = ap tuple_spelling (sym (same_ok known));
+      width = new_checked def None row searched e;
+      sent = sent;
+    }
 
 module _ (def : RelationDef) (prior : Option (OldKind × List Cell)) (row : List Cell) (rows : Rows) (searched : List Cell) (checked : searched_identity def prior (Some row) ≡ Ok searched) (place : List ℕ) (at : place ≡ tuple_spelling searched)
     (v : Tables) (t : stored.Tables) (h : IsChanging v def rows t) where

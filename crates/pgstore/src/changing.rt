@@ -2,11 +2,12 @@
 //!
 //! PostgreSQL documentation, Logical Replication; ALTER TABLE, REPLICA IDENTITY.
 
-ghost use Rattle.std.specs.Prelude.{◌≡◌, false, true, not, List, length, OnOk, IfOk, IfErr, Ok};
+ghost use Rattle.std.specs.Prelude.{◌≡◌, true, not, List, length, Some, OnOk, IfOk, IfErr, Ok};
 ghost use Rattle.sqlite.specs.State.{HasCleanDisk};
 ghost use Rattle.pgtuple.specs.declared.cell.Cell.{Cell};
 ghost use Rattle.pgtuple.specs.Cells.{tuple_spelling};
 ghost use Rattle.pgtuple.specs.Limits.{IsWireTuple};
+ghost use Rattle.pgrel.specs.Identity.{searched_identity};
 ghost use Rattle.pgtables.specs.Kept.{is_there};
 ghost use Rattle.pgrows.specs.Rows.{Makes, state, tables_of, with_row_if_there};
 ghost use Rattle.pgapply.specs.declared.op.Op.TheVariants as op;
@@ -168,22 +169,22 @@ fn replace_row<S: Alter>(
     move_row(rows, alloc, def, place, there, &next.borrowed())
 }
 
-/// Whether a row of a keyed table was sent whole and stays at its place, so that nothing of the row before it has to be read.
+/// Whether a row of a keyed table was sent whole, and no old row with it. It stays at the place
+/// where its row is searched then, and nothing of that row has to be read.
+#[tactic(auto, using(crate::proofs::Updating::searched_whole))]
 fn stays_whole(
-    alloc: Global,
     def: &RelationDef,
-    place: &[u8],
+    prior: &Option<(OldKind, TupleRef<'_>)>,
     row: &TupleRef<'_>,
-) -> Result<bool, Refusal>
-    requires { length row.now ≡ length def.now.columns }
-    ensures stays { IfOk result (λ stays. stays ≡ true → StaysWhole def.now place.now row.now) }
-    ensures fault { IfErr result IsOwnFault }
+) -> bool
+    ensures { result ≡ true → (searched : List Cell) →
+        searched_identity def.now prior.now (Some row.now) ≡ Ok searched →
+        StaysWhole def.now (tuple_spelling searched) row.now }
 {
-    if !keyed(def) || has_unchanged(row) {
-        return Ok(false);
+    match prior {
+        None => keyed(def) && !has_unchanged(row),
+        Some(_) => false,
     }
-    let own = encode_identity(alloc, def, row)?;
-    Ok(own.as_slice() == place)
 }
 
 /// A row that was sent whole is the row at its place from now on, if one stands there. It answers whether none does.
@@ -251,7 +252,7 @@ fn update<S: Alter>(
 {
     let identity = encode_searched(alloc, def, lend_prior(prior), Some(row.lend()))?;
     let place = identity.as_slice();
-    if stays_whole(alloc, def, place, row)? {
+    if stays_whole(def, prior, row) {
         return set_row(rows, alloc, def.oid, place, row);
     }
     match rows.find_row(def.oid, place)? {
