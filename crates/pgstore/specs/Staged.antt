@@ -2,11 +2,11 @@
 use Rattle.std.specs.Prelude.{◌≡◌, ◌++◌, Bool, false, if◌then◌else◌, List, [], ◌∷◌, ℕ, IsTrue, Ok}
 use Rattle.sqlite.specs.Tree.{Trees}
 use Rattle.sqlite.specs.Store.{Ghosts}
-use Rattle.sqlite.specs.State.{Savepoint, State}
+use Rattle.sqlite.specs.State.{HasCleanDisk, KeepsCommit, Savepoint, State, Survives}
 use Rattle.pglogical.specs.declared.item.RelationDef.{RelationDef}
 use Rattle.pgtables.specs.Kept as stored
 use Rattle.pgtables.specs.Kept.{tables_in}
-use Rattle.pgrows.specs.Rows.{GoesOn, IfServing, database, state, tables_of}
+use Rattle.pgrows.specs.Rows.{GoesOn, IfServing, IsNumbered, database, state, tables_of}
 use Rattle.pgapply.specs.declared.op.Op.{Op}
 use Rattle.pgapply.specs.Value.{Tables}
 use Rattle.pgapply.specs.Works.{change_values}
@@ -34,6 +34,12 @@ module _ {S : Type 0} (g : Ghosts S) (old new : S) where
     pub is_open : IsTrue (state g new).is_open
     pub committed_is : (state g new).committed ≡ (state g old).committed
     pub marks_are : (state g new).marks ≡ (state g old).marks
+
+  -- calls of which some may mark and go back: nothing was committed, and a crash leaves nothing else
+  pub record CommitsNothing : Type 0 where
+    pub commit : HasCleanDisk (state g new) → KeepsCommit (state g old) (state g new)
+    pub numbered : IsNumbered g old → IsNumbered g new
+    pub survives : Survives (state g old) (state g new) (λ _. ⊥)
 
   -- the changes were folded behind what the transaction had
   pub record Stages (definitions : List RelationDef) (changes : List (ℕ × Op)) : Type 0 where

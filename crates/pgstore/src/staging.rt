@@ -12,7 +12,7 @@ ghost use Rattle.pgstore.specs.Acts.{CountsFrom, IfOpened, RefusesToFold};
 ghost use Rattle.pgstore.specs.Sources.{IsSource, rows_in};
 ghost use Rattle.pgledger.specs.Ledgers.{AppendsAtMost, Keeps, Rests, StaysOrSticks, Syncs};
 ghost use Rattle.pgstore.specs.Looks.{AppendsFrom, TellsFrom};
-ghost use Rattle.pgstore.specs.Staged.{before_of, HasStaged, KeepsStaged, LeavesSettled, Prepares, Returns, Settles, Stages, Unstages};
+ghost use Rattle.pgstore.specs.Staged.{before_of, CommitsNothing, HasStaged, KeepsStaged, LeavesSettled, Prepares, Returns, Settles, Stages, Unstages};
 
 use crate::fault::Refusal;
 use crate::looking::Telling;
@@ -66,10 +66,7 @@ fn go_back<S: Alter>(rows: &mut Rows<S>) -> Result<(), StoreError>
     requires { IfServing S.Store rows.old ((state S.Store rows.old).marks ≢ []) }
     ensures back { HasCleanDisk (state S.Store rows.new) → OnOk result
         (Returns (state S.Store rows.old) (state S.Store rows.new)) }
-    ensures commit { HasCleanDisk (state S.Store rows.new) →
-        KeepsCommit (state S.Store rows.old) (state S.Store rows.new) }
-    ensures numbered { HasNumbers S.Store rows.old → HasNumbers S.Store rows.new }
-    ensures survives { Survives (state S.Store rows.old) (state S.Store rows.new) (λ _. ⊥) }
+    ensures nothing { CommitsNothing S.Store rows.old rows.new }
 {
     rows.back()?;
     rows.keep()?;
@@ -84,10 +81,7 @@ fn undo_one<S: Alter>(rows: &mut Rows<S>, refusal: Refusal) -> Unstaged
         Returns (state S.Store rows.old) (state S.Store rows.new) }
     ensures refusal { result.is_lost ≡ false → result.refusal ≡ refusal }
     ensures lost { result.is_lost ≡ true → IsOwnFault result.refusal }
-    ensures commit { HasCleanDisk (state S.Store rows.new) →
-        KeepsCommit (state S.Store rows.old) (state S.Store rows.new) }
-    ensures numbered { HasNumbers S.Store rows.old → HasNumbers S.Store rows.new }
-    ensures survives { Survives (state S.Store rows.old) (state S.Store rows.new) (λ _. ⊥) }
+    ensures nothing { CommitsNothing S.Store rows.old rows.new }
 {
     match go_back(rows) {
         Ok(()) => Unstaged {
@@ -127,10 +121,7 @@ pub(crate) fn stage_changes<'a, S: Alter>(
     ensures lost { IfErr result (λ u. u.is_lost ≡ true → IsOwnFault u.refusal) }
     ensures fault { IfOpened S.Store rows.old rows.new (IfErr result (λ u.
         RefusesToFold (tables_of S.Store rows.old) definitions.now changes.now u.refusal)) }
-    ensures commit { HasCleanDisk (state S.Store rows.new) →
-        KeepsCommit (state S.Store rows.old) (state S.Store rows.new) }
-    ensures numbered { HasNumbers S.Store rows.old → HasNumbers S.Store rows.new }
-    ensures survives { Survives (state S.Store rows.old) (state S.Store rows.new) (λ _. ⊥) }
+    ensures nothing { CommitsNothing S.Store rows.old rows.new }
 {
     if let Err(error) = rows.mark() {
         return Err(Unstaged::lost(error));

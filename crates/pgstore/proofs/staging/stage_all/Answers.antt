@@ -10,7 +10,7 @@ use Rattle.pgstore.proofs.staging.stage_all.Goals as goal
 
 pub returns-in-Trees-clause-staged : goal.returns-in-Trees-clause-staged
 returns-in-Trees-clause-staged g c clean =
-    let was : HasCleanDisk (state g.S.Store c.in-Trees.rows) = omega (arith, c.stage_changes.ensures.survives.clean, clean) in
+    let was : HasCleanDisk (state g.S.Store c.in-Trees.rows) = omega (arith, c.stage_changes.ensures.nothing.survives.clean, clean) in
     let prepared = (rw c.in-Trees.is at c.prepare.ensures.prepares) was (c.is_sound.ensures.sound c.if-is_sound.true was).0 in
     on_ok c.stage_changes.result (c.stage_changes.ensures.staged clean) (λ stages. record {
       was_open = prepared.0;
@@ -20,14 +20,14 @@ returns-in-Trees-clause-staged g c clean =
 
 pub returns-in-Trees-clause-counts : goal.returns-in-Trees-clause-counts
 returns-in-Trees-clause-counts g c clean =
-    let was : HasCleanDisk (state g.S.Store c.in-Trees.rows) = omega (arith, c.stage_changes.ensures.survives.clean, clean) in
+    let was : HasCleanDisk (state g.S.Store c.in-Trees.rows) = omega (arith, c.stage_changes.ensures.nothing.survives.clean, clean) in
     let prepared = (rw c.in-Trees.is at c.prepare.ensures.prepares) was (c.is_sound.ensures.sound c.if-is_sound.true was).0 in
     on_ok c.stage_changes.result (c.stage_changes.ensures.counts clean) (λ counts.
     subst (λ (t : stored.Tables). CountsFrom t c.args.definitions.now c.args.changes.now c.args.end c.args.misses.now c.stage_changes.new.misses) prepared.1 counts)
 
 pub returns-in-Trees-clause-fault : goal.returns-in-Trees-clause-fault
 returns-in-Trees-clause-fault g c clean still =
-    let was : HasCleanDisk (state g.S.Store c.in-Trees.rows) = omega (arith, c.stage_changes.ensures.survives.clean, clean) in
+    let was : HasCleanDisk (state g.S.Store c.in-Trees.rows) = omega (arith, c.stage_changes.ensures.nothing.survives.clean, clean) in
     let sound = (c.is_sound.ensures.sound c.if-is_sound.true was).0 in
     let prepared = (rw c.in-Trees.is at c.prepare.ensures.prepares) was sound in
     if_err c.stage_changes.result (c.stage_changes.ensures.fault clean sound) (λ u refuses.
@@ -35,7 +35,7 @@ returns-in-Trees-clause-fault g c clean still =
 
 pub returns-in-Trees-clause-told : goal.returns-in-Trees-clause-told
 returns-in-Trees-clause-told g c clean =
-    let was : HasCleanDisk (state g.S.Store c.in-Trees.rows) = omega (arith, c.stage_changes.ensures.survives.clean, clean) in
+    let was : HasCleanDisk (state g.S.Store c.in-Trees.rows) = omega (arith, c.stage_changes.ensures.nothing.survives.clean, clean) in
     let prepared = (rw c.in-Trees.is at c.prepare.ensures.prepares) was (c.is_sound.ensures.sound c.if-is_sound.true was).0 in
     on_ok c.stage_changes.result (c.stage_changes.ensures.told clean) (λ tells.
     subst (λ (t : stored.Tables). TellsFrom t c.args.definitions.now c.args.changes.now c.args.telling.now c.stage_changes.new.telling) prepared.1 tells)

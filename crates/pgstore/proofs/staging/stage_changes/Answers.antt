@@ -6,7 +6,7 @@ use Rattle.pgstore.proofs.staging.stage_changes.Goals as goal
 
 pub returns-in-Err-take_changes-clause-unstaged : goal.returns-in-Err-take_changes-clause-unstaged
 returns-in-Err-take_changes-clause-unstaged g c clean alone =
-    let made : HasCleanDisk (state g.S.Store c.take_changes.new.rows) = omega (arith, c.undo_one.ensures.survives.clean, clean) in
+    let made : HasCleanDisk (state g.S.Store c.take_changes.new.rows) = omega (arith, c.undo_one.ensures.nothing.survives.clean, clean) in
     let was : HasCleanDisk (state g.S.Store c.mark.new.self) = omega (arith, c.take_changes.ensures.goes.survives.clean, made) in
     let returns = c.undo_one.ensures.back clean alone in
     unstages g.S.Store c.args.rows.now c.mark.new.self c.take_changes.new.rows c.undo_one.new.rows (c.in_default.ensures.marked was) c.take_changes.ensures.goes made returns
