@@ -1,12 +1,12 @@
 //! For programs that embed the subscriber or the decoder: short forms of what they mostly need.
 //!
 //! ```text
-//! let store = Store::open_from(alloc, rt, "copy.db", Unknown)?;       // or Store::on_memory_disks
+//! let store = Store::open_from(alloc, rt, "copy.db", Unknown)?;  // or Store::on_memory_disks
 //! let mut subscriber = subscriber_over(alloc, store, Version::Two);
-//! subscriber.feed(chunk, clock)?;                                     // pgsub_core has the other calls
+//! subscriber.feed(chunk, clock)?;                    // pgsub_core has the other calls
 //!
-//! let line = decode(alloc, payload, in_block)?;                       // a payload, as `pgsub show` prints it
-//! show(alloc, Version::Two, session, &mut lines)?;                    // and all frames of a session
+//! let line = decode(alloc, payload, in_block)?;      // a payload, as `pgsub show` prints it
+//! show(alloc, Version::Two, session, &mut lines)?;   // and all frames of a session
 //! ```
 //!
 //! `pass_line` and `pass_lines` are for callers that aren't Rust: a fault is a number with a text, and

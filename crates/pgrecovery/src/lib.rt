@@ -3,8 +3,8 @@
 //!
 //! ```text
 //! follow_in_files(&mut subscriber, sessions, clock)  // whatever it returns
-//! let files = subscriber.into_store().stop();        // the files as a crash finds them; what they hold after it, the disk says
-//! let store = Store::open_files(alloc, files, ..)?;  // files with such a content
+//! let files = subscriber.into_store().stop();        // the files as a crash finds them
+//! let store = Store::open_files(alloc, files, ..)?;  // files with what the disk has after it
 //! let mut subscriber = Subscriber::new(alloc, store, spools, version, max_frame);
 //! ```
 //!

@@ -6,10 +6,10 @@
 //! change it tells by which cells the row is found, and which checks the tuples fail:
 //!
 //! ```text
-//! book.set(def)?;                                            // at a Relation message
-//! let def = book.get(oid)?;                                  // at a change
+//! book.set(def)?;                              // at a Relation message
+//! let def = book.get(oid)?;                    // at a change
 //! let identity = search_identity(alloc, def, old, Some(new))?;
-//! let whole = resolve(alloc, &new, &old_row)?;               // with the old row's cells where none was sent
+//! let whole = resolve(alloc, &new, &old_row)?; // with the old row's cells where none was sent
 //! ```
 #![tactic(auto)]
 

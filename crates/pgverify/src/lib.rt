@@ -5,9 +5,9 @@
 //! its rows than that check asks, so this one takes its place.
 //!
 //! ```text
-//! if lists_store(&store, alloc)? {                               // the three tables, and no other
+//! if lists_store(&store, alloc)? {                          // the three tables, and no other
 //!     let definitions = read_definitions(&mut store, alloc)?;
-//!     let is_held = check_rows(&mut store, alloc, &check)?;      // each row, and its identity in the index
+//!     let is_held = check_rows(&mut store, alloc, &check)?; // each row, and its identity
 //!     let position = read_position(&mut store, alloc)?;
 //! }
 //! ```
