@@ -113,11 +113,7 @@ fn faults_in_any_chunks(rt: HostRuntime) -> Result<(), AllocError> {
 }
 
 // The fault of the payload of a frame that is fed in chunks of `step` bytes.
-fn payload_fault(
-    rt: &(impl Abort + AllocGlobal),
-    frame: &[u8],
-    step: usize,
-) -> Option<WireFault> {
+fn payload_fault(rt: &(impl Abort + AllocGlobal), frame: &[u8], step: usize) -> Option<WireFault> {
     let mut deframer = Deframer::new(rt.alloc(), 64);
     for piece in frame.chunks(step.max(1)) {
         assert!(rt; deframer.feed(piece) == Ok(piece.len()));
