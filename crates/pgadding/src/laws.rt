@@ -98,13 +98,13 @@ pub fn sessions_are_passed_on()
 /// without one as many Inserts or Deletes of the whole row as one side has more copies. They may
 /// come in any order of the rows.
 ///
-/// They are passed on as one transaction at the point, behind which the session ends. So what is
+/// They are passed on as one transaction at the point, after which the session ends. So what is
 /// passed on is sessions (`delivered`; `bytes`) of a history (`history`), which from the point on
 /// gives the server's rows (`rows`); where other tables differ too, those of the tables that are
-/// repaired (`mended`). Below the point the copy is as it was (`unrepaired`), and
-/// whoever follows has a copy of the server's history at each position from the point on (`copy`).
-/// A copy may have any tables before, since some history gives them (`given`): so also that is a
-/// copy of the server's history from the point on (`any`).
+/// repaired (`mended`). Below the point the copy is as it was (`unrepaired`), and whoever follows
+/// has a copy of the server's history at each position from the point on (`copy`). A copy may have
+/// any tables before, since some history gives them (`given`): so also that is a copy of the
+/// server's history from the point on (`any`).
 ///
 /// Of the server it is asked what `passed_on_is_a_session` says of transactions and keepalives; of
 /// a table that is repaired that the copy has it under the same shape, or not at all, and the

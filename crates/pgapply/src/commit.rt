@@ -3,7 +3,8 @@
 use crate::work::Work;
 use pglsn::Lsn;
 
-/// What a commit is about beside its changes, as its message tells. A store may note it; nothing that is held depends on it.
+/// What a commit is about beside its changes, as its message tells. A store may note it; nothing
+/// that is stored depends on it.
 ///
 /// PostgreSQL documentation, Logical Replication Message Formats, Begin, Commit and Stream Commit.
 #[derive(Clone, Copy, Debug, PartialEq, Eq)]

@@ -18,10 +18,11 @@ use crate::work::Work;
 use pglsn::Lsn;
 use std::alloc::{AllocError, Global};
 
-/// A store with a note of the relations that commits changed. Who keeps something that was made of the rows, as a cache of
-/// query results, asks `changed` which relations to read anew, and then calls `forget`.
+/// A store with a note of the relations that commits changed. Who keeps something that was made of
+/// the rows, as a cache of query results, asks `changed` which relations to read again, and then
+/// calls `forget`.
 ///
-/// A rejected commit may be noted too: then a relation is read anew that is as it was.
+/// A rejected commit may be noted too: then a relation is read again that is as it was.
 #[derive(Drop)]
 pub struct Watched<C: ReplicaStore + Drop> {
     store: C,
@@ -150,7 +151,7 @@ impl<C: ReplicaStore + Drop> ReplicaStore for Watched<C> {
         self.store.stage(commit)
     }
 
-    /// Takes all that is staged in the store within. What is noted stays.
+    /// Stores all that is staged in the store within. What is noted stays.
     fn settle(&mut self) -> Result<(), StoreFault>
         ensures noted { self.new.changed.items ≡ self.old.changed.items }
         ensures settled { C.serves self.new.store → OnOk result
@@ -179,7 +180,7 @@ impl<C: ReplicaStore + Drop> ReplicaStore for Watched<C> {
         self.store.settle()
     }
 
-    /// Takes the changes of a commit as the store within does, and notes their relations first.
+    /// Stores the changes of a commit as the store within does, and notes their relations first.
     fn take(&mut self, end: Lsn, work: &Work<'_>) -> Result<(), StoreFault>
         requires { C.place self.old.store < end }
         ensures noted { OnOk result (self.new.changed.items

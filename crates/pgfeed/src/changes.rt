@@ -83,7 +83,7 @@ fn push_inserted(
     out.push_str("}\n")
 }
 
-/// Appends the line of a row that takes another's place.
+/// Appends the line of a row that replaces another.
 fn push_updated(
     alloc: Global,
     oid: u32,

@@ -49,7 +49,7 @@ fn body(
     Ok(text)
 }
 
-/// The text of an entry behind the commit that ends at `prev`: the line of the commit, and then a
+/// The text of an entry after the commit that ends at `prev`: the line of the commit, and then a
 /// line for each change, with the definitions of their relations.
 pub fn entry_text(
     alloc: Global,

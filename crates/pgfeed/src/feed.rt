@@ -26,8 +26,8 @@ pub const MOST_ENDED: usize = 256;
 /// A feed: a ledger over a folder of segments that follow each other. The last one is open; the
 /// others have ended, each with a line that tells the LSN at which it ends and the next one begins.
 ///
-/// A segment ends before a commit that it doesn't take by its limits, also amid commits that the
-/// store beside the feed takes at once. Until the store has taken them, a crash may open the feed
+/// A segment ends before a commit that it doesn't accept by its limits, also amid commits that the
+/// store beside the feed stores at once. Until the store has stored them, a crash may open the feed
 /// again in a segment that has ended, so the feed keeps it with its file. It lets go of it at the
 /// next commit after a sync: the store has taken all that was synced then, or the feed is stuck.
 /// While it keeps `MOST_ENDED`, the open one doesn't end.
@@ -159,7 +159,7 @@ impl<F: Folder + Drop> Feed<F> {
         close_all(&mut self.folder, ended);
     }
 
-    /// Lets go of segments that have ended where all was synced: the store has taken it since.
+    /// Lets go of segments that have ended where all was synced: the store has stored it since.
     fn let_settled_go(&mut self)
         ensures goes { Goes F.File.seen F.File.may_leave self.old.ended.items self.old.segment
             self.new.ended.items self.new.segment }
@@ -244,7 +244,7 @@ impl<F: Folder + Drop> Feed<F> {
         Ok(())
     }
 
-    /// Writes the text of a commit behind the last one, or into the next segment.
+    /// Writes the text of a commit after the last one, or into the next segment.
     fn write(&mut self, commit: &Commit<'_, '_>, images: &[Image<'_>]) -> Result<(), StoreFault>
         ensures goes { Goes F.File.seen F.File.may_leave self.old.ended.items self.old.segment
             self.new.ended.items self.new.segment }

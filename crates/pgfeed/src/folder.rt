@@ -25,7 +25,7 @@ pub struct SegmentLimits {
     /// How many bytes its head and its commits may have, unless it has a single commit. `u64::MAX`
     /// for any number.
     pub bytes: u64,
-    /// The microseconds from the time of a commit of it to that of one which it doesn't take any
+    /// The microseconds from the time of a commit of it to that of one which it doesn't accept any
     /// more. `u64::MAX` for never.
     pub micros: u64,
 }

@@ -33,9 +33,9 @@ pub fn text_is_read_in_one_way()
     ensures { TextIsReadInOneWay }
 {}
 
-/// Rows that are told have all their cells: one that wasn't sent stands in what was sent for a
-/// change that found no row, and nowhere else. `pgledger::laws::lines_lead` says that the lines of
-/// commits lead from the rows before to those after.
+/// Rows that are told have all their cells: one that wasn't sent is only in what was sent for a
+/// change that found no row. `pgledger::laws::lines_lead` says that the lines of commits lead from
+/// the rows before to those after.
 pub fn lines_tell_whole_rows()
     ensures { LinesTellWholeRows }
 {}

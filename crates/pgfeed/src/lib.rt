@@ -3,8 +3,8 @@
 //!
 //! A segment of a feed is a file. Its head has 1,024 bytes, the line of each commit 256, padded by
 //! blanks; that line tells how many bytes follow, so a reader goes from commit to commit without
-//! reading more. Before the first change of a relation in a commit, and where it has another
-//! definition, stands a line with that; so a commit can be read alone.
+//! reading more. A line with the definition of a relation comes before its first change in a
+//! commit, and again where the definition changes. So a commit can be read alone.
 //!
 //! ```text
 //! {"feed":1,"base":"0/100","system":"7231","database":"shop","slot":"copy"}
@@ -24,7 +24,7 @@
 //! single file. So a store beside it keeps a feed:
 //!
 //! ```text
-//! // cuts off what lies behind the position
+//! // truncates what comes after the position
 //! let feed = Feed::open(alloc, folder, &origin, limits, store.position())?;
 //! let mut store = Recorded::new(store, feed);
 //! ```

@@ -27,7 +27,7 @@ fn read_numbers(line: &[u8]) -> Option<Mark> {
     Some(Mark { end, bytes })
 }
 
-/// What a line tells that begins as that of a commit behind `prev`.
+/// What a line tells that begins as that of a commit after `prev`.
 pub(crate) fn read_mark(alloc: Global, prev: Lsn, line: &[u8]) -> Result<Option<Mark>, AllocError>
     ensures { IfOk result (λ found. IfSome found (λ mark. (more : List ℕ)
         × (line.now ≡ commit_front mark.end prev mark.bytes ++ more))) }

@@ -42,7 +42,7 @@ fn test_head<D: Disk>(alloc: Global, disk: &mut D, base: Lsn, len: usize) -> Res
     }
 }
 
-/// Reads the line of a commit behind the one that ends at `at`. All of the commit is in the file,
+/// Reads the line of a commit after the one that ends at `at`. All of the commit is in the file,
 /// and it doesn't end above the position.
 fn next_mark<D: Disk>(
     alloc: Global,
@@ -118,7 +118,7 @@ fn find_end<D: Disk>(
     Ok(offset)
 }
 
-/// Cuts off what a file has behind so many bytes, and syncs it.
+/// Truncates a file after so many bytes, and syncs it.
 fn cut<D: Disk>(disk: &mut D, size: usize) -> Result<(), FeedFault>
     requires { IsTrue (D.is_usable disk.old) }
     ensures cut { OnOk result (size ≤ length (D.seen disk.old) →
@@ -133,7 +133,7 @@ fn cut<D: Disk>(disk: &mut D, size: usize) -> Result<(), FeedFault>
     }
 }
 
-/// Writes a head in the place of whatever the file has, and syncs it.
+/// Writes a head over whatever the file has, and syncs it.
 fn put_head<D: Disk>(disk: &mut D, head: &str) -> Result<(), FeedFault>
     requires { IsTrue (D.is_usable disk.old) }
     ensures { OnOk result (0 < length head.now → (D.seen disk.new ≡ head.now)
@@ -152,8 +152,8 @@ fn put_head<D: Disk>(disk: &mut D, head: &str) -> Result<(), FeedFault>
 }
 
 impl<D: Disk + Drop> Segment<D> {
-    /// A segment of no commits in a file, in the place of whatever that has: its head, synced. It
-    /// begins at `base`, and is a feed of this system, database and slot.
+    /// A segment of no commits in a file, replacing whatever that has: its head, synced. It begins
+    /// at `base`, and is a feed of this system, database and slot.
     ///
     /// # Errors
     ///
@@ -185,7 +185,7 @@ impl<D: Disk + Drop> Segment<D> {
     }
 
     /// The segment in a file that begins at `base`, up to the commit that ends at the position, or
-    /// its head where it begins there. What lies behind that is cut off.
+    /// its head where it begins there. What comes after that is truncated.
     ///
     /// # Errors
     ///

@@ -20,8 +20,8 @@ use std::alloc::Global;
 
 /// A segment of a feed: a ledger over one file, which has a head, and then the text of each commit.
 ///
-/// A write that fails may leave a rest behind the commits. It is cut off where the segment is opened
-/// anew, at the position of the store.
+/// A write that fails may leave a rest after the commits. It is truncated where the segment is
+/// opened again, at the position of the store.
 #[derive(Drop)]
 pub struct Segment<D: Disk + Drop> {
     alloc: Global,
@@ -93,7 +93,7 @@ impl<D: Disk + Drop> Segment<D> {
         self.disk
     }
 
-    /// The text of a commit behind the last one.
+    /// The text of a commit after the last one.
     ///
     /// # Errors
     ///
@@ -116,7 +116,7 @@ impl<D: Disk + Drop> Segment<D> {
         Ok(entry_text(self.alloc, self.last, commit, images)?)
     }
 
-    /// Writes the text of a commit, which ends there, behind the last one.
+    /// Writes the text of a commit, which ends there, after the last one.
     pub(crate) fn put(&mut self, end: Lsn, text: &str) -> Result<(), StoreFault>
         ensures written { OnOk result (0 < length text.now →
             Holds (D.seen self.new.disk) self.old.size text.now) }
@@ -144,7 +144,7 @@ impl<D: Disk + Drop> Segment<D> {
         Ok(())
     }
 
-    /// Writes the text of a commit behind the last one.
+    /// Writes the text of a commit after the last one.
     fn write(&mut self, commit: &Commit<'_, '_>, images: &[Image<'_>]) -> Result<(), StoreFault>
         ensures above { OnOk result (self.old.last < commit.now.end) }
         ensures fits { OnOk result (FitsEntry self.old.last (entry_of commit.now.end
@@ -192,7 +192,7 @@ impl<D: Disk + Drop> Segment<D> {
         Ok(())
     }
 
-    /// Takes nothing more from now on.
+    /// Accepts nothing more from now on.
     pub(crate) fn stop(&mut self)
         ensures { self.new ≡ record self.old { is_stuck = true } }
     {
@@ -200,7 +200,7 @@ impl<D: Disk + Drop> Segment<D> {
     }
 
     /// Ends the segment: writes the line that tells where its last commit ends, and syncs it. The
-    /// segment takes nothing more, also where this fails.
+    /// segment accepts nothing more, also where this fails.
     ///
     /// # Errors
     ///

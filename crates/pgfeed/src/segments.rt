@@ -12,8 +12,8 @@ use crate::segment::Segment;
 use pglsn::Lsn;
 use std::alloc::Global;
 
-/// A segment of no commits in a file, in the place of whatever that has. Where that fails, the
-/// folder has the file back.
+/// A segment of no commits in a file, replacing whatever that has. Where that fails, the folder has
+/// the file back.
 fn create_in<F: Folder>(
     alloc: Global,
     folder: &mut F,
@@ -55,7 +55,7 @@ pub(crate) fn begin_segment<F: Folder>(
 }
 
 /// The segment that begins at `base`, up to the commit that ends at the position. Where it begins
-/// there, it is made anew, since a crash may have left a part of its head.
+/// there, it is made again, since a crash may have left a part of its head.
 fn segment_at<F: Folder>(
     alloc: Global,
     folder: &mut F,
@@ -130,9 +130,9 @@ pub(crate) fn close_all<F: Folder>(folder: &mut F, ended: Vec<Segment<F::File>>)
 
 impl<F: Folder + Drop> Feed<F> {
     /// The feed in a folder, at the position of the store beside it. The last segment that doesn't
-    /// begin above the position is opened there, and what lies behind is cut off, the line that
+    /// begin above the position is opened there, and what comes after is truncated, the line that
     /// ends it too; then the segments above it are removed, the last of them first. One that begins
-    /// at the position is made anew, since a crash may have left a part of its head. In a folder
+    /// at the position is made again, since a crash may have left a part of its head. In a folder
     /// without segments one begins at the position. No other segment is read.
     ///
     /// # Errors

@@ -5,8 +5,8 @@
 //! follow_live(alloc, &mut link, &mut clock, &mut subscriber)?;
 //! ```
 //!
-//! Whoever carries the bytes starts each session at what the last status has confirmed, and puts a CopyDone behind a session that ended
-//! without one.
+//! Whoever carries the bytes starts each session at what the last status has confirmed, and puts a
+//! CopyDone after a session that ended without one.
 #![tactic(auto)]
 
 pub mod clock;

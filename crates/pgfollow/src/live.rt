@@ -256,13 +256,15 @@ fn follow_reads<
 /// that asked for one, and a status where confirmed has moved since the last one, and flushes. So what the writer gets is statuses alone,
 /// each of which confirms as flushed what it confirms as applied, and no less than the one before it.
 ///
-/// Let the sessions be some that a server sends of a history, and let the rows be the history's before. Then every transaction that changes
-/// rows and ends by what a status confirms is in the store when that status is written, and in whatever a crash leaves then or later:
-/// that holds exactly the rows of all transactions of the history up to a position of its own. The store itself holds exactly the
-/// history's rows up to its position, after each part and, while it serves, at the end. So it is of each front of the parts that is of a
-/// history, whatever comes after it. Its premises are those of `follow`: nobody else writes the store's files, and the disk gives back
-/// what was written. To what the store had counted come exactly the changes that find no row of the transactions between its position
-/// before and behind, while it serves.
+/// Let the sessions be some that a server sends of a history, and let the rows be the history's
+/// before. Then every transaction that changes rows and ends by what a status confirms is in the
+/// store when that status is written, and in whatever a crash leaves then or later: that holds
+/// exactly the rows of all transactions of the history up to a position of its own. The store
+/// itself holds exactly the history's rows up to its position, after each part and, while it
+/// serves, at the end. So it is of each front of the parts that is of a history, whatever comes
+/// after it. Its premises are those of `follow`: nobody else writes the store's files, and the disk
+/// gives back what was written. To what the store had counted come exactly the changes that find no
+/// row of the transactions between its positions before and after the call, while it serves.
 ///
 /// # Errors
 ///
@@ -299,7 +301,7 @@ pub fn follow_live<
         Ok(room) => room,
         Err(AllocError) => return Err(FollowFault::Stream(Fault::Memory)),
     };
-    // where it stands tells what a crash leaves at the start
+    // its position tells what a crash leaves at the start
     let _start = subscriber.position();
     if let Err(fault) = greet(link, subscriber, clock.now()) {
         return Err(fault);

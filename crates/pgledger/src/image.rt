@@ -14,7 +14,7 @@ pub enum Image<'a> {
         /// The row.
         row: TupleRef<'a>,
     },
-    /// A row takes another's place.
+    /// A row replaces another.
     Updated {
         /// The row before the change.
         old: Tuple,

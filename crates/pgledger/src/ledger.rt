@@ -9,12 +9,12 @@ use crate::image::Image;
 use pgapply::{Commit, StoreFault};
 
 /// A ledger of commits, as a file or a queue that others read. A store hands it each commit that it
-/// stages, and has it synced before it takes them. So it is never behind the store, and ahead of it
+/// stages, and has it synced before it stores them. So it never has less than the store, and more
 /// by staged commits alone.
 ///
-/// A call that fails leaves the ledger stuck: it takes nothing more until it is opened anew, at the
-/// store's position, and what lies after that is cut off. `NoLedger` keeps nothing, and is what a
-/// store without a ledger uses.
+/// A call that fails leaves the ledger stuck: it accepts nothing more until it is opened again, at
+/// the store's position, and what comes after that is truncated. `NoLedger` keeps nothing, and is
+/// what a store without a ledger uses.
 ///
 /// PostgreSQL documentation, Logical Replication, Subscription.
 pub trait Ledger {
@@ -27,7 +27,7 @@ pub trait Ledger {
     /// Its entries up to this LSN outlast a crash.
     ghost outlasts: { Self → ℕ → Type 0 };
 
-    /// It takes nothing more.
+    /// It accepts nothing more.
     ghost is_stuck: { Self → Bool };
 
     /// It wants the images of changes.
@@ -36,7 +36,7 @@ pub trait Ledger {
     /// The other one was opened at this LSN, on what a crash at this moment may leave of this one.
     ghost reopens: { Self → ℕ → Self → Type 0 };
 
-    /// Whether it takes nothing more.
+    /// Whether it accepts nothing more.
     fn is_stuck(&self) -> bool
         ensures { result ≡ is_stuck self.now };
 
@@ -75,14 +75,14 @@ pub trait Ledger {
         ensures fault { IfErr result IsOwnFault }
         ensures rests { Rests begins is_wanting outlasts reopens self.old self.new };
 
-    /// Takes nothing more from now on: commits that it has were not taken by the store, or may not
-    /// have been.
+    /// Accepts nothing more from now on: commits that it has were not stored by the store, or may
+    /// not have been.
     fn stick(&mut self)
         ensures kept { Keeps keeps self.old self.new }
         ensures stuck { is_stuck self.new ≡ true }
         ensures rests { Rests begins is_wanting outlasts reopens self.old self.new };
 
-    /// Opened anew at an LSN it keeps the entries up to the one that ends there.
+    /// Opened again at an LSN, it keeps the entries up to the one that ends there.
     ghost cuts: { CutsAt keeps begins outlasts reopens };
 
     /// Of one that wants no images no entry is asked back.

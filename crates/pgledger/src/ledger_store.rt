@@ -13,10 +13,10 @@ use crate::ledger::Ledger;
 use pgapply::{Commit, ReplicaStore, StoreFault};
 
 /// A store that gives a ledger each commit that it stages, with the images of its changes, and has
-/// it synced before it takes them. Over `NoLedger` these calls are `stage` and `settle`.
+/// it synced before it stores them. Over `NoLedger` these calls are `stage` and `settle`.
 ///
-/// A ledger that has taken commits which are then dropped, by `unstage` or a call that reads rows,
-/// has to be told by `stick`; `Recorded` does so.
+/// A ledger that has accepted commits which are then dropped, by `unstage` or a call that reads
+/// rows, has to be told by `stick`; `Recorded` does so.
 ///
 /// PostgreSQL documentation, Logical Replication, Subscription.
 pub trait LedgerStore: ReplicaStore {
@@ -70,8 +70,8 @@ pub trait LedgerStore: ReplicaStore {
         ensures untold { OnErr result (StaysOrSticks L.is_stuck ledger.old ledger.new) }
         ensures rests { Rests L.begins L.is_wanting L.outlasts L.reopens ledger.old ledger.new };
 
-    /// Syncs the ledger, once, and then takes all that is staged as `settle` does. Where nothing is
-    /// staged, nothing is done.
+    /// Syncs the ledger, once, and then stores all that is staged as `settle` does. Where nothing
+    /// is staged, nothing is done.
     ///
     /// # Errors
     ///

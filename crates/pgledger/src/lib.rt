@@ -1,5 +1,5 @@
 //! A ledger of commits beside a store: what each commit did to single rows, appended as the store
-//! stages it and synced before the store takes it.
+//! stages it and synced before the store settles it.
 //!
 //! A store that implements [`LedgerStore`] gives its [`Ledger`] each commit with an [`Image`] of
 //! each change: the whole row before it and the whole row after it, also where the server sent

@@ -15,7 +15,7 @@ use pglsn::Lsn;
 /// commits that are staged, or that were when the ledger got stuck. A crash keeps that where both
 /// are opened again: first the store, and then the ledger at its position.
 ///
-/// Once the ledger is stuck, each commit is refused.
+/// Once the ledger is stuck, each commit is rejected.
 #[derive(Drop)]
 pub struct Recorded<S: LedgerStore + Drop, L: Ledger + Drop> {
     store: S,

@@ -8,10 +8,11 @@ use sqlite_disk::{Disk, Tally};
 use std::alloc::{AllocError, Global};
 use std::io;
 
-/// A file in memory. What is written stands at once, so a crash would leave what a read shows.
+/// A file in memory. What is written is durable at once, so a crash would leave what a read shows.
 ///
-/// A call fails for want of memory, or where it reads past the end; the file is then as before, or has some of the bytes
-/// of a write that failed. The failed writes are counted, as a `Disk` has to.
+/// A call fails where memory runs out, or where it reads past the end; the file is then as before,
+/// or has some of the bytes of a write that failed. The failed writes are counted, as a `Disk` has
+/// to.
 #[derive(Drop)]
 pub struct MemoryDisk {
     bytes: Vec<u8>,

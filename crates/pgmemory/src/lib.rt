@@ -1,7 +1,7 @@
 //! A database that lives as long as its process: two disks in memory, and the SQL connection over them.
 //!
-//! A disk that may crash has to keep what was last synced beside what was written since. These disks end with their
-//! process, so each write stands at once, and a sync has nothing to do.
+//! A disk that may crash has to keep what was last synced beside what was written since. These
+//! disks end with their process, so each write is durable at once, and a sync has nothing to do.
 //!
 //! ```text
 //! let conn = open(alloc)?;                           // an empty database

@@ -76,7 +76,7 @@ fn named(error: OpenError, before: Tally, now: Tally) -> StoreError {
 }
 
 /// Recovers the log of files that list the tables of a store, and checks each of their pages. Other
-/// files come back, and hold what they held.
+/// files come back with the content that they had.
 ///
 /// # Errors
 ///

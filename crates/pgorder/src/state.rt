@@ -1,4 +1,4 @@
-//! The order of messages: where a stream stands, and what the next message means there.
+//! The order of messages: how far a stream has come, and what the next message means there.
 ghost use Rattle.std.specs.Prelude.{◌≡◌, ◌≢◌, IfOk, IfErr, IsOk, OnErr, Err, IsTrue};
 ghost use Rattle.pglogical.specs.Spelling.{IsMessageFor};
 ghost use Rattle.pglogical.specs.Lent.{message_value};
@@ -21,7 +21,7 @@ enum Context {
     InBlock { xid: u32 },
 }
 
-/// The order of a stream's messages: where it stands, and which streamed transactions are open.
+/// The order of a stream's messages: how far it has come, and which streamed transactions are open.
 ///
 /// PostgreSQL documentation, Logical Streaming Replication Protocol.
 #[derive(Drop)]
@@ -94,7 +94,7 @@ impl Order {
             (message_value message.now) ≡ Ok (self.new.state, event)) }
         ensures version { self.new.version ≡ self.old.version }
 
-        // The fault is that of the message, or memory ran out where the message would be taken.
+        // The fault is that of the message, or memory ran out where the message would be accepted.
         ensures fault { IfErr result (λ fault. fault ≢ OrderFault.Memory →
             order_step self.old.version self.old.state (message_value message.now) ≡ Err fault) }
         ensures memory { result ≡ Err OrderFault.Memory → IsFirstSegment (message_value message.now)

@@ -12,7 +12,7 @@ use pglogical::RelationDef;
 use std::alloc::Global;
 use std::marker::Model;
 
-/// The last definition of each relation, by its OID. All that it lends can be spelled.
+/// The last definition of each relation, by its OID. All that it returns can be encoded.
 #[derive(Drop)]
 pub struct Book {
     relations: IndexMap<u32, RelationDef>,
@@ -45,8 +45,8 @@ impl Book {
         }
     }
 
-    /// Puts a definition in the place of what was known of its OID. The one error is out of memory, which comes only for
-    /// an OID that isn't known, and leaves the book as it was.
+    /// Puts a definition in place of what was known of its OID. The one error is out of memory,
+    /// which comes only for an OID that isn't known, and leaves the book as it was.
     pub fn set(&mut self, def: RelationDef) -> Result<(), RelFault>
         requires { IsDefinition def }
         ensures ok { OnOk result (self.new ≡ map.insert self.old def.oid def) }

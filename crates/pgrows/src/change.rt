@@ -1,4 +1,4 @@
-//! Changes and takes out the row that has a key, and puts the position.
+//! Changes and removes the row that has a key, and puts the position.
 
 ghost use Rattle.std.specs.Prelude.{◌≡◌, ℤ, false, Option, Some, IfOk, OnOk, OnErr};
 ghost use Rattle.sqlite.specs.State.{HasCleanDisk};
@@ -13,7 +13,7 @@ use sqlite_trees::error::StoreError;
 use sqlite_trees::store::Alter;
 use sqlite_value::row::Row;
 
-/// Takes the row out that has this rowid, which has the key, and its entry.
+/// Removes the row that has this rowid, which has the key, and its entry.
 pub(crate) fn take_out<S: Alter>(
     store: &mut S,
     entry: &mut Row,
@@ -43,7 +43,7 @@ pub(crate) fn take_out<S: Alter>(
     store.delete(TABLE, id)
 }
 
-/// Puts a row in the place of the one with this rowid, which has its key. Its entry stays.
+/// Replaces the row with this rowid, which has its key. Its entry stays.
 pub(crate) fn put_over<S: Alter>(
     store: &mut S,
     row: &mut Row,
@@ -74,7 +74,7 @@ pub(crate) fn put_over<S: Alter>(
     store.put(TABLE, row)
 }
 
-/// Takes the row out that has the key, and answers whether there was one, and the last rowid.
+/// Removes the row that has the key, and returns whether there was one, and the last rowid.
 pub(crate) fn remove<S: Alter>(
     store: &mut S,
     key: &mut Row,
@@ -104,7 +104,8 @@ pub(crate) fn remove<S: Alter>(
     }
 }
 
-/// Puts a row in the place of the one that has its key, and answers whether there is one, and the last rowid.
+/// Replaces the row that has the new row's key, and returns whether there is one, and the last
+/// rowid.
 pub(crate) fn set<S: Alter>(
     store: &mut S,
     key: &mut Row,

@@ -13,7 +13,7 @@ use sqlite_trees::error::StoreError;
 use sqlite_trees::store::Alter;
 use sqlite_value::row::Row;
 
-/// Writes the row of the relation's definition over `row`, or answers false where it has none.
+/// Writes the row of the relation's definition over `row`, or returns false where it has none.
 pub(crate) fn look_up<S: Alter>(
     store: &mut S,
     row: &mut Row,

@@ -24,7 +24,8 @@ fn is_known(known: Option<i64>, oid: i64) -> bool
     }
 }
 
-/// Reads the definition of a relation into `definition`, unless it stands there. It answers false where the relation has none.
+/// Reads the definition of a relation into `definition`, unless it is there already. It returns
+/// false where the relation has none.
 fn define<S: Alter>(
     store: &mut S,
     definition: &mut Row,
@@ -51,7 +52,8 @@ fn define<S: Alter>(
     store.get(DEFINED, oid, definition)
 }
 
-/// Writes what is shown of an entry's row over `shown`, and answers the OID, whose definition stands in `definition` then.
+/// Writes what is shown of an entry's row over `shown`, and returns the OID, whose definition is in
+/// `definition` then.
 fn show<S: Alter>(
     store: &mut S,
     entry: &Row,
@@ -88,7 +90,8 @@ fn show<S: Alter>(
     Ok(oid)
 }
 
-/// Gives all rows in the order of the index, and answers false where the sink stopped before the end.
+/// Gives all rows in the order of the index, and returns false where the sink stopped before the
+/// end.
 pub(crate) fn give_rows<S: Alter, T: RowSink>(
     store: &mut S,
     entry: &mut Row,

@@ -100,7 +100,8 @@ pub(crate) fn write_place(row: &mut Row, position: &[u8]) -> Result<(), AllocErr
     row.push(ValueRef::Blob(position))
 }
 
-/// Writes what a dump shows of a row over `shown`: its relation's OID, namespace and name, its bytes, and how often it stands.
+/// Writes what a dump shows of a row over `shown`: its relation's OID, namespace and name, its
+/// bytes, and how often it is stored.
 pub(crate) fn write_shown(shown: &mut Row, definition: &Row, row: &Row) -> Result<(), AllocError>
     ensures { OnOk result (shown.new ≡ column definition.now 0 ∷ column definition.now 2
         ∷ column definition.now 3 ∷ column row.now 3 ∷ column row.now 4 ∷ []) }

@@ -12,7 +12,7 @@ use std::alloc::{AllocError, AllocFailed};
 /// Why rows of the tables can't be read.
 #[derive(Clone, Copy, Debug, PartialEq, Eq)]
 pub enum ReadFault {
-    /// The trees refuse, or memory runs out.
+    /// A call of the trees fails, or memory runs out.
     Store(StoreError),
     /// A row isn't one that a store writes: a value has another type, or doesn't fit.
     Malformed,

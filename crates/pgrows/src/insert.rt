@@ -99,7 +99,7 @@ fn put_new<S: Alter>(
     store.put(TABLE, row)
 }
 
-/// Puts a row whose key is missing, and answers its rowid.
+/// Puts a row whose key is missing, and returns its rowid.
 pub(crate) fn append<S: Alter>(
     store: &mut S,
     entry: &mut Row,
@@ -137,7 +137,8 @@ pub(crate) fn append<S: Alter>(
     Ok(id)
 }
 
-/// Whether no row has the key. One between `low` and `high` needs no search. Then `high` is the first entry behind the key.
+/// Whether no row has the key. One between `low` and `high` needs no search. Then `high` is the
+/// first entry after the key.
 fn is_missing<S: Alter>(
     store: &mut S,
     low: &mut Row,
@@ -168,8 +169,8 @@ fn is_missing<S: Alter>(
     Ok(found.is_none())
 }
 
-/// Puts a row whose key is not there yet, and answers whether it isn't, and the last rowid. Its entry is `low` then, and the one
-/// behind it is `high`.
+/// Puts a row whose key is not there yet, and returns whether it isn't, and the last rowid. Its
+/// entry is `low` then, and the one after it is `high`.
 pub(crate) fn add<S: Alter>(
     store: &mut S,
     low: &mut Row,

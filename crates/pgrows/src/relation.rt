@@ -15,7 +15,7 @@ use sqlite_trees::error::StoreError;
 use sqlite_trees::store::{Alter, Direction};
 use sqlite_value::row::Row;
 
-/// The rowid of the relation's first row, whose entry stands in `found` then.
+/// The rowid of the relation's first row, whose entry is in `found` then.
 fn first_of<S: Alter>(
     store: &mut S,
     key: &mut Row,
@@ -41,7 +41,7 @@ fn first_of<S: Alter>(
     Ok(id_within(found, oid))
 }
 
-/// Takes the relation's first row out, and answers whether there was one.
+/// Removes the relation's first row, and returns whether there was one.
 fn take_first<S: Alter>(
     store: &mut S,
     key: &mut Row,
@@ -71,7 +71,7 @@ fn take_first<S: Alter>(
     }
 }
 
-/// Takes all rows of the relation out, and answers the last rowid.
+/// Removes all rows of the relation, and returns the last rowid.
 pub(crate) fn clear<S: Alter>(
     store: &mut S,
     key: &mut Row,

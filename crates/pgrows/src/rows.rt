@@ -39,7 +39,8 @@ pub struct Rows<S: Alter> {
     key: Row,
     found: Row,
     row: Row,
-    // The entry of the row that came last, or nothing, and the first one behind it: what comes between them needs no search.
+    // The entry of the row that came last, or nothing, and the first one after it: what comes
+    // between them needs no search.
     low: Row,
     high: Row,
     // No row of the commit, of a mark or of the transaction has a rowid above it. It isn't known before the first change.
@@ -129,7 +130,8 @@ impl<S: Alter + Drop> Rows<S> {
 }
 
 impl<S: Alter> Rows<S> {
-    /// Puts a row whose key isn't there yet. It answers false where it is there, and then nothing changes.
+    /// Puts a row whose key isn't there yet. It returns false where it is there, and then nothing
+    /// changes.
     pub fn add_row(
         &mut self,
         oid: u32,
@@ -175,7 +177,8 @@ impl<S: Alter> Rows<S> {
         }
     }
 
-    /// Puts a row in the place of the one that has its key, and answers whether there is one. Where none is, nothing changes.
+    /// Replaces the row that has the new row's key, and returns whether there is one. Where none
+    /// is, nothing changes.
     pub fn set_row(
         &mut self,
         oid: u32,
@@ -217,7 +220,7 @@ impl<S: Alter> Rows<S> {
         }
     }
 
-    /// Puts a row in the place of the one that has its key.
+    /// Replaces the row that has the new row's key.
     pub fn put_row(
         &mut self,
         oid: u32,
@@ -292,7 +295,7 @@ impl<S: Alter> Rows<S> {
         }
     }
 
-    /// Deletes the row that has the key, and answers whether there was one.
+    /// Deletes the row that has the key, and returns whether there was one.
     pub fn delete_row(&mut self, oid: u32, ident: &[u8]) -> Result<bool, StoreError>
         ensures told { HasCleanDisk (state S.Store self.new) → IfOk result (λ was_there.
             was_there ≡ is_there oid ident.now (tables_of S.Store self.old)) }
@@ -570,8 +573,9 @@ impl<S: Alter> Rows<S> {
         committed
     }
 
-    /// Gives all rows with their relation's OID, namespace and name, their bytes and how often they stand, by OID and then by the
-    /// bytes of the identity. It answers false where the sink stopped before the end. What was given is always a front of the dump.
+    /// Gives all rows with their relation's OID, namespace and name, their bytes and how often they
+    /// are stored, by OID and then by the bytes of the identity. It returns false where the sink
+    /// stopped before the end. What was given is always a front of the dump.
     pub fn each_row<T: RowSink>(&mut self, alloc: Global, sink: &mut T) -> Result<bool, StoreError>
         ensures front { HasCleanDisk (state S.Store self.new) → (start : T) →
             GivesFront (tables_of S.Store self.old) (T.RowSink.has_taken start sink.old)

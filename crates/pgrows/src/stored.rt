@@ -20,7 +20,7 @@ use sqlite_trees::store::Alter;
 use sqlite_value::row::Row;
 use std::alloc::Global;
 
-/// What a row of `held` stores. Of a row of the store it refuses for want of memory alone.
+/// What a row of `held` stores. For a row that a store writes the one error is out of memory.
 pub(crate) fn read_copies(alloc: Global, row: &Row) -> Result<StoredRow, FromSqlError>
     ensures read { IfOk result (HasCopies row.now) }
     ensures memory { IfErr result (λ error. (k : Copies) → HasCopies row.now k → FitsCopies k →
@@ -31,7 +31,7 @@ pub(crate) fn read_copies(alloc: Global, row: &Row) -> Result<StoredRow, FromSql
     Ok(StoredRow::new(body, copies))
 }
 
-/// What a row of `rel` stores. Of a row of the store it refuses for want of memory alone.
+/// What a row of `rel` stores. For a row that a store writes the one error is out of memory.
 fn read_definition(alloc: Global, row: &Row) -> Result<StoredDefinition, FromSqlError>
     ensures read { IfOk result (HasDefinition row.now) }
     ensures memory { IfErr result (λ error. (d : Definition) → HasDefinition row.now d →

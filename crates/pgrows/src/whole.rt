@@ -15,7 +15,8 @@ use sqlite_trees::error::StoreError;
 use sqlite_trees::store::Alter;
 use sqlite_value::row::Row;
 
-/// Puts a row in the place of the one that has its key, or as a new one, and answers the last rowid.
+/// Replaces the row that has the new row's key, or adds it as a new one, and returns the last
+/// rowid.
 pub(crate) fn put<S: Alter>(
     store: &mut S,
     key: &mut Row,
@@ -50,7 +51,7 @@ pub(crate) fn put<S: Alter>(
     }
 }
 
-/// Writes the row that has the key over `row`, or answers false where none has it.
+/// Writes the row that has the key over `row`, or returns false where none has it.
 pub(crate) fn read<S: Alter>(
     store: &mut S,
     key: &mut Row,

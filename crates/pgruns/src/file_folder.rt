@@ -113,7 +113,7 @@ impl<'r> FileFolder<'r> {
         Ok(())
     }
 
-    /// The path of the segment's file that begins there, with something behind it.
+    /// The path of the segment's file that begins there, with a suffix.
     fn file_path(&self, base: Lsn, end: &str) -> Result<String, AllocError> {
         let (folder, number) = (self.path, base.0);
         format!(in self.rt.alloc(); "{folder}/{number:016X}{end}")

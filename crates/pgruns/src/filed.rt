@@ -73,7 +73,7 @@ pub(crate) fn open_file<F: Start>(
 }
 
 /// Follows a server over an opened store. What is noted of each commit is put around the store
-/// here: today it tells the listener, and a feed's ledger has its place beside it.
+/// here: today it tells the listener, and a feed's ledger belongs beside it.
 ///
 /// It is over a store of any kind, since the proof that one over given disks is a store gets too
 /// large.
@@ -182,7 +182,7 @@ fn dump_store<S: Alter + Drop, W: Output + Drop, E: Output>(
 ///
 /// The status is that of `run_follow`, and where that is 0, of a log that can't be copied: 13, or
 /// 14 where memory ran out. Where no store is opened it is that of `tell_unfollowed`. Standard
-/// error gets a line for each, and before it the cause of a store that refused, where that is known;
+/// error gets a line for each, and before it the cause of the store's error, where that is known;
 /// of closing none is told.
 pub fn follow_file<
     F: Start,

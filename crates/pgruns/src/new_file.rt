@@ -49,7 +49,7 @@ fn is_special(path: &str) -> bool {
     path == ":memory:" || path.starts_with("file:")
 }
 
-/// The path with something behind it.
+/// The path with a suffix.
 fn beside(rt: &HostRuntime, path: &str, end: &str) -> Result<String, AllocError> {
     let mut name = String::from_str(rt.alloc(), path)?;
     name.push_str(end)?;
@@ -93,10 +93,10 @@ fn sync_folder(rt: &HostRuntime, path: &str) {
 }
 
 /// Makes such a database at the path, if neither it nor its log is there. It comes whole or not at
-/// all, and never in the place of a file that another process makes: the run alone that made a part
-/// writes it, a part gets its second name once it is whole, and only then may another run take its
-/// first name away. Where a part is left of a run that was killed while it wrote, or no file can be
-/// made here, the SQL library makes it, or tells why it can't.
+/// all, and never replaces a file that another process makes: the run alone that made a part writes
+/// it, a part gets its second name once it is whole, and only then may another run take its first
+/// name away. Where a part is left of a run that was killed while it wrote, or no file can be made
+/// here, the SQL library makes it, or tells why it can't.
 ///
 /// # Errors
 ///

@@ -16,7 +16,7 @@ use pgtuple::Bytes;
 use pgwire::Deframer;
 use std::alloc::Global;
 
-/// Takes bytes until a frame stands whole or they are used up.
+/// Takes bytes until a frame is complete or they are used up.
 fn feed_frames(deframer: &mut Deframer, rest: &[u8]) -> Result<usize, Fault>
     ensures fed { IfOk result (λ n. IsFed deframer.old rest.now (Ok n) deframer.new) }
     ensures refused { IfErr result (RefusesFeed rest.now deframer.old deframer.new) }
@@ -27,7 +27,7 @@ fn feed_frames(deframer: &mut Deframer, rest: &[u8]) -> Result<usize, Fault>
     }
 }
 
-/// Appends the line of the frame that stands whole, and forgets it.
+/// Appends the line of the complete frame, and forgets it.
 fn show_whole(
     alloc: Global,
     deframer: &mut Deframer,

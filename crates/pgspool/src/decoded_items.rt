@@ -11,8 +11,8 @@ use std::marker::Model;
 
 /// One transaction's items, each under its subxid, seen as their list.
 ///
-/// Beside them stands where each subtransaction's first item is, in the order of these places, so that a cut finds its place at
-/// once and costs no more than what it takes away.
+/// Beside them is noted where each subtransaction's first item is, in the order of these items, so
+/// that a cut finds its index at once and costs no more than what it takes away.
 #[derive(Debug, Drop)]
 pub struct DecodedItems {
     items: Vec<(u32, Item)>,

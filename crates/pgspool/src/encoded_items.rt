@@ -18,8 +18,8 @@ use std::marker::Model;
 /// One transaction's items, each under its subxid, seen as their list: one buffer with the encodings of all, one after the other,
 /// and where each begins.
 ///
-/// Beside them stands where each subtransaction's first item is, in the order of these places, so that a cut finds its place at
-/// once.
+/// Beside them is noted where each subtransaction's first item is, in the order of these items, so
+/// that a cut finds its index at once.
 ///
 /// A push asks for memory only to move to less room after a cut, and for the growth of its three collections, before it changes any
 /// of them: the encoding is written right into the room that the buffer then has.

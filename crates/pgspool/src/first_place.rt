@@ -1,4 +1,4 @@
-//! Where a subtransaction's first item stands among a transaction's items.
+//! Where a subtransaction's first item is among a transaction's items.
 ghost use Rattle.std.specs.Prelude.{◌≡◌, ◌<◌, OnOk, OnErr, IsOk};
 ghost use Rattle.indexmap.specs.IndexMap.{spare};
 ghost use Rattle.pgspool.specs.FirstPlaces.{noted};
@@ -6,14 +6,16 @@ ghost use Rattle.pgspool.specs.FirstPlaces.{noted};
 use indexmap::IndexMap;
 use std::alloc::AllocError;
 
-/// Where a subtransaction's first item stands: how many items are before it, and the bytes that these cost.
+/// Where a subtransaction's first item is: how many items are before it, and the bytes that these
+/// cost.
 #[derive(Clone, Copy, Debug)]
 pub(crate) struct FirstPlace {
     pub(crate) place: usize,
     pub(crate) bytes: u64,
 }
 
-/// Notes where a subtransaction's first item stands, unless it is noted already. It takes no memory where there is room.
+/// Notes where a subtransaction's first item is, unless it is noted already. It takes no memory
+/// where there is room.
 pub(crate) fn note_first(
     firsts: &mut IndexMap<u32, FirstPlace>,
     subxid: u32,

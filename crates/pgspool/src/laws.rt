@@ -1,4 +1,4 @@
-//! What holds of cuts and costs, whatever is held.
+//! What holds of cuts and costs, whatever is buffered.
 ghost use Rattle.pgspool.specs.Laws.{CutIsLongestFront, CutTwiceIsCutOnce, CutsCommute, CutTakesNothingUnseen, CostsNeverGrow, CostsAddUp, AllCostsChange, AllCostsShrink, ClosedStaysClosed};
 
 /// A cut leaves the longest front without an item under the label. So to cut twice is to cut once, the order of two cuts is free,
@@ -10,7 +10,8 @@ pub fn cuts_leave_longest_front()
     ensures unseen { CutTakesNothingUnseen }
 {}
 
-/// A cut never makes items cost more, and what is kept and what is cut away cost together what was held.
+/// A cut never makes items cost more, and what is kept and what is cut away cost together what was
+/// buffered.
 pub fn cuts_split_costs()
     ensures never_grow { CostsNeverGrow }
     ensures add_up { CostsAddUp }

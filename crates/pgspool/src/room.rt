@@ -18,7 +18,7 @@ pub(crate) fn give_back_spare<T>(items: &mut Vec<T>)
     }
 }
 
-/// Gives back room of the first places, once three quarters of it are unused.
+/// Gives back room of the noted first items, once three quarters of it are unused.
 pub(crate) fn give_back_spare_places(firsts: &mut IndexMap<u32, FirstPlace>)
     ensures { firsts.new.entries ≡ firsts.old.entries }
 {

@@ -1,4 +1,4 @@
-//! What stands in an opened connection, taken over where a store may have written it.
+//! What is stored in an opened connection's database, taken over where a store may have written it.
 //!
 //! PostgreSQL documentation, Logical Replication Message Formats, Relation and TupleData; ALTER TABLE, REPLICA IDENTITY.
 

@@ -110,7 +110,7 @@ fn carry_row<S: Alter>(
     add_carried(rows, def, place.as_slice(), body.as_slice(), kept.copies())
 }
 
-/// The rows in their order, up to the first that is refused.
+/// The rows in their order, up to the first that is rejected.
 pub(crate) fn carry_rows<S: Alter>(
     rows: &mut Rows<S>,
     alloc: Global,

@@ -1,4 +1,4 @@
-//! Why the SQL library refuses, for the operator. No clause speaks of it.
+//! Why a call of the SQL library failed, for the operator. No clause speaks of it.
 
 use sqlite::{Error, ErrorCode};
 use sqlite_trees::error::StoreError;

@@ -51,7 +51,7 @@ fn take_row<S: Alter>(
     Ok(())
 }
 
-/// A copy more of a row that stands already, where the table is a bag.
+/// One more copy of a row that is stored already, in a table without a usable key (a bag).
 fn add_copy<S: Alter>(
     rows: &mut Rows<S>,
     def: &RelationDef,
@@ -76,7 +76,7 @@ fn add_copy<S: Alter>(
     Ok(())
 }
 
-/// A row comes whose identity stands already: one more copy of it, in a bag.
+/// A row comes whose identity is stored already: one more copy of it, in a bag.
 fn add_again<S: Alter>(
     rows: &mut Rows<S>,
     def: &RelationDef,
@@ -116,7 +116,7 @@ fn add_row<S: Alter>(
     add_again(rows, def, place, body)
 }
 
-/// A row stands in the place of the one that was found: that one goes, or one copy of it, and the new one comes.
+/// A row replaces the one that was found: that one goes, or one copy of it, and the new one comes.
 fn move_row<S: Alter>(
     rows: &mut Rows<S>,
     alloc: Global,
@@ -143,7 +143,7 @@ fn move_row<S: Alter>(
     add_row(rows, def, next.as_slice(), body.as_slice())
 }
 
-/// A row, its missing cells filled in from the one that was found, stands in that one's place.
+/// A row, its missing cells filled in from the one that was found, replaces that one.
 fn replace_row<S: Alter>(
     rows: &mut Rows<S>,
     alloc: Global,
@@ -169,8 +169,8 @@ fn replace_row<S: Alter>(
     move_row(rows, alloc, def, place, there, &next.borrowed())
 }
 
-/// Whether a row of a keyed table was sent whole, and no old row with it. It stays at the place
-/// where its row is searched then, and nothing of that row has to be read.
+/// Whether a row of a keyed table was sent whole, and no old row with it. Then its identity is the
+/// one that is searched, and nothing of the stored row has to be read.
 #[tactic(auto, using(crate::proofs::Updating::searched_whole))]
 fn stays_whole(
     def: &RelationDef,
@@ -187,7 +187,8 @@ fn stays_whole(
     }
 }
 
-/// A row that was sent whole is the row at its place from now on, if one stands there. It answers whether none does.
+/// A row that was sent whole replaces the one that has its identity, if one is stored. It returns
+/// whether none is.
 fn set_row<S: Alter>(
     rows: &mut Rows<S>,
     alloc: Global,
@@ -205,7 +206,7 @@ fn set_row<S: Alter>(
     ensures goes { Goes S.Store rows.old rows.new }
 {
     let body = encode(alloc, row)?;
-    // A keyed row stands once. Where none has the identity, an update does nothing.
+    // A keyed row is stored once. Where none has the identity, an update does nothing.
     let was_there = rows.set_row(oid, place, body.as_slice(), 1)?;
     Ok(!was_there)
 }
@@ -231,8 +232,8 @@ fn insert<S: Alter>(
     add_row(rows, def, place.as_slice(), body.as_slice())
 }
 
-/// An updated row, which was sent with its old key or its whole old row where that is needed. It answers whether no row
-/// has the identity.
+/// An updated row, which was sent with its old key or its whole old row where that is needed. It
+/// returns whether no row has the identity.
 fn update<S: Alter>(
     rows: &mut Rows<S>,
     alloc: Global,
@@ -264,7 +265,8 @@ fn update<S: Alter>(
     }
 }
 
-/// A deleted row, of which the key or the whole row was sent. It answers whether no row has the identity.
+/// A deleted row, of which the key or the whole row was sent. It returns whether no row has the
+/// identity.
 fn delete<S: Alter>(
     rows: &mut Rows<S>,
     alloc: Global,
@@ -285,7 +287,7 @@ fn delete<S: Alter>(
     let identity = encode_searched(alloc, def, Some((kind, row.lend())), None)?;
     let place = identity.as_slice();
     if keyed(def) {
-        // One copy stands there at most.
+        // One copy is stored there at most.
         let was_there = rows.delete_row(def.oid, place)?;
         return Ok(!was_there);
     }
@@ -311,8 +313,8 @@ fn truncate<S: Alter>(rows: &mut Rows<S>, def: &RelationDef) -> Result<(), Refus
     Ok(())
 }
 
-/// What a change does to the rows of its relation, which has its definition already. It answers whether it searches a row
-/// and finds none.
+/// What a change does to the rows of its relation, which has its definition already. It returns
+/// whether it searches a row and finds none.
 pub(crate) fn change_rows<S: Alter>(
     rows: &mut Rows<S>,
     alloc: Global,

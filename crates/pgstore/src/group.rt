@@ -9,15 +9,16 @@ use pgapply::{Misses, StoreFault};
 use pglsn::Lsn;
 use std::marker::Model;
 
-/// The commits that are staged behind the last one that was taken. Their changes are in the transaction, and nothing of them is
-/// committed.
+/// The commits that are staged after the last one that was stored. Their changes are in the
+/// transaction, and nothing of them is committed.
 #[derive(Drop)]
 pub struct Group {
     // The end LSN of the last of them, the position where none is staged.
     reach: Lsn,
     // Why they are lost, where they are.
     lost: Option<StoreFault>,
-    // The changes that found no row, of the commits that were taken, and with those that are staged.
+    // The changes that found no row, of the commits that were stored, and with those that are
+    // staged.
     missed: Misses,
     stages_missed: Misses,
 }
@@ -42,7 +43,7 @@ impl Model for Group {
 }
 
 impl Group {
-    /// Nothing is staged behind this position, and no change has missed its row.
+    /// Nothing is staged after this position, and no change has missed its row.
     pub(crate) fn at(position: Lsn) -> Group
         ensures { result ≡ begun_at position }
     {
@@ -61,7 +62,7 @@ impl Group {
         self.reach
     }
 
-    /// Whether none is staged behind this position.
+    /// Whether none is staged after this position.
     pub(crate) fn is_empty(&self, position: Lsn) -> bool
         ensures { result ≡ (self.now.reach == position) }
     {
@@ -76,7 +77,7 @@ impl Group {
         self.lost
     }
 
-    /// The changes of the commits that were taken that found no row.
+    /// The changes that found no row, of the commits that were stored.
     pub(crate) fn missed(&self) -> Misses
         ensures { result ≡ self.now.missed }
     {
@@ -90,7 +91,7 @@ impl Group {
         self.stages_missed
     }
 
-    /// Forgets what is staged behind the position.
+    /// Forgets what is staged after the position.
     pub(crate) fn unstage(&mut self, position: Lsn)
         ensures { self.new ≡ unstaged_of position self.old }
     {
@@ -107,7 +108,8 @@ impl Group {
         self.stages_missed = misses;
     }
 
-    /// A commit is refused, with this fault. Where that lost what was staged before it, all of it is lost.
+    /// A commit is rejected, with this fault. Where that lost what was staged before it, all of it
+    /// is lost.
     pub(crate) fn refuse(&mut self, is_first: bool, unstaged: Unstaged) -> StoreFault
         requires { unstaged.is_lost ≡ true → IsOwnFault unstaged.refusal }
         ensures fault { result ≡ unstaged.refusal }
@@ -120,7 +122,7 @@ impl Group {
         fault
     }
 
-    /// What was staged is taken.
+    /// What was staged is stored.
     pub(crate) fn settle(&mut self)
         ensures { self.new ≡ settled_of self.old }
     {
@@ -128,7 +130,7 @@ impl Group {
         self.missed = self.stages_missed;
     }
 
-    /// A commit by itself is taken.
+    /// A commit by itself is stored.
     pub(crate) fn take(&mut self, end: Lsn, misses: Misses)
         ensures { self.new ≡ taken_of end misses }
     {

@@ -1,4 +1,4 @@
-//! The tables of a store made anew, where some of them were dropped or none has a row yet.
+//! The tables of a store made again, where some of them were dropped or none has a row yet.
 
 ghost use Rattle.std.specs.Prelude.{◌≡◌, false, IsTrue, OnOk, OnErr, IfErr};
 ghost use Rattle.sqlite.specs.Held.{state};

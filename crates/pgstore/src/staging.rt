@@ -1,4 +1,5 @@
-//! Commits that share a transaction: each goes in behind those before it, wholly or not at all, and one commit stores them all.
+//! Commits that share a transaction: each goes in after those before it, wholly or not at all, and
+//! one commit stores them all.
 
 ghost use Rattle.std.specs.Prelude.{◌≡◌, ◌≢◌, ◌<◌, ◌^◌, [], true, false, OnOk, OnErr, IfErr};
 ghost use Rattle.std.specs.Int.{w64, to_be_bytes};
@@ -99,8 +100,8 @@ fn undo_one<S: Alter>(rows: &mut Rows<S>, refusal: Refusal) -> Unstaged
     }
 }
 
-/// Puts the changes of a commit behind those that the transaction has, or nothing of it. It counts
-/// those that find no row, and tells what each of them does. Where it is refused, no definition is
+/// Puts the changes of a commit after those that the transaction has, or nothing of it. It counts
+/// those that find no row, and tells what each of them does. Where it is rejected, no definition is
 /// known any more.
 pub(crate) fn stage_changes<'a, S: Alter>(
     rows: &mut Rows<S>,
@@ -158,7 +159,7 @@ pub(crate) fn stage_changes<'a, S: Alter>(
     Ok(())
 }
 
-/// Commits what the transaction has, with the position behind its last commit. Where that fails,
+/// Commits what the transaction has, with the position after its last commit. Where that fails,
 /// nothing of it is kept, and no definition is known any more.
 pub(crate) fn settle_rows<S: Alter>(
     rows: &mut Rows<S>,
@@ -206,7 +207,7 @@ fn prepare<S: Alter + Drop>(source: &mut Source<S>, alloc: Global, is_first: boo
     }
 }
 
-/// Stages a commit behind those that are staged, or as the first, behind what is committed.
+/// Stages a commit after those that are staged, or as the first, after what is committed.
 pub(crate) fn stage_all<'a, S: Alter + Drop>(
     source: &mut Source<S>,
     alloc: Global,

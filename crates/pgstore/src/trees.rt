@@ -60,7 +60,7 @@ impl<S: Alter + Drop> Store<S> {
     ///
     /// # Errors
     ///
-    /// Those of `adopt`, and `Memory` or `Refused` where the SQL library refuses the database. A
+    /// Those of `adopt`, and `Memory` or `Refused` where the SQL library rejects the database. A
     /// connection comes back beside the fault where there is one.
     fn adopt_over(alloc: Global, store: S) -> Result<Store<S>, (Refusal, Option<Connection<S>>)>
         requires { IsJustOpened S.Store store }

@@ -170,7 +170,7 @@ fn feed_of(task: &Task) -> Option<&FeedOptions> {
     }
 }
 
-/// When the segments of a feed end: 0 seconds stand for no limit of age.
+/// When the segments of a feed end: 0 seconds mean no limit of age.
 fn segment_limits(options: &FeedOptions) -> SegmentLimits {
     let micros = match options.segment_seconds {
         0 => u64::MAX,
@@ -224,8 +224,8 @@ fn apply_fed<D: Folder + Drop>(
 /// Applies what a task names to the store in the file at a path. That is read before the store is
 /// opened.
 ///
-/// The store's files never stand for a standard stream that was closed at the start: the SQL library
-/// opens them behind those.
+/// The store's files never become a standard stream that was closed at the start: the SQL library
+/// opens them with higher numbers.
 fn run_over(rt: &HostRuntime, task: &Task, path: &str) -> u8 {
     let (mut out, mut err) = (rt.stdout(), rt.stderr());
     let input = match input_of(rt, task) {

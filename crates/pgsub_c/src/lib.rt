@@ -1,9 +1,9 @@
 //! The decoder for C. `pgsub.h`, beside this folder, tells how to call it.
 //!
-//! Proved are the contracts of what stands inside, `pgembed::pass_line` and `pass_lines`; that each call
-//! ends, and frees what it allocates; and that it reads and writes no byte but those that it was given.
-//! Not proved is what C gives: that there are as many bytes behind a pointer as it says, and that nothing
-//! else writes them meanwhile; nor the C compiler, the linker and malloc.
+//! Proved are the contracts of what is inside, `pgembed::pass_line` and `pass_lines`; that each
+//! call ends, and frees what it allocates; and that it reads and writes no byte but those that it
+//! was given. Not proved is what C gives: that there are as many bytes at a pointer as it says, and
+//! that nothing else writes them meanwhile; nor the C compiler, the linker and malloc.
 #![tactic(auto)]
 
 ghost use Rattle.std.specs.Prelude.{◌≡◌, ◌≢◌};

@@ -35,7 +35,7 @@ fn confirmed_fault<P: Spools + Drop, C: ReplicaStore + Drop>(
     }
 }
 
-/// Compares two subscribers behind these sessions, the left one's first. Both end with that.
+/// Compares two subscribers after these sessions, the left one's first. Both end with that.
 fn compare_subscribers<
     P: Spools + Drop,
     C: ReplicaStore + Drop,

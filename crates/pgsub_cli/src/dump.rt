@@ -71,7 +71,7 @@ pub fn resume_text(alloc: Global, position: Lsn, confirmed: Lsn) -> Result<Strin
     Ok(lines)
 }
 
-/// The rows, a line each, and the position behind them.
+/// The rows, a line each, and the position after them.
 pub fn dump_text(alloc: Global, rows: &[DumpRow], position: Lsn) -> Result<String, AllocError>
     ensures { IfOk result (λ text. string_bytes text ≡ dump_of rows.now position) }
 {

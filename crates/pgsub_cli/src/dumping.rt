@@ -52,7 +52,7 @@ impl<W: Output + Drop> Lines<W> {
         }
     }
 
-    /// Keeps a line behind the others, and writes all once they are many.
+    /// Keeps a line after the others, and writes all once they are many.
     fn add(&mut self, line: &str) -> Result<(), RunFault>
         ensures added { OnOk result ((old : W) (bytes : List ℕ) →
             IsWriting W.takes W.failed old bytes self.old.out (string_bytes self.old.text) None →
@@ -106,7 +106,7 @@ impl<W: Output + Drop> Lines<W> {
         }
     }
 
-    /// Writes the line of the position behind the others.
+    /// Writes the line of the position after the others.
     fn finish(&mut self, position: Lsn) -> Result<Ending, RunFault>
         ensures { (old : W) (bytes : List ℕ) →
             IsWriting W.takes W.failed old bytes self.old.out (string_bytes self.old.text) None →
@@ -118,7 +118,7 @@ impl<W: Output + Drop> Lines<W> {
     }
 }
 
-/// Writes a line for each row that it takes, up to the first fault.
+/// Writes a line for each row that it accepts, up to the first fault.
 #[derive(Drop)]
 struct LineSink<W: Output + Drop> {
     lines: Lines<W>,

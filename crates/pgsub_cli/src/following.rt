@@ -94,8 +94,8 @@ pub fn tell_unfollowed<E: Output>(
     }
 }
 
-/// Writes the line of why a store refused, where that is known. Where the text isn't one line, or there is no memory for it, nothing is
-/// written.
+/// Writes the line of why a store failed, where that is known. Where the text isn't one line, or
+/// there is no memory for it, nothing is written.
 fn tell_cause<E: Output>(
     alloc: Global,
     ended: Result<Ending, RunFault>,
@@ -118,11 +118,13 @@ fn tell_cause<E: Output>(
     }
 }
 
-/// Follows a server over an opened store, to the end of its bytes, within these limits. Returns the exit status, and the store. The
-/// status is 0 where the bytes ended, and 16 where changes found no row then; 1 where the stream is rejected, 10 where `max_buffered` is
-/// too low and 11 where `max_frame` is, 13 where the store failed, 14 where memory ran out and 15 where a read or a write failed.
-/// Standard error gets the line of the fault, and before it, where the store refused and knows why, a line of that: `pgsub: the disk is
-/// full`. No other run writes one: what `apply` and `dump` write to standard error are lines of a fixed list.
+/// Follows a server over an opened store, to the end of its bytes, within these limits. Returns the
+/// exit status, and the store. The status is 0 where the bytes ended, and 16 where changes found no
+/// row then; 1 where the stream is rejected, 10 where `max_buffered` is too low and 11 where
+/// `max_frame` is, 13 where the store failed, 14 where memory ran out and 15 where a read or a
+/// write failed. Standard error gets the line of the fault, and before it, where the store failed
+/// and knows why, a line of that: `pgsub: the disk is full`. No other run writes one: what `apply`
+/// and `dump` write to standard error are lines of a fixed list.
 ///
 /// What was read, fed and written, that all that is confirmed is stored, and which changes find no row, is as `follow_live` says.
 pub fn run_follow<R: Read + Drop, W: Write + Drop, K: Clock, C: ReplicaStore + Drop, E: Output>(

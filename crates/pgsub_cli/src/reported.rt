@@ -1,4 +1,5 @@
-//! A store that tells what it took, each time that it settles commits. What it holds is as without it.
+//! A store that tells what it stored, each time that it settles commits. What it holds is as
+//! without it.
 
 ghost use Rattle.std.specs.Prelude.{◌≡◌};
 

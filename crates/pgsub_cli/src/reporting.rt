@@ -1,4 +1,5 @@
-//! Tells, while a store takes commits, how far that is. What a reader gives and what a store holds are as without it.
+//! Tells, while commits are stored, how far that is. What a reader gives and what a store holds are
+//! as without it.
 
 ghost use Rattle.std.specs.Prelude.{◌≡◌, ◌≤◌, ◌+◌, ◌⊎◌, [], Result, Some, IfOk};
 ghost use Rattle.pgstore.specs.StoreValue.{HasTables, IsHonest, StoreValue};

@@ -80,7 +80,7 @@ fn feed_incoming<R: Input + Drop, P: Spools + Drop, C: ReplicaStore + Drop>(
     ensures honest { C.is_honest subscriber.new.applied.store →
         C.is_honest subscriber.old.applied.store }
 {
-    // where it stands tells what a crash leaves at the start
+    // its position tells what a crash leaves at the start
     let _start = subscriber.position();
     match incoming {
         Incoming::Sessions(sessions) => follow(subscriber, sessions.as_slice(), CLOCK),
@@ -224,9 +224,9 @@ pub fn tell_unopened<E: Output>(alloc: Global, fault: StoreFault, err: &mut E) -
 /// Runs a task over an opened store: applies to it what comes of a recording or a file, where that is given, and prints the rows and
 /// the position that it holds then. What is applied is within these limits. Returns the exit status, as `run` does, and the store.
 ///
-/// There is a way in which it ends, with this status: what is printed are the lines of where the bytes lead from what the store held,
-/// also where a fault stopped them, and that is what the store holds then. With nothing to apply nothing changes. Standard error gets
-/// the line of the fault.
+/// There is a way in which it ends, with this status: what is printed are the lines of where the
+/// bytes lead from what the store had, also where a fault stopped them, and that is what the store
+/// has then. With nothing to apply nothing changes. Standard error gets the line of the fault.
 ///
 /// Where memory runs out or the lines can't be written, too, the store holds what some front of the bytes leads to, while it serves
 /// (`kept`). Whatever a crash at the end may leave of it could be left before, or has what some front of the bytes leads to (`left`).

@@ -258,7 +258,7 @@ impl<P: Spools + Drop, C: ReplicaStore + Drop> Applier<P, C> {
             C.reopens self.old.store other }
     {
         self.store.unstage();
-        // asking for it tells that nothing is staged beside what is held
+        // asking for it tells that nothing is staged beside what is stored
         let _reached = self.store.reached();
     }
 
@@ -642,7 +642,7 @@ impl<P: Spools + Drop, C: ReplicaStore + Drop> Applier<P, C> {
         append_reply(true, &status, &mut self.replies)
     }
 
-    /// How many changes of taken commits found no row.
+    /// How many changes of stored commits found no row.
     pub fn misses(&self) -> Misses
         ensures { result ≡ C.missed self.now.store }
     {

@@ -68,11 +68,13 @@ impl<R: Read + Drop> Source<R> {
 /// Reads the source to its end, or 2^64 - 1 times, and feeds each piece of at most 4096 bytes as it comes. `now` is the clock of the
 /// replies, in microseconds since 2000-01-01 00:00 UTC.
 ///
-/// Whatever a crash behind the call may leave of the store could be left before it, and the position is as it was; or it is as after some
-/// front of the frames that were read, and stands no lower than the position (`crash`). That holds where the store has shut, too.
+/// Whatever a crash after the call may leave of the store could be left before it, and the position
+/// is as it was; or it is as after some front of the frames that were read, and at no lower
+/// position (`crash`). That holds where the store has shut, too.
 ///
-/// Of the frames that were read, each change that finds no row is counted, once its commit is stored (`counts`, `failed_counts`); behind a
-/// fault of feeding them, of those with which the position is reached (`counts_refused`).
+/// Of the frames that were read, each change that finds no row is counted, once its commit is
+/// stored (`counts`, `failed_counts`); after a fault of feeding them, of those with which the
+/// position is reached (`counts_refused`).
 ///
 /// # Errors
 ///

@@ -1,8 +1,9 @@
 //! The tables of a store of replicated rows as SQL text makes and finds them, over bytes: one function for each SQL statement.
 //!
-//! `rel` has the definition of each relation by its OID, `held` its rows by OID and the spelling of their identity, and
-//! `pos` the position up to which they stand. A contract sees them as two maps and a list of bytes. What a session changes of
-//! them doesn't go through SQL, and is in `pgrows`.
+//! `rel` has the definition of each relation by its OID, `held` its rows by OID and the encoding of
+//! their identity, and `pos` the position up to which they are complete. A contract sees them as
+//! two maps and a list of bytes. What a session changes of them doesn't go through SQL, and is in
+//! `pgrows`.
 //!
 //! ```text
 //! let left = find_remains(&conn);

@@ -1,5 +1,5 @@
-//! What stands in a database that was opened, read once and checked: the three tables may hold anything that their columns
-//! allow, also what no store has ever written.
+//! What is stored in a database that was opened, read once and checked: the three tables may hold
+//! anything that their columns allow, also what no store has ever written.
 
 ghost use Rattle.std.specs.Prelude.{◌≡◌, ◌≤◌, ℕ, List, Ok, Some, true, false, IsTrue, OnOk, IfOk, IfSome, ◌<◌, ◌<ℤ◌};
 ghost use Rattle.std.specs.Int.{w64, to_be_bytes};
@@ -20,10 +20,11 @@ use std::alloc::Global;
 pub trait RowCheck {
     ghost use Rattle.pgtables.specs.Kept.{Copies};
 
-    // Whether it stands by the definition of its relation.
+    // Whether it agrees with the definition of its relation.
     ghost accepts: { Self → ℕ → List ℕ → Copies → Type 0 };
 
-    /// Whether a row with these bytes may stand at this OID and identity. An error is one of the caller's own, as want of memory.
+    /// Whether a row with these bytes may be stored at this OID and identity. An error is one of
+    /// the caller's own, as out of memory.
     fn check(&self, oid: u32, ident: &[u8], body: &[u8], copies: u32) -> Result<bool, Error>
         ensures { result ≡ Ok true → accepts self.now oid ident.now
             (record { body = body.now; copies = copies }) };
@@ -40,7 +41,8 @@ pub enum FoundPosition {
     Malformed,
 }
 
-/// The definitions by rising OID, or `None` where a row of `rel` isn't one of a definition. `rel` stands, and nothing changes.
+/// The definitions by rising OID, or `None` where a row of `rel` isn't one of a definition. `rel`
+/// is present, and nothing changes.
 pub(crate) fn read_standing_definitions<S: Alter>(
     conn: &mut Connection<S>,
     alloc: Global,
@@ -71,7 +73,8 @@ pub(crate) fn read_standing_definitions<S: Alter>(
     read_rising(alloc, rows.as_slice())
 }
 
-/// Whether each row of `held` is accepted. It reads each once, in the memory of one row. The table stands, and nothing changes.
+/// Whether each row of `held` is accepted. It reads each once, in the memory of one row. The table
+/// is present, and nothing changes.
 pub(crate) fn check_standing_rows<S: Alter, C: RowCheck>(
     conn: &mut Connection<S>,
     check: &C,
@@ -113,7 +116,7 @@ pub(crate) fn check_standing_rows<S: Alter, C: RowCheck>(
     Err(Error::SqliteFailure(ErrorCode::OutOfMemory))
 }
 
-/// What `pos` holds. It stands, and nothing changes.
+/// What `pos` has. It is present, and nothing changes.
 pub(crate) fn read_standing_position<S: Alter>(
     conn: &mut Connection<S>,
 ) -> Result<FoundPosition, Error>

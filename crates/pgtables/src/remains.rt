@@ -19,7 +19,7 @@ use sqlite::{Alter, Connection, Error, Transaction};
 use sqlite_schema::schema::{Index, Schema, Table};
 use std::alloc::Global;
 
-/// Which of a store's tables stand.
+/// Which of a store's tables are present.
 #[derive(Clone, Copy, Debug, PartialEq, Eq)]
 pub struct Remains {
     pub has_definitions: bool,
@@ -57,7 +57,7 @@ pub fn remains_of(schema: &Schema) -> Option<Remains>
     })
 }
 
-/// Whether the first table is `rel`, and the tables behind it.
+/// Whether the first table is `rel`, and the tables after it.
 fn behind_rel(tables: &[Table]) -> (bool, &[Table])
     ensures { tables.now ≡ listed result.0 rel result.1.now }
 {
@@ -67,7 +67,7 @@ fn behind_rel(tables: &[Table]) -> (bool, &[Table])
     }
 }
 
-/// Whether the first table is `held`, and the tables behind it.
+/// Whether the first table is `held`, and the tables after it.
 fn behind_held(tables: &[Table]) -> (bool, &[Table])
     ensures { tables.now ≡ listed result.0 held_table result.1.now }
 {
@@ -77,7 +77,7 @@ fn behind_held(tables: &[Table]) -> (bool, &[Table])
     }
 }
 
-/// Whether the first table is `pos`, and the tables behind it.
+/// Whether the first table is `pos`, and the tables after it.
 fn behind_pos(tables: &[Table]) -> (bool, &[Table])
     ensures { tables.now ≡ listed result.0 pos_at result.1.now }
 {
@@ -98,7 +98,8 @@ fn is_index_of_rows(indexes: &[Index], has_rows: bool) -> bool
     }
 }
 
-/// The definitions that stand, by rising OID, or `None` where a row of `rel` isn't one of a definition. Nothing changes.
+/// The definitions that are stored, by rising OID, or `None` where a row of `rel` isn't one of a
+/// definition. Nothing changes.
 pub fn read_remaining_definitions<S: Alter>(
     conn: &mut Connection<S>,
     left: Remains,
@@ -129,7 +130,8 @@ pub fn read_remaining_definitions<S: Alter>(
     }
 }
 
-/// Whether each row that stands is accepted. It reads each once, in the memory of one row. Nothing changes.
+/// Whether each row that is stored is accepted. It reads each once, in the memory of one row.
+/// Nothing changes.
 pub fn check_remaining_rows<S: Alter, C: RowCheck>(
     conn: &mut Connection<S>,
     left: Remains,
@@ -159,7 +161,7 @@ pub fn check_remaining_rows<S: Alter, C: RowCheck>(
     }
 }
 
-/// What `pos` holds, which is nothing where it doesn't stand. Nothing changes.
+/// What `pos` has, which is nothing where it isn't present. Nothing changes.
 pub fn read_remaining_position<S: Alter>(
     conn: &mut Connection<S>,
     left: Remains,
@@ -186,7 +188,7 @@ pub fn read_remaining_position<S: Alter>(
     }
 }
 
-/// Drops those of a store's tables that stand.
+/// Drops those of a store's tables that are present.
 pub fn drop_remains<S: Alter>(tx: &mut Transaction<'_, S>) -> Result<(), Error>
     requires { IfServing S.Store tx.old.conn.now (IsOver S.Store tx.old.conn.now) }
     ensures same_reference { tx.new.conn.ghost_name ≡ tx.old.conn.ghost_name }

@@ -1,8 +1,8 @@
 //! Whether the trees of a database hold the tables of a store: each entry is read once, and one at
 //! a time is in memory.
 //!
-//! The SQL library's check of a database holds all rows of a table in memory. A store knows more of
-//! its rows than that check asks, so this one takes its place.
+//! The SQL library's check of a database has all rows of a table in memory. A store knows more of
+//! its rows than that check asks, so this one replaces it.
 //!
 //! ```text
 //! if lists_store(&store, alloc)? {                          // the three tables, and no other

@@ -16,7 +16,7 @@ pub trait TreeVisitor {
     // What it knows of the entries that it has accepted since the first of these states.
     ghost has_seen: { Self → Self → List Entry → Type 0 };
 
-    /// Looks at the next entry, and answers whether it accepts it. Where it doesn't, or fails, it
+    /// Looks at the next entry, and returns whether it accepts it. Where it doesn't, or fails, it
     /// is asked no more.
     fn visit(&mut self, entry: &Row) -> Result<bool, StoreError>
         ensures { result ≡ Ok true → (start : Self) → (entries : List Entry) →
@@ -24,7 +24,7 @@ pub trait TreeVisitor {
             has_seen start self.new (entries ++ entry.now ∷ []) };
 }
 
-/// Shows a visitor all entries of a tree in their order, and answers whether it accepted each.
+/// Shows a visitor all entries of a tree in their order, and returns whether it accepted each.
 /// Nothing changes.
 pub(crate) fn walk<S: Store, V: TreeVisitor>(
     store: &mut S,

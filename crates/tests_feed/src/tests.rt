@@ -120,7 +120,7 @@ fn the_text_of_a_segment(rt: HostRuntime) -> Result<(), Fail> {
     Ok(())
 }
 
-/// Opens a segment with both commits, and bytes behind them: either it has so many bytes then, or it
+/// Opens a segment with both commits, and bytes after them: either it has so many bytes then, or it
 /// isn't such a feed, and is as it was.
 fn try_to_open(alloc: Global, base: u64, position: u64, size: Option<usize>) -> Result<bool, Fail> {
     let whole = whole(alloc)?;

@@ -118,7 +118,7 @@ fn is_cell(found: Option<CellRef<'_>>, cell: &CellRef<'_>) -> bool {
     }
 }
 
-/// Whether the call answered these cells. Want of memory goes on as an error.
+/// Whether the call returned these cells. Out of memory is passed on as an error.
 fn gives(answer: Result<Tuple, RelFault>, cells: &[CellRef<'_>]) -> Result<bool, RelFault> {
     match answer {
         Ok(tuple) => {
@@ -134,7 +134,7 @@ fn gives(answer: Result<Tuple, RelFault>, cells: &[CellRef<'_>]) -> Result<bool,
     }
 }
 
-/// Whether the call answered this fault. Want of memory goes on as an error.
+/// Whether the call returned this fault. Out of memory is passed on as an error.
 fn refuses(answer: Result<Tuple, RelFault>, fault: RelFault) -> Result<bool, RelFault> {
     match answer {
         Ok(_) => Ok(false),
@@ -143,7 +143,7 @@ fn refuses(answer: Result<Tuple, RelFault>, fault: RelFault) -> Result<bool, Rel
     }
 }
 
-/// Whether the call answered these cells, or this fault. Want of memory goes on as an error.
+/// Whether the call returned these cells, or this fault. Out of memory is passed on as an error.
 fn answers(
     answer: Result<Tuple, RelFault>,
     wanted: Result<&[CellRef<'_>], RelFault>,
@@ -437,7 +437,7 @@ fn unsent_cells_are_the_old_rows(rt: HostRuntime) -> Result<(), Fail> {
     Ok(())
 }
 
-/// A row as it stands under another definition.
+/// A row as it is under another definition.
 fn carried(
     rt: &impl Abort,
     alloc: Global,
@@ -451,7 +451,7 @@ fn carried(
     Ok(carry(alloc, old, new, &row.borrowed()))
 }
 
-/// The row of one table as it stands in the other.
+/// The row of one table as it is in the other.
 fn carried_between(
     rt: &impl Abort,
     alloc: Global,
@@ -498,7 +498,7 @@ fn rows_carried_to_another_shape(rt: HostRuntime) -> Result<(), Fail> {
     Ok(())
 }
 
-/// Puts the table's definition, which can be spelled.
+/// Puts the table's definition, which can be encoded.
 fn put(rt: &impl Abort, alloc: Global, book: &mut Book, table: &Table) -> Result<(), RelFault> {
     let def = relation(alloc, table)?;
     assert!(rt; def.spellable());

@@ -102,7 +102,7 @@ fn open<P: Spools>(rt: &impl Abort, spools: &mut P, xid: u32) -> Result<(), Spoo
     spools.open(xid)
 }
 
-/// What a push of the sample's item answers.
+/// What a push of the sample's item returns.
 fn pushed<P: Spools>(
     rt: &impl Abort,
     alloc: Global,
@@ -130,10 +130,10 @@ fn take<P: Spools>(rt: &impl Abort, alloc: Global, spools: &mut P, step: Step) -
     Ok(())
 }
 
-/// A step, and behind it the bytes of all items and the number of one transaction's.
+/// A step, and after it the bytes of all items and the number of one transaction's.
 type Row = (Step, u64, usize);
 
-/// Takes the steps, and stops at the first one behind which bytes or number differ.
+/// Makes the steps, and stops at the first one after which bytes or number differ.
 fn take_all<P: Spools>(
     rt: &impl Abort,
     alloc: Global,
@@ -195,7 +195,7 @@ fn are_samples(rt: &impl Abort, alloc: Global, held: &[Item], left: &[Sample]) -
     Ok(())
 }
 
-/// Stops unless each item up to this number is lent, and none behind.
+/// Stops unless each item up to this number is returned, and none after.
 fn lends<P: Spools>(rt: &impl Abort, spools: &P, xid: u32, count: usize) {
     for index in 0..count {
         assert!(rt; spools.item(xid, index).is_some());
@@ -364,7 +364,7 @@ fn measures<P: Spools>(rt: &impl Abort, spools: &P, xid: u32, bytes: u64, count:
     assert!(rt; spools.bytes() == bytes && spools.count(xid) == count);
 }
 
-/// Holds the item in one transaction, and finds no place for it in another.
+/// Buffers the item in one transaction, and finds no room for it in another.
 fn hold_once<P: Spools>(rt: &impl Abort, spools: &mut P, item: &Item) -> Result<(), SpoolFault> {
     hold(rt, spools, 7, item)?;
     measures(rt, spools, 7, 28, 1);
@@ -427,7 +427,7 @@ fn many_subtransactions_are_cut(rt: HostRuntime) -> Result<(), Fail> {
     roll_back_many(&rt, rt.alloc(), &mut ByteSpools::new(rt.alloc(), 560000))
 }
 
-/// Opens once more where memory was refused, which changes nothing.
+/// Opens once more where memory ran out, which changes nothing.
 fn open_in_the_end<P: Spools>(rt: &impl Abort, spools: &mut P, xid: u32) {
     if open(rt, spools, xid) == Err(SpoolFault::Memory) {
         assert!(rt; !spools.is_open(xid));
@@ -435,7 +435,7 @@ fn open_in_the_end<P: Spools>(rt: &impl Abort, spools: &mut P, xid: u32) {
     }
 }
 
-/// Pushes once more where memory was refused, which changes nothing.
+/// Pushes once more where memory ran out, which changes nothing.
 fn push_in_the_end<P: Spools>(rt: &impl Abort, spools: &mut P, xid: u32, subxid: u32, item: &Item) {
     let before = (spools.bytes(), spools.count(xid));
     if push(rt, spools, xid, subxid, item) == Err(SpoolFault::Memory) {
@@ -464,7 +464,8 @@ fn refuse_one<P: Spools>(rt: &impl Abort, spools: &mut P, item: &Item) {
     assert!(rt; spools.bytes() == 3 * 9 * 28);
 }
 
-// Run it with each allocation failing in turn: a call that is refused changes nothing, and succeeds when it comes once more.
+// Run it with each allocation failing in turn: a call that fails changes nothing, and succeeds when
+// it is made once more.
 #[test]
 fn refused_memory_changes_nothing(rt: HostRuntime) -> Result<(), Fail> {
     let item = item(rt.alloc(), T_1A)?;

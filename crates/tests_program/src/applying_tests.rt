@@ -90,7 +90,7 @@ fn a_read_that_fails_leaves_what_was_fed(rt: HostRuntime) -> Result<(), Fail> {
     Ok(())
 }
 
-/// So many bytes of the transaction and these behind them, and how they are answered.
+/// So many bytes of the transaction and these after them, and what is returned.
 const FAULTS: [(usize, &[u8], &str, &str); 2] = [
     (
         BEFORE_COMMIT,

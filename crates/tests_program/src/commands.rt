@@ -14,7 +14,7 @@ fn asked(alloc: Global, line: &str) -> Result<Result<Task, CommandFault>, AllocE
     Ok(command_of(alloc, words.as_slice()))
 }
 
-/// A feed that is asked for, behind the text of its task.
+/// A feed that is asked for, after the text of its task.
 fn feed_text(alloc: Global, feed: &Option<FeedOptions>) -> Result<String, AllocError> {
     let Some(feed) = feed else {
         return Ok(String::new(alloc));

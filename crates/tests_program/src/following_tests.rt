@@ -321,7 +321,7 @@ fn a_limit_that_is_too_low_has_its_status(rt: HostRuntime) -> Result<(), Fail> {
     check_too_low(&rt, SHORTER_FRAMES, "pgsub: wire 3 TooLarge\n", 11)
 }
 
-/// A store that takes nothing.
+/// A store that accepts nothing.
 #[derive(Drop)]
 struct Failing {
     alloc: Global,
@@ -382,7 +382,7 @@ impl ReplicaStore for Failing {
     }
 }
 
-/// What following over a store that takes nothing tells, and its status.
+/// What following over a store that accepts nothing tells, and its status.
 fn check_failing(
     rt: &(impl Abort + AllocGlobal),
     fault: StoreFault,

@@ -14,7 +14,7 @@ use trial_stores::{Trial, on_memory_disks};
 /// Where the session says that its row is inserted.
 const KIND: usize = 151;
 
-/// The session with an Update of a row that isn't there in the place of its Insert.
+/// The session with an Update of a row that isn't there, in place of its Insert.
 struct Misses;
 
 impl<R: Abort + AllocGlobal> Trial<R> for Misses {

@@ -70,7 +70,7 @@ pub(crate) fn task_of(alloc: Global, line: &str) -> Result<Task, Fail> {
     }
 }
 
-/// Runs a command line over the files that it names, which gives this answer.
+/// Runs a command line over the files that it names, which gives this result.
 pub(crate) fn check<R: Read + Drop>(
     rt: &(impl Abort + AllocGlobal),
     line: &str,

@@ -1,4 +1,4 @@
-//! Runs over a store that is opened anew for each.
+//! Runs over a store that is opened again for each.
 
 use crate::disks::{new_disks, run_on};
 use crate::fault::Wrong;

@@ -51,7 +51,7 @@ fn expect<R: Abort + AllocGlobal, C: Kept>(
     Ok(())
 }
 
-/// The store takes a commit that leads to these rows, is closed, and adopted.
+/// A commit that leads to these rows is stored, and the store is closed and adopted.
 fn go_on<R: Abort + AllocGlobal, C: Kept>(
     rt: &R,
     mut store: C,
@@ -260,7 +260,8 @@ const DROPPED: &[(&str, Option<u64>)] = &[
     ("DROP TABLE held; CREATE TABLE other (x INTEGER)", None),
 ];
 
-/// A store of which tables were dropped is adopted without rows at the position, takes rows, and is adopted again.
+/// A store of which tables were dropped is adopted without rows at the position, stores rows, and
+/// is adopted again.
 fn check_remade<R: Abort + AllocGlobal, C: Kept>(
     rt: &R,
     tables: C::Tables,

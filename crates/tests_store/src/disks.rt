@@ -23,7 +23,7 @@ const CALLS: &[(Call, bool, &[u8])] = &[
     (Sync, true, b"\0\0abXYZ"),
     (Read(3, 3, b"bXY"), true, b"\0\0abXYZ"),
     (Read(7, 0, b""), true, b"\0\0abXYZ"),
-    // Behind the end nothing is read.
+    // After the end nothing is read.
     (Read(4, 4, b"----"), false, b"\0\0abXYZ"),
     (Read(7, 1, b"-"), false, b"\0\0abXYZ"),
     (Read(8, 0, b""), false, b"\0\0abXYZ"),

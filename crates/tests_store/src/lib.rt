@@ -1,5 +1,6 @@
-//! Tests of the SQL store by its public calls, and no code: commits with what each returns and the rows that stand after it, and stores
-//! over connections that others have filled, in memory and on disks in memory; and such a disk by its calls.
+//! Tests of the SQL store by its public calls, and no code: commits with what each returns and the
+//! rows that are stored after it, and stores over connections that others have filled, in memory
+//! and on disks in memory; and such a disk by its calls.
 //!
 //! They are apart from `pgstore` so that it isn't proved once more with them.
 #![tactic(auto)]

@@ -26,7 +26,7 @@ enum Call {
 use Call::{EachRow, Misses, Rows, Settle, Stage, Take, Unstage};
 use Change::{Delete, Insert, Truncate, Update, UpdateFrom};
 
-/// A call, its answer, and then the position and how far the staged commits reach.
+/// A call, what it returns, and then the position and how far the staged commits reach.
 type Step = (Call, Result<(), StoreFault>, (u64, u64));
 
 /// The calls of a new store, and the rows that it holds then. What is staged still is lost when the store is closed.
@@ -71,7 +71,8 @@ const SETTLED: StagedCase = (
     T_1_B,
 );
 
-/// A commit that is refused leaves those that are staged before it, and others are staged behind them.
+/// A commit that is rejected leaves those that are staged before it, and others are staged after
+/// them.
 const REFUSED: StagedCase = (
     &[
         (Stage(0x100, ONE), OK, (0, 0x100)),
@@ -122,7 +123,7 @@ const UNSTAGED: StagedCase = (
         (Stage(0x200, &[(T, Insert("5 z"))]), OK, (0x100, 0x200)),
         (Settle, OK, (0x200, 0x200)),
         (Rows(T_1_5_Z), OK, (0x200, 0x200)),
-        // A commit that is taken drops it too.
+        // A commit that is stored drops it too.
         (Stage(0x300, &[(T, Insert("7 g"))]), OK, (0x200, 0x300)),
         (Take(0x300, &[(T, Insert("8 h"))]), OK, (0x300, 0x300)),
         (EachRow(T_1_5_8), OK, (0x300, 0x300)),
@@ -133,7 +134,7 @@ const UNSTAGED: StagedCase = (
     T_1_5_8,
 );
 
-/// Rows that are read while something is staged are those that are held, and it is dropped.
+/// Rows that are read while something is staged are those that are stored, and it is dropped.
 const READ: StagedCase = (
     &[
         (Stage(0x100, ONE), OK, (0, 0x100)),
@@ -184,7 +185,7 @@ const MISSED: StagedCase = (
         ),
         (Settle, OK, (0x400, 0x400)),
         (Misses(4, Some((0x100, 16384))), OK, (0x400, 0x400)),
-        // Those of commits that are refused or dropped aren't.
+        // Those of commits that are rejected or dropped aren't.
         (
             Take(0x500, &[(T, Update("9 z")), (T, Insert("9 unsent"))]),
             UNSENT,

@@ -125,7 +125,7 @@ fn work_of<'a>(
     Ok(work)
 }
 
-/// Takes a commit of these changes.
+/// Stores a commit of these changes.
 pub(crate) fn take<C: Kept>(
     rt: &(impl Abort + AllocGlobal),
     store: &mut C,

@@ -32,7 +32,7 @@ fn may_come_of_a_stop(fed: &Result<(), Fault>) -> bool {
     )
 }
 
-/// Whether a store tells why it refused, where it did: the disk failed.
+/// Whether a store tells why it failed, where it did: the disk failed.
 fn tells_the_cause<C: ReplicaStore>(fed: &Result<(), Fault>, store: &C) -> bool {
     match fed {
         Err(Fault::Store(StoreFault::Refused)) => store.cause() == Some("the disk failed"),

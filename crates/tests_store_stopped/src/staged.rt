@@ -11,7 +11,7 @@ use std::test::Fail;
 /// The groups, each by the end LSNs of its commits. The rows of the last don't fit into the pages that stay in memory.
 pub(crate) const GROUPS: &[&[u64]] = &[&[101, 102], &[103], &[104, 105, 106]];
 
-/// The position behind the last group.
+/// The position after the last group.
 const LAST: u64 = 106;
 
 /// The letters in the keys of the rows that a commit inserts.
@@ -128,7 +128,8 @@ fn comes_of_a_stop(fault: StoreFault) -> bool {
     matches!(fault, StoreFault::Refused | StoreFault::Memory)
 }
 
-/// Stages the commits of a group, each followed by one with the same rows, which is refused. Answers whether the disks went on.
+/// Stages the commits of a group, each followed by one with the same rows, which is rejected.
+/// Returns whether the disks went on.
 fn stage_group<C: ReplicaStore>(alloc: Global, store: &mut C, ends: &[u64]) -> Result<bool, Fail> {
     for end in ends {
         let rows = rows_of(alloc, *end)?;
@@ -146,7 +147,7 @@ fn stage_group<C: ReplicaStore>(alloc: Global, store: &mut C, ends: &[u64]) -> R
     Ok(true)
 }
 
-/// Settles what is staged. Answers whether the disks went on.
+/// Settles what is staged. Returns whether the disks went on.
 fn settle<C: ReplicaStore>(store: &mut C) -> Result<bool, Fail> {
     let (before, reached) = (store.position(), store.reached());
     match store.settle() {
@@ -156,7 +157,7 @@ fn settle<C: ReplicaStore>(store: &mut C) -> Result<bool, Fail> {
     }
 }
 
-/// Stages and settles a group. Answers whether the disks went on.
+/// Stages and settles a group. Returns whether the disks went on.
 fn put<C: ReplicaStore>(alloc: Global, store: &mut C, ends: &[u64]) -> Result<bool, Fail> {
     let is_staged = stage_group(alloc, store, ends)?;
     let has_some = store.reached() != store.position();
@@ -167,7 +168,7 @@ fn put<C: ReplicaStore>(alloc: Global, store: &mut C, ends: &[u64]) -> Result<bo
     Ok(is_staged && is_settled)
 }
 
-/// Puts the groups that end behind the position, until a disk stops. Answers the position.
+/// Puts the groups that end after the position, until a disk stops. Returns the position.
 fn put_groups<C: ReplicaStore>(alloc: Global, store: &mut C) -> Result<u64, Fail> {
     for ends in GROUPS {
         if end_of(*ends) > store.position().0 && !put(alloc, store, *ends)? {
@@ -213,7 +214,7 @@ fn position_of<C: ReplicaStore>(alloc: Global, store: &mut C) -> Result<u64, Fai
 /// A run of all groups on disks that may stop.
 #[derive(Drop)]
 pub(crate) struct Puts {
-    /// Behind the last group that was settled.
+    /// After the last group that was settled.
     pub(crate) position: u64,
 }
 

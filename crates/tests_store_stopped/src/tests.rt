@@ -85,7 +85,7 @@ fn the_database_file_stops_while_rows_are_carried(rt: HostRuntime) -> Result<(),
     sweep(rt.alloc(), &CARRIED, false)
 }
 
-/// The end of the first group that ends behind this position, else the position.
+/// The end of the first group that ends after this position, else the position.
 fn next_of(position: u64) -> u64 {
     for ends in GROUPS {
         let end = end_of(*ends);

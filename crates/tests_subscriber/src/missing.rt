@@ -1,4 +1,4 @@
-//! Changes that find no row are counted with their commits, wherever a session is cut.
+//! Changes that find no row are counted with their commits, wherever a session is split.
 
 use crate::row::AMPLE;
 use crate::steps::{bytes_of, feed, has_missed, over};
@@ -44,7 +44,8 @@ impl<R: AllocGlobal> Trial<R> for CutAt<'_> {
     }
 }
 
-/// How many changes are counted behind so many bytes, where a commit ends behind `first` and one behind `all`.
+/// How many changes are counted after so many bytes, where a commit ends after `first` and one
+/// after `all`.
 fn counted_at(cut: usize, first: usize, all: usize) -> u64 {
     if cut < first {
         0

@@ -1,4 +1,4 @@
-//! One bad change at each place of a transaction.
+//! One bad change at each index of a transaction.
 
 use crate::row::Step::{At, Disconnect, Feed, Rows};
 use crate::row::{AMPLE, AT_ONCE, Row, T_1_A, T_2_G, T_3_G, T_4_G, T_5_G};
@@ -146,7 +146,7 @@ impl<R: Abort + AllocGlobal> Trial<R> for RejectsAt {
     }
 }
 
-/// A bad change at a place, by both forms of spools, over stores in memory and on disks in memory.
+/// A bad change at an index, by both forms of spools, over stores in memory and on disks in memory.
 fn check_place(
     rt: &(impl Abort + AllocGlobal),
     count: usize,

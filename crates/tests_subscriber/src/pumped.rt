@@ -38,7 +38,8 @@ static STORED: Row = Row {
     steps: &[At(0x130, 0x130, 0x130), Rows(&[T_1_A])],
 };
 
-/// Pumps what a reader gives. Returns the answer, and whether the source says then that a read failed.
+/// Pumps what a reader gives. Returns the result, and whether the source says then that a read
+/// failed.
 fn pump_from<P: Spools + Drop, C: ReplicaStore + Drop>(
     rt: &impl Abort,
     subscriber: &mut Subscriber<P, C>,

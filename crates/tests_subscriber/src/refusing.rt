@@ -1,4 +1,5 @@
-//! Subscribers of which one request for memory is refused: `tools/refused_memory/run.sh tests_subscriber` refuses each in turn.
+//! Subscribers of which one allocation fails: `tools/refused_memory/run.sh tests_subscriber` makes
+//! each fail in turn.
 
 use crate::blocks::{IN_BLOCKS, IN_PAIRS};
 use crate::row::{AMPLE, Stored, T_1_E, T_1_L, T_2_M};
@@ -12,7 +13,7 @@ use std::process::Abort;
 use std::test::Fail;
 use trial_stores::{Trial, in_memory, on_memory_disks};
 
-/// A session in chunks, asked for once more where memory was refused.
+/// A session in chunks, asked for once more where memory ran out.
 fn sessions_in_the_end(alloc: Global, session: &'static str) -> Result<Vec<Session>, BadSession> {
     match sessions_of(alloc, &[session], 51) {
         Err(BadSession::Memory) => sessions_of(alloc, &[session], 51),
@@ -20,7 +21,7 @@ fn sessions_in_the_end(alloc: Global, session: &'static str) -> Result<Vec<Sessi
     }
 }
 
-/// All rows, asked for once more where memory was refused.
+/// All rows, asked for once more where memory ran out.
 fn rows_in_the_end<P: Spools + Drop, C: ReplicaStore + Drop>(
     subscriber: &mut Subscriber<P, C>,
 ) -> Result<Vec<DumpRow>, Fault> {
@@ -51,8 +52,8 @@ fn has_rows_of_a_commit<P: Spools + Drop, C: ReplicaStore + Drop>(
     Ok(are_rows(rows.as_slice(), wanted))
 }
 
-/// Follows a session to its end, once more where memory was refused; then the rows in between are those of a commit. Where a store on
-/// disks has shut, the position is still that of a commit.
+/// Follows a session to its end, once more where memory ran out; then the rows in between are those
+/// of a commit. Where a store on disks has shut, the position is still that of a commit.
 fn follow_in_the_end<P: Spools + Drop, C: ReplicaStore + Drop>(
     rt: &impl Abort,
     subscriber: &mut Subscriber<P, C>,
@@ -67,7 +68,7 @@ fn follow_in_the_end<P: Spools + Drop, C: ReplicaStore + Drop>(
     follow_all(subscriber, sessions)
 }
 
-/// Whether a session is taken whole, where one request for memory may be refused.
+/// Whether a session is applied whole, where one allocation may fail.
 fn takes_whole<P: Spools + Drop, C: ReplicaStore + Drop>(
     rt: &impl Abort,
     subscriber: &mut Subscriber<P, C>,
@@ -88,7 +89,7 @@ fn takes_all<P: Spools + Drop, C: ReplicaStore + Drop>(
     takes_whole(rt, &mut subscriber, sessions)
 }
 
-/// Takes a session whole with spools of either kind.
+/// Applies a session whole with spools of either kind.
 #[derive(Clone, Copy)]
 struct TakesAll<'a> {
     as_bytes: bool,
@@ -107,7 +108,8 @@ impl<R: Abort + AllocGlobal> Trial<R> for TakesAll<'_> {
     }
 }
 
-/// Whether all is taken over a store in memory, which is asked for once more where memory was refused.
+/// Whether all is applied over a store in memory, which is asked for once more where memory ran
+/// out.
 fn takes_all_in_memory(
     rt: &(impl Abort + AllocGlobal),
     trial: &TakesAll<'_>,
@@ -118,7 +120,8 @@ fn takes_all_in_memory(
     }
 }
 
-/// The same over disks in memory. Where a disk can't grow, the store may shut with `Refused`, and all is taken anew by other spools.
+/// The same over disks in memory. Where a disk can't grow, the store may shut with `Refused`, and
+/// all is applied again by other spools.
 fn takes_all_on_disks(rt: &(impl Abort + AllocGlobal), trial: &TakesAll<'_>) -> Result<bool, Fail> {
     if let Ok(taken) = on_memory_disks(rt, trial) {
         if taken != Err(Fault::Store(StoreFault::Refused)) {
@@ -128,7 +131,7 @@ fn takes_all_on_disks(rt: &(impl Abort + AllocGlobal), trial: &TakesAll<'_>) -> 
     Ok(on_memory_disks(rt, trial)??)
 }
 
-// The only answer beside those that would have come is Memory, and nothing is lost.
+// The only result beside those that would have come is Memory, and nothing is lost.
 #[test]
 fn refused_memory_changes_nothing(rt: HostRuntime) -> Result<(), Fail> {
     for session in [IN_PAIRS, IN_BLOCKS] {

@@ -15,7 +15,7 @@ use std::test::Fail;
 const TABLES: &str =
     "CREATE TABLE rel (oid INTEGER PRIMARY KEY NOT NULL, nsp TEXT NOT NULL, name TEXT NOT NULL, letter INTEGER NOT NULL, cols BLOB NOT NULL) STRICT; CREATE TABLE held (oid INTEGER NOT NULL, ident BLOB NOT NULL, body BLOB NOT NULL, copies INTEGER NOT NULL, PRIMARY KEY (oid, ident)) STRICT; CREATE TABLE pos (id INTEGER PRIMARY KEY NOT NULL CHECK (id = 0), lsn BLOB NOT NULL) STRICT";
 
-/// Accepts a row that stands at most so often.
+/// Accepts a row that is stored at most so often.
 #[derive(Drop)]
 struct UpTo {
     copies: u32,
@@ -29,8 +29,8 @@ impl RowCheck for UpTo {
     }
 }
 
-/// Rows as SQL text, and what is read of them: the OIDs of the definitions, whether rows that stand up to seven times are
-/// accepted, and the position.
+/// Rows as SQL text, and what is read of them: the OIDs of the definitions, whether rows that are
+/// stored up to seven times are accepted, and the position.
 type Case = (&'static str, Option<&'static [u32]>, bool, FoundPosition);
 
 const CASES: &[Case] = &[
@@ -82,8 +82,8 @@ const CASES: &[Case] = &[
     ),
 ];
 
-/// What is read of tables of which these stand: the OIDs of the definitions, whether rows that stand at most so often are accepted, and
-/// the position.
+/// What is read of tables of which these are present: the OIDs of the definitions, whether rows
+/// that are stored at most so often are accepted, and the position.
 fn read_tables<S: Alter>(
     conn: &mut Connection<S>,
     left: Remains,
@@ -154,7 +154,7 @@ fn no_second_position_is_taken(rt: HostRuntime) -> Result<(), Fail> {
     Ok(())
 }
 
-/// Tables to be dropped, and whether `rel`, `held` and `pos` stand then.
+/// Tables to be dropped, and whether `rel`, `held` and `pos` are present then.
 const DROPS: &[(&str, bool, bool, bool)] = &[
     ("", true, true, true),
     ("DROP TABLE rel", false, true, true),
@@ -171,7 +171,7 @@ const DROPS: &[(&str, bool, bool, bool)] = &[
     ),
 ];
 
-/// Makes the tables in place of those that stand.
+/// Makes the tables in place of those that are present.
 fn remake<S: Alter>(conn: &mut Connection<S>) -> Result<(), Error> {
     if !conn.is_autocommit() || find_remains(conn).is_none() {
         return Err(Error::InvalidQuery);

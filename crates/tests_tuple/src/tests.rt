@@ -156,7 +156,8 @@ fn borrowed_fault(bytes: &[u8]) -> Option<TupleFault> {
     }
 }
 
-/// What can't be read has this fault by either decoder, which asks for no memory: so also with every request refused.
+/// What can't be read has this fault by either decoder, which asks for no memory: so also where
+/// every allocation fails.
 #[test]
 fn faults_and_their_offsets(rt: HostRuntime) {
     for (bytes, fault) in FAULTS {
@@ -236,7 +237,7 @@ fn are_cells_copied(rt: &impl Abort, alloc: Global, tuple: &Tuple) -> Result<(),
     Ok(())
 }
 
-/// Run it with each allocation failing in turn: it alone takes Memory for an answer.
+/// Run it with each allocation failing in turn: it alone accepts Memory as a result.
 fn reads_and_writes(rt: &impl Abort, alloc: Global) -> Result<(), TupleFault> {
     let (tuple, len) = decode(alloc, ROW)?;
     assert!(rt; len == ROW.len());
@@ -280,7 +281,7 @@ fn two_bytes(rt: &impl Abort, alloc: Global) -> Result<Bytes, Fail> {
     Ok(bytes)
 }
 
-/// So many nulls behind these cells.
+/// So many nulls after these cells.
 fn with_nulls(mut cells: Vec<Cell>, count: usize) -> Result<Vec<Cell>, Fail> {
     for _ in 0..count {
         cells.push(Cell::Null)?;

@@ -5,8 +5,9 @@ use pgwire::{Deframer, Frame, WireFault, decode_server};
 use std::alloc::{AllocError, Global};
 use std::process::Abort;
 
-// Feeds the bytes in chunks of `step` bytes and writes each frame as it is released: a letter, the payload's length and the
-// payload. A chunk that was refused for being out of memory is fed again, so many times.
+// Feeds the bytes in chunks of `step` bytes and writes each frame as it is released: a letter, the
+// payload's length and the payload. A chunk that failed as memory ran out is fed again, so many
+// times.
 fn read(
     rt: &(impl Abort + AllocGlobal),
     bytes: &[u8],
@@ -113,11 +114,7 @@ fn faults_in_any_chunks(rt: HostRuntime) -> Result<(), AllocError> {
 }
 
 // The fault of the payload of a frame that is fed in chunks of `step` bytes.
-fn payload_fault(
-    rt: &(impl Abort + AllocGlobal),
-    frame: &[u8],
-    step: usize,
-) -> Option<WireFault> {
+fn payload_fault(rt: &(impl Abort + AllocGlobal), frame: &[u8], step: usize) -> Option<WireFault> {
     let mut deframer = Deframer::new(rt.alloc(), 64);
     for piece in frame.chunks(step.max(1)) {
         assert!(rt; deframer.feed(piece) == Ok(piece.len()));
@@ -150,8 +147,8 @@ fn payload_faults_in_any_chunks(rt: HostRuntime) {
     }
 }
 
-// Run it with each allocation failing in turn: the payloads grow in many steps, and a refused one is fed again. It alone takes
-// Memory for an answer.
+// Run it with each allocation failing in turn: the payloads grow in many steps, and one that failed
+// is fed again. It alone accepts Memory as a result.
 #[test]
 fn refused_memory_changes_nothing(rt: HostRuntime) -> Result<(), AllocError> {
     let mut bytes = [7u8; 113];

@@ -18,8 +18,8 @@ fn appends_the_frame(rt: HostRuntime) {
     assert!(rt; out.as_slice() == frame.as_slice());
 }
 
-// Run it with each allocation failing in turn: a refused status leaves those before it, and is appended at the next call. It alone
-// takes Memory for an answer.
+// Run it with each allocation failing in turn: a status that failed leaves those before it, and is
+// appended at the next call. It alone accepts Memory as a result.
 #[test]
 fn refused_memory_changes_nothing(rt: HostRuntime) {
     let mut out = BytesMut::new(rt.alloc());
