@@ -1,8 +1,8 @@
 -- Which of the remaining transactions a commit is, by its LSN.
 use Rattle.std.proofs.Common.{◌≡◌, ◌≤◌, ◌<◌, ◌++◌, ℕ, List, [], ◌∷◌, map, refl, sym, ap, subst, ◌∙◌, arith}
 use Rattle.std.specs.List.{AllByRecursion}
-use Rattle.pglogical.specs.declared.item.RelationDef.{RelationDef}
-use Rattle.pglogical.specs.declared.item.Item.{Item}
+use Rattle.pglogical.specs.declared.message.RelationDef.{RelationDef}
+use Rattle.pglogical.specs.declared.message.Item.{Item}
 use Rattle.pgsub_core.specs.Server.Work.{IsWork, surviving_changes}
 use Rattle.pgsub_core.specs.Server.History.{Transaction, ChangesRows}
 use Rattle.pgsub_core.specs.Server.Stream.{CommitOrKeepalive, Committed, KeepaliveEnd, Completed, WholeCommit, StreamedCommit}

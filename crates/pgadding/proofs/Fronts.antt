@@ -1,6 +1,6 @@
 -- What is passed on stands in order, and of a front it is a front.
 use Rattle.std.proofs.Common.{◌≡◌, ◌++◌, ℕ, ℤ, List, [], ◌∷◌, true, false, cond, nat_le, map, Option, Some, None, refl, sym, ap, subst, ◌∙◌, append_assoc}
-use Rattle.pglogical.specs.declared.item.Item.{Item}
+use Rattle.pglogical.specs.declared.message.Item.{Item}
 use Rattle.pglogical.specs.declared.message.Message.TheVariants as message
 use Rattle.pgsub_core.specs.Server.Stream.{Sent, Data, Keepalive, messages_in}
 use Rattle.pgadding.specs.LeftOut.{item_without}

@@ -10,7 +10,7 @@ use Rattle.std.specs.Cmp.Lexicographic.{slice_cmp, nat_list_cmp_total}
 use Rattle.std.specs.List.{AllByRecursion}
 use Rattle.std.proofs.lemmas.Bool.Decides.{nat_tests}
 use Rattle.std.proofs.lemmas.Cmp.{tied_itself}
-use Rattle.pglogical.specs.declared.item.RelationDef.{RelationDef}
+use Rattle.pglogical.specs.declared.message.RelationDef.{RelationDef}
 use Rattle.pgapply.specs.Value.{Row, Rows, Table, Tables, AreRows, AreTables, IsTable}
 use Rattle.pgapply.specs.CarriedCopies.{copies_of, copies_at}
 use Rattle.pgapply.specs.Apply.{fold_changes, ◌>>=◌}

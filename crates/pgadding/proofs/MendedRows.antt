@@ -14,12 +14,12 @@ use Rattle.pgtuple.specs.declared.cell.Cell.TheVariants.{Null}
 use Rattle.pgtuple.specs.Cells.{tuple_spelling}
 use Rattle.pgtuple.specs.Limits.{IsTuple}
 use Rattle.pgtuple.proofs.Tuples.{tuples_apart}
-use Rattle.pglogical.specs.declared.item.Column.{Column}
-use Rattle.pglogical.specs.declared.item.RelationDef.{RelationDef}
-use Rattle.pglogical.specs.declared.item.OldKind.{OldKind}
-use Rattle.pglogical.specs.declared.item.OldKind.TheVariants.{Key, Full}
-use Rattle.pglogical.specs.declared.item.Item.{Item}
-use Rattle.pglogical.specs.declared.item.Item.TheVariants as item
+use Rattle.pglogical.specs.declared.message.Column.{Column}
+use Rattle.pglogical.specs.declared.message.RelationDef.{RelationDef}
+use Rattle.pglogical.specs.declared.message.OldKind.{OldKind}
+use Rattle.pglogical.specs.declared.message.OldKind.TheVariants.{Key, Full}
+use Rattle.pglogical.specs.declared.message.Item.{Item}
+use Rattle.pglogical.specs.declared.message.Item.TheVariants as item
 use Rattle.pgrel.specs.Identity.{keyed, identity, identity_full, key_cells, has_width, has_unchanged, is_unchanged, lacks_identity, checked_insert, searched_identity, known_cells}
 use Rattle.pgrel.proofs.Rows.{sent_stays}
 use Rattle.pgrel.proofs.Keys.{bag_identity}

@@ -8,10 +8,10 @@ use Rattle.std.specs.Cmp.Lexicographic.{nat_list_cmp_total}
 use Rattle.std.specs.List.{AllByRecursion}
 use Rattle.std.proofs.lemmas.Bool.{cases_Bool}
 use Rattle.std.proofs.lemmas.Bool.Decides.{nat_tests}
-use Rattle.pglogical.specs.declared.item.RelationDef.{RelationDef}
-use Rattle.pglogical.specs.declared.item.Item.{Item}
-use Rattle.pglogical.specs.declared.item.Item.TheVariants as item
-use Rattle.pglogical.specs.declared.item.OldKind.TheVariants.{Full}
+use Rattle.pglogical.specs.declared.message.RelationDef.{RelationDef}
+use Rattle.pglogical.specs.declared.message.Item.{Item}
+use Rattle.pglogical.specs.declared.message.Item.TheVariants as item
+use Rattle.pglogical.specs.declared.message.OldKind.TheVariants.{Full}
 use Rattle.pgrel.specs.Identity.{keyed, same_shape}
 use Rattle.pgrel.proofs.Shapes.{shapes_decide}
 use Rattle.pgapply.specs.declared.op.Op.{Op}

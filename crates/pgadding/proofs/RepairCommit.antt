@@ -3,9 +3,9 @@ use Rattle.std.proofs.Common.{◌≡◌, ◌++◌, ℕ, List, [], ◌∷◌, tru
 use Rattle.std.proofs.lemmas.Bool.Decides.{nat_tests}
 use Rattle.std.specs.List.{AllByRecursion, flat_map}
 use Rattle.pglogical.specs.Named.{named}
-use Rattle.pglogical.specs.declared.item.RelationDef.{RelationDef}
-use Rattle.pglogical.specs.declared.item.Item.{Item}
-use Rattle.pglogical.specs.declared.item.Item.TheVariants.{Relation, Insert, Update, Delete, Truncate}
+use Rattle.pglogical.specs.declared.message.RelationDef.{RelationDef}
+use Rattle.pglogical.specs.declared.message.Item.{Item}
+use Rattle.pglogical.specs.declared.message.Item.TheVariants.{Relation, Insert, Update, Delete, Truncate}
 use Rattle.pglogical.specs.declared.message.Message.{Message}
 use Rattle.pglogical.specs.declared.message.Message.TheVariants as message
 use Rattle.pgsub_core.specs.Server.Work.{Work, IsWork, IsChange, surviving_changes, xids_of}

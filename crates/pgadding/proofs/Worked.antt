@@ -1,7 +1,7 @@
 -- The example is one.
 use Rattle.std.proofs.Common.{◌++◌, List, [], ◌∷◌, None, inl, refl, arith}
-use Rattle.pglogical.specs.declared.item.Item.{Item}
-use Rattle.pglogical.specs.declared.item.Item.TheVariants.{Relation, Insert, Truncate}
+use Rattle.pglogical.specs.declared.message.Item.{Item}
+use Rattle.pglogical.specs.declared.message.Item.TheVariants.{Relation, Insert, Truncate}
 use Rattle.pgorder.specs.declared.Version.TheVariants.{Two}
 use Rattle.pgsub_core.specs.Server.Stream.{messages_in}
 use Rattle.pgsub_core.specs.Server.Delivers.{Delivers}

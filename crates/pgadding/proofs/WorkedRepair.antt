@@ -6,9 +6,9 @@ use Rattle.std.specs.FinMap.{get-insert, get-empty}
 use Rattle.std.specs.Ordering.{nat_cmp}
 use Rattle.std.specs.Cmp.Lexicographic.{slice_cmp, nat_list_cmp_total}
 use Rattle.pgtuple.specs.declared.cell.Cell.TheVariants.{Text, Null}
-use Rattle.pglogical.specs.declared.item.OldKind.TheVariants.{Key}
-use Rattle.pglogical.specs.declared.item.Item.{Item}
-use Rattle.pglogical.specs.declared.item.Item.TheVariants.{Update, Delete}
+use Rattle.pglogical.specs.declared.message.OldKind.TheVariants.{Key}
+use Rattle.pglogical.specs.declared.message.Item.{Item}
+use Rattle.pglogical.specs.declared.message.Item.TheVariants.{Update, Delete}
 use Rattle.pgorder.specs.declared.Version.TheVariants.{Two}
 use Rattle.pgtuple.specs.Cells.{tuple_spelling}
 use Rattle.pgapply.specs.Value.{Row, Rows, Table, Tables, IsRow, AreRows, IsTable, AreTables}

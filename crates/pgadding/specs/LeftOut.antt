@@ -2,9 +2,9 @@
 -- Items and work without the changes of one table.
 use Rattle.std.specs.Prelude.{ℕ, List, [], ◌∷◌, not, ◌==◌, if◌then◌else◌, map}
 use Rattle.std.specs.List.{filter}
-use Rattle.pglogical.specs.declared.item.RelationDef.{RelationDef}
-use Rattle.pglogical.specs.declared.item.Item.{Item}
-use Rattle.pglogical.specs.declared.item.Item.TheVariants.{Relation, Insert, Update, Delete, Truncate}
+use Rattle.pglogical.specs.declared.message.RelationDef.{RelationDef}
+use Rattle.pglogical.specs.declared.message.Item.{Item}
+use Rattle.pglogical.specs.declared.message.Item.TheVariants.{Relation, Insert, Update, Delete, Truncate}
 use Rattle.pgsub_core.specs.Server.Work.{Work, Nothing, Changed, Subtransaction, RolledBack, is_among}
 use Rattle.pgsub_core.specs.Server.History.{Transaction}
 

@@ -8,11 +8,11 @@ use Rattle.std.specs.List.{AllByRecursion, flat_map}
 use Rattle.pgtuple.specs.declared.cell.Cell.{Cell}
 use Rattle.pgtuple.specs.declared.cell.Cell.TheVariants.{Null}
 use Rattle.pgtuple.specs.Limits.{IsTuple}
-use Rattle.pglogical.specs.declared.item.Column.{Column}
-use Rattle.pglogical.specs.declared.item.RelationDef.{RelationDef}
-use Rattle.pglogical.specs.declared.item.OldKind.TheVariants.{Key, Full}
-use Rattle.pglogical.specs.declared.item.Item.{Item}
-use Rattle.pglogical.specs.declared.item.Item.TheVariants.{Insert, Update, Delete}
+use Rattle.pglogical.specs.declared.message.Column.{Column}
+use Rattle.pglogical.specs.declared.message.RelationDef.{RelationDef}
+use Rattle.pglogical.specs.declared.message.OldKind.TheVariants.{Key, Full}
+use Rattle.pglogical.specs.declared.message.Item.{Item}
+use Rattle.pglogical.specs.declared.message.Item.TheVariants.{Insert, Update, Delete}
 use Rattle.pgrel.specs.Identity.{keyed, same_shape, identity_full}
 use Rattle.pgapply.specs.Value.{Row, Rows, Table, Tables}
 use Rattle.pgapply.specs.CarriedCopies.{copies_at}

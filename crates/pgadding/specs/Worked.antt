@@ -3,10 +3,10 @@
 use Rattle.std.specs.Prelude.{◌≡◌, ℕ, pos, negsuc, codes, List, [], ◌∷◌, ◌++◌, true, false, None}
 use Rattle.pgtuple.specs.declared.cell.Cell.{Cell}
 use Rattle.pgtuple.specs.declared.cell.Cell.TheVariants.{Text}
-use Rattle.pglogical.specs.declared.item.Column.{Column}
-use Rattle.pglogical.specs.declared.item.RelationDef.{RelationDef}
-use Rattle.pglogical.specs.declared.item.Item.{Item}
-use Rattle.pglogical.specs.declared.item.Item.TheVariants.{Relation, Insert, Truncate}
+use Rattle.pglogical.specs.declared.message.Column.{Column}
+use Rattle.pglogical.specs.declared.message.RelationDef.{RelationDef}
+use Rattle.pglogical.specs.declared.message.Item.{Item}
+use Rattle.pglogical.specs.declared.message.Item.TheVariants.{Relation, Insert, Truncate}
 use Rattle.pglogical.specs.declared.message.Message.{Message}
 use Rattle.pglogical.specs.declared.message.Message.TheVariants as message
 use Rattle.pgorder.specs.declared.Version.TheVariants.{Two}

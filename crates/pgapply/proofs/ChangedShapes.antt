@@ -5,8 +5,8 @@ use Rattle.std.specs.FinMap as finite
 use Rattle.std.proofs.lemmas.Bool.{eqb-true}
 use Rattle.std.specs.FinMap.{empty_of_len}
 use Rattle.pgtuple.specs.declared.cell.Cell.{Cell}
-use Rattle.pglogical.specs.declared.item.Column.{Column}
-use Rattle.pglogical.specs.declared.item.RelationDef.{RelationDef}
+use Rattle.pglogical.specs.declared.message.Column.{Column}
+use Rattle.pglogical.specs.declared.message.RelationDef.{RelationDef}
 use Rattle.pgrel.specs.Identity.{same_shape}
 use Rattle.pgrel.specs.Carried.{has_name, named_cell, carried_cells}
 use Rattle.pgapply.specs.declared.op.Op.{Op}

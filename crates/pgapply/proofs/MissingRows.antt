@@ -4,7 +4,7 @@ use Rattle.std.proofs.Common.{◌≡◌, ◌∷◌, [], ℕ, Some, None, Err, tr
 use Rattle.std.specs.FinMap as map
 use Rattle.pgtuple.specs.Cells.{tuple_spelling}
 use Rattle.pgtuple.specs.declared.cell.Cell.TheVariants.{Null, Unchanged}
-use Rattle.pglogical.specs.declared.item.OldKind.TheVariants.{Key, Full}
+use Rattle.pglogical.specs.declared.message.OldKind.TheVariants.{Key, Full}
 use Rattle.pgapply.specs.declared.op.Op.TheVariants as op
 use Rattle.pgapply.specs.declared.rows.StoreFault.TheVariants as fault
 use Rattle.pgapply.specs.Apply.{Change, apply, rows_after, carry_rows}

@@ -3,7 +3,7 @@ use Rattle.std.specs.Prelude.{◌≡◌, ◌⊎◌, ◌<◌, ◌+◌, ℕ, List,
 use Rattle.std.specs.Ordering.{nat_cmp, eq_by_cmp}
 use Rattle.std.specs.Cmp.Lexicographic.{slice_cmp}
 use Rattle.std.specs.FinMap as map
-use Rattle.pglogical.specs.declared.item.RelationDef.{RelationDef}
+use Rattle.pglogical.specs.declared.message.RelationDef.{RelationDef}
 use Rattle.pgrel.specs.Identity.{keyed, same_shape}
 use Rattle.pgrel.specs.Carried.{carried}
 use Rattle.pgapply.specs.declared.op.Op.{Op}

@@ -6,8 +6,8 @@ use Rattle.json.specs.Print.{escape_byte}
 use Rattle.hex.specs.Hex.{encode_with}
 use Rattle.pglsn.specs.Texts.{lsn_text, half_text}
 use Rattle.pgtuple.specs.declared.cell.Cell.TheVariants.{Null, Unchanged, Text, Binary}
-use Rattle.pglogical.specs.declared.item.RelationDef.{RelationDef}
-use Rattle.pglogical.specs.declared.item.OldKind.TheVariants.{Key, Full}
+use Rattle.pglogical.specs.declared.message.RelationDef.{RelationDef}
+use Rattle.pglogical.specs.declared.message.OldKind.TheVariants.{Key, Full}
 use Rattle.pgledger.specs.declared.image.Image.TheVariants.{Inserted, Updated, Deleted, Truncated, Missed}
 use Rattle.pgledger.specs.Entries.{Entry}
 use Rattle.pgfeed.specs.Texts.{body_text, closing_object, entry_text, key_data, segment_head, table_front, table_rest}

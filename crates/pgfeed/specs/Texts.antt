@@ -10,9 +10,9 @@ use Rattle.serde_json.specs.Data.{Data, null, string}
 use Rattle.serde_json.specs.Written.{compact_text}
 use Rattle.pglsn.specs.Texts.{lsn_text}
 use Rattle.pgtuple.specs.declared.cell.Cell.{Cell}
-use Rattle.pglogical.specs.declared.item.Column.{Column}
-use Rattle.pglogical.specs.declared.item.RelationDef.{RelationDef}
-use Rattle.pglogical.specs.declared.item.OldKind.{OldKind}
+use Rattle.pglogical.specs.declared.message.Column.{Column}
+use Rattle.pglogical.specs.declared.message.RelationDef.{RelationDef}
+use Rattle.pglogical.specs.declared.message.OldKind.{OldKind}
 use Rattle.pgrel.specs.Identity.{keyed}
 use Rattle.pgapply.specs.declared.commit.About.{About}
 use Rattle.pgapply.specs.Dump.{shown_namespace}

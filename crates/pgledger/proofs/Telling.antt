@@ -3,8 +3,8 @@ use Rattle.std.proofs.Common.{◌≡◌, ℕ, List, [], ◌∷◌, length, Optio
 use Rattle.std.specs.FinMap as map
 use Rattle.pgtuple.specs.Cells.{tuple_spelling}
 use Rattle.pgtuple.specs.declared.cell.Cell.{Cell}
-use Rattle.pglogical.specs.declared.item.RelationDef.{RelationDef}
-use Rattle.pglogical.specs.declared.item.OldKind.{OldKind}
+use Rattle.pglogical.specs.declared.message.RelationDef.{RelationDef}
+use Rattle.pglogical.specs.declared.message.OldKind.{OldKind}
 use Rattle.pgrel.specs.Identity.{checked_insert, searched_identity}
 use Rattle.pgrel.proofs.Rows.{resolved_width, resolved_whole}
 use Rattle.pgapply.specs.declared.op.Op.{Op}

@@ -3,8 +3,8 @@
 use Rattle.std.specs.Prelude.{◌≡◌, ◌||◌, ◌==◌, List, [], ◌∷◌, length, false, ⊤, Option, Some, None, Result, Ok, Err, if◌then◌else◌}
 use Rattle.std.specs.FinMap as map
 use Rattle.pgtuple.specs.declared.cell.Cell.{Cell}
-use Rattle.pglogical.specs.declared.item.RelationDef.{RelationDef}
-use Rattle.pglogical.specs.declared.item.OldKind.{OldKind}
+use Rattle.pglogical.specs.declared.message.RelationDef.{RelationDef}
+use Rattle.pglogical.specs.declared.message.OldKind.{OldKind}
 use Rattle.pgrel.specs.declared.fault.RelFault.{RelFault}
 use Rattle.pgrel.specs.Identity.{has_unchanged, resolved, same_shape, searched_identity}
 use Rattle.pgapply.specs.declared.op.Op.{Op}

@@ -1,8 +1,8 @@
 -- What the bytes of lent columns give, column by column.
 use Rattle.std.proofs.Common.{◌≡◌, ◌≢◌, ℕ, zero, suc, ◌-◌, List, [], ◌∷◌, Result, length, Ok, Err, refl, sym, ap, subst, ◌∙◌, arith}
 use Rattle.pglogical.specs.declared.fault.DecodeFault.{DecodeFault}
-use Rattle.pglogical.specs.declared.item.Column.{Column}
-use Rattle.pglogical.specs.declared.column_ref.ColumnRef.{ColumnRef}
+use Rattle.pglogical.specs.declared.message.Column.{Column}
+use Rattle.pglogical.specs.declared.column_refs.ColumnRef.{ColumnRef}
 use Rattle.pglogical.specs.LentColumns.{column_value}
 use Rattle.pglogical.specs.Answers.{Gives}
 use Rattle.pglogical.specs.Reading.{◌>>=◌, At, Read, column_at, columns_at}

@@ -1,7 +1,7 @@
 -- What is spellable and typed is within the limits of the wire.
 use Rattle.std.proofs.Common.{List, [], ◌∷◌}
 use Rattle.std.specs.List.{AllByRecursion}
-use Rattle.pglogical.specs.declared.item.Column.{Column}
+use Rattle.pglogical.specs.declared.message.Column.{Column}
 use Rattle.pglogical.specs.Spelling.{IsText, IsColumn}
 use Rattle.pglogical.specs.Typed.{AreTypedColumns}
 

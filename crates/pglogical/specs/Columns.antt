@@ -1,7 +1,7 @@
 -- Columns that are read one after the other.
 -- PostgreSQL documentation, Logical Replication Message Formats, Relation.
 use Rattle.std.specs.Prelude.{◌≡◌, ⊤, List, [], Ok, Err}
-use Rattle.pglogical.specs.declared.item.Column.{Column}
+use Rattle.pglogical.specs.declared.message.Column.{Column}
 use Rattle.pglogical.specs.Reading.{At, Read}
 
 -- the columns that were read, none where they can't be

@@ -1,7 +1,7 @@
 -- The message that is borrowed.
 -- PostgreSQL documentation, Logical Replication Message Formats.
-use Rattle.pglogical.specs.declared.lent.MessageRef.{MessageRef}
-use Rattle.pglogical.specs.declared.lent.MessageRef.TheVariants as lent
+use Rattle.pglogical.specs.declared.message_ref.MessageRef.{MessageRef}
+use Rattle.pglogical.specs.declared.message_ref.MessageRef.TheVariants as lent
 use Rattle.pglogical.specs.declared.message.Message.{Message}
 use Rattle.pglogical.specs.declared.message.Message.TheVariants as owned
 

@@ -1,11 +1,11 @@
 -- The item that is borrowed, by its parts.
 -- PostgreSQL documentation, Logical Replication Message Formats, Relation, Insert, Update, Delete, Truncate.
-use Rattle.pglogical.specs.declared.item.RelationDef.{RelationDef}
-use Rattle.pglogical.specs.declared.item.Item.{Item}
-use Rattle.pglogical.specs.declared.item.Item.TheVariants as owned
-use Rattle.pglogical.specs.declared.parts.DefRef.{DefRef}
-use Rattle.pglogical.specs.declared.parts.ItemParts.{ItemParts}
-use Rattle.pglogical.specs.declared.parts.ItemParts.TheVariants as lent
+use Rattle.pglogical.specs.declared.message.RelationDef.{RelationDef}
+use Rattle.pglogical.specs.declared.message.Item.{Item}
+use Rattle.pglogical.specs.declared.message.Item.TheVariants as owned
+use Rattle.pglogical.specs.declared.message_ref.DefRef.{DefRef}
+use Rattle.pglogical.specs.declared.message_ref.ItemParts.{ItemParts}
+use Rattle.pglogical.specs.declared.message_ref.ItemParts.TheVariants as lent
 
 abbrev pub def_value : DefRef → RelationDef
 def_value d = record { oid = d.oid; namespace = d.namespace.now; name = d.name.now; letter = d.letter; columns = d.columns }

@@ -4,7 +4,7 @@ use Rattle.std.specs.Prelude.{◌≡◌, ◌<◌, ◌^◌, ℕ, List, true, Fits
 use Rattle.std.specs.Int.{w32}
 use Rattle.std.specs.List.{AllByRecursion}
 use Rattle.std.specs.Str.{is_utf8}
-use Rattle.pglogical.specs.declared.item.Column.{Column}
+use Rattle.pglogical.specs.declared.message.Column.{Column}
 
 abbrev pub IsTypedColumn : Column → Type 0
 IsTypedColumn c = (is_utf8 c.name ≡ true) × (c.type_oid < 2 ^ 32) × FitsSigned w32 c.modifier

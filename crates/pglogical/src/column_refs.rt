@@ -1,17 +1,44 @@
-//! Columns that are borrowed.
+//! Columns that are borrowed, from owned ones or from the bytes that encode them.
 //!
 //! PostgreSQL documentation, Logical Replication Message Formats, Relation.
 
 ghost use Rattle.std.specs.Prelude.{◌≡◌, List, length, IfOk, IfErr};
+ghost use Rattle.pglogical.specs.declared.message.Column.{Column};
+ghost use Rattle.pglogical.specs.LentColumns.{column_value};
 ghost use Rattle.pglogical.specs.Answers.{out_of_memory};
 
-use crate::column_ref::ColumnRef;
+use crate::decoding;
 use crate::fault::DecodeFault;
-use crate::item::Column;
-use crate::spelled_columns::SpelledColumns;
-use pgtuple::Seq;
-use std::alloc::Global;
+use crate::message::Column;
+use crate::reader::Reader;
+use pgtuple::{Seq, Text};
+use std::alloc::{AllocError, Global};
 use std::marker::Model;
+
+/// One column of a relation that is borrowed, with the fields of `Column`.
+///
+/// PostgreSQL documentation, Logical Replication Message Formats, Relation.
+#[derive(Clone, Copy, Debug)]
+pub struct ColumnRef<'a> {
+    pub key: bool,
+    pub name: &'a str,
+    pub type_oid: u32,
+    pub modifier: i32,
+}
+
+impl<'a> ColumnRef<'a> {
+    /// The same column with memory of its own.
+    pub(crate) fn to_column(&self, alloc: Global) -> Result<Column, AllocError>
+        ensures { IfOk result (λ c. c ≡ column_value self.now) }
+    {
+        Ok(Column {
+            key: self.key,
+            name: Text::from_string(String::from_str(alloc, self.name)?),
+            type_oid: self.type_oid,
+            modifier: self.modifier,
+        })
+    }
+}
 
 /// What borrowed columns are made of.
 #[derive(Drop)]
@@ -32,7 +59,7 @@ pub struct ColumnRefs<'a> {
 
 impl<'a> Model for ColumnRefs<'a> {
     ghost use Rattle.std.specs.Prelude.{List};
-    ghost use Rattle.pglogical.specs.declared.item.Column.{Column};
+    ghost use Rattle.pglogical.specs.declared.message.Column.{Column};
     ghost use Rattle.pglogical.specs.Forms.{columns_of};
 
     ghost Value = { List Column };
@@ -115,5 +142,66 @@ impl<'a> Iterator for ColumnRefs<'a> {
             }
             Columns::Spelled(columns) => columns.next(),
         }
+    }
+}
+
+/// Columns that are read from the bytes that encode them, seen as their list.
+#[derive(Drop)]
+pub(crate) struct SpelledColumns<'a> {
+    left: u16,
+    reader: Reader<'a>,
+}
+
+impl<'a> Model for SpelledColumns<'a> {
+    ghost use Rattle.std.specs.Prelude.{List};
+    ghost use Rattle.pglogical.specs.declared.message.Column.{Column};
+    ghost use Rattle.pglogical.specs.Reading.{columns_at};
+    ghost use Rattle.pglogical.specs.Columns.{columns_read, IsRead};
+
+    ghost Value = { List Column };
+
+    ghost view = { λ c. columns_read (columns_at c.left c.reader) };
+
+    ghost invariant = { λ c. IsRead (columns_at c.left c.reader) };
+}
+
+impl<'a> SpelledColumns<'a> {
+    ghost use Rattle.std.specs.Iterator.{YieldsFirstBy};
+    ghost use Rattle.pglogical.specs.Reading.{columns_at};
+    ghost use Rattle.pglogical.specs.Columns.{columns_read, IsRead};
+    ghost use Rattle.pglogical.specs.LentColumns.{column_value};
+
+    /// So many columns, the first of which is where the reader is.
+    pub(crate) fn of(left: u16, reader: Reader<'a>) -> SpelledColumns<'a>
+        requires { IsRead (columns_at left reader) }
+        ensures { result ≡ columns_read (columns_at left reader.entry) }
+    {
+        SpelledColumns { left, reader }
+    }
+
+    pub(crate) fn lend(&self) -> SpelledColumns<'a>
+        ensures { result ≡ self.now }
+    {
+        SpelledColumns {
+            left: self.left,
+            reader: self.reader.lend(),
+        }
+    }
+
+    pub(crate) fn len(&self) -> usize
+        ensures { result ≡ length self.now }
+    {
+        self.left as usize
+    }
+
+    pub(crate) fn next(&mut self) -> Option<ColumnRef<'a>>
+        ensures { YieldsFirstBy column_value (λ (columns : List Column). columns) self.old result
+            self.new }
+    {
+        if self.left == 0 {
+            return None;
+        }
+        self.left -= 1;
+        decoding::column(&mut self.reader).ok()
     }
 }

@@ -13,34 +13,21 @@
 //! ```
 #![tactic(auto)]
 
-pub mod column_ref;
 pub mod column_refs;
 mod decoding;
 mod encoding;
 pub mod fault;
-pub mod item;
-pub mod item_ref;
 pub mod laws;
-pub mod lent;
 pub mod message;
+pub mod message_ref;
 pub mod oid_refs;
-pub mod parts;
 mod reader;
-mod spellable;
-mod spelled;
-mod spelled_columns;
 mod tags;
-mod typed;
 
-pub use column_ref::ColumnRef;
-pub use column_refs::ColumnRefs;
+pub use column_refs::{ColumnRef, ColumnRefs};
 pub use decoding::{decode, decode_columns, decode_ref};
-pub use encoding::{encode, encode_columns, encode_item};
+pub use encoding::{encode, encode_columns, encode_item, spelled_len};
 pub use fault::{DecodeFault, Reason};
-pub use item::{Column, Item, OldKind, RelationDef};
-pub use item_ref::ItemRef;
-pub use lent::MessageRef;
-pub use message::Message;
+pub use message::{Column, Item, Message, OldKind, RelationDef};
+pub use message_ref::{DefRef, ItemParts, ItemRef, MessageRef};
 pub use oid_refs::OidRefs;
-pub use parts::{DefRef, ItemParts};
-pub use spelled::spelled_len;

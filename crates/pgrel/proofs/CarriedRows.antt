@@ -6,7 +6,7 @@ use Rattle.std.specs.List.{AllByRecursion, position_from}
 use Rattle.pgtuple.specs.declared.cell.Cell.{Cell}
 use Rattle.pgtuple.specs.declared.cell.Cell.TheVariants.{Null}
 use Rattle.pgtuple.specs.Limits.{IsCell, IsTuple}
-use Rattle.pglogical.specs.declared.item.Column.{Column}
+use Rattle.pglogical.specs.declared.message.Column.{Column}
 use Rattle.pgrel.specs.Identity.{is_unchanged, has_unchanged}
 use Rattle.pgrel.specs.Carried.{carried_cells, has_name, named_cell, placed_cell, placed_cells, places}
 

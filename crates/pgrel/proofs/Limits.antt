@@ -4,7 +4,7 @@ use Rattle.std.specs.Prelude.{Bool, true, false, if◌then◌else◌}
 use Rattle.std.specs.List.{AllByRecursion}
 use Rattle.pgtuple.specs.declared.cell.Cell.{Cell}
 use Rattle.pgtuple.specs.Limits.{IsCell, IsTuple}
-use Rattle.pglogical.specs.declared.item.Column.{Column}
+use Rattle.pglogical.specs.declared.message.Column.{Column}
 use Rattle.pgrel.specs.Identity.{key_cells, is_unchanged, resolved}
 use Rattle.pgrel.proofs.Keys.{key_cells_bound}
 use Rattle.pgrel.proofs.Rows.{resolved_width}

@@ -8,7 +8,7 @@ use Rattle.std.specs.FinMap.{find, get-from_entries, get-insert, same_map, nat_c
 use Rattle.std.specs.Ordering.{nat_cmp}
 use Rattle.std.specs.Cmp.{nat_cmp_total, unsigned_ties, unsigned_Decides}
 use Rattle.indexmap.specs.IndexMap.{insert_entry}
-use Rattle.pglogical.specs.declared.item.RelationDef.{RelationDef}
+use Rattle.pglogical.specs.declared.message.RelationDef.{RelationDef}
 use Rattle.pglogical.specs.Spelling.{IsDefinition}
 use Rattle.pgrel.specs.declared.fault.RelFault.{RelFault}
 use Rattle.pgrel.specs.declared.fault.RelFault.TheVariants.{UnknownRelation}

@@ -2,7 +2,7 @@
 use Rattle.std.proofs.Common.{◌≡◌, ◌<◌, ◌+◌, List, [], ◌∷◌, ℕ, zero, suc, length, drop, ap, ◌∙◌, refl, arith, Some}
 use Rattle.std.specs.Prelude.{slice_get, slice_index_or}
 use Rattle.std.proofs.lemmas.Option.{slice_get_read}
-use Rattle.pglogical.specs.declared.item.Column.{Column}
+use Rattle.pglogical.specs.declared.message.Column.{Column}
 use Rattle.pgrel.specs.Identity.{key_cells}
 
 pub key_cells_none : (columns : List Column) → key_cells columns [] ≡ []

@@ -3,9 +3,9 @@ use Rattle.std.proofs.Common.{◌≡◌, refl, ◌∷◌, [], ◌++◌, List, �
 use Rattle.std.specs.Prelude.{codes}
 use Rattle.pgtuple.specs.declared.cell.Cell.{Cell}
 use Rattle.pgtuple.specs.declared.cell.Cell.TheVariants.{Null, Unchanged, Text, Binary}
-use Rattle.pglogical.specs.declared.item.RelationDef.{RelationDef}
-use Rattle.pglogical.specs.declared.item.Column.{Column}
-use Rattle.pglogical.specs.declared.item.OldKind.TheVariants.{Key, Full}
+use Rattle.pglogical.specs.declared.message.RelationDef.{RelationDef}
+use Rattle.pglogical.specs.declared.message.Column.{Column}
+use Rattle.pglogical.specs.declared.message.OldKind.TheVariants.{Key, Full}
 use Rattle.pgrel.specs.declared.fault.RelFault.TheVariants.{Width, UnknownIdentity, UnchangedInInsert, NoIdentity}
 use Rattle.pgrel.specs.Carried.{carried}
 use Rattle.pgrel.specs.Identity.{keyed, identity, same_shape, resolved, checked_insert, checked_identity, searched_identity}

@@ -2,7 +2,7 @@
 -- PostgreSQL documentation, Logical Replication Message Formats, Relation.
 use Rattle.std.specs.Prelude.{◌≡◌, ℕ, List}
 use Rattle.std.specs.List.{AllByRecursion}
-use Rattle.pglogical.specs.declared.item.RelationDef.{RelationDef}
+use Rattle.pglogical.specs.declared.message.RelationDef.{RelationDef}
 use Rattle.pglogical.specs.Spelling.{IsDefinition}
 
 -- a definition under its own OID, which a Relation message can carry

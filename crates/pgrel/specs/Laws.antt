@@ -2,8 +2,8 @@
 -- PostgreSQL documentation, ALTER TABLE, REPLICA IDENTITY.
 use Rattle.std.specs.Prelude.{◌≡◌, ◌≤◌, ◌↔◌, List, length, count_by, false, IsTrue}
 use Rattle.pgtuple.specs.declared.cell.Cell.{Cell}
-use Rattle.pglogical.specs.declared.item.RelationDef.{RelationDef}
-use Rattle.pglogical.specs.declared.item.Column.{Column}
+use Rattle.pglogical.specs.declared.message.RelationDef.{RelationDef}
+use Rattle.pglogical.specs.declared.message.Column.{Column}
 use Rattle.pgrel.specs.Identity.{keyed, IsKeyed, identity, identity_full, shape, same_shape, has_unchanged, resolved}
 use Rattle.pgrel.specs.Carried.{carried, placed_cells, places}
 

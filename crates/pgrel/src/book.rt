@@ -22,8 +22,8 @@ impl Model for Book {
     ghost use Rattle.std.specs.Coded.{coded_ℕ};
     ghost use Rattle.std.specs.FinMap as map;
     ghost use Rattle.std.specs.Ordering.{nat_cmp};
-    ghost use Rattle.pglogical.specs.declared.item.RelationDef.{RelationDef};
-    ghost use Rattle.pglogical.specs.contracts.item.RelationDef as definition;
+    ghost use Rattle.pglogical.specs.declared.message.RelationDef.{RelationDef};
+    ghost use Rattle.pglogical.specs.contracts.message.RelationDef as definition;
     ghost use Rattle.pgrel.specs.Known.{AreDefinitions};
 
     ghost Value = { map.FinMap nat_cmp RelationDef };

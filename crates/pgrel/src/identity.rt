@@ -9,7 +9,7 @@ ghost use Rattle.pgrel.specs.Steps.{sent_cell};
 ghost use Rattle.pgtuple.specs.Lent.{cell_value};
 ghost use Rattle.std.specs.Cmp.Lexicographic.{pointwise};
 ghost use Rattle.std.specs.List.{list_any};
-ghost use Rattle.pglogical.specs.declared.item.Column.{Column};
+ghost use Rattle.pglogical.specs.declared.message.Column.{Column};
 ghost use Rattle.pgrel.specs.Identity.{
   is_unchanged,
   keyed,

@@ -3,7 +3,7 @@ use Rattle.std.proofs.Common.{◌≡◌, ◌+◌, ◌++◌, ◌∷◌, [], ℕ, 
 use Rattle.std.specs.Prelude.{option_map, slice_get}
 use Rattle.std.proofs.lemmas.List.{take_more}
 use Rattle.std.proofs.lemmas.Option.{slice_get_within, get_or_from_slice_get}
-use Rattle.pglogical.specs.declared.item.Item.{Item}
+use Rattle.pglogical.specs.declared.message.Item.{Item}
 use Rattle.pgspool.specs.Labels.{LabelledItem, items_of}
 
 slice_get-items_of : (held : List LabelledItem) (place : ℕ) → option_map (λ (l : LabelledItem). l.1) (slice_get held place) ≡ slice_get (items_of held) place

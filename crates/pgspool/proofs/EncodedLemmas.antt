@@ -6,7 +6,7 @@ use Rattle.std.proofs.lemmas.List.{append-nil, take_at, drop_at, take-append-dro
 use Rattle.std.proofs.lemmas.List.Concat.{flat_map-cons}
 use Rattle.std.proofs.lemmas.Grind.{flat_map-append}
 use Rattle.pgtuple.specs.Limits.{IsBytes}
-use Rattle.pglogical.specs.declared.item.Item.{Item}
+use Rattle.pglogical.specs.declared.message.Item.{Item}
 use Rattle.pglogical.specs.declared.message.Message.TheVariants as message
 use Rattle.pglogical.specs.Spelling.{IsWire, IsSpellable, item_spelling, message_spelling}
 use Rattle.pglogical.proofs.ReadLaws.{messages_exact}

@@ -5,7 +5,7 @@ use Rattle.std.specs.List.{AllByRecursion}
 use Rattle.std.specs.Map.{keys_of, lookup}
 use Rattle.std.proofs.lemmas.List.Sums.{sum_by_push}
 use Rattle.pglogical.specs.Spelling.{IsSpellable}
-use Rattle.pglogical.specs.declared.item.Item.{Item}
+use Rattle.pglogical.specs.declared.message.Item.{Item}
 use Rattle.pgspool.specs.declared.first_place.FirstPlace.{FirstPlace}
 use Rattle.pgspool.specs.Labels.{LabelledItem, cut, cost, costs}
 use Rattle.pgspool.specs.FirstPlaces.{FirstPlaces, has_label, noted, first_places}

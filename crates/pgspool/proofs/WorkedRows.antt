@@ -4,8 +4,8 @@ use Rattle.std.specs.Prelude.{codes}
 use Rattle.pgtuple.specs.Cells.{tuple_spelling}
 use Rattle.pgtuple.specs.declared.cell.Cell.TheVariants.{Text}
 use Rattle.pglogical.specs.Spelling.{item_spelling}
-use Rattle.pglogical.specs.declared.item.Item.{Item}
-use Rattle.pglogical.specs.declared.item.Item.TheVariants.{Relation, Insert}
+use Rattle.pglogical.specs.declared.message.Item.{Item}
+use Rattle.pglogical.specs.declared.message.Item.TheVariants.{Relation, Insert}
 use Rattle.pgspool.specs.Labels.{LabelledItem, cut, items_of, cost, costs}
 
 -- public.t (id integer key, v text)

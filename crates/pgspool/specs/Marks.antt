@@ -1,8 +1,8 @@
 -- Items kept as the bytes that spell them outside a block, one behind the other, with the label and the start of each.
 use Rattle.std.specs.Prelude.{◌≡◌, ℕ, List, [], ◌∷◌, ◌+◌, ◌-◌, length, take, drop, Option, Some, None, Result, Ok, Err, false, unwrap_or}
 use Rattle.std.specs.List.{flat_map}
-use Rattle.pglogical.specs.declared.item.Item.{Item}
-use Rattle.pglogical.specs.declared.item.Item.TheVariants.{Truncate}
+use Rattle.pglogical.specs.declared.message.Item.{Item}
+use Rattle.pglogical.specs.declared.message.Item.TheVariants.{Truncate}
 use Rattle.pglogical.specs.declared.message.Message.{Message}
 use Rattle.pglogical.specs.declared.message.Message.TheVariants as message
 use Rattle.pglogical.specs.declared.fault.DecodeFault.{DecodeFault}

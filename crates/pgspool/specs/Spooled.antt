@@ -2,7 +2,7 @@
 use Rattle.std.specs.Prelude.{◌≡◌, ◌≤◌, ℕ, List, map as mapped, refl}
 use Rattle.std.specs.Coded.{Coded, code_by, coded×, coded_ℕ, coded_list}
 use Rattle.std.specs.FinMap as map
-use Rattle.pglogical.specs.contracts.item.Item as item
+use Rattle.pglogical.specs.contracts.message.Item as item
 use Rattle.pgspool.specs.Labels.{LabelledItem, HeldMap, all_costs}
 
 pub record Spooled : Type 0 where

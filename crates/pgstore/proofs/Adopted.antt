@@ -14,7 +14,7 @@ use Rattle.pgtuple.specs.Cells.{tuple_spelling}
 use Rattle.pgtuple.specs.Limits.{IsWireTuple}
 use Rattle.pgtuple.specs.Reading.{tuple_at}
 use Rattle.pgtuple.specs.Spelled.{spelled_cells, cells_read}
-use Rattle.pglogical.specs.declared.item.RelationDef.{RelationDef}
+use Rattle.pglogical.specs.declared.message.RelationDef.{RelationDef}
 use Rattle.pgtables.specs.Kept as stored
 use Rattle.pgtables.specs.Opened.{ListsDefinitions}
 use Rattle.pgrel.specs.declared.fault.RelFault.{RelFault}

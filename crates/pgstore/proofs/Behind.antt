@@ -3,7 +3,7 @@ use Rattle.std.proofs.Common.{◌≡◌, ◌+◌, ◌-◌, ◌++◌, ℕ, List, 
 use Rattle.sqlite.specs.Effect.{Database}
 use Rattle.sqlite.specs.Store.{Ghosts}
 use Rattle.sqlite.specs.State.{HasCleanDisk, Savepoint}
-use Rattle.pglogical.specs.declared.item.RelationDef.{RelationDef}
+use Rattle.pglogical.specs.declared.message.RelationDef.{RelationDef}
 use Rattle.pgtables.specs.Kept.{tables_in}
 use Rattle.pgrows.specs.Rows.{Drops, Marks, mark_of, state}
 use Rattle.pgapply.specs.declared.op.Op.{Op}

@@ -12,7 +12,7 @@ use Rattle.std.specs.FinMap.Entries.{below_all, same_entries}
 use Rattle.sqlite.specs.Store.{Ghosts}
 use Rattle.sqlite.specs.State.{HasCleanDisk}
 use Rattle.pgtuple.specs.Limits.{IsWireTuple}
-use Rattle.pglogical.specs.declared.item.RelationDef.{RelationDef}
+use Rattle.pglogical.specs.declared.message.RelationDef.{RelationDef}
 use Rattle.pgrel.specs.Identity.{keyed}
 use Rattle.pgtables.specs.Kept as stored
 use Rattle.pgtables.specs.Shown.{ListsRows}

@@ -5,7 +5,7 @@ use Rattle.sqlite.specs.Effect.{Database}
 use Rattle.sqlite.specs.Store.{Ghosts}
 use Rattle.sqlite.specs.State.{HasCleanDisk, KeepsCommit, Survives}
 use Rattle.sqlite.proofs.StateLemmas.{survives_then}
-use Rattle.pglogical.specs.declared.item.RelationDef.{RelationDef}
+use Rattle.pglogical.specs.declared.message.RelationDef.{RelationDef}
 use Rattle.pgtables.specs.Kept as stored
 use Rattle.pgtables.specs.Kept.{IsKept, tables_in, with_place}
 use Rattle.pgrows.specs.Rows.{IfServing, Makes, Shows, database, state, tables_of}

@@ -10,10 +10,10 @@ use Rattle.pgtuple.specs.Limits.{IsWireTuple}
 use Rattle.pgtuple.specs.Reading.{Read, tuple_at}
 use Rattle.pgtuple.proofs.Tuples.{tuple_again}
 use Rattle.pgtuple.specs.Cells.{tuple_spelling}
-use Rattle.pglogical.specs.declared.item.RelationDef.{RelationDef}
+use Rattle.pglogical.specs.declared.message.RelationDef.{RelationDef}
 use Rattle.pglogical.specs.Spelling.{AreColumns, IsColumn, IsDefinition, IsLetter, IsText}
 use Rattle.pglogical.specs.Typed.{AreTypedColumns}
-use Rattle.pglogical.specs.declared.item.Column.{Column}
+use Rattle.pglogical.specs.declared.message.Column.{Column}
 use Rattle.pgrel.specs.Identity.{keyed}
 use Rattle.pgrows.specs.declared.fault.ReadFault.{ReadFault}
 use Rattle.pgrows.specs.declared.fault.ReadFault.TheVariants.{Store, Malformed}

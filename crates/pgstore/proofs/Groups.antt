@@ -10,7 +10,7 @@ use Rattle.sqlite.specs.Store.{Ghosts}
 use Rattle.sqlite.specs.View.{doubt}
 use Rattle.sqlite.specs.State.{HasCleanDisk, KeepsCommit, Survives}
 use Rattle.sqlite.proofs.StateLemmas.{survives_weaker}
-use Rattle.pglogical.specs.declared.item.RelationDef.{RelationDef}
+use Rattle.pglogical.specs.declared.message.RelationDef.{RelationDef}
 use Rattle.pgtables.specs.Kept.{tables_in}
 use Rattle.pgrows.specs.Rows.{state, tables_of}
 use Rattle.pgapply.specs.declared.op.Op.{Op}

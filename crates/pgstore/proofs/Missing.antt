@@ -4,8 +4,8 @@ use Rattle.std.specs.Prelude.{not, is_none, is_some, option_map}
 use Rattle.std.specs.FinMap as map
 use Rattle.pgtuple.specs.declared.cell.Cell.{Cell}
 use Rattle.pgtuple.specs.Cells.{tuple_spelling}
-use Rattle.pglogical.specs.declared.item.RelationDef.{RelationDef}
-use Rattle.pglogical.specs.declared.item.OldKind.{OldKind}
+use Rattle.pglogical.specs.declared.message.RelationDef.{RelationDef}
+use Rattle.pglogical.specs.declared.message.OldKind.{OldKind}
 use Rattle.pgrel.specs.Identity.{searched_identity}
 use Rattle.pgtables.specs.Kept as stored
 use Rattle.pgtables.specs.Kept.{is_there}

@@ -9,7 +9,7 @@ use Rattle.std.proofs.lemmas.Bool.{cases_Bool}
 use Rattle.sqlite.specs.Effect.{Database}
 use Rattle.sqlite.specs.Store.{Ghosts}
 use Rattle.sqlite.specs.State.{HasCleanDisk, Survives}
-use Rattle.pglogical.specs.declared.item.RelationDef.{RelationDef}
+use Rattle.pglogical.specs.declared.message.RelationDef.{RelationDef}
 use Rattle.pgtables.specs.Kept as stored
 use Rattle.pgtables.specs.Kept.{tables_in}
 use Rattle.pgrows.specs.Rows.{IfServing, state}

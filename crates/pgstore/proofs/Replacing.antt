@@ -1,7 +1,7 @@
 -- A definition of another shape takes the place of the stored one: the rows that the change finds.
 use Rattle.std.proofs.Common.{◌≡◌, ℕ, List, true, false, Some, Ok, refl, sym, subst, ◌∙◌}
 use Rattle.std.specs.FinMap as map
-use Rattle.pglogical.specs.declared.item.RelationDef.{RelationDef}
+use Rattle.pglogical.specs.declared.message.RelationDef.{RelationDef}
 use Rattle.pglogical.specs.Spelling.{IsDefinition, columns_spelling}
 use Rattle.pgrel.specs.Identity.{same_shape}
 use Rattle.pgtables.specs.Kept as stored

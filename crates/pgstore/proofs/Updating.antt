@@ -10,8 +10,8 @@ use Rattle.std.proofs.lemmas.Bool.Decides.{nat_tests}
 use Rattle.pgtuple.specs.declared.cell.Cell.{Cell}
 use Rattle.pgtuple.specs.Cells.{tuple_spelling}
 use Rattle.pgtuple.specs.Limits.{IsWireTuple}
-use Rattle.pglogical.specs.declared.item.RelationDef.{RelationDef}
-use Rattle.pglogical.specs.declared.item.OldKind.{OldKind}
+use Rattle.pglogical.specs.declared.message.RelationDef.{RelationDef}
+use Rattle.pglogical.specs.declared.message.OldKind.{OldKind}
 use Rattle.pgrel.specs.Identity.{keyed, has_unchanged, identity, lacks_identity, new_has_width, old_has_width, searched_identity}
 use Rattle.pgrel.proofs.Rows.{sent_stays}
 use Rattle.pgtables.specs.Kept as stored

@@ -10,7 +10,7 @@ use Rattle.sqlite.specs.Held.{Held, state}
 use Rattle.pgtuple.specs.Spelled.{spelled_cells}
 use Rattle.pgtuple.specs.Limits.{IsWireTuple}
 use Rattle.pgtuple.specs.Cells.{tuple_spelling}
-use Rattle.pglogical.specs.declared.item.RelationDef.{RelationDef}
+use Rattle.pglogical.specs.declared.message.RelationDef.{RelationDef}
 use Rattle.pglogical.specs.Spelling.{IsDefinition}
 use Rattle.pgtables.specs.Schema.{no_schema, store_schema}
 use Rattle.pgtables.specs.Kept as stored

@@ -1,7 +1,7 @@
 -- A change, from the definitions that were given before it.
 use Rattle.std.specs.Prelude.{◌≡◌, List, ℕ, Option, Ok}
 use Rattle.sqlite.specs.Store.{Ghosts}
-use Rattle.pglogical.specs.declared.item.RelationDef.{RelationDef}
+use Rattle.pglogical.specs.declared.message.RelationDef.{RelationDef}
 use Rattle.pgrows.specs.Rows.{tables_of}
 use Rattle.pgapply.specs.declared.op.Op.{Op}
 use Rattle.pgapply.specs.declared.misses.Misses.{Misses}

@@ -1,7 +1,7 @@
 -- A commit over a store of which it is said what tables it holds.
 use Rattle.std.proofs.Common.{◌≡◌, ◌<◌, ◌⊎◌, inl, inr, ℕ, List, true, false, Result, Ok, Err, max, refl}
 use Rattle.std.specs.Prelude.{nat_lt}
-use Rattle.pglogical.specs.declared.item.Item.{Item}
+use Rattle.pglogical.specs.declared.message.Item.{Item}
 use Rattle.pgapply.specs.declared.rows.StoreFault.{StoreFault}
 use Rattle.pgapply.specs.declared.rows.StoreFault.TheVariants as store
 use Rattle.pgapply.specs.Value.{Tables}

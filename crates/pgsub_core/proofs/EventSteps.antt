@@ -2,7 +2,7 @@
 use Rattle.std.proofs.Common.{◌≡◌, inl, ℕ, List, Bool, true, false, cond, ◌||◌, Some, refl, sym, ap, subst, ◌∙◌}
 use Rattle.std.specs.Prelude.{◌==◌}
 use Rattle.std.specs.FinMap as map
-use Rattle.pglogical.specs.declared.item.Item.{Item}
+use Rattle.pglogical.specs.declared.message.Item.{Item}
 use Rattle.pglogical.specs.declared.message.Message.{Message}
 use Rattle.pgorder.specs.declared.Event.{Event}
 use Rattle.pgorder.specs.Steps.{OrderState}

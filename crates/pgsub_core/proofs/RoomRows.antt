@@ -2,7 +2,7 @@
 use Rattle.std.proofs.Common.{◌≡◌, ◌∷◌, ◌++◌, [], List, ℕ, true, false, Some, pos, sym, ap, subst, ◌∙◌, arith, length, length-append}
 use Rattle.std.specs.FinMap as map
 use Rattle.pglogical.specs.Spelling.{item_spelling}
-use Rattle.pglogical.specs.declared.item.Item.TheVariants as item
+use Rattle.pglogical.specs.declared.message.Item.TheVariants as item
 use Rattle.pgorder.specs.Steps.{InPair, initial_order}
 use Rattle.pgspool.specs.declared.spools.SpoolFault.TheVariants as spool
 use Rattle.pgsub_core.specs.declared.fault.Fault.TheVariants as fault

@@ -1,6 +1,6 @@
 -- What a commit does to a store of which it is said what tables it holds.
 use Rattle.std.specs.Prelude.{◌≡◌, ◌<◌, ℕ, List, Option, Some, None}
-use Rattle.pglogical.specs.declared.item.Item.{Item}
+use Rattle.pglogical.specs.declared.message.Item.{Item}
 use Rattle.pglogical.specs.declared.message.Message.{Message}
 use Rattle.pglogical.specs.declared.message.Message.TheVariants as message
 use Rattle.pgapply.specs.declared.commit.About.{About}

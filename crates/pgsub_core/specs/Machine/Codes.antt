@@ -2,8 +2,8 @@
 use Rattle.std.specs.Prelude.{ℕ, List, Bool, refl}
 use Rattle.std.specs.Coded.{Coded, code_by, coded×, coded_ℕ, coded_bool, coded_list}
 use Rattle.std.specs.FinMap as map
-use Rattle.pglogical.specs.contracts.item.Item as item
-use Rattle.pglogical.specs.contracts.item.RelationDef as definition
+use Rattle.pglogical.specs.contracts.message.Item as item
+use Rattle.pglogical.specs.contracts.message.RelationDef as definition
 use Rattle.pgorder.specs.contracts.Version as version
 use Rattle.pgorder.specs.declared.Version.{Version}
 use Rattle.pgorder.specs.States.{order_state_code}

@@ -3,8 +3,8 @@
 -- well-formed server may send of its history.
 use Rattle.std.specs.Prelude.{◌≡◌, ◌<◌, ℕ, List, [], ◌∷◌, ◌++◌, Ok}
 use Rattle.std.specs.List.{AllByRecursion}
-use Rattle.pglogical.specs.declared.item.RelationDef.{RelationDef}
-use Rattle.pglogical.specs.declared.item.Item.{Item}
+use Rattle.pglogical.specs.declared.message.RelationDef.{RelationDef}
+use Rattle.pglogical.specs.declared.message.Item.{Item}
 use Rattle.pgorder.specs.declared.Version.{Version}
 use Rattle.pgorder.specs.Shape.{IsShaped}
 use Rattle.pgsub_core.specs.Server.Work.{surviving_changes}

@@ -2,7 +2,7 @@
 -- PostgreSQL documentation, Streaming Replication Protocol and Logical Streaming Replication Protocol: what a server sends
 -- in one session, and which transactions are committed in it.
 use Rattle.std.specs.Prelude.{ℕ, ℤ, List, [], ◌∷◌, ◌++◌, Bool, true, false, ◌&&◌, ◌==◌, Option, Some, None, if◌then◌else◌, unwrap_or}
-use Rattle.pglogical.specs.declared.item.Item.{Item}
+use Rattle.pglogical.specs.declared.message.Item.{Item}
 use Rattle.pglogical.specs.declared.message.Message.{Message}
 use Rattle.pglogical.specs.declared.message.Message.TheVariants as message
 use Rattle.pgsub_core.specs.Server.Streamed.{StreamedItem, Change, SubtransactionAbort}

@@ -3,9 +3,9 @@
 -- which items survive.
 use Rattle.std.specs.Prelude.{◌≡◌, ℕ, List, [], ◌∷◌, ◌++◌, map, Bool, true, false, ◌==◌}
 use Rattle.std.specs.List.{AllByRecursion, list_any}
-use Rattle.pglogical.specs.declared.item.RelationDef.{RelationDef}
-use Rattle.pglogical.specs.declared.item.Item.{Item}
-use Rattle.pglogical.specs.declared.item.Item.TheVariants.{Relation}
+use Rattle.pglogical.specs.declared.message.RelationDef.{RelationDef}
+use Rattle.pglogical.specs.declared.message.Item.{Item}
+use Rattle.pglogical.specs.declared.message.Item.TheVariants.{Relation}
 use Rattle.pgsub_core.specs.Server.Work.{Work, is_among, Nothing, Changed, Subtransaction, RolledBack}
 
 -- an item (a Relation message or a change) under the xid that its message names, or the abort of a subtransaction

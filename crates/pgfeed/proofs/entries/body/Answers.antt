@@ -1,7 +1,7 @@
 use Rattle.std.proofs.Common.{◌≡◌, ◌⊎◌, inl, inr, List, map, reverse, string_bytes, sym, subst, ap, ◌∙◌, length, Bor}
 use Rattle.std.specs.List.{AllByRecursion}
 use Rattle.pgapply.specs.Works.{IsNumbered}
-use Rattle.pglogical.specs.declared.item.RelationDef.{RelationDef}
+use Rattle.pglogical.specs.declared.message.RelationDef.{RelationDef}
 use Rattle.std.specs.Slice.Iter.{iter_rest}
 use Rattle.std.specs.Iterator.Adapters.{enumerate_source, zip_first, zip_second}
 use Rattle.pgfeed.specs.Texts.{is_told}

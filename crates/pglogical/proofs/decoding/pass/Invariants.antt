@@ -1,5 +1,5 @@
 use Rattle.std.proofs.Common.{◌≡◌, ◌-◌, List}
-use Rattle.pglogical.specs.declared.item.Column.{Column}
+use Rattle.pglogical.specs.declared.message.Column.{Column}
 use Rattle.pglogical.specs.Reading.{columns_at}
 use Rattle.pglogical.proofs.Columns.{behind}
 use Rattle.pglogical.proofs.decoding.pass.Given as goal

@@ -1,5 +1,0 @@
-use Rattle.pglogical.specs.Typed.{AreTypedColumns}
-use Rattle.pglogical.proofs.typed.columns.Given as goal
-
-abbrev pub invariant-loop-each : goal.invariant-loop-each
-invariant-loop-each l = AreTypedColumns l.each-iterator → AreTypedColumns l.columns

@@ -1,5 +1,0 @@
-use Rattle.pglogical.specs.Typed.{AreNumbers}
-use Rattle.pglogical.proofs.typed.oids.Given as goal
-
-abbrev pub invariant-loop-oid : goal.invariant-loop-oid
-invariant-loop-oid l = AreNumbers l.oid-iterator → AreNumbers l.oids
