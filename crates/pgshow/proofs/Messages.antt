@@ -9,7 +9,7 @@ use Rattle.pglogical.specs.declared.message.Message.{Message}
 use Rattle.pglogical.specs.Spelling.{Says}
 use Rattle.pgorder.specs.declared.Version.{Version}
 use Rattle.pgorder.specs.declared.Event.{Event}
-use Rattle.pgorder.specs.declared.OrderFault.{OrderFault}
+use Rattle.pgorder.specs.declared.fault.OrderFault.{OrderFault}
 use Rattle.pgorder.specs.Laws.{AnswersByShape}
 use Rattle.pgorder.specs.States.{StreamOrder, is_in_block}
 use Rattle.pgorder.specs.Steps.{OrderState, StepResult, initial_order, order_run, order_step, then_order}

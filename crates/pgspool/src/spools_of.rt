@@ -2,7 +2,8 @@
 ghost use Rattle.std.specs.Prelude.{◌≡◌};
 ghost use Rattle.std.specs.FinMap as map;
 
-use crate::spools::{OVERHEAD, SpoolFault, Spools};
+use crate::fault::SpoolFault;
+use crate::spools::{OVERHEAD, Spools};
 use crate::transaction_items::TransactionItems;
 use indexmap::IndexMap;
 use pglogical::{ItemRef, spelled_len};
