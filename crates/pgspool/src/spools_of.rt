@@ -63,10 +63,8 @@ impl<T: TransactionItems> Spools for SpoolsOf<T> {
     }
 
     fn open(&mut self, xid: u32) -> Result<(), SpoolFault> {
-        match self.transactions.insert(xid, T::new(self.alloc)) {
-            Ok(_) => Ok(()),
-            Err(_) => Err(SpoolFault::Memory),
-        }
+        self.transactions.insert(xid, T::new(self.alloc))?;
+        Ok(())
     }
 
     fn push(&mut self, xid: u32, subxid: u32, item: &ItemRef<'_>) -> Result<(), SpoolFault> {
@@ -80,13 +78,9 @@ impl<T: TransactionItems> Spools for SpoolsOf<T> {
             unreachable!()
         };
         let cost = OVERHEAD + length;
-        match items.push(alloc, subxid, item, cost) {
-            Ok(()) => {
-                self.bytes += cost;
-                Ok(())
-            }
-            Err(_) => Err(SpoolFault::Memory),
-        }
+        items.push(alloc, subxid, item, cost)?;
+        self.bytes += cost;
+        Ok(())
     }
 
     fn cut(&mut self, xid: u32, subxid: u32) {
