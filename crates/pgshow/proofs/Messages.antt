@@ -93,6 +93,11 @@ memory_refuses frame old fault is = subst (RefusesFrame frame old) (sym is) (go 
     go (CopyData bytes) = λ v messages after. tt
     go CopyDone = λ v messages after. tt
 
+-- what holds of each fault that this one is turned into holds of the result
+pub on_told : {T E : Type 0} (r : Result T E) (Q P : E → Type 0) → IsErrAnd r Q → ((e : E) → Q e → P e) → IfErr r P
+on_told (Ok t) Q P h go = tt
+on_told (Err e) Q P h go = go e h
+
 -- a fault that `?` hands on
 pub on_residual : {T E : Type 0} (r : Result T E) (e : E) (P : E → Type 0) → IsErrAnd r (λ y. y ≡ e) → P e → IfErr r P
 on_residual (Ok t) e P h p = tt
