@@ -25,7 +25,7 @@ use Rattle.pgrel.proofs.Rows.{sent_stays}
 use Rattle.pgrel.proofs.Keys.{bag_identity}
 use Rattle.pgapply.specs.declared.op.Op.{Op}
 use Rattle.pgapply.specs.declared.op.Op.TheVariants.{Insert, Update, Delete, Truncate}
-use Rattle.pgapply.specs.declared.rows.StoreFault.{StoreFault}
+use Rattle.pgapply.specs.declared.fault.StoreFault.{StoreFault}
 use Rattle.pgapply.specs.Value.{Row, Rows, IsRow, identity_key, most_copies}
 use Rattle.pgapply.specs.CarriedCopies.{copies_of}
 use Rattle.pgapply.specs.Apply.{◌>>=◌, rows_after, in_store, with_row, without_row, added, updated, deleted}

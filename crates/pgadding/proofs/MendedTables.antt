@@ -15,7 +15,7 @@ use Rattle.pglogical.specs.declared.message.OldKind.TheVariants.{Full}
 use Rattle.pgrel.specs.Identity.{keyed, same_shape}
 use Rattle.pgrel.proofs.Shapes.{shapes_decide}
 use Rattle.pgapply.specs.declared.op.Op.{Op}
-use Rattle.pgapply.specs.declared.rows.StoreFault.{StoreFault}
+use Rattle.pgapply.specs.declared.fault.StoreFault.{StoreFault}
 use Rattle.pgapply.specs.Value.{Row, Rows, Table, Tables, AreRows, AreTables}
 use Rattle.pgapply.specs.CarriedCopies.{copies_at}
 use Rattle.pgapply.specs.Apply.{Change, apply, fold_changes, found_rows, carried_for, rows_after, ◌>>=◌}

@@ -5,7 +5,7 @@ use Rattle.std.specs.FinMap.{get-insert}
 use Rattle.std.specs.Cmp.{nat_cmp_total, unsigned_tied}
 use Rattle.std.specs.List.{AllByRecursion}
 use Rattle.std.proofs.lemmas.Bool.Decides.{nat_tests}
-use Rattle.pgapply.specs.declared.rows.StoreFault.{StoreFault}
+use Rattle.pgapply.specs.declared.fault.StoreFault.{StoreFault}
 use Rattle.pgapply.specs.Value.{Table, Tables, Rows}
 use Rattle.pgapply.specs.Apply.{Change, apply, fold_changes, found_rows, rows_after, ◌>>=◌}
 use Rattle.pgadding.proofs.LeftItems.{other_changes}

@@ -3,7 +3,7 @@ use Rattle.std.proofs.Common.{◌≡◌, ◌∷◌, [], Ok, Err, true, false}
 use Rattle.std.specs.FinMap as map
 use Rattle.pgtuple.specs.Cells.{tuple_spelling}
 use Rattle.pgtuple.specs.declared.cell.Cell.TheVariants.{Null}
-use Rattle.pgapply.specs.declared.rows.StoreFault.TheVariants as fault
+use Rattle.pgapply.specs.declared.fault.StoreFault.TheVariants as fault
 use Rattle.pgapply.specs.Apply.{carry_rows}
 use Rattle.pgapply.proofs.Relations.{text, column, t, t3, tv, f, fk, x, of_cells, place, row_of, lookups}
 

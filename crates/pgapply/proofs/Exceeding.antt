@@ -12,8 +12,8 @@ use Rattle.std.proofs.lemmas.Cmp.{tied_itself}
 use Rattle.pglogical.specs.declared.message.RelationDef.{RelationDef}
 use Rattle.pgrel.specs.Identity.{keyed, same_shape}
 use Rattle.pgapply.specs.declared.op.Op.{Op}
-use Rattle.pgapply.specs.declared.rows.StoreFault.{StoreFault}
-use Rattle.pgapply.specs.declared.rows.StoreFault.TheVariants.{Clash, TooManyCopies}
+use Rattle.pgapply.specs.declared.fault.StoreFault.{StoreFault}
+use Rattle.pgapply.specs.declared.fault.StoreFault.TheVariants.{Clash, TooManyCopies}
 use Rattle.pgapply.specs.Value.{Row, Rows, Table, IsRow, AreRows, identity_key, most_copies}
 use Rattle.pgapply.specs.Apply.{◌>>=◌, joined, moved, carry_row, carry_rows, found_rows, is_truncate}
 use Rattle.pgapply.specs.CarriedCopies.{copies_of, copies_at, copies_to, Exceeds}

@@ -6,7 +6,7 @@ use Rattle.pgtuple.specs.Cells.{tuple_spelling}
 use Rattle.pgtuple.specs.declared.cell.Cell.TheVariants.{Null, Unchanged}
 use Rattle.pglogical.specs.declared.message.OldKind.TheVariants.{Key, Full}
 use Rattle.pgapply.specs.declared.op.Op.TheVariants as op
-use Rattle.pgapply.specs.declared.rows.StoreFault.TheVariants as fault
+use Rattle.pgapply.specs.declared.fault.StoreFault.TheVariants as fault
 use Rattle.pgapply.specs.Apply.{Change, apply, rows_after, carry_rows}
 use Rattle.pgapply.specs.Missing.{finds_none, missing_in, all_missing, nothing_missed, with_misses}
 use Rattle.pgapply.proofs.Relations.{text, t, f, x, y, rows_1, rows_x, tables_1, lookups, tv, place, row_of}

@@ -7,8 +7,8 @@ use Rattle.pglogical.specs.declared.message.RelationDef.{RelationDef}
 use Rattle.pgrel.specs.Identity.{keyed, same_shape}
 use Rattle.pgrel.specs.Carried.{carried}
 use Rattle.pgapply.specs.declared.op.Op.{Op}
-use Rattle.pgapply.specs.declared.rows.StoreFault.{StoreFault}
-use Rattle.pgapply.specs.declared.rows.StoreFault.TheVariants.{Clash, TooManyCopies}
+use Rattle.pgapply.specs.declared.fault.StoreFault.{StoreFault}
+use Rattle.pgapply.specs.declared.fault.StoreFault.TheVariants.{Clash, TooManyCopies}
 use Rattle.pgapply.specs.Value.{Row, Rows, Table, AreRows, identity_key, most_copies}
 use Rattle.pgapply.specs.Apply.{found_rows, is_truncate}
 

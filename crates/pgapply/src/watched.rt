@@ -10,9 +10,10 @@ ghost use Rattle.pgapply.specs.Stored.{IsOwnFault};
 ghost use Rattle.pgapply.specs.Taken.{Folds, LeavesFold, LeavesStaged, Begins, Settles, Stays, RefusesWork, Shows};
 
 use crate::commit::Commit;
+use crate::fault::StoreFault;
 use crate::misses::Misses;
 use crate::replica_store::ReplicaStore;
-use crate::rows::{DumpRow, StoreFault};
+use crate::rows::DumpRow;
 use crate::sink::DumpSink;
 use crate::work::Work;
 use pglsn::Lsn;

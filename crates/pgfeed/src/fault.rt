@@ -1,5 +1,6 @@
 //! Why a feed isn't opened.
 
+use pgapply::StoreFault;
 use std::alloc::AllocError;
 use thiserror::Error;
 
@@ -28,5 +29,19 @@ impl From<AllocError> for FeedFault {
 
     fn from(_error: AllocError) -> FeedFault {
         FeedFault::Memory
+    }
+}
+
+/// What a store is told of a segment that isn't made.
+impl From<FeedFault> for StoreFault {
+    ghost use Rattle.pgapply.specs.Stored.{IsOwnFault};
+
+    ghost from_gives = { λ _ fault. IsOwnFault fault };
+
+    fn from(fault: FeedFault) -> StoreFault {
+        match fault {
+            FeedFault::Memory => StoreFault::Memory,
+            _ => StoreFault::Refused,
+        }
     }
 }

@@ -47,16 +47,6 @@ pub struct Feed<F: Folder + Drop> {
     limits: SegmentLimits,
 }
 
-/// What a store is told of a segment that isn't made.
-fn store_fault(fault: FeedFault) -> StoreFault
-    ensures { IsOwnFault result }
-{
-    match fault {
-        FeedFault::Memory => StoreFault::Memory,
-        _ => StoreFault::Refused,
-    }
-}
-
 impl<F: Folder + Drop> Feed<F> {
     /// A feed whose open segment is this one, of which all is synced.
     pub(crate) fn of(
@@ -202,10 +192,7 @@ impl<F: Folder + Drop> Feed<F> {
         let base = self.segment.last();
         self.segment.finish()?;
         self.ended.reserve(1)?;
-        let segment = match begin_segment(self.alloc, &mut self.folder, &self.names, base) {
-            Ok(segment) => segment,
-            Err(fault) => return Err(store_fault(fault)),
-        };
+        let segment = begin_segment(self.alloc, &mut self.folder, &self.names, base)?;
         let ended = std::mem::replace(&mut self.segment, segment);
         self.ended.push_reserved(ended);
         self.first = None;

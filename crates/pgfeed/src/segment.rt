@@ -3,7 +3,7 @@
 ghost use Rattle.std.specs.Prelude.{◌≡◌, ◌<◌, ◌+◌, ℕ, List, length, false, true, string_bytes};
 ghost use Rattle.std.specs.Prelude.{IsTrue, IfOk, OnOk, OnErr, IfErr};
 ghost use Rattle.pgapply.specs.Stored.{IsOwnFault};
-ghost use Rattle.pgapply.specs.declared.rows.StoreFault.TheVariants.{Refused};
+ghost use Rattle.pgapply.specs.declared.fault.StoreFault.TheVariants.{Refused};
 ghost use Rattle.pgledger.specs.Entries.{Entry, entry_of};
 ghost use Rattle.sqlite_disk.specs.Disk.{Holds, Only};
 ghost use Rattle.pgfeed.specs.Fits.{FitsEntry};

@@ -9,7 +9,7 @@ use Rattle.pgrel.specs.declared.fault.RelFault.{RelFault}
 use Rattle.pgrel.specs.Identity.{has_unchanged, resolved, same_shape, searched_identity}
 use Rattle.pgapply.specs.declared.op.Op.{Op}
 use Rattle.pgapply.specs.declared.op.Op.TheVariants.{Insert, Update, Delete, Truncate}
-use Rattle.pgapply.specs.declared.rows.StoreFault.{StoreFault}
+use Rattle.pgapply.specs.declared.fault.StoreFault.{StoreFault}
 use Rattle.pgapply.specs.Value.{Row, Rows, Table, Tables, AreTables, identity_key}
 use Rattle.pgapply.specs.Apply.{Change, carry_rows, found_rows, with_row, without_row, row_at, apply, fold_changes}
 use Rattle.pgledger.specs.declared.image.Image.{Image}

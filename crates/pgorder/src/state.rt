@@ -6,8 +6,9 @@ ghost use Rattle.pgorder.specs.Steps.{Outside, initial_order, order_step, in_ver
 ghost use Rattle.pgorder.specs.Laws.{AnswersByShape};
 ghost use Rattle.pgorder.specs.States.{StreamOrder, is_in_block, is_outside, Answers, IsFirstSegment};
 
+use crate::fault::OrderFault;
 use crate::open::OpenXids;
-use crate::{Event, OrderFault, Version};
+use crate::{Event, Version};
 use pglogical::MessageRef;
 use pglsn::Lsn;
 use std::alloc::Global;

@@ -6,7 +6,7 @@ ghost use Rattle.sqlite.specs.Files.{over_files};
 ghost use Rattle.sqlite.specs.Held as connection;
 ghost use Rattle.sqlite.specs.State.{HasCleanDisk};
 ghost use Rattle.sqlite.specs.WalFiles.{image_at};
-ghost use Rattle.pgapply.specs.declared.rows.StoreFault.{StoreFault};
+ghost use Rattle.pgapply.specs.declared.fault.StoreFault.{StoreFault};
 ghost use Rattle.pgfeed.specs.declared.fault.FeedFault.{FeedFault};
 ghost use Rattle.pgfeed.specs.declared.feed.Feed.{Feed};
 ghost use Rattle.pgfollow.specs.declared.fault.FollowFault.{FollowFault};

@@ -8,7 +8,7 @@ ghost use Rattle.sqlite.specs.WalFiles.{image_at};
 ghost use Rattle.pgapply.specs.Dump.{dump};
 ghost use Rattle.pgapply.specs.Taken.{Stays};
 ghost use Rattle.pgapply.specs.Value.{Tables};
-ghost use Rattle.pgapply.specs.declared.rows.StoreFault.{StoreFault};
+ghost use Rattle.pgapply.specs.declared.fault.StoreFault.{StoreFault};
 ghost use Rattle.pgfollow.specs.declared.fault.FollowFault.{FollowFault};
 ghost use Rattle.pgfollow.specs.declared.fault.FollowFault.TheVariants as follow;
 ghost use Rattle.pgfollow.specs.Live.{IsOfFollowing};

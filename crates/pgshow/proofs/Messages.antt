@@ -9,7 +9,7 @@ use Rattle.pglogical.specs.declared.message.Message.{Message}
 use Rattle.pglogical.specs.Spelling.{Says}
 use Rattle.pgorder.specs.declared.Version.{Version}
 use Rattle.pgorder.specs.declared.Event.{Event}
-use Rattle.pgorder.specs.declared.OrderFault.{OrderFault}
+use Rattle.pgorder.specs.declared.fault.OrderFault.{OrderFault}
 use Rattle.pgorder.specs.Laws.{AnswersByShape}
 use Rattle.pgorder.specs.States.{StreamOrder, is_in_block}
 use Rattle.pgorder.specs.Steps.{OrderState, StepResult, initial_order, order_run, order_step, then_order}
@@ -92,6 +92,11 @@ memory_refuses frame old fault is = subst (RefusesFrame frame old) (sym is) (go 
     go : (f : Frame) → RefusesFrame f old Memory
     go (CopyData bytes) = λ v messages after. tt
     go CopyDone = λ v messages after. tt
+
+-- what holds of each fault that this one is turned into holds of the result
+pub on_told : {T E : Type 0} (r : Result T E) (Q P : E → Type 0) → IsErrAnd r Q → ((e : E) → Q e → P e) → IfErr r P
+on_told (Ok t) Q P h go = tt
+on_told (Err e) Q P h go = go e h
 
 -- a fault that `?` hands on
 pub on_residual : {T E : Type 0} (r : Result T E) (e : E) (P : E → Type 0) → IsErrAnd r (λ y. y ≡ e) → P e → IfErr r P

@@ -8,7 +8,7 @@ use Rattle.pglogical.specs.declared.fault.DecodeFault.{DecodeFault}
 use Rattle.pglogical.specs.declared.message.Message.{Message}
 use Rattle.pglogical.specs.Spelling.{message_spelling, IsWireMessage}
 use Rattle.pglogical.specs.Laws as laws
-use Rattle.pgorder.specs.declared.OrderFault.{OrderFault}
+use Rattle.pgorder.specs.declared.fault.OrderFault.{OrderFault}
 use Rattle.pgorder.specs.declared.Version.{Version}
 use Rattle.pgorder.specs.Shape.{IsShaped}
 use Rattle.pgorder.specs.Steps.{OrderState, initial_order, order_run}

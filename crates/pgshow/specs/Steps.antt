@@ -8,8 +8,8 @@ use Rattle.pgwire.specs.Deframed.{Deframed, IsFed, Stands, Waits, after_release}
 use Rattle.pgwire.specs.Calls.{Call, Leads}
 use Rattle.pglogical.specs.declared.message.Message.{Message}
 use Rattle.pglogical.specs.Spelling.{message_spelling, IsWireMessage}
-use Rattle.pgorder.specs.declared.OrderFault.{OrderFault}
-use Rattle.pgorder.specs.declared.OrderFault.TheVariants as order_fault
+use Rattle.pgorder.specs.declared.fault.OrderFault.{OrderFault}
+use Rattle.pgorder.specs.declared.fault.OrderFault.TheVariants as order_fault
 use Rattle.pgorder.specs.declared.Version.{Version}
 use Rattle.pgorder.specs.Shape.{IsShaped}
 use Rattle.pgorder.specs.Steps.{initial_order, order_run}

@@ -1,7 +1,5 @@
 //! Why a session can't be shown further.
 
-ghost use Rattle.pgshow.specs.Steps.{IsOrderFault, IsWireFault};
-
 use pglogical::DecodeFault;
 use pgorder::OrderFault;
 use pgwire::WireFault;
@@ -37,21 +35,29 @@ impl From<AllocError> for Fault {
 }
 
 /// Tells out of memory from the other faults.
-pub(crate) fn wire_fault(fault: WireFault) -> Fault
-    ensures { IsWireFault fault result }
-{
-    match fault {
-        WireFault::Memory => Fault::Memory,
-        _ => Fault::Wire(fault),
+impl From<WireFault> for Fault {
+    ghost use Rattle.pgshow.specs.Steps.{IsWireFault};
+
+    ghost from_gives = { λ fault told. IsWireFault fault told };
+
+    fn from(fault: WireFault) -> Fault {
+        match fault {
+            WireFault::Memory => Fault::Memory,
+            _ => Fault::Wire(fault),
+        }
     }
 }
 
 /// Tells out of memory from the other faults.
-pub(crate) fn order_fault(fault: OrderFault) -> Fault
-    ensures { IsOrderFault fault result }
-{
-    match fault {
-        OrderFault::Memory => Fault::Memory,
-        _ => Fault::Order(fault),
+impl From<OrderFault> for Fault {
+    ghost use Rattle.pgshow.specs.Steps.{IsOrderFault};
+
+    ghost from_gives = { λ fault told. IsOrderFault fault told };
+
+    fn from(fault: OrderFault) -> Fault {
+        match fault {
+            OrderFault::Memory => Fault::Memory,
+            _ => Fault::Order(fault),
+        }
     }
 }

@@ -8,7 +8,7 @@ ghost use Rattle.pgwire.specs.Frames.{CopyData};
 ghost use Rattle.pgwire.specs.Lent.{frame_value};
 ghost use Rattle.pgshow.specs.Steps.{RefusesBody, RefusesFrame, RefusesPayload, TakesBody, TakesData, TakesFrame};
 
-use crate::fault::{Fault, order_fault};
+use crate::fault::Fault;
 use pgjson::{data_line, done_line, keepalive_line};
 use pglogical::{MessageRef, decode_ref};
 use pglsn::Lsn;
@@ -26,10 +26,8 @@ fn next_message<'b>(order: &mut Order, body: &'b [u8]) -> Result<MessageRef<'b>,
         Ok(message) => message,
         Err(fault) => return Err(Fault::Decode(fault)),
     };
-    match order.step(&message) {
-        Ok(_) => Ok(message),
-        Err(fault) => Err(order_fault(fault)),
-    }
+    order.step(&message)?;
+    Ok(message)
 }
 
 /// The line of XLogData.

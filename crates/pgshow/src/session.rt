@@ -9,7 +9,7 @@ ghost use Rattle.pgwire.specs.Deframed.{IsFed, Waits};
 ghost use Rattle.pgshow.specs.Shown.{IsShownAs, fault_in};
 ghost use Rattle.pgshow.specs.Steps.{RefusesFeed, RefusesWhole, ShowsPiece, ShowsWhole, StopsInPiece};
 
-use crate::fault::{Fault, wire_fault};
+use crate::fault::Fault;
 use crate::frames::frame_line;
 use pgorder::{Order, Version};
 use pgtuple::Bytes;
@@ -21,10 +21,8 @@ fn feed_frames(deframer: &mut Deframer, rest: &[u8]) -> Result<usize, Fault>
     ensures fed { IfOk result (λ n. IsFed deframer.old rest.now (Ok n) deframer.new) }
     ensures refused { IfErr result (RefusesFeed rest.now deframer.old deframer.new) }
 {
-    match deframer.feed(rest) {
-        Ok(count) => Ok(count),
-        Err(fault) => Err(wire_fault(fault)),
-    }
+    let count = deframer.feed(rest)?;
+    Ok(count)
 }
 
 /// Appends the line of the complete frame, and forgets it.

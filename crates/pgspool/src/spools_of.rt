@@ -2,7 +2,8 @@
 ghost use Rattle.std.specs.Prelude.{◌≡◌};
 ghost use Rattle.std.specs.FinMap as map;
 
-use crate::spools::{OVERHEAD, SpoolFault, Spools};
+use crate::fault::SpoolFault;
+use crate::spools::{OVERHEAD, Spools};
 use crate::transaction_items::TransactionItems;
 use indexmap::IndexMap;
 use pglogical::{ItemRef, spelled_len};
@@ -62,10 +63,8 @@ impl<T: TransactionItems> Spools for SpoolsOf<T> {
     }
 
     fn open(&mut self, xid: u32) -> Result<(), SpoolFault> {
-        match self.transactions.insert(xid, T::new(self.alloc)) {
-            Ok(_) => Ok(()),
-            Err(_) => Err(SpoolFault::Memory),
-        }
+        self.transactions.insert(xid, T::new(self.alloc))?;
+        Ok(())
     }
 
     fn push(&mut self, xid: u32, subxid: u32, item: &ItemRef<'_>) -> Result<(), SpoolFault> {
@@ -79,13 +78,9 @@ impl<T: TransactionItems> Spools for SpoolsOf<T> {
             unreachable!()
         };
         let cost = OVERHEAD + length;
-        match items.push(alloc, subxid, item, cost) {
-            Ok(()) => {
-                self.bytes += cost;
-                Ok(())
-            }
-            Err(_) => Err(SpoolFault::Memory),
-        }
+        items.push(alloc, subxid, item, cost)?;
+        self.bytes += cost;
+        Ok(())
     }
 
     fn cut(&mut self, xid: u32, subxid: u32) {

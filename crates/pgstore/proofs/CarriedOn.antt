@@ -17,7 +17,7 @@ use Rattle.pgrel.specs.Identity.{keyed}
 use Rattle.pgtables.specs.Kept as stored
 use Rattle.pgtables.specs.Shown.{ListsRows}
 use Rattle.pgrows.specs.Rows.{state, tables_of}
-use Rattle.pgapply.specs.declared.rows.StoreFault.{StoreFault}
+use Rattle.pgapply.specs.declared.fault.StoreFault.{StoreFault}
 use Rattle.pgapply.specs.Value.{Row, Rows, Table, Tables, IsRow}
 use Rattle.pgapply.specs.Apply.{◌>>=◌, carry_row, carry_rows}
 use Rattle.pgapply.specs.Stored.{IsFault}

@@ -10,7 +10,7 @@ use Rattle.pgtables.specs.Kept as stored
 use Rattle.pgtables.specs.Kept.{IsKept, tables_in, with_place}
 use Rattle.pgrows.specs.Rows.{IfServing, Makes, Shows, database, state, tables_of}
 use Rattle.pgapply.specs.declared.op.Op.{Op}
-use Rattle.pgapply.specs.declared.rows.StoreFault.{StoreFault}
+use Rattle.pgapply.specs.declared.fault.StoreFault.{StoreFault}
 use Rattle.pgapply.specs.Value.{Tables}
 use Rattle.pgstore.specs.Sources.{Begins}
 use Rattle.pgstore.specs.Spelled.{IsStored}

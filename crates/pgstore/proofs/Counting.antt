@@ -5,7 +5,7 @@ use Rattle.std.specs.FinMap as map
 use Rattle.pglogical.specs.declared.message.RelationDef.{RelationDef}
 use Rattle.pgapply.specs.declared.op.Op.{Op}
 use Rattle.pgapply.specs.declared.misses.Misses.{Misses}
-use Rattle.pgapply.specs.declared.rows.StoreFault.{StoreFault}
+use Rattle.pgapply.specs.declared.fault.StoreFault.{StoreFault}
 use Rattle.pgapply.specs.Value.{Rows, Tables}
 use Rattle.pgapply.specs.Apply.{Change, ◌>>=◌, apply, fold_changes, found_rows}
 use Rattle.pgapply.specs.Missing.{all_missing, behind, finds_none, missing, missing_in, oids_of, with_miss, with_misses}

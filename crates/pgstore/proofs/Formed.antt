@@ -19,7 +19,7 @@ use Rattle.pgrows.specs.declared.fault.ReadFault.{ReadFault}
 use Rattle.pgrows.specs.declared.fault.ReadFault.TheVariants.{Store, Malformed}
 use Rattle.pgtables.specs.Kept as stored
 use Rattle.pgtables.specs.Shown.{AllFit, FitsCopies, FitsDefinition}
-use Rattle.pgapply.specs.declared.rows.StoreFault.{StoreFault}
+use Rattle.pgapply.specs.declared.fault.StoreFault.{StoreFault}
 use Rattle.pgapply.specs.Value.{Row, Rows, Table, Tables, most_copies}
 use Rattle.pgapply.specs.Stored.{IsOwnFault}
 use Rattle.pgstore.specs.SqlFault.{IsReadFaultOf, IsTreeFaultOf}

@@ -15,7 +15,7 @@ use Rattle.pgtables.specs.Kept.{tables_in}
 use Rattle.pgrows.specs.Rows.{state, tables_of}
 use Rattle.pgapply.specs.declared.op.Op.{Op}
 use Rattle.pgapply.specs.declared.misses.Misses.{Misses}
-use Rattle.pgapply.specs.declared.rows.StoreFault.{StoreFault}
+use Rattle.pgapply.specs.declared.fault.StoreFault.{StoreFault}
 use Rattle.pgapply.specs.Value.{Tables}
 use Rattle.pgapply.specs.Works.{change_values}
 use Rattle.pgapply.specs.Apply.{Change, fold_changes}

@@ -12,8 +12,8 @@ use Rattle.pgrel.specs.Identity.{keyed}
 use Rattle.pgrel.specs.Carried.{carried}
 use Rattle.pgrel.proofs.CarriedRows.{carried_width, carried_whole}
 use Rattle.pgtables.specs.Kept as stored
-use Rattle.pgapply.specs.declared.rows.StoreFault.{StoreFault}
-use Rattle.pgapply.specs.declared.rows.StoreFault.TheVariants.{Clash, TooManyCopies}
+use Rattle.pgapply.specs.declared.fault.StoreFault.{StoreFault}
+use Rattle.pgapply.specs.declared.fault.StoreFault.TheVariants.{Clash, TooManyCopies}
 use Rattle.pgapply.specs.Value.{Row, Rows, Tables, identity_key, most_copies}
 use Rattle.pgapply.specs.Apply.{joined, moved}
 use Rattle.pgapply.specs.Stored.{IsFault}

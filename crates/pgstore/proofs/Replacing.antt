@@ -6,7 +6,7 @@ use Rattle.pglogical.specs.Spelling.{IsDefinition, columns_spelling}
 use Rattle.pgrel.specs.Identity.{same_shape}
 use Rattle.pgtables.specs.Kept as stored
 use Rattle.pgapply.specs.declared.op.Op.{Op}
-use Rattle.pgapply.specs.declared.rows.StoreFault.{StoreFault}
+use Rattle.pgapply.specs.declared.fault.StoreFault.{StoreFault}
 use Rattle.pgapply.specs.Value.{Row, Rows, Tables}
 use Rattle.pgapply.specs.Apply.{carry_rows, found_rows, is_truncate}
 use Rattle.pgapply.specs.Stored.{IsFault}

@@ -7,7 +7,7 @@ use Rattle.sqlite.specs.Store.{Ghosts}
 use Rattle.pgrows.specs.Rows.{state}
 use Rattle.pgstore.specs.Acts.{committed_of}
 use Rattle.pgapply.specs.declared.rows.DumpRow.{DumpRow}
-use Rattle.pgapply.specs.declared.rows.StoreFault.{StoreFault}
+use Rattle.pgapply.specs.declared.fault.StoreFault.{StoreFault}
 use Rattle.pgapply.specs.Value.{Tables}
 use Rattle.pgapply.specs.Apply.{Change}
 use Rattle.pgapply.specs.Dump.{dump}

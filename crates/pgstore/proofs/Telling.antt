@@ -4,7 +4,7 @@ use Rattle.std.specs.Prelude.{IfSome}
 use Rattle.std.specs.FinMap as map
 use Rattle.pglogical.specs.declared.message.RelationDef.{RelationDef}
 use Rattle.pgapply.specs.declared.op.Op.{Op}
-use Rattle.pgapply.specs.declared.rows.StoreFault.{StoreFault}
+use Rattle.pgapply.specs.declared.fault.StoreFault.{StoreFault}
 use Rattle.pgapply.specs.declared.commit.About.{About}
 use Rattle.pgapply.specs.Value.{Rows, Tables}
 use Rattle.pgapply.specs.Apply.{Change, ◌>>=◌, apply, fold_changes, found_rows}

@@ -12,8 +12,8 @@ use Rattle.pgrel.specs.Identity.{keyed, has_unchanged, resolved}
 use Rattle.pgtables.specs.Kept as stored
 use Rattle.pgtables.specs.Kept.{tables_in}
 use Rattle.pgrows.specs.Rows.{IfServing, Keeps, Makes, database, state, tables_of}
-use Rattle.pgapply.specs.declared.rows.StoreFault.{StoreFault}
-use Rattle.pgapply.specs.declared.rows.StoreFault.TheVariants.{Clash, TooManyCopies}
+use Rattle.pgapply.specs.declared.fault.StoreFault.{StoreFault}
+use Rattle.pgapply.specs.declared.fault.StoreFault.TheVariants.{Clash, TooManyCopies}
 use Rattle.pgapply.specs.Value.{Row, Rows, Tables, identity_key, most_copies}
 use Rattle.pgapply.specs.declared.op.Op.{Op}
 use Rattle.pgapply.specs.declared.misses.Misses.{Misses}

@@ -18,8 +18,8 @@ use Rattle.pgtables.specs.Kept.{AreDefined, AreHeld, IsKept, IsUnderWay, no_tabl
 use Rattle.pgtables.specs.Opened.{AreAccepted, ListsDefinitions}
 use Rattle.pgtables.specs.declared.remains.Remains.{Remains}
 use Rattle.pgtables.specs.Remains.{remaining}
-use Rattle.pgapply.specs.declared.rows.StoreFault.{StoreFault}
-use Rattle.pgapply.specs.declared.rows.StoreFault.TheVariants.{NotAStore}
+use Rattle.pgapply.specs.declared.fault.StoreFault.{StoreFault}
+use Rattle.pgapply.specs.declared.fault.StoreFault.TheVariants.{NotAStore}
 use Rattle.pgapply.specs.Value.{Row, IsRow, Tables}
 use Rattle.pgapply.specs.Stored.{Stored, IsOwnFault}
 use Rattle.pgstore.specs.Spelled.{IsGivable, IsReadable, IsStored, spelled_definition}

@@ -14,8 +14,8 @@ use Rattle.pgtables.specs.Kept as stored
 use Rattle.pgtables.specs.Shown.{ListsRows}
 use Rattle.pgrows.specs.Rows.{Makes, state, tables_of}
 use Rattle.pgapply.specs.declared.op.Op.{Op}
-use Rattle.pgapply.specs.declared.rows.StoreFault.{StoreFault}
-use Rattle.pgapply.specs.declared.rows.StoreFault.TheVariants.{Clash, TooManyCopies}
+use Rattle.pgapply.specs.declared.fault.StoreFault.{StoreFault}
+use Rattle.pgapply.specs.declared.fault.StoreFault.TheVariants.{Clash, TooManyCopies}
 use Rattle.pgapply.specs.Value.{Row, Rows, Tables, identity_key, most_copies}
 use Rattle.pgapply.specs.Apply.{joined, carry_row, carry_rows, found_rows}
 use Rattle.pgapply.specs.Stored.{IsFault, IsOwnFault}

@@ -9,7 +9,7 @@ use Rattle.pgrel.specs.Identity.{searched_identity}
 use Rattle.pgtables.specs.Kept as stored
 use Rattle.pgrows.specs.Rows.{tables_of}
 use Rattle.pgapply.specs.declared.op.Op.{Op}
-use Rattle.pgapply.specs.declared.rows.StoreFault.{StoreFault}
+use Rattle.pgapply.specs.declared.fault.StoreFault.{StoreFault}
 use Rattle.pgapply.specs.Value.{Row, Rows, Tables}
 use Rattle.pgapply.specs.Works.{change_values}
 use Rattle.pgapply.specs.declared.commit.About.{About}

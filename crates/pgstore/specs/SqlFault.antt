@@ -7,8 +7,8 @@ use Rattle.sqlite_trees.specs.declared.error.StoreError.{StoreError}
 use Rattle.sqlite_trees.specs.declared.error.StoreError.TheVariants as tree
 use Rattle.pgrows.specs.declared.fault.ReadFault.{ReadFault}
 use Rattle.pgrows.specs.declared.fault.ReadFault.TheVariants.{Store, Malformed}
-use Rattle.pgapply.specs.declared.rows.StoreFault.{StoreFault}
-use Rattle.pgapply.specs.declared.rows.StoreFault.TheVariants.{Refused, NotAStore, Memory}
+use Rattle.pgapply.specs.declared.fault.StoreFault.{StoreFault}
+use Rattle.pgapply.specs.declared.fault.StoreFault.TheVariants.{Refused, NotAStore, Memory}
 
 -- out of memory is told from each other cause
 abbrev pub IsFaultOf : Error → StoreFault → Type 0

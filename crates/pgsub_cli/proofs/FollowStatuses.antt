@@ -1,8 +1,8 @@
 -- The exit status of following, at each way to end.
 use Rattle.std.proofs.Common.{◌≡◌, None, Some, refl}
 use Rattle.pgwire.specs.declared.fault.WireFault.TheVariants as wire
-use Rattle.pgspool.specs.declared.spools.SpoolFault.TheVariants as spool
-use Rattle.pgapply.specs.declared.rows.StoreFault.TheVariants as store
+use Rattle.pgspool.specs.declared.fault.SpoolFault.TheVariants as spool
+use Rattle.pgapply.specs.declared.fault.StoreFault.TheVariants as store
 use Rattle.pgsub_core.specs.declared.fault.Fault.TheVariants as fault
 use Rattle.pgfollow.specs.declared.fault.FollowFault.TheVariants as follow
 use Rattle.pgsub_cli.specs.FollowStatus.{status_of_follow, status_of_unfollowed}

@@ -5,7 +5,7 @@ use Rattle.std.specs.List.{flat_map}
 use Rattle.std.proofs.lemmas.Grind.{flat_map-append}
 use Rattle.std.proofs.lemmas.List.{append_assoc, append-nil}
 use Rattle.pgapply.specs.declared.rows.DumpRow.{DumpRow}
-use Rattle.pgapply.specs.declared.rows.StoreFault.{StoreFault}
+use Rattle.pgapply.specs.declared.fault.StoreFault.{StoreFault}
 use Rattle.pgapply.specs.Stored.{IsOwnFault}
 use Rattle.pgsub_core.specs.Machine.Faults.{IsReadFault, fault_of_store}
 use Rattle.pgsub_core.specs.declared.fault.Fault.{Fault}

@@ -6,14 +6,14 @@ use Rattle.pgtuple.specs.declared.fault.TupleFault.{TupleFault}
 use Rattle.pgtuple.specs.declared.fault.TupleFault.TheVariants as tuple
 use Rattle.pglogical.specs.declared.fault.Reason.{Reason}
 use Rattle.pglogical.specs.declared.fault.Reason.TheVariants as reason
-use Rattle.pgorder.specs.declared.OrderFault.{OrderFault}
-use Rattle.pgorder.specs.declared.OrderFault.TheVariants as order
+use Rattle.pgorder.specs.declared.fault.OrderFault.{OrderFault}
+use Rattle.pgorder.specs.declared.fault.OrderFault.TheVariants as order
 use Rattle.pgrel.specs.declared.fault.RelFault.{RelFault}
 use Rattle.pgrel.specs.declared.fault.RelFault.TheVariants as relation
-use Rattle.pgspool.specs.declared.spools.SpoolFault.{SpoolFault}
-use Rattle.pgspool.specs.declared.spools.SpoolFault.TheVariants as spool
-use Rattle.pgapply.specs.declared.rows.StoreFault.{StoreFault}
-use Rattle.pgapply.specs.declared.rows.StoreFault.TheVariants as store
+use Rattle.pgspool.specs.declared.fault.SpoolFault.{SpoolFault}
+use Rattle.pgspool.specs.declared.fault.SpoolFault.TheVariants as spool
+use Rattle.pgapply.specs.declared.fault.StoreFault.{StoreFault}
+use Rattle.pgapply.specs.declared.fault.StoreFault.TheVariants as store
 use Rattle.pgsub_core.specs.declared.fault.Fault.{Fault}
 use Rattle.pgsub_core.specs.declared.fault.Fault.TheVariants as fault
 use Rattle.pgsub_core.specs.declared.converging.Side.TheVariants.{Left, Right}

@@ -3,9 +3,9 @@
 -- changes found no row.
 use Rattle.std.specs.Prelude.{ℕ, Option, None, Some, nat_lt, if◌then◌else◌}
 use Rattle.pgwire.specs.declared.fault.WireFault.TheVariants as wire
-use Rattle.pgspool.specs.declared.spools.SpoolFault.TheVariants as spool
-use Rattle.pgapply.specs.declared.rows.StoreFault.{StoreFault}
-use Rattle.pgapply.specs.declared.rows.StoreFault.TheVariants as store
+use Rattle.pgspool.specs.declared.fault.SpoolFault.TheVariants as spool
+use Rattle.pgapply.specs.declared.fault.StoreFault.{StoreFault}
+use Rattle.pgapply.specs.declared.fault.StoreFault.TheVariants as store
 use Rattle.pgsub_core.specs.declared.fault.Fault.{Fault}
 use Rattle.pgsub_core.specs.declared.fault.Fault.TheVariants as fault
 use Rattle.pgfollow.specs.declared.fault.FollowFault.{FollowFault}

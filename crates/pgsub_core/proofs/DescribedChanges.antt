@@ -165,6 +165,11 @@ pub on_residual : {T E : Type 0} (r : Result T E) (e : E) (P : E → Type 0) →
 on_residual (Ok t) e P h p = tt
 on_residual (Err y) e P h p = subst P (sym h) p
 
+-- a fault that `?` turns into this one
+pub on_told : {T E : Type 0} (r : Result T E) (e : E) (Q P : E → Type 0) → IsErrAnd r (λ y. (y ≡ e) × Q y) → P e → IfErr r P
+on_told (Ok t) e Q P h p = tt
+on_told (Err y) e Q P h p = subst P (sym h.0) p
+
 pub on_ok : {T E : Type 0} (r : Result T E) (A B : Type 0) → OnOk r A → (A → B) → OnOk r B
 on_ok (Ok t) A B h go = go h
 on_ok (Err e) A B h go = tt

@@ -5,7 +5,7 @@ use Rattle.pglogical.specs.declared.message.Message.{Message}
 use Rattle.pglogical.specs.declared.fault.DecodeFault.{DecodeFault}
 use Rattle.pgorder.specs.States.{is_in_block}
 use Rattle.pgorder.specs.Steps.{OrderState}
-use Rattle.pgspool.specs.declared.spools.SpoolFault.TheVariants as spool
+use Rattle.pgspool.specs.declared.fault.SpoolFault.TheVariants as spool
 use Rattle.pgwire.specs.Frames.{Frame, CopyData, CopyDone}
 use Rattle.pgwire.specs.Payloads as wire
 use Rattle.pgwire.specs.Payloads.{ServerMessage, payload_at}

@@ -8,8 +8,8 @@ use Rattle.pgorder.specs.declared.Version.{Version}
 use Rattle.pgorder.specs.declared.Version.TheVariants.{One, Two}
 use Rattle.pgorder.specs.declared.Event.{Event}
 use Rattle.pgorder.specs.declared.Event.TheVariants as event
-use Rattle.pgorder.specs.declared.OrderFault.{OrderFault}
-use Rattle.pgorder.specs.declared.OrderFault.TheVariants as order
+use Rattle.pgorder.specs.declared.fault.OrderFault.{OrderFault}
+use Rattle.pgorder.specs.declared.fault.OrderFault.TheVariants as order
 use Rattle.pgorder.specs.OpenXids.{is_open}
 use Rattle.pgorder.specs.Steps.{Context, Outside, InPair, InBlock, OrderState, StepResult, order_step, in_version_2, step_inner, step_item, step_begin, step_commit, step_stream_start, step_stream_stop, step_stream_commit, step_stream_abort}
 use Rattle.pgspool.specs.Labels.{HeldMap, cost, all_costs, items_of, held_of}

@@ -7,7 +7,7 @@ use Rattle.std.proofs.lemmas.Bool.Decides.{nat_tests}
 use Rattle.pglogical.specs.declared.message.RelationDef.{RelationDef}
 use Rattle.pglogical.specs.declared.message.Item.{Item}
 use Rattle.pgapply.specs.declared.misses.Misses.{Misses}
-use Rattle.pgapply.specs.declared.rows.StoreFault.{StoreFault}
+use Rattle.pgapply.specs.declared.fault.StoreFault.{StoreFault}
 use Rattle.pgapply.specs.Value.{Tables}
 use Rattle.pgapply.specs.Apply.{fold_changes}
 use Rattle.pgapply.specs.Missing.{all_missing, with_misses}

@@ -4,14 +4,14 @@ use Rattle.pgwire.specs.Frames.{Frame, CopyData, CopyDone, frame, frames, IsAllo
 use Rattle.pgwire.specs.declared.fault.WireFault.{WireFault}
 use Rattle.pgwire.specs.declared.fault.WireFault.TheVariants as wire_fault
 use Rattle.pgwire.proofs.Readings.{one_frame, first_frame, one_deframing, one_break, partial_has_no_fault, frame_has_no_fault}
-use Rattle.pgorder.specs.declared.OrderFault.{OrderFault}
-use Rattle.pgorder.specs.declared.OrderFault.TheVariants as order
+use Rattle.pgorder.specs.declared.fault.OrderFault.{OrderFault}
+use Rattle.pgorder.specs.declared.fault.OrderFault.TheVariants as order
 use Rattle.pgrel.specs.declared.fault.RelFault.{RelFault}
 use Rattle.pgrel.specs.declared.fault.RelFault.TheVariants as rel
-use Rattle.pgspool.specs.declared.spools.SpoolFault.{SpoolFault}
-use Rattle.pgspool.specs.declared.spools.SpoolFault.TheVariants as spool
-use Rattle.pgapply.specs.declared.rows.StoreFault.{StoreFault}
-use Rattle.pgapply.specs.declared.rows.StoreFault.TheVariants as store
+use Rattle.pgspool.specs.declared.fault.SpoolFault.{SpoolFault}
+use Rattle.pgspool.specs.declared.fault.SpoolFault.TheVariants as spool
+use Rattle.pgapply.specs.declared.fault.StoreFault.{StoreFault}
+use Rattle.pgapply.specs.declared.fault.StoreFault.TheVariants as store
 use Rattle.pgsub_core.specs.declared.fault.Fault.{Fault}
 use Rattle.pgsub_core.specs.declared.fault.Fault.TheVariants as fault
 use Rattle.pgsub_core.specs.Machine.Replica.{Outcome, Running, Stopped, then_run}

@@ -1,9 +1,9 @@
 -- What is fed, followed and compared, at the edges.
 use Rattle.std.proofs.Common.{◌≡◌, ◌∷◌, ◌++◌, [], List, true, false, Some, None, Err, inl, inr, pos, refl, sym, ap, subst, ◌∙◌, arith}
 use Rattle.pgorder.specs.declared.Version.TheVariants.{Two}
-use Rattle.pgspool.specs.declared.spools.SpoolFault.TheVariants as spool
+use Rattle.pgspool.specs.declared.fault.SpoolFault.TheVariants as spool
 use Rattle.pgapply.specs.declared.rows.DumpRow.{DumpRow}
-use Rattle.pgapply.specs.declared.rows.StoreFault.TheVariants as store
+use Rattle.pgapply.specs.declared.fault.StoreFault.TheVariants as store
 use Rattle.pgwire.specs.Frames as wire
 use Rattle.pgwire.specs.declared.fault.WireFault.TheVariants as wire_fault
 use Rattle.pgsub_core.specs.declared.converging.Side.TheVariants.{Left, Right}

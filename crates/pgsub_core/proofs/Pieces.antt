@@ -7,7 +7,7 @@ use Rattle.pgorder.specs.States.{is_in_block}
 use Rattle.pgwire.specs.Frames.{Frame, CopyData, CopyDone, frame, frames, AreFrames, IsPartial, has_copy_done}
 use Rattle.pgwire.specs.Payloads.{ServerMessage, XLogData, Keepalive, payload_at}
 use Rattle.pgwire.specs.declared.fault.WireFault.{WireFault}
-use Rattle.pgspool.specs.declared.spools.SpoolFault.TheVariants as spool
+use Rattle.pgspool.specs.declared.fault.SpoolFault.TheVariants as spool
 use Rattle.pgsub_core.specs.declared.fault.Fault.{Fault}
 use Rattle.pgsub_core.specs.declared.fault.Fault.TheVariants as fault
 use Rattle.pgsub_core.specs.Server.Stream.{Sent, Data, Kind, BeginsPair, CommitsPair, Holds, StartsBlock, StopsBlock, CommitsStream, AbortsStream, ChangesNothing, kind}

@@ -4,7 +4,7 @@ use Rattle.std.specs.FinMap as map
 use Rattle.pglogical.specs.Spelling.{item_spelling}
 use Rattle.pglogical.specs.declared.message.Item.TheVariants as item
 use Rattle.pgorder.specs.Steps.{InPair, initial_order}
-use Rattle.pgspool.specs.declared.spools.SpoolFault.TheVariants as spool
+use Rattle.pgspool.specs.declared.fault.SpoolFault.TheVariants as spool
 use Rattle.pgsub_core.specs.declared.fault.Fault.TheVariants as fault
 use Rattle.pgsub_core.specs.Server.History.{Transaction}
 use Rattle.pgsub_core.specs.Server.Stream.{Sent}

@@ -13,7 +13,7 @@ use Rattle.pgspool.specs.Labels.{items_of, held_of}
 use Rattle.pgwire.specs.Frames as wire
 use Rattle.pgwire.specs.Payloads.{payload_at}
 use Rattle.pgwire.specs.declared.fault.WireFault.{WireFault}
-use Rattle.pgapply.specs.declared.rows.StoreFault.{StoreFault}
+use Rattle.pgapply.specs.declared.fault.StoreFault.{StoreFault}
 use Rattle.pgapply.specs.Value.{Tables}
 use Rattle.pgapply.specs.Apply.{Change}
 use Rattle.pgsub_core.specs.declared.fault.Fault.{Fault}

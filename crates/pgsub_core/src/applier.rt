@@ -25,15 +25,15 @@ ghost use Rattle.pgsub_core.specs.Calls.Committing.{Commits, RefusesCommit};
 ghost use Rattle.pgsub_core.specs.Machine.Counted.{message_counted, decoded_counted, frame_counted, CountsCommit, CountsEvent, CountsBy};
 ghost use Rattle.pgsub_core.specs.Calls.Staging.{Rests, Grows, KeepsItsSettings, IsMark, GoesBack};
 ghost use Rattle.pgsub_core.specs.Calls.Events.{HasRoom, IsFull, FindsRoom, EventGoes, EventStops, StaysBeside};
-ghost use Rattle.pgsub_core.specs.Machine.Faults.{fault_of_decode, fault_of_order, fault_of_spool, IsOfFeeding, IsReadFault};
+ghost use Rattle.pgsub_core.specs.Machine.Faults.{IsOfFeeding, IsReadFault};
 
-use crate::committing::{Ending, about_of, commit, later, store_fault};
+use crate::committing::{Ending, about_of, commit, later};
 use crate::fault::Fault;
 use bytes::BytesMut;
 use pgapply::{DumpRow, Misses, ReplicaStore};
-use pglogical::{DecodeFault, MessageRef, Reason, decode_ref};
+use pglogical::{MessageRef, decode_ref};
 use pglsn::Lsn;
-use pgorder::{Event, Order, OrderFault, Version};
+use pgorder::{Event, Order, Version};
 use pgrel::Book;
 use pgspool::{SpoolFault, Spools};
 use pgwire::{ServerMsg, Status, decode_server, encode_status};
@@ -81,39 +81,6 @@ impl<P: Spools + Drop, C: ReplicaStore + Drop> Model for Applier<P, C> {
     } };
 }
 
-// Out of memory in the order of messages is the subscriber's own.
-fn order_fault(fault: OrderFault) -> Fault
-    ensures fault { result ≡ fault_of_order fault }
-    ensures own { IsOfFeeding result }
-{
-    match fault {
-        OrderFault::Memory => Fault::Memory,
-        fault => Fault::Order(fault),
-    }
-}
-
-// Out of memory in the decoder is the subscriber's own.
-fn decode_fault(fault: DecodeFault) -> Fault
-    ensures fault { result ≡ fault_of_decode fault }
-    ensures own { IsOfFeeding result }
-{
-    match fault.reason {
-        Reason::Memory => Fault::Memory,
-        _ => Fault::Decode(fault),
-    }
-}
-
-// Out of memory in the spools is the subscriber's own.
-fn spool_fault(fault: SpoolFault) -> Fault
-    ensures fault { result ≡ fault_of_spool fault }
-    ensures own { IsOfFeeding result }
-{
-    match fault {
-        SpoolFault::Memory => Fault::Memory,
-        fault => Fault::Spool(fault),
-    }
-}
-
 // Opens a transaction, which has no items yet.
 fn open<P: Spools>(spools: &mut P, xid: u32) -> Result<(), Fault>
     requires { map.contains_key (P.held spools.old) xid ≡ false }
@@ -121,10 +88,8 @@ fn open<P: Spools>(spools: &mut P, xid: u32) -> Result<(), Fault>
     ensures memory { IfErr result (λ fault. fault ≡ Fault.Memory) }
     ensures limit { P.most spools.new ≡ P.most spools.old }
 {
-    match spools.open(xid) {
-        Ok(()) => Ok(()),
-        Err(_) => Err(Fault::Memory),
-    }
+    spools.open(xid)?;
+    Ok(())
 }
 
 // Buffers the item of a message until its transaction commits, under the transaction or subtransaction that made it. A message
@@ -149,10 +114,8 @@ fn hold<P: Spools>(
     let MessageRef::Item { item, .. } = message else {
         return Ok(());
     };
-    match spools.push(xid, subxid, item) {
-        Ok(()) => Ok(()),
-        Err(fault) => Err(spool_fault(fault)),
-    }
+    spools.push(xid, subxid, item)?;
+    Ok(())
 }
 
 // The confirmed position after a keepalive: its end counts only outside pairs and blocks.
@@ -176,10 +139,8 @@ fn append_reply(asks: bool, status: &Status, replies: &mut BytesMut) -> Result<(
     if !asks {
         return Ok(());
     }
-    match encode_status(status, replies) {
-        Ok(()) => Ok(()),
-        Err(_) => Err(Fault::Memory),
-    }
+    encode_status(status, replies)?;
+    Ok(())
 }
 
 impl<P: Spools + Drop, C: ReplicaStore + Drop> Applier<P, C> {
@@ -324,7 +285,7 @@ impl<P: Spools + Drop, C: ReplicaStore + Drop> Applier<P, C> {
                 self.confirmed = mark.confirmed;
                 self.received = mark.received;
                 self.replies.truncate(mark.replies);
-                Err(store_fault(fault))
+                Err(Fault::from(fault))
             }
         }
     }
@@ -467,10 +428,7 @@ impl<P: Spools + Drop, C: ReplicaStore + Drop> Applier<P, C> {
         ensures rests { Rests C.holds C.place C.reopens C.serves C.is_honest self.old.store
             self.new.store }
     {
-        let event = match self.order.step(message) {
-            Ok(event) => event,
-            Err(fault) => return Err(order_fault(fault)),
-        };
+        let event = self.order.step(message)?;
         self.take_event(message, event)?;
         self.received = later(self.confirmed, later(self.received, later(start, end)));
         Ok(())
@@ -555,10 +513,8 @@ impl<P: Spools + Drop, C: ReplicaStore + Drop> Applier<P, C> {
         ensures rests { Rests C.holds C.place C.reopens C.serves C.is_honest self.old.store
             self.new.store }
     {
-        match decode_ref(body, self.order.in_block()) {
-            Ok(message) => self.take_message(&message, start, end),
-            Err(fault) => Err(decode_fault(fault)),
-        }
+        let message = decode_ref(body, self.order.in_block())?;
+        self.take_message(&message, start, end)
     }
 
     // Confirms the end of a quiet keepalive, and appends the status that it asks for.
@@ -665,10 +621,8 @@ impl<P: Spools + Drop, C: ReplicaStore + Drop> Applier<P, C> {
         ensures crash { C.is_honest self.new.store → (other : C) → C.reopens self.new.store other →
             C.reopens self.old.store other }
     {
-        match self.store.rows() {
-            Ok(rows) => Ok(rows),
-            Err(fault) => Err(store_fault(fault)),
-        }
+        let rows = self.store.rows()?;
+        Ok(rows)
     }
 
     /// Gives the store back, and drops the rest.

@@ -43,14 +43,10 @@ fn describe_relation(
         get nat_eq numbers.old oid ≡ Some n) }
     ensures memory { IfErr result (λ fault. fault ≡ Fault.Memory) }
 {
-    let Ok(copy) = def.to_def(alloc) else {
-        return Err(Fault::Memory);
-    };
+    let copy = def.to_def(alloc)?;
     let _before = numbers.swap_remove(&def.oid);
-    match book.set(copy) {
-        Ok(()) => Ok(()),
-        Err(_) => Err(Fault::Memory),
-    }
+    book.set(copy)?;
+    Ok(())
 }
 
 // The number of the definition that the cache has of a relation. It is copied into the work if it isn't there yet.
@@ -66,20 +62,11 @@ fn number_of(alloc: Global, book: &Book, draft: &mut Draft<'_>, oid: u32) -> Res
     if let Some(number) = draft.numbers.get(&oid) {
         return Ok(*number);
     }
-    let def = match book.get(oid) {
-        Ok(def) => def,
-        Err(fault) => return Err(Fault::Relation(fault)),
-    };
-    let Ok(copy) = def.copy(alloc) else {
-        return Err(Fault::Memory);
-    };
-    let Ok(number) = draft.work.define(copy) else {
-        return Err(Fault::Memory);
-    };
-    match draft.numbers.insert(oid, number) {
-        Ok(_) => Ok(number),
-        Err(_) => Err(Fault::Memory),
-    }
+    let def = book.get(oid)?;
+    let copy = def.copy(alloc)?;
+    let number = draft.work.define(copy)?;
+    draft.numbers.insert(oid, number)?;
+    Ok(number)
 }
 
 // Adds one change of a relation, with the definition that the cache has.
@@ -99,10 +86,8 @@ fn describe_change<'a>(
         ⊎ IsUndescribed book.now oid fault) }
 {
     let number = number_of(alloc, book, draft, oid)?;
-    match draft.work.change(number, op) {
-        Ok(()) => Ok(()),
-        Err(_) => Err(Fault::Memory),
-    }
+    draft.work.change(number, op)?;
+    Ok(())
 }
 
 // Adds the Truncate of these relations, as one change for each.
@@ -201,13 +186,9 @@ fn cache_item(alloc: Global, book: &mut Book, item: &ItemRef<'_>) -> Result<(), 
     let ItemParts::Relation(def) = item.parts() else {
         return Ok(());
     };
-    let Ok(copy) = def.to_def(alloc) else {
-        return Err(Fault::Memory);
-    };
-    match book.set(copy) {
-        Ok(()) => Ok(()),
-        Err(_) => Err(Fault::Memory),
-    }
+    let copy = def.to_def(alloc)?;
+    book.set(copy)?;
+    Ok(())
 }
 
 /// Puts the Relation messages of a repeat into the cache. Its changes aren't looked at.

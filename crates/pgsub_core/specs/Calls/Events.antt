@@ -5,7 +5,7 @@ use Rattle.pgorder.specs.declared.Event.{Event}
 use Rattle.pgorder.specs.declared.Event.TheVariants as event
 use Rattle.pgspool.specs.Labels.{HeldMap, cost, all_costs}
 use Rattle.pgapply.specs.Value.{Tables}
-use Rattle.pgspool.specs.declared.spools.SpoolFault.TheVariants as spool
+use Rattle.pgspool.specs.declared.fault.SpoolFault.TheVariants as spool
 use Rattle.pgsub_core.specs.declared.fault.Fault.{Fault}
 use Rattle.pgsub_core.specs.declared.fault.Fault.TheVariants as fault
 use Rattle.pgsub_core.specs.Server.Stream.{Kind, Holds, kind as kind_of}

@@ -1,7 +1,7 @@
 -- What stands while the commits of a piece are staged in a store: what it holds, what a crash leaves, and what goes back where they
 -- can't be settled.
 use Rattle.std.specs.Prelude.{◌≡◌, ◌<◌, ◌≤◌, ◌⊎◌, ◌++◌, ℕ, List, length, take}
-use Rattle.pgapply.specs.declared.rows.StoreFault.TheVariants as store
+use Rattle.pgapply.specs.declared.fault.StoreFault.TheVariants as store
 use Rattle.pgapply.specs.Value.{Tables}
 use Rattle.pgapply.specs.Taken.{Settles, Stays}
 use Rattle.pgsub_core.specs.declared.fault.Fault.{Fault}

@@ -6,7 +6,7 @@ use Rattle.pglogical.specs.declared.message.Message.{Message}
 use Rattle.pgorder.specs.declared.Version.{Version}
 use Rattle.pgorder.specs.declared.Event.{Event}
 use Rattle.pgorder.specs.declared.Event.TheVariants as event
-use Rattle.pgorder.specs.declared.OrderFault.{OrderFault}
+use Rattle.pgorder.specs.declared.fault.OrderFault.{OrderFault}
 use Rattle.pgorder.specs.Steps.{OrderState, initial_order, order_step}
 pub use Rattle.pgorder.specs.States.{is_outside}
 use Rattle.pgspool.specs.Labels.{HeldMap, cut, items_of, held_of}

@@ -10,7 +10,7 @@ use Rattle.pgorder.specs.States.{is_in_block}
 use Rattle.pgorder.specs.Steps.{OrderState, order_step}
 use Rattle.pgorder.specs.declared.Event.{Event}
 use Rattle.pgorder.specs.declared.Event.TheVariants as event
-use Rattle.pgorder.specs.declared.OrderFault.{OrderFault}
+use Rattle.pgorder.specs.declared.fault.OrderFault.{OrderFault}
 use Rattle.pgspool.specs.Labels.{HeldMap, items_of, held_of}
 use Rattle.pgwire.specs.Frames as wire
 use Rattle.pgwire.specs.Payloads.{payload_at}

@@ -5,7 +5,7 @@ use Rattle.pglogical.specs.Reading.{message_at}
 use Rattle.pglogical.specs.declared.message.Message.{Message}
 use Rattle.pgorder.specs.States.{is_in_block}
 use Rattle.pgorder.specs.declared.Version.{Version}
-use Rattle.pgapply.specs.declared.rows.StoreFault.TheVariants as store
+use Rattle.pgapply.specs.declared.fault.StoreFault.TheVariants as store
 use Rattle.pgwire.specs.Frames as wire
 use Rattle.pgwire.specs.Payloads.{payload_at}
 use Rattle.pgwire.specs.declared.fault.WireFault.{WireFault}

@@ -8,7 +8,7 @@ use Rattle.pglogical.specs.declared.message.Message.{Message}
 use Rattle.pgorder.specs.States.{is_in_block}
 use Rattle.pgrel.specs.declared.fault.RelFault.TheVariants as rel
 use Rattle.pgspool.specs.Labels.{cost, all_costs}
-use Rattle.pgspool.specs.declared.spools.SpoolFault.TheVariants as spool
+use Rattle.pgspool.specs.declared.fault.SpoolFault.TheVariants as spool
 use Rattle.pgwire.specs.Frames as wire
 use Rattle.pgwire.specs.Payloads.{payload_at}
 use Rattle.pgwire.specs.declared.fault.WireFault.{WireFault}

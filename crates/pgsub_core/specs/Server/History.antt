@@ -4,7 +4,7 @@
 use Rattle.std.specs.Prelude.{◌<◌, ◌≤◌, ◌≢◌, ℕ, List, [], ◌∷◌, nat_le, nat_lt, Result}
 use Rattle.std.specs.List.{flat_map, filter}
 use Rattle.std.specs.FinMap as map
-use Rattle.pgapply.specs.declared.rows.StoreFault.{StoreFault}
+use Rattle.pgapply.specs.declared.fault.StoreFault.{StoreFault}
 use Rattle.pgapply.specs.Value.{Tables}
 use Rattle.pgapply.specs.Apply.{Change, fold_changes}
 use Rattle.pgsub_core.specs.Server.Work.{Work, IsWork, surviving_changes, xids_of, AllDiffer}

@@ -1,13 +1,13 @@
 -- Part of the statement.
 -- From where a fault comes: what has to be shown of the messages or bytes that come next where a call returns it.
-use Rattle.pgorder.specs.declared.OrderFault.{OrderFault}
-use Rattle.pgorder.specs.declared.OrderFault.TheVariants as order
+use Rattle.pgorder.specs.declared.fault.OrderFault.{OrderFault}
+use Rattle.pgorder.specs.declared.fault.OrderFault.TheVariants as order
 use Rattle.pgrel.specs.declared.fault.RelFault.{RelFault}
 use Rattle.pgrel.specs.declared.fault.RelFault.TheVariants as rel
-use Rattle.pgspool.specs.declared.spools.SpoolFault.{SpoolFault}
-use Rattle.pgspool.specs.declared.spools.SpoolFault.TheVariants as spool
-use Rattle.pgapply.specs.declared.rows.StoreFault.{StoreFault}
-use Rattle.pgapply.specs.declared.rows.StoreFault.TheVariants as store
+use Rattle.pgspool.specs.declared.fault.SpoolFault.{SpoolFault}
+use Rattle.pgspool.specs.declared.fault.SpoolFault.TheVariants as spool
+use Rattle.pgapply.specs.declared.fault.StoreFault.{StoreFault}
+use Rattle.pgapply.specs.declared.fault.StoreFault.TheVariants as store
 use Rattle.pgwire.specs.declared.fault.WireFault.{WireFault}
 use Rattle.pgwire.specs.declared.fault.WireFault.TheVariants as wire_fault
 use Rattle.pgsub_core.specs.declared.fault.Fault.{Fault}

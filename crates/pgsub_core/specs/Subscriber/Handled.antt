@@ -2,7 +2,7 @@
 -- PostgreSQL documentation, Streaming Replication Protocol and Logical Replication, Architecture: what following the sessions of a
 -- history leaves, and why it ends, whatever is answered.
 use Rattle.std.specs.Prelude.{◌≡◌, ◌≤◌, ◌<◌, ◌++◌, ℕ, ℤ, List, [], ◌∷◌, Bool, true, false, Option, Some, None, Result, Ok, Err}
-use Rattle.pgspool.specs.declared.spools.SpoolFault.TheVariants as spool
+use Rattle.pgspool.specs.declared.fault.SpoolFault.TheVariants as spool
 use Rattle.pgwire.specs.Frames as wire
 use Rattle.pgwire.specs.declared.fault.WireFault.{WireFault}
 use Rattle.pgwire.specs.declared.fault.WireFault.TheVariants as wire_fault

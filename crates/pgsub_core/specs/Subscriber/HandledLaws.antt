@@ -1,7 +1,7 @@
 -- PostgreSQL documentation, Streaming Replication Protocol and Logical Replication, Architecture: what follows from which messages are
 -- handled, of a history or not.
 use Rattle.std.specs.Prelude.{◌≡◌, ◌≤◌, ℕ, ℤ, List, [], true, false, Option, Some, None}
-use Rattle.pgorder.specs.declared.OrderFault.{OrderFault}
+use Rattle.pgorder.specs.declared.fault.OrderFault.{OrderFault}
 use Rattle.pgrel.specs.declared.fault.RelFault.{RelFault}
 use Rattle.pgsub_core.specs.declared.fault.Fault.{Fault}
 use Rattle.pgsub_core.specs.declared.fault.Fault.TheVariants as fault

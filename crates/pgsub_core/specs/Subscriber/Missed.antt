@@ -2,7 +2,7 @@
 -- PostgreSQL documentation, Logical Replication, Conflicts, update_missing and delete_missing: which changes of a history find no row.
 use Rattle.std.specs.Prelude.{◌≡◌, ℕ, ℤ, List, [], ◌∷◌, Result, Ok, Err}
 use Rattle.pgapply.specs.declared.misses.Misses.{Misses}
-use Rattle.pgapply.specs.declared.rows.StoreFault.{StoreFault}
+use Rattle.pgapply.specs.declared.fault.StoreFault.{StoreFault}
 use Rattle.pgapply.specs.Value.{Tables}
 use Rattle.pgapply.specs.Apply.{fold_changes}
 use Rattle.pgapply.specs.Missing.{all_missing, with_misses}

@@ -2,7 +2,7 @@
 -- What holds of a replica of a history at every moment.
 use Rattle.std.specs.Prelude.{◌≡◌, ◌≤◌, ◌<◌, ◌++◌, ℕ, List, ◌∷◌, Ok, Err}
 use Rattle.std.specs.List.{AllByRecursion}
-use Rattle.pgapply.specs.declared.rows.StoreFault.{StoreFault}
+use Rattle.pgapply.specs.declared.fault.StoreFault.{StoreFault}
 use Rattle.pgapply.specs.Value.{Tables}
 use Rattle.pgsub_core.specs.Server.History.{Transaction, ChangesRows, tables_as_of}
 

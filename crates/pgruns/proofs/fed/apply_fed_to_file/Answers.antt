@@ -1,5 +1,5 @@
 use Rattle.std.proofs.Common.{◌∙◌, [], ℕ, Option, ap₂, refl, subst}
-use Rattle.pgapply.specs.declared.rows.StoreFault.{StoreFault}
+use Rattle.pgapply.specs.declared.fault.StoreFault.{StoreFault}
 use Rattle.pgsub_cli.specs.Runs.{Tells}
 use Rattle.pgsub_cli.specs.Storing.{status_of_unopened}
 use Rattle.pgruns.specs.Fed.{IsOpenedAt}

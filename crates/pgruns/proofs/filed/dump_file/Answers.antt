@@ -1,5 +1,5 @@
 use Rattle.std.proofs.Common.{[], Option, refl, subst, ap₂, ◌∙◌}
-use Rattle.pgapply.specs.declared.rows.StoreFault.{StoreFault}
+use Rattle.pgapply.specs.declared.fault.StoreFault.{StoreFault}
 use Rattle.pgruns.specs.Filed.{ending_of_closing, status_closed}
 use Rattle.pgsub_cli.specs.Storing.{status_of_unopened}
 use Rattle.pgsub_cli.specs.Runs.{Tells}
