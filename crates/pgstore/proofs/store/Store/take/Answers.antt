@@ -53,6 +53,3 @@ returns-clause-crash g c =
     let changes : change_values c.definitions.result.now c.entries.result.now ≡ c.args.work.now.changes = ap (λ ds. change_values ds c.entries.result.now) c.definitions.ensures.definitions ∙ c.entries.ensures.changes in
     subst (λ (s : StoreValue g.row.S.Denot). Survives (state g.S.Store s.rows) (state g.S.Store (rows_in c.take_all-taken.new.source)) (LeavesWork g.S.Store s c.args.work.now.changes c.args.end)) c.self.view_is
     (survives_work g.S.Store (rows_in c.self.inside.source) (rows_in c.take_all-taken.new.source) c.self.inside.position c.definitions.result.now c.entries.result.now c.args.end (to_be_bytes w64 c.args.end) refl range c.args.work.now.changes changes c.self.inside.group c.take_all-taken.ensures.crash)
-
-pub take_all-requires-clause-stored : goal.take_all-requires-clause-stored
-take_all-requires-clause-stored g c clean still = c.self.invariant.1.stored clean still
