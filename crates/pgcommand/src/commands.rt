@@ -39,15 +39,24 @@ fn word<'a>(alloc: Global, name: &'a str, help: &'a str) -> Arg<'a>
     Arg::new(alloc, name).required(true).help(help)
 }
 
+/// `--NAME VALUE`, which may be left out.
+fn option<'a>(alloc: Global, name: &'a str, value: &'a str, help: &'a str) -> Arg<'a>
+    ensures rule { rule_of result ≡ feed_text_rule name.entry.now }
+    ensures local { result.global ≡ false }
+{
+    Arg::new(alloc, name)
+        .long(name)
+        .value_name(value)
+        .help(help)
+}
+
 /// `--proto N`.
 fn proto<'a>(alloc: Global) -> Arg<'a>
     ensures rule { rule_of result ≡ proto_rule }
     ensures local { result.global ≡ false }
 {
-    Arg::new(alloc, "proto")
-        .long("proto")
-        .value_name("N")
-        .help("Version of the logical replication protocol, 1 or 2")
+    let help = "Version of the logical replication protocol, 1 or 2";
+    option(alloc, "proto", "N", help)
         .value_parser(value_parser!(u8).range(1..=2))
         .default_value("2")
 }
@@ -79,11 +88,7 @@ fn store<'a>(alloc: Global, required: bool, help: &'a str) -> Arg<'a>
     ensures rule { rule_of result ≡ store_rule required }
     ensures local { result.global ≡ false }
 {
-    Arg::new(alloc, "store")
-        .long("store")
-        .value_name("FILE")
-        .required(required)
-        .help(help)
+    option(alloc, "store", "FILE", help).required(required)
 }
 
 /// `--cache PAGES`.
@@ -96,10 +101,7 @@ fn cache<'a>(alloc: Global) -> Arg<'a>
     ensures rule { rule_of result ≡ cache_rule }
     ensures local { result.global ≡ false }
 {
-    Arg::new(alloc, "cache")
-        .long("cache")
-        .value_name("PAGES")
-        .help(CACHE)
+    option(alloc, "cache", "PAGES", CACHE)
         .value_parser(value_parser!(u32).range(100..=4294967294))
         .default_value("20000")
 }
@@ -109,10 +111,8 @@ fn max_buffered<'a>(alloc: Global) -> Arg<'a>
     ensures rule { rule_of result ≡ max_buffered_rule }
     ensures local { result.global ≡ false }
 {
-    Arg::new(alloc, "max-buffered")
-        .long("max-buffered")
-        .value_name("BYTES")
-        .help("The most that the buffered changes of all open transactions may cost")
+    let help = "The most that the buffered changes of all open transactions may cost";
+    option(alloc, "max-buffered", "BYTES", help)
         .value_parser(value_parser!(u64))
         .default_value("67108864")
 }
@@ -122,10 +122,8 @@ fn max_frame<'a>(alloc: Global) -> Arg<'a>
     ensures rule { rule_of result ≡ max_frame_rule }
     ensures local { result.global ≡ false }
 {
-    Arg::new(alloc, "max-frame")
-        .long("max-frame")
-        .value_name("BYTES")
-        .help("The longest payload of a frame that is accepted, at most 2147483643")
+    let help = "The longest payload of a frame that is accepted, at most 2147483643";
+    option(alloc, "max-frame", "BYTES", help)
         .value_parser(value_parser!(u32).range(0..=2147483643))
         .default_value("16777216")
 }
@@ -135,12 +133,9 @@ fn feed<'a>(alloc: Global) -> Arg<'a>
     ensures rule { rule_of result ≡ feed_rule }
     ensures local { result.global ≡ false }
 {
-    Arg::new(alloc, "feed")
-        .long("feed")
-        .value_name("FOLDER")
-        .help(
-            "Keep a feed of each commit beside the store, in files of this folder; it is made where it isn't there",
-        )
+    let help = "Keep a feed of each commit beside the store, in files of this folder; \
+        it is made where it isn't there";
+    option(alloc, "feed", "FOLDER", help)
 }
 
 /// `--feed-system TEXT` and the like.
@@ -148,10 +143,7 @@ fn feed_text<'a>(alloc: Global, name: &'a str, help: &'a str) -> Arg<'a>
     ensures rule { rule_of result ≡ feed_text_rule name.entry.now }
     ensures local { result.global ≡ false }
 {
-    Arg::new(alloc, name)
-        .long(name)
-        .value_name("TEXT")
-        .help(help)
+    option(alloc, name, "TEXT", help)
 }
 
 /// `--feed-segment-bytes BYTES`.
@@ -159,13 +151,9 @@ fn feed_bytes<'a>(alloc: Global) -> Arg<'a>
     ensures rule { rule_of result ≡ feed_bytes_rule }
     ensures local { result.global ≡ false }
 {
-    Arg::new(alloc, "feed-segment-bytes")
-        .long("feed-segment-bytes")
-        .value_name("BYTES")
-        .help(
-            "A file of the feed ends before the commit that would make it longer [default: 67108864]",
-        )
-        .value_parser(value_parser!(u64))
+    let help =
+        "A file of the feed ends before the commit that would make it longer [default: 67108864]";
+    option(alloc, "feed-segment-bytes", "BYTES", help).value_parser(value_parser!(u64))
 }
 
 /// `--feed-segment-seconds SECONDS`.
@@ -173,13 +161,10 @@ fn feed_seconds<'a>(alloc: Global) -> Arg<'a>
     ensures rule { rule_of result ≡ feed_seconds_rule }
     ensures local { result.global ≡ false }
 {
-    Arg::new(alloc, "feed-segment-seconds")
-        .long("feed-segment-seconds")
-        .value_name("SECONDS")
-        .help(
-            "And before one that was committed so many seconds after its first, where this isn't 0 [default: 0]",
-        )
-        .value_parser(value_parser!(u32).range(0..=4294967295))
+    let help = "And before one that was committed so many seconds after its first, \
+        where this isn't 0 [default: 0]";
+    let seconds = option(alloc, "feed-segment-seconds", "SECONDS", help);
+    seconds.value_parser(value_parser!(u32).range(0..=4294967295))
 }
 
 /// Adds the options of a feed.
@@ -354,19 +339,12 @@ fn bare<'a>(alloc: Global) -> Command<'a>
 pub(crate) fn program<'a>(alloc: Global) -> Result<Command<'a>, AllocError>
     ensures { IfOk result (IsCommand pgsub_app) }
 {
-    let show = show_command(alloc)?;
-    let apply = apply_command(alloc)?;
-    let dump = dump_command(alloc)?;
-    let follow = follow_command(alloc)?;
-    let same = same_command(alloc)?;
-    let resume = resume_command(alloc)?;
-    let lsn = lsn_command(alloc)?;
     bare(alloc)
-        .subcommand(show)?
-        .subcommand(apply)?
-        .subcommand(dump)?
-        .subcommand(follow)?
-        .subcommand(same)?
-        .subcommand(resume)?
-        .subcommand(lsn)
+        .subcommand(show_command(alloc)?)?
+        .subcommand(apply_command(alloc)?)?
+        .subcommand(dump_command(alloc)?)?
+        .subcommand(follow_command(alloc)?)?
+        .subcommand(same_command(alloc)?)?
+        .subcommand(resume_command(alloc)?)?
+        .subcommand(lsn_command(alloc)?)
 }
