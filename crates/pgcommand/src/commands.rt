@@ -2,7 +2,7 @@
 
 ghost use Rattle.std.specs.Prelude.{◌≡◌, IfOk, codes, false};
 ghost use Rattle.clap.specs.Values.{kind_of};
-ghost use Rattle.clap.specs.Words.{App, new_app, rule_of};
+ghost use Rattle.clap.specs.Words.{App, new_app, rule_of, with_subcommand};
 ghost use Rattle.pgcommand.specs.Asked.{IsCommand, word_rule, proto_rule, raw_rule, progress_rule, store_rule, cache_rule, max_buffered_rule, max_frame_rule, feed_rule, feed_text_rule, feed_bytes_rule, feed_seconds_rule, with_feed, show_app, apply_app, dump_app, follow_app, same_app, resume_app, lsn_app, bare_app, pgsub_app};
 
 use clap::error::ErrorKind;
@@ -335,14 +335,22 @@ fn bare<'a>(alloc: Global) -> Command<'a>
     .subcommand_required(true)
 }
 
-/// The command line of the program.
-pub(crate) fn program<'a>(alloc: Global) -> Result<Command<'a>, AllocError>
-    ensures { IfOk result (IsCommand pgsub_app) }
+/// The program with the subcommands that read a recording or a store.
+fn with_readers<'a>(alloc: Global) -> Result<Command<'a>, AllocError>
+    ensures { IfOk result (IsCommand (with_subcommand (with_subcommand (with_subcommand bare_app
+        show_app.top) apply_app.top) dump_app.top)) }
 {
     bare(alloc)
         .subcommand(show_command(alloc)?)?
         .subcommand(apply_command(alloc)?)?
-        .subcommand(dump_command(alloc)?)?
+        .subcommand(dump_command(alloc)?)
+}
+
+/// The command line of the program.
+pub(crate) fn program<'a>(alloc: Global) -> Result<Command<'a>, AllocError>
+    ensures { IfOk result (IsCommand pgsub_app) }
+{
+    with_readers(alloc)?
         .subcommand(follow_command(alloc)?)?
         .subcommand(same_command(alloc)?)?
         .subcommand(resume_command(alloc)?)?

@@ -4,10 +4,7 @@ use Rattle.pgcommand.proofs.commands.program.Goals as goal
 
 pub returns : goal.returns
 returns c =
-    let one = with_sub _ _ _ _ _ c.bare.ensures c.in_ok-show_command.ensures c.in_ok-subcommand.ensures in
-    let two = with_sub _ _ _ _ _ one c.in_ok-apply_command.ensures c.in_ok-subcommand-2.ensures in
-    let three = with_sub _ _ _ _ _ two c.in_ok-dump_command.ensures c.in_ok-subcommand-3.ensures in
-    let four = with_sub _ _ _ _ _ three c.in_ok-follow_command.ensures c.in_ok-subcommand-4.ensures in
-    let five = with_sub _ _ _ _ _ four c.in_ok-same_command.ensures c.in_ok-subcommand-5.ensures in
-    let six = with_sub _ _ _ _ _ five c.in_ok-resume_command.ensures c.in_ok-subcommand-6.ensures in
-    IfOk-weaker c.subcommand-7.result _ _ (λ r h. with_sub _ r _ _ _ six c.in_ok-lsn_command.ensures h) c.subcommand-7.ensures
+    let one = with_sub _ _ _ _ _ c.in_ok-with_readers.ensures c.in_ok-follow_command.ensures c.in_ok-subcommand.ensures in
+    let two = with_sub _ _ _ _ _ one c.in_ok-same_command.ensures c.in_ok-subcommand-2.ensures in
+    let three = with_sub _ _ _ _ _ two c.in_ok-resume_command.ensures c.in_ok-subcommand-3.ensures in
+    IfOk-weaker c.subcommand-4.result _ _ (λ r h. with_sub _ r _ _ _ three c.in_ok-lsn_command.ensures h) c.subcommand-4.ensures
