@@ -1,4 +1,4 @@
-//! Why a store refuses a work.
+//! Why a store rejects a work.
 
 ghost use Rattle.std.specs.Prelude.{◌≡◌};
 
@@ -6,7 +6,7 @@ use pgrel::RelFault;
 use std::alloc::{AllocError, AllocFailed};
 use thiserror::Error;
 
-/// Why a work was not taken. Behind each of these the store is as before the call.
+/// Why a work was not taken. After each of these the store is as before the call.
 ///
 /// PostgreSQL documentation, Logical Replication, Conflicts; ALTER TABLE, REPLICA IDENTITY.
 #[derive(Clone, Copy, Debug, PartialEq, Eq, Error)]

@@ -41,6 +41,7 @@ impl Cause {
         }
     }
 
+    /// How it is told.
     pub(crate) fn text(self) -> &'static str {
         match self {
             Cause::Full => "the disk is full",

@@ -40,8 +40,11 @@ impl fmt::Display for FaultText {
 /// The line on standard error of a run that stopped. A file that can't be read is named by its path.
 #[derive(Drop)]
 pub struct StopLine<'t> {
+    /// Why the run stopped.
     pub fault: RunFault,
+    /// The path of the first file that the run reads.
     pub left: &'t str,
+    /// The path of the second file, empty where it reads none.
     pub right: &'t str,
 }
 

@@ -18,6 +18,7 @@ use std::io::{Read, Write};
 
 /// Hears how many bytes each read gave.
 pub trait ReadListener {
+    /// A read gave this many bytes, or none at the end.
     fn hear(&mut self, count: u64);
 }
 

@@ -21,6 +21,7 @@ pub struct Settling {
 
 /// What is told of each settling.
 pub trait Listener {
+    /// These commits were stored together.
     fn hear(&mut self, settling: &Settling);
 }
 

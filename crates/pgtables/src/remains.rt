@@ -22,8 +22,11 @@ use std::alloc::Global;
 /// Which of a store's tables are present.
 #[derive(Clone, Copy, Debug, PartialEq, Eq)]
 pub struct Remains {
+    /// Whether `rel` is, the table of definitions.
     pub has_definitions: bool,
+    /// Whether `held` is, the table of rows.
     pub has_rows: bool,
+    /// Whether `pos` is, the table of the position.
     pub has_position: bool,
 }
 

@@ -1,3 +1,5 @@
+//! Why a tuple can't be read.
+
 ghost use Rattle.std.specs.Prelude.{◌≡◌};
 ghost use Rattle.pgtuple.specs.FaultTexts.{kind_text};
 ghost use Rattle.pgtuple.specs.declared.fault.TupleFault.TheVariants.{Memory};

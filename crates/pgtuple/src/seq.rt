@@ -1,3 +1,5 @@
+//! Values in order that are owned, seen in contracts as their list.
+
 ghost use Rattle.std.specs.Prelude.{◌≡◌, ◌==◌, List, length, IfOk};
 ghost use Rattle.std.specs.Cmp.Lexicographic.{pointwise, lists_per, lists_equiv};
 ghost use Rattle.std.specs.List.{AllZip};

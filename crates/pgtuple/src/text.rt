@@ -1,3 +1,5 @@
+//! Text that is owned, seen in contracts as the list of its bytes.
+
 ghost use Rattle.std.specs.Prelude.{◌≡◌, ◌==◌, ℕ, List, true, nat_eq, length, string_bytes};
 ghost use Rattle.std.specs.Str.{is_utf8};
 ghost use Rattle.std.specs.Cmp;

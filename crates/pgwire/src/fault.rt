@@ -1,3 +1,5 @@
+//! Why bytes aren't frames of a session, or a payload isn't a message of a server.
+
 use thiserror::Error;
 
 /// Why bytes aren't frames of a session, or a payload isn't a message of a server.
