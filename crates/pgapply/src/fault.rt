@@ -11,7 +11,7 @@ use thiserror::Error;
 /// PostgreSQL documentation, Logical Replication, Conflicts; ALTER TABLE, REPLICA IDENTITY.
 #[derive(Clone, Copy, Debug, PartialEq, Eq, Error)]
 pub enum StoreFault {
-    /// A row comes into a table with a key, and one with this identity stands already.
+    /// A row comes into a table with a key, and one with this identity is there already.
     #[error("store 1 Clash")]
     Clash,
     /// A row of a table without a key is to change or go, and its whole old row wasn't sent.
@@ -26,7 +26,7 @@ pub enum StoreFault {
     /// A tuple has another number of cells than its relation has columns.
     #[error("store 5 Width")]
     Width,
-    /// A row of a table without a key would stand more than 2147483647 times.
+    /// A row of a table without a key would be there more than 2147483647 times.
     #[error("store 7 TooManyCopies")]
     TooManyCopies,
     /// The SQL store refused a statement, for a cause that is none of the others.
