@@ -1,12 +1,11 @@
 //! Commits of a table of two texts, and their changes.
 
 use pgapply::{About, Commit, Op, StoreFault, Work};
-use pgfeed::{Segment, entry_text};
+use pgfeed::entry_text;
 use pgledger::{Image, Ledger};
 use pglogical::{Column, OldKind, RelationDef};
 use pglsn::Lsn;
 use pgtuple::{CellRef, Seq, Text, Tuple};
-use sqlite_disk::Disk;
 use std::alloc::{AllocError, Global};
 
 fn text(alloc: Global, text: &str) -> Result<Text, AllocError> {
@@ -59,16 +58,6 @@ fn work_of<'a>(alloc: Global) -> Result<Work<'a>, StoreFault> {
     let mut work = Work::new(alloc);
     let _number = work.define(def)?;
     Ok(work)
-}
-
-/// Appends a commit of one Insert, about which nothing is told.
-pub(crate) fn append<D: Disk + Drop>(
-    alloc: Global,
-    segment: &mut Segment<D>,
-    end: Lsn,
-    words: &str,
-) -> Result<(), StoreFault> {
-    append_at(alloc, segment, end, None, words)
 }
 
 /// Appends a commit of one Insert, maybe of this time.

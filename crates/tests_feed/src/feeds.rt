@@ -173,72 +173,7 @@ fn ends_a_segment_before_the_commit_that_would_pass_its_bytes(rt: HostRuntime) -
         assert!(rt; text.ends_with("  \n"));
         assert!(rt; text.trim_end().ends_with(*line), "{line}");
     }
-    Ok(())
-}
-
-/// Stops a run at each of its calls, over a folder without segments: opened again and followed on,
-/// the feed has the same bytes.
-fn try_stops(alloc: Global, course: Course) -> Result<(), Fail> {
-    let whole = whole(alloc, course);
-    for stop in stops(alloc)? {
-        let mut settled = Lsn(0x100);
-        let segments = run(alloc, Vec::new(alloc), course, stop, &mut settled);
-        let again = run(alloc, segments, course, Stop::Never, &mut settled);
-        if again.as_slice() != whole.as_slice() {
-            return Err(Fail::from(format!(in alloc; "{course:?} {stop:?}")?));
-        }
-    }
-    Ok(())
-}
-
-/// The same over the segments of a run, which were left with the store at this position.
-fn try_stops_below(alloc: Global, course: Course, position: u64) -> Result<(), Fail> {
-    let whole = whole(alloc, course);
-    for stop in stops(alloc)? {
-        let mut settled = Lsn(position);
-        let segments = run(alloc, whole.clone()?, course, stop, &mut settled);
-        let again = run(alloc, segments, course, Stop::Never, &mut settled);
-        if again.as_slice() != whole.as_slice() {
-            return Err(Fail::from(format!(in alloc; "{course:?} {stop:?} {position}")?));
-        }
-    }
-    Ok(())
-}
-
-#[test]
-fn has_the_same_bytes_after_a_stop_at_any_call(rt: HostRuntime) -> Result<(), Fail> {
-    try_stops(rt.alloc(), SINGLY)
-}
-
-#[test]
-fn has_the_same_bytes_after_a_stop_amid_commits_of_one_settling(
-    rt: HostRuntime,
-) -> Result<(), Fail> {
-    for course in GROUPED {
-        try_stops(rt.alloc(), course)?;
-    }
-    Ok(())
-}
-
-#[test]
-fn opens_below_segments_after_a_stop_at_any_call(rt: HostRuntime) -> Result<(), Fail> {
-    for position in [0x100, 0x200, 0x300, 0x400] {
-        try_stops_below(rt.alloc(), SINGLY, position)?;
-    }
-    Ok(())
-}
-
-#[test]
-fn opens_within_segments_that_have_ended(rt: HostRuntime) -> Result<(), Fail> {
-    for position in [0x200, 0x400] {
-        try_stops_below(rt.alloc(), GROUPED[1], position)?;
-    }
-    try_stops_below(rt.alloc(), GROUPED[3], 0x300)
-}
-
-#[test]
-fn segments_end_wherever_settlings_fall(rt: HostRuntime) -> Result<(), Fail> {
-    let alloc = rt.alloc();
+    // They end wherever settlings fall.
     for limits in [ONE, TWO] {
         let singly = whole(alloc, Course { limits, group: 1 });
         for group in 2..6 {
@@ -250,6 +185,41 @@ fn segments_end_wherever_settlings_fall(rt: HostRuntime) -> Result<(), Fail> {
         }
     }
     Ok(())
+}
+
+/// Stops a run at each of its calls, over a folder without segments, or over the segments of a
+/// run, which were left with the store at this position: opened again and followed on, the feed
+/// has the same bytes.
+fn try_stops(alloc: Global, course: Course, left: Option<u64>) -> Result<(), Fail> {
+    let whole = whole(alloc, course);
+    for stop in stops(alloc)? {
+        let (before, position) = match left {
+            Some(position) => (whole.clone()?, position),
+            None => (Vec::new(alloc), 0x100),
+        };
+        let mut settled = Lsn(position);
+        let segments = run(alloc, before, course, stop, &mut settled);
+        let again = run(alloc, segments, course, Stop::Never, &mut settled);
+        if again.as_slice() != whole.as_slice() {
+            return Err(Fail::from(format!(in alloc; "{course:?} {stop:?} {left:?}")?));
+        }
+    }
+    Ok(())
+}
+
+// Stopped also amid commits of one settling, and opened within segments that have ended.
+#[test]
+fn has_the_same_bytes_after_a_stop_at_any_call(rt: HostRuntime) -> Result<(), Fail> {
+    for left in [None, Some(0x100), Some(0x200), Some(0x300), Some(0x400)] {
+        try_stops(rt.alloc(), SINGLY, left)?;
+    }
+    for course in GROUPED {
+        try_stops(rt.alloc(), course, None)?;
+    }
+    for left in [Some(0x200), Some(0x400)] {
+        try_stops(rt.alloc(), GROUPED[1], left)?;
+    }
+    try_stops(rt.alloc(), GROUPED[3], Some(0x300))
 }
 
 /// The bases and sizes of the segments once a feed of all commits is opened at a position, if it is.
@@ -283,12 +253,7 @@ fn opening_removes_what_is_above_the_position(rt: HostRuntime) -> Result<(), Fai
         let found = opened_at(alloc, position)?.unwrap_or(Vec::new(alloc));
         assert_eq!(rt; found.as_slice(), [(0x100, 2158), (0x300, size)].as_slice());
     }
-    Ok(())
-}
-
-#[test]
-fn a_feed_that_does_not_fit_is_left_as_it_was(rt: HostRuntime) -> Result<(), Fail> {
-    let alloc = rt.alloc();
+    // A feed that doesn't fit is left as it was.
     for position in [0, 0xff, 0x101, 0x250, 0x301, 0x450, 0x601, 0x700] {
         assert!(rt; opened_at(alloc, position)?.is_none(), "{position}");
     }
@@ -336,6 +301,23 @@ fn bases_by_time(alloc: Global, times: &[Option<i64>]) -> Result<Vec<u64>, Fail>
     Ok(bases)
 }
 
+/// Where the last segment begins after the commits with ends from 1 on, settled at once, of which
+/// no segment takes two, and how many segments there are after one more.
+fn counted(alloc: Global, commits: u64) -> Result<(u64, usize), Fail> {
+    let folder = MemoryFolder::of(alloc, Vec::new(alloc), Stop::Never);
+    let mut feed = opened(open(alloc, folder, ONE, Lsn(0)))?;
+    for end in 1..=commits {
+        append_at(alloc, &mut feed, Lsn(end), None, "1 a")?;
+    }
+    feed.sync()?;
+    let base = feed.base();
+    append_at(alloc, &mut feed, Lsn(u64::MAX), None, "1 a")?;
+    if feed.base() != Lsn(commits) {
+        return Err(Fail::from("the open segment goes on where all was settled"));
+    }
+    Ok((base.0, left(feed).len()))
+}
+
 #[test]
 fn ends_a_segment_by_the_times_of_its_commits(rt: HostRuntime) -> Result<(), Fail> {
     let alloc = rt.alloc();
@@ -358,66 +340,9 @@ fn ends_a_segment_by_the_times_of_its_commits(rt: HostRuntime) -> Result<(), Fai
     );
     let times = [Some(i64::MIN), Some(i64::MAX)];
     assert_eq!(rt; bases_by_time(alloc, &times)?.as_slice(), [0, 1].as_slice());
-    Ok(())
-}
-
-#[test]
-fn a_segment_ends_amid_commits_that_are_settled_at_once(rt: HostRuntime) -> Result<(), Fail> {
-    let alloc = rt.alloc();
-    let folder = MemoryFolder::of(alloc, Vec::new(alloc), Stop::Never);
-    let mut feed = opened(open(alloc, folder, TWO, Lsn(0x100)))?;
-    let mut bases = Vec::new(alloc);
-    for end in [0x200, 0x300, 0x400, 0x500, 0x600] {
-        append_at(alloc, &mut feed, Lsn(end), None, "1 a")?;
-        bases.push(feed.base().0)?;
-    }
-    assert_eq!(rt;
-        bases.as_slice(),
-        [0x100, 0x100, 0x300, 0x300, 0x500].as_slice()
-    );
-    feed.sync()?;
-    assert_eq!(rt; feed.last(), Lsn(0x600));
-    Ok(())
-}
-
-/// Where the last segment begins after the commits with ends from 1 on, settled at once, of which
-/// no segment takes two, and how many segments there are after one more.
-fn counted(alloc: Global, commits: u64) -> Result<(u64, usize), Fail> {
-    let folder = MemoryFolder::of(alloc, Vec::new(alloc), Stop::Never);
-    let mut feed = opened(open(alloc, folder, ONE, Lsn(0)))?;
-    for end in 1..=commits {
-        append_at(alloc, &mut feed, Lsn(end), None, "1 a")?;
-    }
-    feed.sync()?;
-    let base = feed.base();
-    append_at(alloc, &mut feed, Lsn(u64::MAX), None, "1 a")?;
-    if feed.base() != Lsn(commits) {
-        return Err(Fail::from("the open segment goes on where all was settled"));
-    }
-    Ok((base.0, left(feed).len()))
-}
-
-#[test]
-fn so_many_segments_stay_open_and_no_more(rt: HostRuntime) -> Result<(), Fail> {
-    let alloc = rt.alloc();
+    // So many segments stay open, and no more.
     assert_eq!(rt; counted(alloc, 3)?, (2, 4));
     assert_eq!(rt; counted(alloc, 257)?, (256, 258));
     assert_eq!(rt; counted(alloc, 270)?, (256, 258));
-    Ok(())
-}
-
-#[test]
-fn a_feed_that_has_failed_takes_nothing_more(rt: HostRuntime) -> Result<(), Fail> {
-    let alloc = rt.alloc();
-    let folder = MemoryFolder::of(alloc, Vec::new(alloc), Stop::Never);
-    let mut feed = opened(open(alloc, folder, TWO, Lsn(0x100)))?;
-    append_at(alloc, &mut feed, Lsn(0x200), None, "1 a")?;
-    assert_eq!(rt;
-        append_at(alloc, &mut feed, Lsn(0x200), None, "1 a"),
-        Err(StoreFault::Refused)
-    );
-    assert!(rt; feed.is_stuck());
-    assert_eq!(rt; feed.sync(), Err(StoreFault::Refused));
-    assert_eq!(rt; feed.last(), Lsn(0x200));
     Ok(())
 }

@@ -48,19 +48,6 @@ fn push_line(alloc: Global, text: &mut String, line: &str, in_bytes: bool) -> Re
     Ok(())
 }
 
-/// Appends the lines of messages.
-fn push_lines(
-    alloc: Global,
-    text: &mut String,
-    lines: &[&str],
-    in_bytes: bool,
-) -> Result<(), Fail> {
-    for line in lines {
-        push_line(alloc, text, line, in_bytes)?;
-    }
-    Ok(())
-}
-
 /// The recording of these lines after others, each line a chunk, or a line for each byte.
 fn recording(
     alloc: Global,
@@ -69,11 +56,15 @@ fn recording(
     in_bytes: bool,
 ) -> Result<String, Fail> {
     let mut text = String::new(alloc);
-    push_lines(alloc, &mut text, before, in_bytes)?;
-    push_lines(alloc, &mut text, lines, in_bytes)?;
+    for all in [before, lines] {
+        for line in all {
+            push_line(alloc, &mut text, line, in_bytes)?;
+        }
+    }
     Ok(text)
 }
 
+// A fault has its line, and what was stored before it is printed.
 #[test]
 fn what_is_stored_is_printed(rt: HostRuntime) -> Result<(), Fail> {
     for row in TRANSACTIONS {
@@ -84,11 +75,6 @@ fn what_is_stored_is_printed(rt: HostRuntime) -> Result<(), Fail> {
         let answer = Answer { out, err, status };
         check(&rt, APPLY, shows, file, None, answer)?;
     }
-    Ok(())
-}
-
-#[test]
-fn a_fault_has_its_line_and_what_was_stored_is_printed(rt: HostRuntime) -> Result<(), Fail> {
     for (lines, err) in FAULTS {
         let text = recording(rt.alloc(), BEFORE, lines, false)?;
         let (out, status) = (ROW_BEFORE, 1);
@@ -238,19 +224,14 @@ static BAD_LINES: [(&str, &[u8], &str); 6] = [
     ),
 ];
 
+// A recording that can't be read, or is too long, leaves the output empty.
 #[test]
-fn a_line_that_is_not_hexadecimal_is_told(rt: HostRuntime) -> Result<(), Fail> {
+fn a_recording_that_is_none_is_told(rt: HostRuntime) -> Result<(), Fail> {
     let (out, status) = ("", 3);
     for (shows, text, err) in BAD_LINES {
         let answer = Answer { out, err, status };
         check(&rt, APPLY, shows, Some(File::of(text)), None, answer)?;
     }
-    Ok(())
-}
-
-#[test]
-fn a_recording_that_is_not_read_leaves_the_output_empty(rt: HostRuntime) -> Result<(), Fail> {
-    let out = "";
     for (error, err, status) in [
         (None, "pgsub: cannot read in.pgx\n", 3),
         (Some(ErrorKind::Other), "pgsub: cannot read in.pgx\n", 3),
@@ -265,24 +246,13 @@ fn a_recording_that_is_not_read_leaves_the_output_empty(rt: HostRuntime) -> Resu
         let answer = Answer { out, err, status };
         check(&rt, APPLY, err, file, None, answer)?;
     }
-    Ok(())
-}
-
-#[test]
-fn a_recording_has_a_greatest_length(rt: HostRuntime) -> Result<(), Fail> {
     for (left, out, err, status) in [
         (67108865, "", "pgsub: capture too long\n", 3),
         (67108864, NOTHING, "", 0),
     ] {
         let answer = Answer { out, err, status };
-        check(
-            &rt,
-            APPLY,
-            "one comment",
-            Some(Comment { left }),
-            None,
-            answer,
-        )?;
+        let comment = Some(Comment { left });
+        check(&rt, APPLY, "one comment", comment, None, answer)?;
     }
     Ok(())
 }

@@ -1,32 +1,13 @@
-//! Stores over connections that others have filled, in memory and on disks in memory.
+//! Stores over connections that other stores or statements have filled.
 
 use crate::cases::{Change, FILLED};
 use crate::lines::shown;
-use crate::stores::{
-    Kept, Tables, TablesTrial, Trial, adopt, in_memory, on_connections, on_memory_disks,
-};
+use crate::stores::{Kept, Tables, Trial, adopt, on_stores};
 use crate::works::take;
 use pgapply::StoreFault;
 use pglsn::Lsn;
 use std::process::Abort;
 use std::test::Fail;
-
-/// The fault with which the tables aren't adopted, and the tables.
-fn refusal_of<R: AllocGlobal, C: Kept>(
-    rt: &R,
-    tables: C::Tables,
-) -> Result<(StoreFault, C::Tables), Fail> {
-    match C::adopt(rt.alloc(), tables) {
-        Ok(_) => Err(Fail::from("it was adopted")),
-        Err(refusal) => Ok(refusal),
-    }
-}
-
-/// The tables serve.
-fn expect_serving(rt: &impl Abort, tables: &mut impl Tables) -> Result<(), Fail> {
-    assert_eq!(rt; tables.count("SELECT 1")?, 1);
-    Ok(())
-}
 
 /// The tables aren't adopted, and serve still.
 fn expect_refused<R: Abort + AllocGlobal, C: Kept>(
@@ -34,9 +15,14 @@ fn expect_refused<R: Abort + AllocGlobal, C: Kept>(
     tables: C::Tables,
     fault: StoreFault,
 ) -> Result<(), Fail> {
-    let (found, mut tables) = refusal_of::<R, C>(rt, tables)?;
-    assert_eq!(rt; found, fault);
-    expect_serving(rt, &mut tables)
+    match C::adopt(rt.alloc(), tables) {
+        Ok(_) => Err(Fail::from("it was adopted")),
+        Err((found, mut tables)) => {
+            assert_eq!(rt; found, fault);
+            assert_eq!(rt; tables.count("SELECT 1")?, 1);
+            Ok(())
+        }
+    }
 }
 
 /// The store is at this position with these rows.
@@ -51,7 +37,7 @@ fn expect<R: Abort + AllocGlobal, C: Kept>(
     Ok(())
 }
 
-/// A commit that leads to these rows is stored, and the store is closed and adopted.
+/// The store takes a commit that leads to these rows, is closed, and adopted.
 fn go_on<R: Abort + AllocGlobal, C: Kept>(
     rt: &R,
     mut store: C,
@@ -71,100 +57,9 @@ struct GoesOn;
 impl Trial for GoesOn {
     fn run<R: Abort + AllocGlobal, C: Kept>(&self, rt: &R, store: C) -> Result<(), Fail> {
         let again = go_on(rt, store, 0x0100_0000_0000_0130, FILLED.0, FILLED.2)?;
-        let _last = go_on(rt, again, 0x0100_0000_0000_0131, &[], FILLED.2)?;
+        let _last = go_on(rt, again, 0xFFFF_FFFF_FFFF_FF00, &[], FILLED.2)?;
         Ok(())
     }
-}
-
-#[test]
-fn filled_stores_are_adopted(rt: HostRuntime) -> Result<(), Fail> {
-    in_memory(&rt, &GoesOn)?;
-    on_memory_disks(&rt, &GoesOn)
-}
-
-/// A store without rows is adopted at 0/0.
-struct BeginsAnew;
-
-impl TablesTrial for BeginsAnew {
-    fn run_on<R: Abort + AllocGlobal, C: Kept>(
-        &self,
-        rt: &R,
-        tables: C::Tables,
-    ) -> Result<(), Fail> {
-        let mut store: C = adopt(rt, tables)?;
-        expect(rt, &mut store, 0, "")?;
-        take(rt, &mut store, 0x130, FILLED.0)?;
-        expect(rt, &mut store, 0x130, FILLED.2)
-    }
-}
-
-impl Trial for BeginsAnew {
-    fn run<R: Abort + AllocGlobal, C: Kept>(&self, rt: &R, store: C) -> Result<(), Fail> {
-        self.run_on::<R, C>(rt, store.into_tables()?)
-    }
-}
-
-#[test]
-fn empty_connections_are_adopted(rt: HostRuntime) -> Result<(), Fail> {
-    on_connections(&rt, &BeginsAnew)?;
-    in_memory(&rt, &BeginsAnew)
-}
-
-/// A store without rows loses its position, and is adopted at 0/0.
-struct LosesItsPosition;
-
-impl Trial for LosesItsPosition {
-    fn run<R: Abort + AllocGlobal, C: Kept>(&self, rt: &R, store: C) -> Result<(), Fail> {
-        let mut tables = store.into_tables()?;
-        tables.execute("DELETE FROM pos")?;
-        BeginsAnew.run_on::<R, C>(rt, tables)
-    }
-}
-
-#[test]
-fn empty_tables_get_a_position(rt: HostRuntime) -> Result<(), Fail> {
-    in_memory(&rt, &LosesItsPosition)?;
-    on_memory_disks(&rt, &LosesItsPosition)
-}
-
-/// After some statements the connection isn't adopted, with this fault.
-#[derive(Drop)]
-struct IsRefused {
-    statements: &'static str,
-    fault: StoreFault,
-}
-
-impl TablesTrial for IsRefused {
-    fn run_on<R: Abort + AllocGlobal, C: Kept>(
-        &self,
-        rt: &R,
-        mut tables: C::Tables,
-    ) -> Result<(), Fail> {
-        tables.execute(self.statements)?;
-        expect_refused::<R, C>(rt, tables, self.fault)
-    }
-}
-
-impl Trial for IsRefused {
-    fn run<R: Abort + AllocGlobal, C: Kept>(&self, rt: &R, store: C) -> Result<(), Fail> {
-        self.run_on::<R, C>(rt, store.into_tables()?)
-    }
-}
-
-#[test]
-fn other_tables_are_no_store(rt: HostRuntime) -> Result<(), Fail> {
-    let fault = StoreFault::NotAStore;
-    let statements = "CREATE TABLE other (x INTEGER)";
-    on_connections(&rt, &IsRefused { statements, fault })?;
-    in_memory(&rt, &IsRefused { statements, fault })?;
-    let statements = "CREATE TABLE rel (oid INTEGER PRIMARY KEY NOT NULL)";
-    on_connections(&rt, &IsRefused { statements, fault })
-}
-
-#[test]
-fn transactions_are_refused(rt: HostRuntime) -> Result<(), Fail> {
-    let (statements, fault) = ("BEGIN", StoreFault::Refused);
-    in_memory(&rt, &IsRefused { statements, fault })
 }
 
 /// What no store writes, over a store with the row 1 a in t and x in the bag f.
@@ -208,39 +103,8 @@ const RIGHT: &[&str] = &[
     "DELETE FROM held",
 ];
 
-/// A filled store in which a statement changes something, and whether it is a store still.
-#[derive(Drop)]
-struct Changed {
-    change: &'static str,
-    is_right: bool,
-}
-
-impl Trial for Changed {
-    fn run<R: Abort + AllocGlobal, C: Kept>(&self, rt: &R, mut store: C) -> Result<(), Fail> {
-        take(rt, &mut store, 0x130, FILLED.0)?;
-        let mut tables = store.into_tables()?;
-        tables.execute(self.change)?;
-        if !self.is_right {
-            return expect_refused::<R, C>(rt, tables, StoreFault::NotAStore);
-        }
-        let _store: C = adopt(rt, tables)?;
-        Ok(())
-    }
-}
-
-#[test]
-fn only_right_rows_are_a_store(rt: HostRuntime) -> Result<(), Fail> {
-    for (changes, is_right) in [(WRONG, false), (RIGHT, true)] {
-        for change in changes {
-            let change = *change;
-            in_memory(&rt, &Changed { change, is_right })?;
-        }
-    }
-    Ok(())
-}
-
-/// Statements over a filled store that drop some of its tables, and the position at which it is adopted without rows, or `None`
-/// where it is none any more.
+/// Statements over a filled store that drop some of its tables or empty them, and the position at
+/// which it is adopted without rows, or `None` where it is none any more.
 const DROPPED: &[(&str, Option<u64>)] = &[
     ("DROP TABLE held", Some(0x130)),
     ("DROP TABLE rel; DROP TABLE held", Some(0x130)),
@@ -250,6 +114,10 @@ const DROPPED: &[(&str, Option<u64>)] = &[
     ("DELETE FROM held; DROP TABLE rel; DROP TABLE pos", Some(0)),
     ("DELETE FROM rel; DROP TABLE held; DROP TABLE pos", Some(0)),
     ("DELETE FROM pos; DROP TABLE rel; DROP TABLE held", Some(0)),
+    (
+        "DELETE FROM held; DELETE FROM rel; DELETE FROM pos",
+        Some(0),
+    ),
     // Rows without their definitions, and rows or definitions without a position.
     ("DROP TABLE rel", None),
     ("DROP TABLE pos", None),
@@ -258,66 +126,75 @@ const DROPPED: &[(&str, Option<u64>)] = &[
     ("DROP TABLE held; DELETE FROM pos", None),
     // Another table beside.
     ("DROP TABLE held; CREATE TABLE other (x INTEGER)", None),
+    // Another table, and one of a store's names with other columns, in place of all.
+    (
+        "DROP TABLE rel; DROP TABLE held; DROP TABLE pos; CREATE TABLE other (x INTEGER)",
+        None,
+    ),
+    (
+        "DROP TABLE rel; DROP TABLE held; DROP TABLE pos; CREATE TABLE rel (oid INTEGER PRIMARY KEY NOT NULL)",
+        None,
+    ),
 ];
 
-/// A store of which tables were dropped is adopted without rows at the position, stores rows, and
-/// is adopted again.
-fn check_remade<R: Abort + AllocGlobal, C: Kept>(
-    rt: &R,
-    tables: C::Tables,
-    position: u64,
-) -> Result<(), Fail> {
-    let mut store: C = adopt(rt, tables)?;
-    expect(rt, &mut store, position, "")?;
-    let _again = go_on(rt, store, 0x230, FILLED.0, FILLED.2)?;
-    Ok(())
+/// What a filled store is after a change by statements.
+#[derive(Clone, Copy)]
+enum Becomes {
+    /// A store.
+    AStore,
+    /// A store without rows at this position, which takes rows, and is adopted again.
+    Empty(u64),
+    /// No store, with this fault.
+    Not(StoreFault),
 }
 
-/// A filled store of which tables are dropped, and the position at which it is adopted, or `None` where it isn't.
+/// A filled store that statements change.
 #[derive(Drop)]
-struct Dropped {
-    drops: &'static str,
-    position: Option<u64>,
+struct Changed {
+    change: &'static str,
+    becomes: Becomes,
 }
 
-impl Trial for Dropped {
+impl Trial for Changed {
     fn run<R: Abort + AllocGlobal, C: Kept>(&self, rt: &R, mut store: C) -> Result<(), Fail> {
         take(rt, &mut store, 0x130, FILLED.0)?;
         let mut tables = store.into_tables()?;
-        tables.execute(self.drops)?;
-        match self.position {
-            Some(position) => check_remade::<R, C>(rt, tables, position),
-            None => expect_refused::<R, C>(rt, tables, StoreFault::NotAStore),
+        tables.execute(self.change)?;
+        match self.becomes {
+            Becomes::AStore => {
+                let _store: C = adopt(rt, tables)?;
+                Ok(())
+            }
+            Becomes::Empty(position) => {
+                let mut store: C = adopt(rt, tables)?;
+                expect(rt, &mut store, position, "")?;
+                let _again = go_on(rt, store, 0x230, FILLED.0, FILLED.2)?;
+                Ok(())
+            }
+            Becomes::Not(fault) => expect_refused::<R, C>(rt, tables, fault),
         }
     }
 }
 
 #[test]
-fn dropped_tables_are_made(rt: HostRuntime) -> Result<(), Fail> {
-    for (drops, position) in DROPPED {
-        let (drops, position) = (*drops, *position);
-        in_memory(&rt, &Dropped { drops, position })?;
-        on_memory_disks(&rt, &Dropped { drops, position })?;
+fn filled_and_changed_stores_are_adopted_or_not(rt: HostRuntime) -> Result<(), Fail> {
+    on_stores(&rt, &GoesOn)?;
+    let (change, becomes) = ("BEGIN", Becomes::Not(StoreFault::Refused));
+    on_stores(&rt, &Changed { change, becomes })?;
+    let not = Becomes::Not(StoreFault::NotAStore);
+    for (changes, becomes) in [(WRONG, not), (RIGHT, Becomes::AStore)] {
+        for change in changes {
+            let change = *change;
+            on_stores(&rt, &Changed { change, becomes })?;
+        }
+    }
+    for (change, position) in DROPPED {
+        let change = *change;
+        let becomes = match *position {
+            Some(position) => Becomes::Empty(position),
+            None => not,
+        };
+        on_stores(&rt, &Changed { change, becomes })?;
     }
     Ok(())
-}
-
-/// The definitions of a store whose rows were dropped are kept.
-struct KeepsDefinitions;
-
-impl Trial for KeepsDefinitions {
-    fn run<R: Abort + AllocGlobal, C: Kept>(&self, rt: &R, mut store: C) -> Result<(), Fail> {
-        take(rt, &mut store, 0x130, FILLED.0)?;
-        let mut tables = store.into_tables()?;
-        tables.execute("DROP TABLE held")?;
-        let store: C = adopt(rt, tables)?;
-        let mut tables = store.into_tables()?;
-        assert_eq!(rt; tables.count("SELECT oid FROM rel")?, 3);
-        Ok(())
-    }
-}
-
-#[test]
-fn definitions_outlast_their_rows(rt: HostRuntime) -> Result<(), Fail> {
-    in_memory(&rt, &KeepsDefinitions)
 }

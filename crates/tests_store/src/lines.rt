@@ -2,7 +2,6 @@
 
 use crate::stores::Kept;
 use pgapply::{DumpRow, StoreFault};
-use pgstore::DumpSink;
 use pgtuple::CellRef;
 use std::alloc::{AllocError, Global};
 use std::fmt::Write as _;
@@ -30,49 +29,12 @@ fn push_line(lines: &mut String, row: &DumpRow) -> Result<(), StoreFault> {
     Ok(())
 }
 
-fn lines(alloc: Global, rows: &[DumpRow]) -> Result<String, StoreFault> {
+/// All rows of a store.
+pub(crate) fn shown<C: Kept>(alloc: Global, store: &mut C) -> Result<String, StoreFault> {
+    let rows = store.rows()?;
     let mut lines = String::new(alloc);
-    for row in rows {
+    for row in rows.as_slice() {
         push_line(&mut lines, row)?;
     }
     Ok(lines)
-}
-
-/// All rows of a store.
-pub(crate) fn shown<C: Kept>(alloc: Global, store: &mut C) -> Result<String, StoreFault> {
-    lines(alloc, store.rows()?.as_slice())
-}
-
-/// The lines of the rows that it takes, so many at most.
-#[derive(Drop)]
-pub(crate) struct FirstLines {
-    lines: String,
-    most: usize,
-}
-
-impl DumpSink for FirstLines {
-    ghost use Rattle.std.specs.Prelude.{⊤};
-
-    ghost has_taken = { λ _ _ _. ⊤ };
-
-    ghost has_stopped = { λ _. ⊤ };
-
-    fn take(&mut self, row: DumpRow) -> bool {
-        if self.most == 0 {
-            return false;
-        }
-        self.most -= 1;
-        push_line(&mut self.lines, &row).is_ok()
-    }
-}
-
-/// The first rows as they are read, so many at most, and whether they are all.
-pub(crate) fn first<C: Kept>(
-    alloc: Global,
-    store: &mut C,
-    most: usize,
-) -> Result<(String, bool), StoreFault> {
-    let lines = String::new(alloc);
-    let (all, sink) = store.each_row(FirstLines { lines, most });
-    Ok((sink.lines, all?))
 }

@@ -1,8 +1,8 @@
 //! Commits that are staged and settled together, and what a store shows of them meanwhile.
 
 use crate::cases::{CLASH, Change, F, OK, T, T_1, T_1_2, UNSENT, W};
-use crate::lines::{first, shown};
-use crate::stores::{Kept, Trial, adopt, in_memory, on_memory_disks};
+use crate::lines::shown;
+use crate::stores::{Kept, Trial, adopt, on_stores};
 use crate::works::{stage, take};
 use pgapply::{Miss, StoreFault};
 use pglogical::OldKind::{Full, Key};
@@ -17,13 +17,11 @@ enum Call {
     Settle,
     Unstage,
     Rows(&'static str),
-    /// The rows one by one.
-    EachRow(&'static str),
     /// How many changes found no row, with the commit and the relation of the first.
     Misses(u64, Option<(u64, u32)>),
 }
 
-use Call::{EachRow, Misses, Rows, Settle, Stage, Take, Unstage};
+use Call::{Misses, Rows, Settle, Stage, Take, Unstage};
 use Change::{Delete, Insert, Truncate, Update, UpdateFrom};
 
 /// A call, what it returns, and then the position and how far the staged commits reach.
@@ -51,7 +49,7 @@ const SETTLED: StagedCase = (
         (Settle, OK, (0x200, 0x200)),
         (Rows(T_1_2), OK, (0x200, 0x200)),
         (Settle, OK, (0x200, 0x200)),
-        (EachRow(T_1_2), OK, (0x200, 0x200)),
+        (Rows(T_1_2), OK, (0x200, 0x200)),
         // A commit finds the rows of those that are staged before it.
         (Stage(0x300, &[(T, Insert("3 c"))]), OK, (0x200, 0x300)),
         (
@@ -126,7 +124,7 @@ const UNSTAGED: StagedCase = (
         // A commit that is stored drops it too.
         (Stage(0x300, &[(T, Insert("7 g"))]), OK, (0x200, 0x300)),
         (Take(0x300, &[(T, Insert("8 h"))]), OK, (0x300, 0x300)),
-        (EachRow(T_1_5_8), OK, (0x300, 0x300)),
+        (Rows(T_1_5_8), OK, (0x300, 0x300)),
         (Stage(0x400, &[(T, Truncate)]), OK, (0x300, 0x400)),
         (Take(0x400, &[(T, Insert("8 h"))]), CLASH, (0x300, 0x300)),
         (Stage(0x400, &[(T, Truncate)]), OK, (0x300, 0x400)),
@@ -140,14 +138,14 @@ const READ: StagedCase = (
         (Stage(0x100, ONE), OK, (0, 0x100)),
         (Rows(""), OK, (0, 0)),
         (Stage(0x100, ONE), OK, (0, 0x100)),
-        (EachRow(""), OK, (0, 0)),
+        (Rows(""), OK, (0, 0)),
         (Settle, OK, (0, 0)),
         (Take(0x100, ONE), OK, (0x100, 0x100)),
         (Stage(0x200, &[(T, Truncate)]), OK, (0x100, 0x200)),
         (Stage(0x300, TWO), OK, (0x100, 0x300)),
         (Rows(T_1), OK, (0x100, 0x100)),
         (Stage(0x300, &[(T, Update("1 b"))]), OK, (0x100, 0x300)),
-        (EachRow(T_1), OK, (0x100, 0x100)),
+        (Rows(T_1), OK, (0x100, 0x100)),
         (Settle, OK, (0x100, 0x100)),
         (Stage(0x300, TWO), OK, (0x100, 0x300)),
         (Settle, OK, (0x300, 0x300)),
@@ -261,10 +259,6 @@ fn make<R: Abort + AllocGlobal, C: Kept>(
         Settle => return store.settle(),
         Unstage => store.unstage(),
         Rows(wanted) => assert_eq!(rt; shown(rt.alloc(), store)?.as_str(), wanted),
-        EachRow(wanted) => {
-            let (found, is_all) = first(rt.alloc(), store, usize::MAX)?;
-            assert_eq!(rt; (found.as_str(), is_all), (wanted, true));
-        }
         Misses(count, first) => assert_eq!(rt; missed(store), (count, first)),
     }
     Ok(())
@@ -304,17 +298,9 @@ impl Trial for MakesCalls {
 }
 
 #[test]
-fn staged_commits_in_memory(rt: HostRuntime) -> Result<(), Fail> {
+fn commits_are_staged(rt: HostRuntime) -> Result<(), Fail> {
     for case in CASES {
-        in_memory(&rt, &MakesCalls { case: *case })?;
-    }
-    Ok(())
-}
-
-#[test]
-fn staged_commits_on_memory_disks(rt: HostRuntime) -> Result<(), Fail> {
-    for case in CASES {
-        on_memory_disks(&rt, &MakesCalls { case: *case })?;
+        on_stores(&rt, &MakesCalls { case: *case })?;
     }
     Ok(())
 }

@@ -1,9 +1,8 @@
-//! New stores and connections, over which a trial is run.
+//! New stores, over which a trial is run.
 //!
 //! Only this file names their types. A trial knows them by traits without clauses, so what it owes where it owns a store or lets one
 //! go is proved here once, and not in each trial.
 
-use crate::lines::FirstLines;
 use pgapply::{Commit, DumpRow, Misses, StoreFault, Work};
 use pglsn::Lsn;
 use pgstore::Store;
@@ -47,8 +46,6 @@ pub(crate) trait Kept: Drop {
     fn unstage(&mut self);
 
     fn rows(&mut self) -> Result<Vec<DumpRow>, StoreFault>;
-
-    fn each_row(&mut self, sink: FirstLines) -> (Result<bool, StoreFault>, FirstLines);
 }
 
 /// The value, or a failure for this reason.
@@ -117,10 +114,6 @@ impl<S: Alter + Drop> Kept for Store<S> {
     fn rows(&mut self) -> Result<Vec<DumpRow>, StoreFault> {
         Store::rows(self)
     }
-
-    fn each_row(&mut self, sink: FirstLines) -> (Result<bool, StoreFault>, FirstLines) {
-        Store::each_row(self, sink)
-    }
 }
 
 /// The store of these tables.
@@ -136,15 +129,6 @@ pub(crate) trait Trial {
     fn run<R: Abort + AllocGlobal, C: Kept>(&self, rt: &R, store: C) -> Result<(), Fail>;
 }
 
-/// What is done with a new connection, on which there is no table, to the tables of a store.
-pub(crate) trait TablesTrial {
-    fn run_on<R: Abort + AllocGlobal, C: Kept>(
-        &self,
-        rt: &R,
-        tables: C::Tables,
-    ) -> Result<(), Fail>;
-}
-
 /// Over a store of any kind: the proof that one over given disks is a store gets too large.
 fn over<R: Abort + AllocGlobal, S: Alter + Drop>(
     rt: &R,
@@ -154,33 +138,8 @@ fn over<R: Abort + AllocGlobal, S: Alter + Drop>(
     trial.run(rt, store?)
 }
 
-/// Over a connection of any kind.
-fn over_tables<R: Abort + AllocGlobal, S: Alter + Drop, E: Drop>(
-    rt: &R,
-    trial: &impl TablesTrial,
-    conn: Result<Connection<S>, E>,
-) -> Result<(), Fail> {
-    trial.run_on::<R, Store<S>>(rt, value_of(conn, "there is no connection")?)
-}
-
-/// Over a store in memory.
-pub(crate) fn in_memory<R: Abort + AllocGlobal>(rt: &R, trial: &impl Trial) -> Result<(), Fail> {
-    over(rt, trial, Store::in_memory(rt.alloc()))
-}
-
-/// Over a store on disks in memory.
-pub(crate) fn on_memory_disks<R: Abort + AllocGlobal>(
-    rt: &R,
-    trial: &impl Trial,
-) -> Result<(), Fail> {
+/// Over a store in memory, and over one on disks in memory.
+pub(crate) fn on_stores<R: Abort + AllocGlobal>(rt: &R, trial: &impl Trial) -> Result<(), Fail> {
+    over(rt, trial, Store::in_memory(rt.alloc()))?;
     over(rt, trial, Store::on_memory_disks(rt.alloc()))
-}
-
-/// Over a connection in memory, and over one on disks in memory.
-pub(crate) fn on_connections<R: Abort + AllocGlobal>(
-    rt: &R,
-    trial: &impl TablesTrial,
-) -> Result<(), Fail> {
-    over_tables(rt, trial, Connection::open_in_memory(rt.alloc()))?;
-    over_tables(rt, trial, pgmemory::open(rt.alloc()))
 }

@@ -9,12 +9,12 @@ use pgtuple::{CellRef, Seq, Text, Tuple};
 use std::alloc::{AllocError, Global};
 use std::process::Abort;
 
-pub(crate) fn text(alloc: Global, text: &str) -> Result<Text, AllocError> {
+fn text(alloc: Global, text: &str) -> Result<Text, AllocError> {
     Ok(Text::from_string(String::from_str(alloc, text)?))
 }
 
 /// A column of type text.
-pub(crate) fn column(alloc: Global, key: bool, name: &str) -> Result<Column, AllocError> {
+fn column(alloc: Global, key: bool, name: &str) -> Result<Column, AllocError> {
     Ok(Column {
         key,
         name: text(alloc, name)?,
@@ -40,16 +40,6 @@ fn definition(alloc: Global, relation: &Relation) -> Result<RelationDef, AllocEr
     })
 }
 
-/// Takes the definitions of all relations, in their order.
-fn define_all(rt: &(impl Abort + AllocGlobal), work: &mut Work<'_>) -> Result<(), StoreFault> {
-    for relation in &RELATIONS {
-        let def = definition(rt.alloc(), relation)?;
-        assert!(rt; def.spellable());
-        let _number = work.define(def)?;
-    }
-    Ok(())
-}
-
 fn cell(word: &str) -> CellRef<'_> {
     match (word, word.strip_prefix('#')) {
         ("null", _) => CellRef::Null,
@@ -65,17 +55,6 @@ fn tuple(alloc: Global, words: &str) -> Result<Tuple, StoreFault> {
         cells.push(cell(word).to_cell(alloc).map_err(|_| StoreFault::Memory)?)?;
     }
     Tuple::from_cells(cells).ok_or(StoreFault::Width)
-}
-
-/// The old tuple and the new one, of no cells where there is no such tuple.
-fn tuples(alloc: Global, change: Change) -> Result<(Tuple, Tuple), StoreFault> {
-    let (old, new) = match change {
-        Change::Insert(new) | Change::Update(new) => ("", new),
-        Change::UpdateFrom(_, old, new) => (old, new),
-        Change::Delete(_, old) => (old, ""),
-        Change::Truncate => ("", ""),
-    };
-    Ok((tuple(alloc, old)?, tuple(alloc, new)?))
 }
 
 fn op<'a>(change: Change, old: &'a Tuple, new: &'a Tuple) -> Op<'a> {
@@ -99,13 +78,20 @@ fn op<'a>(change: Change, old: &'a Tuple, new: &'a Tuple) -> Op<'a> {
     }
 }
 
+/// The old tuple and the new one of each change, of no cells where there is no such tuple.
 fn all_tuples(
     alloc: Global,
     changes: &[(usize, Change)],
 ) -> Result<Vec<(Tuple, Tuple)>, StoreFault> {
     let mut all = Vec::new(alloc);
     for &(_, change) in changes {
-        all.push(tuples(alloc, change)?)?;
+        let (old, new) = match change {
+            Change::Insert(new) | Change::Update(new) => ("", new),
+            Change::UpdateFrom(_, old, new) => (old, new),
+            Change::Delete(_, old) => (old, ""),
+            Change::Truncate => ("", ""),
+        };
+        all.push((tuple(alloc, old)?, tuple(alloc, new)?))?;
     }
     Ok(all)
 }
@@ -117,7 +103,11 @@ fn work_of<'a>(
     tuples: &'a [(Tuple, Tuple)],
 ) -> Result<Work<'a>, StoreFault> {
     let mut work = Work::new(rt.alloc());
-    define_all(rt, &mut work)?;
+    for relation in &RELATIONS {
+        let def = definition(rt.alloc(), relation)?;
+        assert!(rt; def.spellable());
+        let _number = work.define(def)?;
+    }
     for (&(number, change), (old, new)) in changes.iter().zip(tuples) {
         assert!(rt; number < work.definitions().len());
         work.change(number, op(change, old, new))?;

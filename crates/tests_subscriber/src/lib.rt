@@ -13,8 +13,6 @@ mod counting;
 #[cfg(test)]
 mod messages;
 #[cfg(test)]
-mod missing;
-#[cfg(test)]
 mod pairs;
 #[cfg(test)]
 mod places;
@@ -22,8 +20,6 @@ mod places;
 mod pumped;
 #[cfg(test)]
 mod refusing;
-#[cfg(test)]
-mod restarting;
 #[cfg(test)]
 mod row;
 #[cfg(test)]
