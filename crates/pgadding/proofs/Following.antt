@@ -1,11 +1,13 @@
 -- Which of the remaining transactions a commit is, by its LSN.
-use Rattle.std.proofs.Common.{◌≡◌, ◌≤◌, ◌<◌, ◌++◌, ℕ, List, [], ◌∷◌, map, refl, sym, ap, subst, ◌∙◌, arith}
+use Rattle.std.proofs.Common.{◌≡◌, ◌≤◌, ◌<◌, ◌++◌, ℕ, List, [], ◌∷◌, map, refl, sym, ap, subst, ◌∙◌}
+use Rattle.std.proofs.Common.{arith}
 use Rattle.std.specs.List.{AllByRecursion}
 use Rattle.pglogical.specs.declared.message.RelationDef.{RelationDef}
 use Rattle.pglogical.specs.declared.message.Item.{Item}
 use Rattle.pgsub_core.specs.Server.Work.{IsWork, surviving_changes}
 use Rattle.pgsub_core.specs.Server.History.{Transaction, ChangesRows}
-use Rattle.pgsub_core.specs.Server.Stream.{CommitOrKeepalive, Committed, KeepaliveEnd, Completed, WholeCommit, StreamedCommit}
+use Rattle.pgsub_core.specs.Server.Stream.{CommitOrKeepalive, Committed, KeepaliveEnd, Completed}
+use Rattle.pgsub_core.specs.Server.Stream.{WholeCommit, StreamedCommit}
 use Rattle.pgsub_core.specs.Server.Delivers.{CommitsFollow, ChangeNothing, IsCommitOf}
 use Rattle.pgsub_core.proofs.Changes.{none_changed}
 use Rattle.pgadding.specs.LeftOut.{transaction_without}
@@ -43,7 +45,8 @@ pub record Unseen (below above left_out : List Transaction) (t : Transaction) (l
   pub out : left_out ≡ below ++ more
   pub rest : above ≡ more ++ t ∷ later
 
-pub unseen : (point : ℕ) (below above left_out : List Transaction) (t : Transaction) (later : List Transaction) → AreSeen point below → point ≤ t.lsn
+pub unseen : (point : ℕ) (below above left_out : List Transaction) (t : Transaction) (later : List Transaction) → AreSeen point below
+    → point ≤ t.lsn
     → below ++ above ≡ left_out ++ t ∷ later → Unseen below above left_out t later
 unseen point [] above left_out t later seen le e = record { more = left_out; out = refl; rest = e }
 unseen point (b ∷ below) above [] t later seen le e =
@@ -60,10 +63,12 @@ pub record Seen (below above left_out : List Transaction) (t : Transaction) (lat
   pub all : below ≡ left_out ++ t ∷ more
   pub rest : later ≡ more ++ above
 
-late_first : (point : ℕ) (left_out : List Transaction) (t : Transaction) (later : List Transaction) → AreUnseen point (left_out ++ t ∷ later) → point ≤ t.lsn
+late_first : (point : ℕ) (left_out : List Transaction) (t : Transaction) (later : List Transaction)
+    → AreUnseen point (left_out ++ t ∷ later) → point ≤ t.lsn
 late_first point left_out t later h = (all_right _ left_out (t ∷ later) h).0
 
-pub seen_among : (point : ℕ) (below above left_out : List Transaction) (t : Transaction) (later : List Transaction) → AreUnseen point above → t.lsn < point
+pub seen_among : (point : ℕ) (below above left_out : List Transaction) (t : Transaction) (later : List Transaction) → AreUnseen point above
+    → t.lsn < point
     → below ++ above ≡ left_out ++ t ∷ later → Seen below above left_out t later
 seen_among point [] above left_out t later unseen lt e =
     absurd (let le : point ≤ t.lsn = late_first point left_out t later (subst (AreUnseen point) e unseen) in omega arith)
@@ -85,7 +90,8 @@ at_least : (from a b : ℕ) → from ≤ a → a ≡ b → from ≤ b
 at_least from a b le e = omega arith
 
 -- Where the first commit isn't seen, what is seen and hasn't come changes nothing.
-pub nothing_seen : (point : ℕ) (below above : List Transaction) (earlier : List RelationDef) (ms : List CommitOrKeepalive) → AreSeen point below → HasFirst point ms
+pub nothing_seen : (point : ℕ) (below above : List Transaction) (earlier : List RelationDef) (ms : List CommitOrKeepalive)
+    → AreSeen point below → HasFirst point ms
     → CommitsFollow earlier (below ++ above) ms → ChangeNothing below
 nothing_seen point below above earlier [] seen first h = absurd first
 nothing_seen point below above earlier (KeepaliveEnd end quiet ∷ ms) seen first h = nothing_seen point below above earlier ms seen first h.1
@@ -94,34 +100,50 @@ nothing_seen point below above earlier (Committed c ∷ ms) seen first h =
     all_left (λ (t : Transaction). surviving_changes t.work ≡ []) below it.more (subst ChangeNothing it.out h.5)
 
 -- and the commits follow without that
-pub without_seen : (point : ℕ) (below above : List Transaction) (earlier : List RelationDef) (ms : List CommitOrKeepalive) → AreSeen point below → FirstFrom point ms
+pub without_seen : (point : ℕ) (below above : List Transaction) (earlier : List RelationDef) (ms : List CommitOrKeepalive)
+    → AreSeen point below → FirstFrom point ms
     → CommitsFollow earlier (below ++ above) ms → CommitsFollow earlier above ms
 without_seen point below above earlier [] seen first h = tt
 without_seen point below above earlier (KeepaliveEnd end quiet ∷ ms) seen first h =
     (all_right (λ (t : Transaction). ChangesRows t → end < t.end) below above h.0, without_seen point below above earlier ms seen first h.1)
 without_seen point below above earlier (Committed c ∷ ms) seen first h =
-    let it = unseen point below above h.0 h.1 h.2 seen (at_least point (lsn_of c) h.1.lsn first (commit_lsn h.1 c h.3 h.6)) h.4 in
-    (it.more, h.1, h.2, h.3, it.rest, all_right (λ (t : Transaction). surviving_changes t.work ≡ []) below it.more (subst ChangeNothing it.out h.5), h.6, h.7, h.8)
+    let it = unseen point below above h.0 h.1 h.2 seen (at_least point (lsn_of c) h.1.lsn first (commit_lsn h.1 c h.3 h.6)) h.4 in (
+      it.more,
+      h.1,
+      h.2,
+      h.3,
+      it.rest,
+      all_right (λ (t : Transaction). surviving_changes t.work ≡ []) below it.more (subst ChangeNothing it.out h.5),
+      h.6,
+      h.7,
+      h.8,
+    )
 
 -- what ends before a keepalive's end changes nothing
-pub nothing_told : (point end : ℕ) (below : List Transaction) → AreSeen point below → point ≤ end → AllByRecursion (λ (t : Transaction). ChangesRows t → end < t.end) below → ChangeNothing below
+pub nothing_told : (point end : ℕ) (below : List Transaction) → AreSeen point below → point ≤ end
+    → AllByRecursion (λ (t : Transaction). ChangesRows t → end < t.end) below → ChangeNothing below
 nothing_told point end [] seen le h = tt
-nothing_told point end (t ∷ below) seen le h =
-    (none_changed (surviving_changes t.work) (end < t.end) h.0 (λ late. let early : t.end < point = seen.0.ends in omega arith), nothing_told point end below seen.1 le h.1)
+nothing_told point end (t ∷ below) seen le h = (
+  none_changed (surviving_changes t.work) (end < t.end) h.0 (λ late. let early : t.end < point = seen.0.ends in omega arith),
+  nothing_told point end below seen.1 le h.1,
+)
 
 -- ---- transactions without a table
 
 abbrev pub all_without : ℕ → List Transaction → List Transaction
 all_without oid ts = map (transaction_without oid) ts
 
-pub nothing_without : (oid : ℕ) (t : Transaction) → IsWork t.work → surviving_changes t.work ≡ [] → surviving_changes (transaction_without oid t).work ≡ []
+pub nothing_without : (oid : ℕ) (t : Transaction) → IsWork t.work → surviving_changes t.work ≡ []
+    → surviving_changes (transaction_without oid t).work ≡ []
 nothing_without oid t is none = surviving-without oid t.work is ∙ ap (other_changes oid) none
 
 pub nothing_all : (point oid : ℕ) (ts : List Transaction) → AreSeen point ts → ChangeNothing ts → ChangeNothing (all_without oid ts)
 nothing_all point oid [] seen h = tt
 nothing_all point oid (t ∷ ts) seen h = (nothing_without oid t seen.0.work h.0, nothing_all point oid ts seen.1 h.1)
 
-pub told_all : (point oid end : ℕ) (ts : List Transaction) → AreSeen point ts → AllByRecursion (λ (t : Transaction). ChangesRows t → end < t.end) ts
+pub told_all : (point oid end : ℕ) (ts : List Transaction) → AreSeen point ts
+    → AllByRecursion (λ (t : Transaction). ChangesRows t → end < t.end) ts
     → AllByRecursion (λ (t : Transaction). ChangesRows t → end < t.end) (all_without oid ts)
 told_all point oid end [] seen h = tt
-told_all point oid end (t ∷ ts) seen h = ((λ changes. h.0 (λ none. changes (nothing_without oid t seen.0.work none))), told_all point oid end ts seen.1 h.1)
+told_all point oid end (t ∷ ts) seen h =
+    ((λ changes. h.0 (λ none. changes (nothing_without oid t seen.0.work none))), told_all point oid end ts seen.1 h.1)

@@ -1,8 +1,11 @@
 -- Tables of any content are given by a history, and a copy that has them is repaired.
-use Rattle.std.proofs.Common.{◌≡◌, ◌≢◌, ◌<◌, ◌≤◌, ◌++◌, ℕ, List, [], ◌∷◌, Bool, true, false, cond, eqb, nat_le, map, flat_map, Some, None, Ok, refl, sym, ap, subst, ◌∙◌, inr, arith, append-nil}
+use Rattle.std.proofs.Common.{◌≡◌, ◌≢◌, ◌<◌, ◌≤◌, ◌++◌, ℕ, List, [], ◌∷◌, Bool, true, false, cond}
+use Rattle.std.proofs.Common.{eqb, nat_le, map, flat_map, Some, None, Ok, refl, sym, ap, subst, ◌∙◌}
+use Rattle.std.proofs.Common.{inr, arith, append-nil}
 use Rattle.std.specs.Prelude.{T, ◌&&◌}
 use Rattle.std.specs.FinMap as finite
-use Rattle.std.specs.FinMap.{same_map, nat_cmp-IsAntisymmetric, get-empty, get-entries, get-from_entries, entries_sorted, find, is_sorted}
+use Rattle.std.specs.FinMap.{same_map, nat_cmp-IsAntisymmetric, get-empty, get-entries}
+use Rattle.std.specs.FinMap.{get-from_entries, entries_sorted, find, is_sorted}
 use Rattle.std.specs.FinMap.Entries.{below_all}
 use Rattle.std.specs.Ordering.{nat_cmp, is_lt}
 use Rattle.std.specs.Cmp.{nat_cmp_total}
@@ -16,19 +19,22 @@ use Rattle.pgapply.specs.CarriedCopies.{copies_of, copies_at}
 use Rattle.pgapply.specs.Apply.{fold_changes, ◌>>=◌}
 use Rattle.pgapply.proofs.KeepsForm.{no_rows}
 use Rattle.pgapply.proofs.Entries.{each_entry}
-use Rattle.pgsub_core.specs.Server.Work.{Work, Nothing, IsWork, AllDiffer, surviving_changes, xids_of}
+use Rattle.pgsub_core.specs.Server.Work.{Work, Nothing, IsWork, AllDiffer, surviving_changes}
+use Rattle.pgsub_core.specs.Server.Work.{xids_of}
 use Rattle.pgsub_core.specs.Server.History.{Transaction, all_changes, ended_by, tables_as_of}
 use Rattle.pgsub_core.specs.Subscriber.Safe.{IsSafe}
 use Rattle.pgsub_core.proofs.Changes.{fold-append, ended-none, ended-append}
 use Rattle.pgadding.specs.Around.{IsAround}
 use Rattle.pgadding.specs.Mended.{IsNotAmong, AreDistinct, changes_at}
 use Rattle.pgadding.specs.Repair.{changed}
-use Rattle.pgadding.specs.Given.{giving_changes, giving_work, giving, AnyTablesAreGiven, AnyCopyIsRepaired}
+use Rattle.pgadding.specs.Given.{giving_changes, giving_work, giving, AnyTablesAreGiven}
+use Rattle.pgadding.specs.Given.{AnyCopyIsRepaired}
 use Rattle.pgadding.proofs.Histories.{ends_above}
 use Rattle.pgadding.proofs.Kept.{emptied_table, truncated, point-changes, then_last}
 use Rattle.pgadding.proofs.Steps.{put}
 use Rattle.pgadding.proofs.MendedRows.{fold_items}
-use Rattle.pgadding.proofs.MendedTables.{BothRows, StillToDo, all_ours, differ, mend_rows, changes_by, changed_survive, all_rows, fold_more, put_here}
+use Rattle.pgadding.proofs.MendedTables.{BothRows, StillToDo, all_ours, differ, mend_rows}
+use Rattle.pgadding.proofs.MendedTables.{changes_by, changed_survive, all_rows, fold_more, put_here}
 use Rattle.pgadding.proofs.RepairCommit.{changed_work, changed_xids}
 use Rattle.pgadding.proofs.RepairDelivered.{repaired_copy}
 
@@ -60,7 +66,8 @@ sorted_distinct (e ∷ es) p = (below_others e.0 es (first _ _ p), sorted_distin
 
 found_none : (q : List ℕ) (es : List (List ℕ × Row)) → IsNotAmong q (keys_of es) → find (slice_cmp nat_cmp) q es ≡ None
 found_none q [] isnt = refl
-found_none q (e ∷ es) isnt = ap (λ b. cond b (Some e.1) (find (slice_cmp nat_cmp) q es)) (differ e.0 q (λ same. isnt.0 (sym same))) ∙ found_none q es isnt.1
+found_none q (e ∷ es) isnt =
+    ap (λ b. cond b (Some e.1) (find (slice_cmp nat_cmp) q es)) (differ e.0 q (λ same. isnt.0 (sym same))) ∙ found_none q es isnt.1
 
 no_row : (q : List ℕ) → finite.get {X = Row} {R = slice_cmp nat_cmp} finite.empty q ≡ None
 no_row q = get-empty (slice_cmp nat_cmp) q
@@ -69,7 +76,8 @@ no_copies : (theirs : Rows) (place : List ℕ) → copies_at finite.empty place 
 no_copies theirs place = let none : copies_at finite.empty place ≡ 0 = ap copies_of (no_row place) in omega arith
 
 -- all rows come
-rows_given : (def : RelationDef) (rows : Rows) → AreRows def rows → fold_items def finite.empty (flat_map (changes_at def rows finite.empty) (finite.keys rows)) ≡ Ok rows
+rows_given : (def : RelationDef) (rows : Rows) → AreRows def rows
+    → fold_items def finite.empty (flat_map (changes_at def rows finite.empty) (finite.keys rows)) ≡ Ok rows
 rows_given def rows are =
     let both : BothRows def rows finite.empty = record {
       are = are;
@@ -87,18 +95,21 @@ rows_given def rows are =
 -- ---- a table
 
 table_given : (def : RelationDef) (rows : Rows) (tables : Tables) (rest : Work) → AreRows def rows
-    → fold_changes tables (surviving_changes (changed def (giving_changes def rows) rest)) ≡ fold_changes (finite.insert tables def.oid (record { definition = def; rows = rows })) (surviving_changes rest)
+    → fold_changes tables (surviving_changes (changed def (giving_changes def rows) rest))
+    ≡ fold_changes (finite.insert tables def.oid (record { definition = def; rows = rows })) (surviving_changes rest)
 unfolding fold_changes
 table_given def rows tables rest are =
     let items = flat_map (changes_at def rows finite.empty) (finite.keys rows) in
     let bare : Tables = finite.insert tables def.oid (emptied_table def) in
     let wanted : Table = record { definition = def; rows = rows } in
     let it = fold_more def items bare finite.empty rows (put_here tables def finite.empty) (rows_given def rows are) in
-    let same : it.next ≡ finite.insert tables def.oid wanted = same_map nat_cmp_total nat_cmp-IsAntisymmetric it.next (finite.insert tables def.oid wanted) (λ o.
+    let same : it.next ≡ finite.insert tables def.oid wanted =
+    same_map nat_cmp_total nat_cmp-IsAntisymmetric it.next (finite.insert tables def.oid wanted) (λ o.
     elim (eqb o def.oid) as (λ b. eqb o def.oid ≡ b → finite.get it.next o ≡ finite.get (finite.insert tables def.oid wanted) o) [
       | true ↦ λ yes.
           let at : def.oid ≡ o = grind (arith, nat_tests) in
-          subst (λ x. finite.get it.next x ≡ finite.get (finite.insert tables def.oid wanted) x) at (it.here ∙ sym (put_here tables def rows))
+          subst (λ x. finite.get it.next x ≡ finite.get (finite.insert tables def.oid wanted) x) at
+          (it.here ∙ sym (put_here tables def rows))
       | false ↦ λ no.
           it.others o no
           ∙ put tables def.oid (emptied_table def) o ∙ ap (λ b. cond b (Some (emptied_table def)) (finite.get tables o)) no
@@ -115,7 +126,8 @@ abbrev IsEntry : ℕ × Table → Type 0
 IsEntry e = IsTable e.0 e.1
 
 tables_given : (es : List (ℕ × Table)) (rest : Work) → AllByRecursion IsEntry es
-    → fold_changes finite.empty (surviving_changes (giving_work es rest)) ≡ fold_changes (finite.from_entries {R = nat_cmp} es) (surviving_changes rest)
+    → fold_changes finite.empty (surviving_changes (giving_work es rest))
+    ≡ fold_changes (finite.from_entries {R = nat_cmp} es) (surviving_changes rest)
 tables_given [] rest are = refl
 tables_given (e ∷ es) rest are =
     let def = e.1.definition in
@@ -130,19 +142,27 @@ given : (tables : Tables) → AreTables tables → fold_changes finite.empty (su
 unfolding fold_changes
 given tables are =
     tables_given (finite.entries tables) Nothing (all_entries tables are)
-    ∙ ap (λ t. Ok t) (same_map nat_cmp_total nat_cmp-IsAntisymmetric (finite.from_entries (finite.entries tables)) tables (λ q. get-from_entries nat_cmp_total (finite.entries tables) q ∙ sym (get-entries tables q)))
+    ∙ ap (λ t. Ok t) (same_map nat_cmp_total nat_cmp-IsAntisymmetric (finite.from_entries (finite.entries tables)) tables
+    (λ q. get-from_entries nat_cmp_total (finite.entries tables) q ∙ sym (get-entries tables q)))
 
 table_work : (def : RelationDef) (rows : Rows) (rest : Work) → IsWork rest → IsWork (changed def (giving_changes def rows) rest)
-table_work def rows rest is = (tt, refl, changed_work def (flat_map (changes_at def rows finite.empty) (finite.keys rows)) rest (all_rows def rows finite.empty (finite.keys rows)) is)
+table_work def rows rest is = (
+  tt,
+  refl,
+  changed_work def (flat_map (changes_at def rows finite.empty) (finite.keys rows)) rest
+      (all_rows def rows finite.empty (finite.keys rows)) is,
+)
 
 all_work : (es : List (ℕ × Table)) (rest : Work) → IsWork rest → IsWork (giving_work es rest)
 all_work [] rest is = is
-all_work (e ∷ es) rest is = all_work es (changed e.1.definition (giving_changes e.1.definition e.1.rows) rest) (table_work e.1.definition e.1.rows rest is)
+all_work (e ∷ es) rest is =
+    all_work es (changed e.1.definition (giving_changes e.1.definition e.1.rows) rest) (table_work e.1.definition e.1.rows rest is)
 
 all_xids : (es : List (ℕ × Table)) (rest : Work) → xids_of (giving_work es rest) ≡ xids_of rest
 all_xids [] rest = refl
 all_xids (e ∷ es) rest =
-    all_xids es (changed e.1.definition (giving_changes e.1.definition e.1.rows) rest) ∙ changed_xids e.1.definition (giving_changes e.1.definition e.1.rows) rest
+    all_xids es (changed e.1.definition (giving_changes e.1.definition e.1.rows) rest)
+    ∙ changed_xids e.1.definition (giving_changes e.1.definition e.1.rows) rest
 
 given_work : (tables : Tables) → IsWork (giving tables).work
 given_work tables = all_work (finite.entries tables) Nothing tt
@@ -161,12 +181,14 @@ pub any_tables : AnyTablesAreGiven
 unfolding tables_as_of
 any_tables tables p are le = (
   (omega arith, omega arith, given_work tables, given_xids tables, tt),
-  ap (λ ts. fold_changes finite.empty (all_changes ts)) (given_by tables p le) ∙ ap (fold_changes finite.empty) (append_none tables) ∙ given tables are,
+  ap (λ ts. fold_changes finite.empty (all_changes ts)) (given_by tables p le) ∙ ap (fold_changes finite.empty) (append_none tables)
+      ∙ given tables are,
 )
 
 -- ---- a copy that has them
 
-later_ends : (p point : ℕ) (ts : List Transaction) → p < point → AllByRecursion (λ (t : Transaction). point < t.end) ts → AllByRecursion (λ (t : Transaction). p < t.end) ts
+later_ends : (p point : ℕ) (ts : List Transaction) → p < point → AllByRecursion (λ (t : Transaction). point < t.end) ts
+    → AllByRecursion (λ (t : Transaction). p < t.end) ts
 later_ends p point [] lt h = tt
 later_ends p point (t ∷ ts) lt h = ((let late : point < t.end = h.0 in omega arith), later_ends p point ts lt h.1)
 
@@ -183,12 +205,17 @@ any_copy v r before below above copy server p old new sessions all_complete is o
       seen = is.around.seen;
       unseen = is.around.unseen;
     } in
-    let made : fold_changes finite.empty (all_changes other) ≡ Ok old.tables = ap (fold_changes finite.empty) (append_none old.tables) ∙ given old.tables is.tables in
-    let late : AllByRecursion (λ (t : Transaction). r.point < t.end) above = ends_above r.point 0 before below above is.around.unseen is.around.history in
+    let made : fold_changes finite.empty (all_changes other) ≡ Ok old.tables =
+    ap (fold_changes finite.empty) (append_none old.tables) ∙ given old.tables is.tables in
+    let late : AllByRecursion (λ (t : Transaction). r.point < t.end) above =
+    ends_above r.point 0 before below above is.around.unseen is.around.history in
     let start : IsSafe (other ++ (below ++ above)) old.tables old.position old.confirmed = record {
       same = ap (λ ts. fold_changes finite.empty (all_changes ts))
           (ended-append old.position other (below ++ above)
-          ∙ ap (λ ts. ended_by old.position other ++ ts) (ended-append old.position below above ∙ ap (λ ts. ts ++ ended_by old.position above) (ended-none old.position below is.missing) ∙ ended-none old.position above (later_ends old.position r.point above low late))
+          ∙ ap (λ ts. ended_by old.position other ++ ts)
+          (ended-append old.position below above
+          ∙ ap (λ ts. ts ++ ended_by old.position above) (ended-none old.position below is.missing)
+          ∙ ended-none old.position above (later_ends old.position r.point above low late))
           ∙ ap (λ ts. ts ++ []) (given_by old.tables old.position some)) ∙ made;
       stored = ((λ _ _. some), is.nothing);
       below = is.behind;
@@ -197,7 +224,8 @@ any_copy v r before below above copy server p old new sessions all_complete is o
       around = record { server = is.around; copy = around };
       copy = copy;
       server = server;
-      ours = ap (fold_changes finite.empty) (point-changes r.point other below above around) ∙ then_last (all_changes other) (all_changes below) old.tables made ∙ ours;
+      ours = ap (fold_changes finite.empty) (point-changes r.point other below above around)
+          ∙ then_last (all_changes other) (all_changes below) old.tables made ∙ ours;
       theirs = theirs;
       differs = differs;
     }) low is.unconfirmed start position confirmed sent ran le

@@ -1,5 +1,7 @@
 -- The rows that the history with the rows gives.
-use Rattle.std.proofs.Common.{◌≡◌, ◌≤◌, ◌<◌, ◌++◌, ℕ, List, [], ◌∷◌, true, false, cond, nat_le, eqb, Option, Some, None, Result, Ok, refl, sym, ap, subst, ◌∙◌, arith, append_assoc, append-nil, ◌||◌, ◌==◌}
+use Rattle.std.proofs.Common.{◌≡◌, ◌≤◌, ◌<◌, ◌++◌, ℕ, List, [], ◌∷◌, true, false, cond, nat_le, eqb}
+use Rattle.std.proofs.Common.{Option, Some, None, Result, Ok, refl, sym, ap, subst, ◌∙◌, arith}
+use Rattle.std.proofs.Common.{append_assoc, append-nil, ◌||◌, ◌==◌}
 use Rattle.std.specs.FinMap as map
 use Rattle.std.specs.FinMap.{same_map, nat_cmp-IsAntisymmetric}
 use Rattle.std.specs.Cmp.{nat_cmp_total}
@@ -23,11 +25,13 @@ use Rattle.pgadding.proofs.LeftItems.{other_changes}
 use Rattle.pgadding.proofs.LeftWork.{surviving-without, others-append}
 use Rattle.pgadding.proofs.Following.{AreSeen, all_without}
 use Rattle.pgadding.proofs.Histories.{all_seen, ends_above}
-use Rattle.pgadding.proofs.Steps.{AlikeTables, bound, Bound, fold_without, fold_alike, AllOwn, own_fold, Own, own_too, own_put, put}
+use Rattle.pgadding.proofs.Steps.{AlikeTables, bound, Bound, fold_without, fold_alike, AllOwn}
+use Rattle.pgadding.proofs.Steps.{own_fold, Own, own_too, own_put, put}
 
 -- ---- the changes
 
-pub changes-without : (point oid : ℕ) (ts : List Transaction) → AreSeen point ts → all_changes (all_without oid ts) ≡ other_changes oid (all_changes ts)
+pub changes-without : (point oid : ℕ) (ts : List Transaction) → AreSeen point ts
+    → all_changes (all_without oid ts) ≡ other_changes oid (all_changes ts)
 changes-without point oid [] h = refl
 changes-without point oid (t ∷ ts) h =
     ap (λ cs. cs ++ all_changes (all_without oid ts)) (surviving-without oid t.work h.0.work)
@@ -37,7 +41,9 @@ changes-without point oid (t ∷ ts) h =
 ended-without : (p oid : ℕ) (ts : List Transaction) → ended_by p (all_without oid ts) ≡ all_without oid (ended_by p ts)
 ended-without p oid [] = refl
 ended-without p oid (t ∷ ts) =
-    elim (nat_le t.end p) as (λ b. cond b (transaction_without oid t ∷ ended_by p (all_without oid ts)) (ended_by p (all_without oid ts)) ≡ all_without oid (cond b (t ∷ ended_by p ts) (ended_by p ts))) [
+    elim (nat_le t.end p) as
+    (λ b. cond b (transaction_without oid t ∷ ended_by p (all_without oid ts)) (ended_by p (all_without oid ts))
+    ≡ all_without oid (cond b (t ∷ ended_by p ts) (ended_by p ts))) [
       | true ↦ ap (λ rest. transaction_without oid t ∷ rest) (ended-without p oid ts)
       | false ↦ ended-without p oid ts
     ]
@@ -50,7 +56,9 @@ seen_by point p (t ∷ ts) h =
       | false ↦ seen_by point p ts h.1
     ]
 
-pub three : (p : ℕ) (xs ys zs : List Transaction) → all_changes (ended_by p (xs ++ (ys ++ zs))) ≡ all_changes (ended_by p xs) ++ (all_changes (ended_by p ys) ++ all_changes (ended_by p zs))
+pub three : (p : ℕ) (xs ys zs : List Transaction)
+    → all_changes (ended_by p (xs ++ (ys ++ zs))) ≡ all_changes (ended_by p xs)
+    ++ (all_changes (ended_by p ys) ++ all_changes (ended_by p zs))
 three p xs ys zs =
     ap all_changes (ended-append p xs (ys ++ zs)) ∙ changes-append (ended_by p xs) (ended_by p (ys ++ zs))
     ∙ ap (λ cs. all_changes (ended_by p xs) ++ cs) (ap all_changes (ended-append p ys zs) ∙ changes-append (ended_by p ys) (ended_by p zs))
@@ -59,13 +67,17 @@ three p xs ys zs =
 abbrev pub rows_changes : Addition → ℕ → List Change
 rows_changes a p = cond (nat_le a.point p) (surviving_changes (rows_work a)) []
 
-behind-rows : (a : Addition) (p : ℕ) (above : List Transaction) → all_changes (ended_by p (rows_transaction a ∷ above)) ≡ rows_changes a p ++ all_changes (ended_by p above)
+behind-rows : (a : Addition) (p : ℕ) (above : List Transaction)
+    → all_changes (ended_by p (rows_transaction a ∷ above)) ≡ rows_changes a p ++ all_changes (ended_by p above)
 behind-rows a p above =
-    elim (nat_le a.point p) as (λ b. all_changes (cond b (rows_transaction a ∷ ended_by p above) (ended_by p above)) ≡ cond b (surviving_changes (rows_work a)) [] ++ all_changes (ended_by p above)) [ true ↦ refl | false ↦ refl ]
+    elim (nat_le a.point p) as
+    (λ b. all_changes (cond b (rows_transaction a ∷ ended_by p above) (ended_by p above)) ≡ cond b (surviving_changes (rows_work a)) []
+    ++ all_changes (ended_by p above)) [ true ↦ refl | false ↦ refl ]
 
 pub copy-changes : (a : Addition) (p : ℕ) (before below above : List Transaction) → AreSeen a.point below
     → all_changes (ended_by p (with_rows a before below above))
-    ≡ all_changes (ended_by p before) ++ (other_changes a.definition.oid (all_changes (ended_by p below)) ++ (rows_changes a p ++ all_changes (ended_by p above)))
+    ≡ all_changes (ended_by p before)
+    ++ (other_changes a.definition.oid (all_changes (ended_by p below)) ++ (rows_changes a p ++ all_changes (ended_by p above)))
 copy-changes a p before below above seen =
     let oid = a.definition.oid in
     three p before (all_without oid below) (rows_transaction a ∷ above)
@@ -84,12 +96,14 @@ rows_own : (a : Addition) → AllOwn a.definition.oid (surviving_changes (rows_w
 rows_own a = (self a.definition.oid, inserted_own a.definition a.rows)
 
 rows_changes_own : (a : Addition) (p : ℕ) → AllOwn a.definition.oid (rows_changes a p)
-rows_changes_own a p = elim (nat_le a.point p) as (λ b. AllOwn a.definition.oid (cond b (surviving_changes (rows_work a)) [])) [ true ↦ rows_own a | false ↦ tt ]
+rows_changes_own a p = elim (nat_le a.point p) as (λ b. AllOwn a.definition.oid (cond b (surviving_changes (rows_work a)) []))
+    [ true ↦ rows_own a | false ↦ tt ]
 
 -- ---- the other tables
 
 -- a list of changes and its second part
-in_two : (a b : List Change) (tables next : Tables) → fold_changes tables (a ++ b) ≡ Ok next → Bound (fold_changes tables a) (λ n. fold_changes n b) next
+in_two : (a b : List Change) (tables next : Tables) → fold_changes tables (a ++ b) ≡ Ok next
+    → Bound (fold_changes tables a) (λ n. fold_changes n b) next
 in_two a b tables next e = bound (fold_changes tables a) (λ n. fold_changes n b) next (sym (fold-append a b tables) ∙ e)
 
 same_ok : (x y : Tables) (r : Result Tables StoreFault) → r ≡ Ok x → r ≡ Ok y → x ≡ y
@@ -114,7 +128,8 @@ others_kept oid first both own last tables copy is e f =
 pub other_rows : OtherRowsAreTheServers
 unfolding tables_as_of
 other_rows a before below above p tables copy is e f oid isnt =
-    sym (others_kept a.definition.oid (all_changes (ended_by p before)) (all_changes (ended_by p below)) (rows_changes a p) (all_changes (ended_by p above)) tables copy (rows_changes_own a p)
+    sym (others_kept a.definition.oid (all_changes (ended_by p before)) (all_changes (ended_by p below)) (rows_changes a p)
+    (all_changes (ended_by p above)) tables copy (rows_changes_own a p)
     (ap (fold_changes map.empty) (sym (three p before below above)) ∙ e)
     (ap (fold_changes map.empty) (sym (copy-changes a p before below above (all_seen a.point before below above is))) ∙ f) oid isnt)
 
@@ -127,16 +142,19 @@ emptied_table def = record { definition = def; rows = map.empty }
 found_some : (there : Option Table) (def : RelationDef) → (rows : Rows) × (found_rows there def op.Truncate ≡ Ok rows)
 found_some None def = (map.empty, refl)
 found_some (Some table) def =
-    elim (same_shape table.definition def || map.len table.rows == 0) as (λ b. (rows : Rows) × (cond {A = Result Rows StoreFault} b (Ok table.rows) (Ok map.empty) ≡ Ok rows)) [
+    elim (same_shape table.definition def || map.len table.rows == 0) as
+    (λ b. (rows : Rows) × (cond {A = Result Rows StoreFault} b (Ok table.rows) (Ok map.empty) ≡ Ok rows)) [
       | true ↦ (table.rows, refl)
       | false ↦ (map.empty, refl)
     ]
 
-pub truncated : (def : RelationDef) (tables : Tables) → apply tables (record { definition = def; op = op.Truncate }) ≡ Ok (map.insert tables def.oid (emptied_table def))
+pub truncated : (def : RelationDef) (tables : Tables)
+    → apply tables (record { definition = def; op = op.Truncate }) ≡ Ok (map.insert tables def.oid (emptied_table def))
 unfolding apply rows_after
 truncated def tables =
     let found = found_some (map.get tables def.oid) def in
-    ap (λ r. r >>= λ rows. rows_after def op.Truncate rows >>= λ left. Ok (map.insert tables def.oid (record { definition = def; rows = left }))) found.1
+    ap (λ r. r >>= λ rows. rows_after def op.Truncate rows
+    >>= λ left. Ok (map.insert tables def.oid (record { definition = def; rows = left }))) found.1
 
 abbrev no_tables : Tables
 no_tables = map.empty
@@ -149,11 +167,13 @@ rows_too a alone tables e =
     let def = a.definition in
     let oid = def.oid in
     let more = surviving_changes (inserted def a.rows) in
-    let first : fold_changes (map.insert no_tables oid (emptied_table def)) more ≡ Ok alone = ap (λ r. r >>= λ n. fold_changes n more) (sym (truncated def no_tables)) ∙ e in
+    let first : fold_changes (map.insert no_tables oid (emptied_table def)) more ≡ Ok alone =
+    ap (λ r. r >>= λ n. fold_changes n more) (sym (truncated def no_tables)) ∙ e in
     let here : map.get (map.insert no_tables oid (emptied_table def)) oid ≡ map.get (map.insert tables oid (emptied_table def)) oid =
     put no_tables oid (emptied_table def) oid ∙ ap (λ b. cond b (Some (emptied_table def)) (map.get no_tables oid)) (self oid)
     ∙ ap (λ b. cond b (Some (emptied_table def)) (map.get tables oid)) (sym (self oid)) ∙ sym (put tables oid (emptied_table def) oid) in
-    let rest = own_too oid more (map.insert no_tables oid (emptied_table def)) alone (map.insert tables oid (emptied_table def)) (inserted_own def a.rows) here first in
+    let rest = own_too oid more (map.insert no_tables oid (emptied_table def)) alone (map.insert tables oid (emptied_table def))
+    (inserted_own def a.rows) here first in
     record {
       next = rest.next;
       is = ap (λ r. r >>= λ n. fold_changes n more) (truncated def tables) ∙ rest.is;
@@ -162,7 +182,8 @@ rows_too a alone tables e =
     }
 
 -- the server's rows at the point, from what is passed on
-pub rows_made : (a : Addition) (first both : List Change) (tables : Tables) → fold_changes map.empty (first ++ both) ≡ Ok tables → AreRowsOf a tables
+pub rows_made : (a : Addition) (first both : List Change) (tables : Tables) → fold_changes map.empty (first ++ both) ≡ Ok tables
+    → AreRowsOf a tables
     → fold_changes map.empty (first ++ (other_changes a.definition.oid both ++ surviving_changes (rows_work a))) ≡ Ok tables
 rows_made a first both tables e is =
     let oid = a.definition.oid in
@@ -172,7 +193,8 @@ rows_made a first both tables e is =
     let own = rows_too a is.alone without.other is.taken in
     let same : own.next ≡ tables = same_map nat_cmp_total nat_cmp-IsAntisymmetric own.next tables (λ o.
     elim (eqb o oid) as (λ b. eqb o oid ≡ b → map.get own.next o ≡ map.get tables o) [
-      | true ↦ λ yes. let at : oid ≡ o = grind (arith, nat_tests) in subst (λ x. map.get own.next x ≡ map.get tables x) at (sym own.same ∙ is.same)
+      | true ↦ λ yes. let at : oid ≡ o = grind (arith, nat_tests) in
+          subst (λ x. map.get own.next x ≡ map.get tables x) at (sym own.same ∙ is.same)
       | false ↦ λ isnt. own.others o isnt ∙ sym (without.alike o isnt)
     ] refl) in
     fold-append first (other_changes oid both ++ rows) map.empty
@@ -183,7 +205,8 @@ rows_made a first both tables e is =
 
 -- ---- at the point and behind it
 
-pub ended_whole : (point p : ℕ) (ts : List Transaction) → point ≤ p → AllByRecursion (λ (t : Transaction). t.end < point) ts → ended_by p ts ≡ ts
+pub ended_whole : (point p : ℕ) (ts : List Transaction) → point ≤ p → AllByRecursion (λ (t : Transaction). t.end < point) ts
+    → ended_by p ts ≡ ts
 ended_whole point p [] le h = refl
 ended_whole point p (t ∷ ts) le h =
     let early : t.end < point = h.0 in
@@ -194,29 +217,36 @@ pub server-changes : (point p : ℕ) (before below above : List Transaction) →
     → all_changes (ended_by p (before ++ (below ++ above))) ≡ all_changes before ++ (all_changes below ++ all_changes (ended_by p above))
 server-changes point p before below above is le =
     three p before below above
-    ∙ ap (λ ts. all_changes ts ++ (all_changes (ended_by p below) ++ all_changes (ended_by p above))) (ended_whole point p before le is.stored)
+    ∙ ap (λ ts. all_changes ts ++ (all_changes (ended_by p below) ++ all_changes (ended_by p above)))
+    (ended_whole point p before le is.stored)
     ∙ ap (λ ts. all_changes before ++ (all_changes ts ++ all_changes (ended_by p above))) (ended_whole point p below le is.seen)
 
-pub point-changes : (point : ℕ) (before below above : List Transaction) → IsAround point before below above → all_changes (ended_by point (before ++ (below ++ above))) ≡ all_changes before ++ all_changes below
+pub point-changes : (point : ℕ) (before below above : List Transaction) → IsAround point before below above
+    → all_changes (ended_by point (before ++ (below ++ above))) ≡ all_changes before ++ all_changes below
 point-changes point before below above is =
     server-changes point point before below above is (omega arith)
-    ∙ ap (λ ts. all_changes before ++ (all_changes below ++ all_changes ts)) (ended-none point above (ends_above point 0 before below above is.unseen is.history))
+    ∙ ap (λ ts. all_changes before ++ (all_changes below ++ all_changes ts))
+    (ended-none point above (ends_above point 0 before below above is.unseen is.history))
     ∙ ap (λ cs. all_changes before ++ cs) (append-nil (all_changes below))
 
 pub copy-behind : (a : Addition) (p : ℕ) (before below above : List Transaction) → IsAround a.point before below above → a.point ≤ p
     → all_changes (ended_by p (with_rows a before below above))
-    ≡ all_changes before ++ (other_changes a.definition.oid (all_changes below) ++ (surviving_changes (rows_work a) ++ all_changes (ended_by p above)))
+    ≡ all_changes before ++ (other_changes a.definition.oid (all_changes below)
+    ++ (surviving_changes (rows_work a) ++ all_changes (ended_by p above)))
 copy-behind a p before below above is le =
     let oid = a.definition.oid in
     let last = all_changes (ended_by p above) in
     let there : nat_le a.point p ≡ true = grind (arith, nat_tests) in
     copy-changes a p before below above (all_seen a.point before below above is)
-    ∙ ap (λ ts. all_changes ts ++ (other_changes oid (all_changes (ended_by p below)) ++ (rows_changes a p ++ last))) (ended_whole a.point p before le is.stored)
-    ∙ ap (λ ts. all_changes before ++ (other_changes oid (all_changes ts) ++ (rows_changes a p ++ last))) (ended_whole a.point p below le is.seen)
+    ∙ ap (λ ts. all_changes ts ++ (other_changes oid (all_changes (ended_by p below)) ++ (rows_changes a p ++ last)))
+    (ended_whole a.point p before le is.stored)
+    ∙ ap (λ ts. all_changes before ++ (other_changes oid (all_changes ts) ++ (rows_changes a p ++ last)))
+    (ended_whole a.point p below le is.seen)
     ∙ ap (λ b. all_changes before ++ (other_changes oid (all_changes below) ++ (cond b (surviving_changes (rows_work a)) [] ++ last))) there
 
 -- behind changes that make these tables
-pub then_last : (all last : List Change) (tables : Tables) → fold_changes map.empty all ≡ Ok tables → fold_changes map.empty (all ++ last) ≡ fold_changes tables last
+pub then_last : (all last : List Change) (tables : Tables) → fold_changes map.empty all ≡ Ok tables
+    → fold_changes map.empty (all ++ last) ≡ fold_changes tables last
 then_last all last tables e = fold-append all last map.empty ∙ ap (λ r. r >>= λ n. fold_changes n last) e
 
 pub rows_kept : RowsAreTheServers
@@ -227,8 +257,11 @@ rows_kept a before below above p tables is e rows le =
     let others = other_changes a.definition.oid both in
     let made = surviving_changes (rows_work a) in
     let last = all_changes (ended_by p above) in
-    let at_point : fold_changes map.empty (first ++ both) ≡ Ok tables = ap (fold_changes map.empty) (sym (point-changes a.point before below above is)) ∙ e in
+    let at_point : fold_changes map.empty (first ++ both) ≡ Ok tables =
+    ap (fold_changes map.empty) (sym (point-changes a.point before below above is)) ∙ e in
     ap (fold_changes map.empty)
-    (copy-behind a p before below above is le ∙ ap (λ cs. first ++ cs) (sym (append_assoc others made last)) ∙ sym (append_assoc first (others ++ made) last))
+    (copy-behind a p before below above is le ∙ ap (λ cs. first ++ cs) (sym (append_assoc others made last))
+    ∙ sym (append_assoc first (others ++ made) last))
     ∙ then_last (first ++ (others ++ made)) last tables (rows_made a first both tables at_point rows)
-    ∙ sym (ap (fold_changes map.empty) (server-changes a.point p before below above is le ∙ sym (append_assoc first both last)) ∙ then_last (first ++ both) last tables at_point)
+    ∙ sym (ap (fold_changes map.empty) (server-changes a.point p before below above is le ∙ sym (append_assoc first both last))
+    ∙ then_last (first ++ both) last tables at_point)

@@ -1,9 +1,11 @@
 -- What is left of an item without a table.
-use Rattle.std.proofs.Common.{◌≡◌, ℕ, List, [], ◌∷◌, true, false, not, cond, map, eqb, ◌||◌, flat_map, filter, ◌==◌, refl, sym, ap}
+use Rattle.std.proofs.Common.{◌≡◌, ℕ, List, [], ◌∷◌, true, false, not, cond, map, eqb, ◌||◌}
+use Rattle.std.proofs.Common.{flat_map, filter, ◌==◌, refl, sym, ap}
 use Rattle.pglogical.specs.Named.{named}
 use Rattle.pglogical.specs.declared.message.RelationDef.{RelationDef}
 use Rattle.pglogical.specs.declared.message.Item.{Item}
-use Rattle.pglogical.specs.declared.message.Item.TheVariants.{Relation, Insert, Update, Delete, Truncate}
+use Rattle.pglogical.specs.declared.message.Item.TheVariants.{Relation, Insert, Update, Delete}
+use Rattle.pglogical.specs.declared.message.Item.TheVariants.{Truncate}
 use Rattle.pgapply.specs.declared.op.Op.{Op}
 use Rattle.pgapply.specs.Apply.{Change}
 use Rattle.pgsub_core.specs.Server.Work.{changes_of, IsChange, is_among}
@@ -19,28 +21,37 @@ items_without oid items = flat_map (item_without oid) items
 abbrev changes_by : Op → List RelationDef → List Change
 changes_by op definitions = map (λ (def : RelationDef). record { definition = def; op = op }) definitions
 
-other-by : (oid : ℕ) (op : Op) (definitions : List RelationDef) → other_changes oid (changes_by op definitions) ≡ changes_by op (other_definitions oid definitions)
+other-by : (oid : ℕ) (op : Op) (definitions : List RelationDef)
+    → other_changes oid (changes_by op definitions) ≡ changes_by op (other_definitions oid definitions)
 other-by oid op [] = refl
 other-by oid op (def ∷ definitions) =
     let rest = other-by oid op definitions in
     let first : Change = record { definition = def; op = op } in
-    elim (eqb def.oid oid) as (λ b. cond (not b) (first ∷ other_changes oid (changes_by op definitions)) (other_changes oid (changes_by op definitions)) ≡ changes_by op (cond (not b) (def ∷ other_definitions oid definitions) (other_definitions oid definitions))) [
+    elim (eqb def.oid oid) as
+    (λ b. cond (not b) (first ∷ other_changes oid (changes_by op definitions)) (other_changes oid (changes_by op definitions))
+    ≡ changes_by op (cond (not b) (def ∷ other_definitions oid definitions) (other_definitions oid definitions))) [
       | true ↦ rest
       | false ↦ ap (λ cs. first ∷ cs) rest
     ]
 
-pub other-changes_of : (oid : ℕ) (i : Item) (definitions : List RelationDef) → other_changes oid (changes_of i definitions) ≡ changes_of i (other_definitions oid definitions)
+pub other-changes_of : (oid : ℕ) (i : Item) (definitions : List RelationDef)
+    → other_changes oid (changes_of i definitions) ≡ changes_of i (other_definitions oid definitions)
 other-changes_of oid (Relation def) definitions = refl
 other-changes_of oid (Insert o row) definitions = other-by oid _ definitions
 other-changes_of oid (Update o prior row) definitions = other-by oid _ definitions
 other-changes_of oid (Delete o kind row) definitions = other-by oid _ definitions
 other-changes_of oid (Truncate options oids) definitions = other-by oid _ definitions
 
-pub other-oids : (oid : ℕ) (definitions : List RelationDef) → map (λ (def : RelationDef). def.oid) (other_definitions oid definitions) ≡ other_oids oid (map (λ (def : RelationDef). def.oid) definitions)
+pub other-oids : (oid : ℕ) (definitions : List RelationDef)
+    → map (λ (def : RelationDef). def.oid) (other_definitions oid definitions)
+    ≡ other_oids oid (map (λ (def : RelationDef). def.oid) definitions)
 other-oids oid [] = refl
 other-oids oid (def ∷ definitions) =
     let rest = other-oids oid definitions in
-    elim (eqb def.oid oid) as (λ b. map (λ (d : RelationDef). d.oid) (cond (not b) (def ∷ other_definitions oid definitions) (other_definitions oid definitions)) ≡ cond (not b) (def.oid ∷ other_oids oid (map (λ (d : RelationDef). d.oid) definitions)) (other_oids oid (map (λ (d : RelationDef). d.oid) definitions))) [
+    elim (eqb def.oid oid) as
+    (λ b. map (λ (d : RelationDef). d.oid) (cond (not b) (def ∷ other_definitions oid definitions) (other_definitions oid definitions))
+    ≡ cond (not b) (def.oid ∷ other_oids oid (map (λ (d : RelationDef). d.oid) definitions))
+    (other_oids oid (map (λ (d : RelationDef). d.oid) definitions))) [
       | true ↦ rest
       | false ↦ ap (λ os. def.oid ∷ os) rest
     ]
@@ -87,7 +98,10 @@ left oid (Delete o kind row) =
       | false ↦ (refl, (λ definitions. refl), (λ is. is), refl, (λ earlier. refl))
     ]
 left oid (Truncate options oids) =
-    elim (is_among oids oid) as (λ b. is_among oids oid ≡ b → IsLeft (other_oids oid oids) (Truncate options oids) (cond b (truncation options (other_oids oid oids)) (Truncate options oids ∷ []))) [
+    elim (is_among oids oid) as
+    (λ b. is_among oids oid ≡ b
+    → IsLeft (other_oids oid oids) (Truncate options oids)
+    (cond b (truncation options (other_oids oid oids)) (Truncate options oids ∷ []))) [
       | true ↦ λ is. left_truncation options oids (other_oids oid oids)
       | false ↦ λ isnt. (sym (others_all oid oids isnt), (λ definitions. refl), (λ is. is), refl, (λ earlier. refl))
     ] refl

@@ -1,11 +1,16 @@
 -- Whole messages stand in order exactly where each may come at its place.
-use Rattle.std.proofs.Common.{◌≡◌, ◌++◌, ℕ, ℤ, pos, List, [], ◌∷◌, false, Option, Some, None, flat_map, refl, sym, ap, subst, ◌∙◌}
+use Rattle.std.proofs.Common.{◌≡◌, ◌++◌, ℕ, ℤ, pos, List, [], ◌∷◌, false, Option, Some, None}
+use Rattle.std.proofs.Common.{flat_map, refl, sym, ap, subst, ◌∙◌}
 use Rattle.std.specs.List.{AllByRecursion}
 use Rattle.pglogical.specs.declared.message.Message.{Message}
-use Rattle.pglogical.specs.declared.message.Message.TheVariants.{Begin, Commit, Origin, TypeName, Logical, Item, StreamStart, StreamStop, StreamCommit, StreamAbort}
+use Rattle.pglogical.specs.declared.message.Message.TheVariants.{Begin, Commit, Origin, TypeName}
+use Rattle.pglogical.specs.declared.message.Message.TheVariants.{Logical, Item, StreamStart}
+use Rattle.pglogical.specs.declared.message.Message.TheVariants.{StreamStop, StreamCommit}
+use Rattle.pglogical.specs.declared.message.Message.TheVariants.{StreamAbort}
 use Rattle.pgorder.specs.declared.Version.{Version}
 use Rattle.pgorder.specs.OpenXids.{none_open, is_open-none_open}
-use Rattle.pgorder.specs.Shape.{IsInner, IsShaped, MayFollow, StreamPart, Pair, Block, StreamEnd, Abort, LogicalMessage, messages_of}
+use Rattle.pgorder.specs.Shape.{IsInner, IsShaped, MayFollow, StreamPart, Pair, Block, StreamEnd}
+use Rattle.pgorder.specs.Shape.{Abort, LogicalMessage, messages_of}
 use Rattle.pgadding.specs.Passing.{place_behind}
 use Rattle.pgadding.specs.Around.{IsWhole}
 
@@ -48,16 +53,21 @@ in_pair l end time [] more (m ∷ ms) rest all whole e behind =
 in_pair l end time (i ∷ inner) more (m ∷ ms) rest all whole e behind =
     let is : m ≡ i = cc in
     let others : ms ++ rest ≡ (inner ++ Commit l end time ∷ []) ++ more = cc in
-    subst (λ x. InOrder (Some l) (x ∷ ms)) (sym is) (inner_comes l i ms all.0 (in_pair l end time inner more ms rest all.1 whole.1 others behind))
+    subst (λ x. InOrder (Some l) (x ∷ ms)) (sym is)
+    (inner_comes l i ms all.0 (in_pair l end time inner more ms rest all.1 whole.1 others behind))
 
-pub in_order : (v : Version) (pieces : List StreamPart) (ms rest : List Message) → MayFollow v none_open pieces → AreWhole ms → ms ++ rest ≡ flat_map messages_of pieces → InOrder None ms
+pub in_order : (v : Version) (pieces : List StreamPart) (ms rest : List Message) → MayFollow v none_open pieces → AreWhole ms
+    → ms ++ rest ≡ flat_map messages_of pieces → InOrder None ms
 in_order v pieces [] rest follow whole e = tt
 in_order v [] (m ∷ ms) rest follow whole e = absurd (cc)
 in_order v (Pair lsn time xid inner end commit_time ∷ pieces) (m ∷ ms) rest follow whole e =
     let is : m ≡ Begin lsn time xid = cc in
     let others : ms ++ rest ≡ (inner ++ Commit lsn end commit_time ∷ []) ++ flat_map messages_of pieces = cc in
-    subst (λ x. InOrder None (x ∷ ms)) (sym is)
-    (tt, in_pair lsn end commit_time inner (flat_map messages_of pieces) ms rest follow.0.0 whole.1 others (λ later all. in_order v pieces later rest follow.1 all))
+    subst (λ x. InOrder None (x ∷ ms)) (sym is) (
+      tt,
+      in_pair lsn end commit_time inner (flat_map messages_of pieces) ms rest follow.0.0 whole.1 others
+          (λ later all. in_order v pieces later rest follow.1 all),
+    )
 in_order v (Block xid first inner ∷ pieces) (m ∷ ms) rest follow whole e =
     let is : m ≡ StreamStart xid first = cc in absurd (subst IsWhole is whole.0)
 in_order v (StreamEnd xid lsn end time ∷ pieces) (m ∷ ms) rest follow whole e =
@@ -98,7 +108,8 @@ add_inner v l m ms is w = record {
 
 shaped_from : (v : Version) (place : Option ℕ) (ms : List Message) → InOrder place ms → Shaped v place ms
 shaped_from v None [] h = record { pieces = []; rest = []; follow = tt; front = refl }
-shaped_from v (Some l) [] h = record { inner = []; end = 0; time = pos 0; pieces = []; rest = Commit l 0 (pos 0) ∷ []; all = tt; follow = tt; front = refl }
+shaped_from v (Some l) [] h =
+    record { inner = []; end = 0; time = pos 0; pieces = []; rest = Commit l 0 (pos 0) ∷ []; all = tt; follow = tt; front = refl }
 shaped_from v None (Begin lsn time xid ∷ ms) h =
     let w = shaped_from v (Some lsn) ms h.1 in
     record {

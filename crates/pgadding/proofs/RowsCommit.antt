@@ -1,5 +1,6 @@
 -- The commit of the rows' transaction.
-use Rattle.std.proofs.Common.{◌≡◌, ◌++◌, ℕ, ℤ, List, [], ◌∷◌, true, cond, eqb, map, Option, Some, None, Ok, refl, sym, ap, ◌∙◌, arith, append_assoc, append-nil}
+use Rattle.std.proofs.Common.{◌≡◌, ◌++◌, ℕ, ℤ, List, [], ◌∷◌, true, cond, eqb, map, Option, Some}
+use Rattle.std.proofs.Common.{None, Ok, refl, sym, ap, ◌∙◌, arith, append_assoc, append-nil}
 use Rattle.std.proofs.lemmas.Bool.Decides.{nat_tests}
 use Rattle.pgtuple.specs.declared.cell.Cell.{Cell}
 use Rattle.pglogical.specs.declared.message.RelationDef.{RelationDef}
@@ -8,9 +9,13 @@ use Rattle.pglogical.specs.declared.message.Item.TheVariants.{Relation, Insert}
 use Rattle.pglogical.specs.declared.message.Message.{Message}
 use Rattle.pglogical.specs.declared.message.Message.TheVariants as message
 use Rattle.pgsub_core.specs.Server.Work.{surviving_changes}
-use Rattle.pgsub_core.specs.Server.Described.{last_of, relations_after, described_from, described, with_definition, with_changes}
-use Rattle.pgsub_core.specs.Server.Stream.{Sent, Data, CommitOrKeepalive, Committed, WholeCommit, commits_and_keepalives, pair_of, pair_items, block_of, pair_commit}
-use Rattle.pgadding.specs.Addition.{Addition, rows_xid, rows_lsn, rows_end, rows_items, rows_sent, inserts_of, inserted, rows_work, sent_at, items_at, emptied}
+use Rattle.pgsub_core.specs.Server.Described.{last_of, relations_after, described_from, described}
+use Rattle.pgsub_core.specs.Server.Described.{with_definition, with_changes}
+use Rattle.pgsub_core.specs.Server.Stream.{Sent, Data, CommitOrKeepalive, Committed, WholeCommit}
+use Rattle.pgsub_core.specs.Server.Stream.{commits_and_keepalives, pair_of, pair_items, block_of}
+use Rattle.pgsub_core.specs.Server.Stream.{pair_commit}
+use Rattle.pgadding.specs.Addition.{Addition, rows_xid, rows_lsn, rows_end, rows_items, rows_sent}
+use Rattle.pgadding.specs.Addition.{inserts_of, inserted, rows_work, sent_at, items_at, emptied}
 
 -- the messages before, with these items behind them
 abbrev pub pushed : Option ℕ → List Item → List Message → List Message
@@ -18,11 +23,13 @@ pushed xid [] before = before
 pushed xid (i ∷ items) before = pushed xid items (message.Item xid i ∷ before)
 
 pub pushed-commits : (start end : ℕ) (clock : ℤ) (xid : Option ℕ) (items : List Item) (before : List Message) (sent : List Sent)
-    → commits_and_keepalives before (map (Data start end clock) (map (message.Item xid) items) ++ sent) ≡ commits_and_keepalives (pushed xid items before) sent
+    → commits_and_keepalives before (map (Data start end clock) (map (message.Item xid) items) ++ sent)
+    ≡ commits_and_keepalives (pushed xid items before) sent
 pushed-commits start end clock xid [] before sent = refl
 pushed-commits start end clock xid (i ∷ items) before sent = pushed-commits start end clock xid items (message.Item xid i ∷ before) sent
 
-pub pushed-at : (lsn : ℕ) (items : List Item) (before : List Message) (sent : List Sent) → commits_and_keepalives before (items_at lsn items ++ sent) ≡ commits_and_keepalives (pushed None items before) sent
+pub pushed-at : (lsn : ℕ) (items : List Item) (before : List Message) (sent : List Sent)
+    → commits_and_keepalives before (items_at lsn items ++ sent) ≡ commits_and_keepalives (pushed None items before) sent
 pushed-at lsn [] before sent = refl
 pushed-at lsn (i ∷ items) before sent = pushed-at lsn items (message.Item None i ∷ before) sent
 
@@ -34,7 +41,8 @@ pub pushed-block : (xid : Option ℕ) (items : List Item) (before : List Message
 pushed-block xid [] before = refl
 pushed-block xid (i ∷ items) before = pushed-block xid items (message.Item xid i ∷ before)
 
-pub pushed-items : (xid : Option ℕ) (items : List Item) (before : List Message) → pair_items (pushed xid items before) ≡ pair_items before ++ items
+pub pushed-items : (xid : Option ℕ) (items : List Item) (before : List Message)
+    → pair_items (pushed xid items before) ≡ pair_items before ++ items
 pushed-items xid [] before = sym (append-nil (pair_items before))
 pushed-items xid (i ∷ items) before = pushed-items xid items (message.Item xid i ∷ before) ∙ append_assoc (pair_items before) (i ∷ []) items
 
@@ -48,12 +56,18 @@ with_rows_sent a before = message.Commit (rows_lsn a) (rows_end a) a.clock ∷ p
 abbrev pub rows_commit : Addition → CommitOrKeepalive
 rows_commit a = Committed (WholeCommit rows_xid (rows_lsn a) (rows_end a) (rows_items a))
 
-pub rows-commits : (a : Addition) (before : List Message) (sent : List Sent) → commits_and_keepalives before (rows_sent a ++ sent) ≡ rows_commit a ∷ commits_and_keepalives (with_rows_sent a before) sent
+pub rows-commits : (a : Addition) (before : List Message) (sent : List Sent)
+    → commits_and_keepalives before (rows_sent a ++ sent) ≡ rows_commit a ∷ commits_and_keepalives (with_rows_sent a before) sent
 rows-commits a before sent =
-    ap (commits_and_keepalives (begun a before)) (append_assoc (items_at (rows_lsn a) (rows_items a)) (sent_at (rows_lsn a) (message.Commit (rows_lsn a) (rows_end a) a.clock) ∷ []) sent)
-    ∙ pushed-at (rows_lsn a) (rows_items a) (begun a before) (sent_at (rows_lsn a) (message.Commit (rows_lsn a) (rows_end a) a.clock) ∷ sent)
-    ∙ ap (λ (p : Option ℕ). pair_commit p (rows_lsn a) (rows_end a) (pair_items (pushed None (rows_items a) (begun a before))) ++ commits_and_keepalives (with_rows_sent a before) sent) (pushed-pair None (rows_items a) (begun a before))
-    ∙ ap (λ items. Committed (WholeCommit rows_xid (rows_lsn a) (rows_end a) items) ∷ commits_and_keepalives (with_rows_sent a before) sent) (pushed-items None (rows_items a) (begun a before))
+    ap (commits_and_keepalives (begun a before))
+    (append_assoc (items_at (rows_lsn a) (rows_items a)) (sent_at (rows_lsn a) (message.Commit (rows_lsn a) (rows_end a) a.clock) ∷ [])
+    sent)
+    ∙ pushed-at (rows_lsn a) (rows_items a) (begun a before)
+    (sent_at (rows_lsn a) (message.Commit (rows_lsn a) (rows_end a) a.clock) ∷ sent)
+    ∙ ap (λ (p : Option ℕ). pair_commit p (rows_lsn a) (rows_end a) (pair_items (pushed None (rows_items a) (begun a before)))
+    ++ commits_and_keepalives (with_rows_sent a before) sent) (pushed-pair None (rows_items a) (begun a before))
+    ∙ ap (λ items. Committed (WholeCommit rows_xid (rows_lsn a) (rows_end a) items) ∷ commits_and_keepalives (with_rows_sent a before) sent)
+    (pushed-items None (rows_items a) (begun a before))
 
 pub rows-block : (a : Addition) (before : List Message) → block_of (with_rows_sent a before) ≡ block_of before
 rows-block a before = pushed-block None (rows_items a) (begun a before)
@@ -76,7 +90,8 @@ inserts_described def find (row ∷ rows) is =
 pub rows_described : (a : Addition) (earlier : List RelationDef) → described earlier (rows_items a) ≡ Ok (surviving_changes (rows_work a))
 rows_described a earlier =
     ap (with_changes (Relation a.definition) (Ok [])) (
-    ap (λ f. with_changes (emptied a) (with_definition a.definition.oid f (Ok [])) (described_from find (inserts_of a.definition.oid a.rows))) is
+    ap (λ f. with_changes (emptied a) (with_definition a.definition.oid f (Ok []))
+    (described_from find (inserts_of a.definition.oid a.rows))) is
     ∙ ap (with_changes (emptied a) (Ok (a.definition ∷ []))) (inserts_described a.definition find a.rows is))
   where
     find : ℕ → Option RelationDef
@@ -85,7 +100,8 @@ rows_described a earlier =
     is : find a.definition.oid ≡ Some a.definition
     is = defined_self a.definition earlier
 
-inserts_relations : (oid : ℕ) (rows : List (List Cell)) (earlier : List RelationDef) → relations_after earlier (inserts_of oid rows) ≡ earlier
+inserts_relations : (oid : ℕ) (rows : List (List Cell)) (earlier : List RelationDef)
+    → relations_after earlier (inserts_of oid rows) ≡ earlier
 inserts_relations oid [] earlier = refl
 inserts_relations oid (row ∷ rows) earlier = inserts_relations oid rows earlier
 

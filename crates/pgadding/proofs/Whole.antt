@@ -1,6 +1,7 @@
 -- What is passed on of a session that ends between transactions ends there too, and its keepalives
 -- tell as much.
-use Rattle.std.proofs.Common.{◌≡◌, ◌<◌, ◌++◌, ℕ, ℤ, List, [], ◌∷◌, true, false, cond, nat_le, map, Option, Some, None, refl, sym, ap, subst, ◌∙◌, arith, append_assoc}
+use Rattle.std.proofs.Common.{◌≡◌, ◌<◌, ◌++◌, ℕ, ℤ, List, [], ◌∷◌, true, false, cond, nat_le, map}
+use Rattle.std.proofs.Common.{Option, Some, None, refl, sym, ap, subst, ◌∙◌, arith, append_assoc}
 use Rattle.std.proofs.lemmas.Bool.Decides.{leb_tells}
 use Rattle.std.specs.List.{AllByRecursion}
 use Rattle.pglogical.specs.declared.message.Item.{Item}
@@ -8,7 +9,8 @@ use Rattle.pglogical.specs.declared.message.Message.{Message}
 use Rattle.pglogical.specs.declared.message.Message.TheVariants as message
 use Rattle.pgsub_core.specs.Server.Stream.{Sent, Data, Keepalive, messages_in}
 use Rattle.pgadding.specs.LeftOut.{item_without}
-use Rattle.pgadding.specs.Addition.{Addition, rows_lsn, rows_end, rows_items, rows_sent, sent_at, items_at}
+use Rattle.pgadding.specs.Addition.{Addition, rows_lsn, rows_end, rows_items, rows_sent, sent_at}
+use Rattle.pgadding.specs.Addition.{items_at}
 use Rattle.pgadding.specs.Passing.{place_after, is_behind, passed, passing, place_of}
 use Rattle.pgadding.specs.Around.{BeginsFrom, KeepalivesTell}
 use Rattle.pgadding.proofs.Ordered.{InOrder, AreWhole}
@@ -34,7 +36,8 @@ order_whole (Some l) (message.StreamAbort xid label ∷ ms) h = absurd h.0
 
 -- ---- the place at the end
 
-items_place : (place : Option ℕ) (lsn : ℕ) (items : List Item) (more : List Sent) → place_after place (items_at lsn items ++ more) ≡ place_after place more
+items_place : (place : Option ℕ) (lsn : ℕ) (items : List Item) (more : List Sent)
+    → place_after place (items_at lsn items ++ more) ≡ place_after place more
 items_place place lsn [] more = refl
 items_place place lsn (i ∷ items) more = items_place place lsn items more
 
@@ -51,11 +54,14 @@ rows_place a place more =
     ap (place_after (Some (rows_lsn a))) (append_assoc (items_at (rows_lsn a) (rows_items a)) (commit_of_rows a ∷ []) more)
     ∙ items_place (Some (rows_lsn a)) (rows_lsn a) (rows_items a) (commit_of_rows a ∷ more)
 
-passed_place : (point oid : ℕ) (place : Option ℕ) (m : Sent) (more : List Sent) → place_after place (passed point oid place m ++ more) ≡ place_after (place_of m place) more
+passed_place : (point oid : ℕ) (place : Option ℕ) (m : Sent) (more : List Sent)
+    → place_after place (passed point oid place m ++ more) ≡ place_after (place_of m place) more
 passed_place point oid None (Keepalive end clock reply) more = refl
 passed_place point oid (Some l) (Keepalive end clock reply) more =
-    elim (nat_le point end) as (λ b. place_after (Some l) (cond b [] (Keepalive end clock reply ∷ []) ++ more) ≡ place_after (Some l) more) [ true ↦ refl | false ↦ refl ]
-passed_place point oid place (Data start end clock (message.Item xid item)) more = pushed_place place start end clock xid (item_without oid item) more
+    elim (nat_le point end) as (λ b. place_after (Some l) (cond b [] (Keepalive end clock reply ∷ []) ++ more) ≡ place_after (Some l) more)
+    [ true ↦ refl | false ↦ refl ]
+passed_place point oid place (Data start end clock (message.Item xid item)) more =
+    pushed_place place start end clock xid (item_without oid item) more
 passed_place point oid place (Data start end clock (message.Begin lsn time xid)) more = refl
 passed_place point oid place (Data start end clock (message.Commit lsn done time)) more = refl
 passed_place point oid place (Data start end clock (message.Origin lsn name)) more = refl
@@ -67,7 +73,8 @@ passed_place point oid place (Data start end clock (message.StreamCommit xid lsn
 passed_place point oid place (Data start end clock (message.StreamAbort xid label)) more = refl
 
 -- the rows stand between transactions, or before a Begin, behind which the place is the same
-from_outside : (point : ℕ) (place : Option ℕ) (m : Sent) (sent : List Sent) → is_behind point place m ≡ true → place_after None (m ∷ sent) ≡ place_after place (m ∷ sent)
+from_outside : (point : ℕ) (place : Option ℕ) (m : Sent) (sent : List Sent) → is_behind point place m ≡ true
+    → place_after None (m ∷ sent) ≡ place_after place (m ∷ sent)
 from_outside point None m sent is = refl
 from_outside point (Some l) (Keepalive end clock reply) sent is = absurd (cc)
 from_outside point (Some l) (Data start end clock (message.Begin lsn time xid)) sent is = refl
@@ -88,7 +95,8 @@ passing_place a place (m ∷ sent) =
     elim (is_behind a.point place m) as (λ b. is_behind a.point place m ≡ b
     → place_after place (cond b (rows_sent a ++ m ∷ sent) (first ++ passing a (place_of m place) sent)) ≡ place_after place (m ∷ sent)) [
       | true ↦ λ is. rows_place a place (m ∷ sent) ∙ from_outside a.point place m sent is
-      | false ↦ λ isnt. passed_place a.point a.definition.oid place m (passing a (place_of m place) sent) ∙ passing_place a (place_of m place) sent ∙ one m place sent
+      | false ↦ λ isnt. passed_place a.point a.definition.oid place m (passing a (place_of m place) sent)
+          ∙ passing_place a (place_of m place) sent ∙ one m place sent
     ] refl
   where
     one : (m : Sent) (place : Option ℕ) (sent : List Sent) → place_after (place_of m place) sent ≡ place_after place (m ∷ sent)
@@ -100,7 +108,8 @@ passing_place a place (m ∷ sent) =
 abbrev AllBeginFrom : ℕ → List Sent → Type 0
 AllBeginFrom from sent = AllByRecursion (BeginsFrom from) (messages_in sent)
 
-items_begin : (from lsn : ℕ) (items : List Item) (more : List Sent) → AllBeginFrom from more → AllBeginFrom from (items_at lsn items ++ more)
+items_begin : (from lsn : ℕ) (items : List Item) (more : List Sent) → AllBeginFrom from more
+    → AllBeginFrom from (items_at lsn items ++ more)
 items_begin from lsn [] more h = h
 items_begin from lsn (i ∷ items) more h = (tt, items_begin from lsn items more h)
 
@@ -109,23 +118,27 @@ pushed_begin : (from start end : ℕ) (clock : ℤ) (xid : Option ℕ) (items : 
 pushed_begin from start end clock xid [] more h = h
 pushed_begin from start end clock xid (i ∷ items) more h = (tt, pushed_begin from start end clock xid items more h)
 
-rows_begin : (a : Addition) (from : ℕ) (more : List Sent) → from < a.point → AllBeginFrom from more → AllBeginFrom from (rows_sent a ++ more)
+rows_begin : (a : Addition) (from : ℕ) (more : List Sent) → from < a.point → AllBeginFrom from more
+    → AllBeginFrom from (rows_sent a ++ more)
 rows_begin a from more lt h = (
   omega arith,
   subst (AllBeginFrom from) (sym (append_assoc (items_at (rows_lsn a) (rows_items a)) (commit_of_rows a ∷ []) more))
       (items_begin from (rows_lsn a) (rows_items a) (commit_of_rows a ∷ more) (tt, h)),
 )
 
-passed_begin : (from point oid : ℕ) (place : Option ℕ) (m : Sent) (sent more : List Sent) → AllBeginFrom from (m ∷ sent) → AllBeginFrom from more → AllBeginFrom from (passed point oid place m ++ more)
+passed_begin : (from point oid : ℕ) (place : Option ℕ) (m : Sent) (sent more : List Sent) → AllBeginFrom from (m ∷ sent)
+    → AllBeginFrom from more → AllBeginFrom from (passed point oid place m ++ more)
 passed_begin from point oid None (Keepalive end clock reply) sent more h rest = rest
 passed_begin from point oid (Some l) (Keepalive end clock reply) sent more h rest =
     elim (nat_le point end) as (λ b. AllBeginFrom from (cond b [] (Keepalive end clock reply ∷ []) ++ more)) [ true ↦ rest | false ↦ rest ]
-passed_begin from point oid place (Data start end clock (message.Item xid item)) sent more h rest = pushed_begin from start end clock xid (item_without oid item) more rest
+passed_begin from point oid place (Data start end clock (message.Item xid item)) sent more h rest =
+    pushed_begin from start end clock xid (item_without oid item) more rest
 passed_begin from point oid place (Data start end clock (message.Begin lsn time xid)) sent more h rest = (h.0, rest)
 passed_begin from point oid place (Data start end clock (message.Commit lsn done time)) sent more h rest = (tt, rest)
 passed_begin from point oid place (Data start end clock (message.Origin lsn name)) sent more h rest = (tt, rest)
 passed_begin from point oid place (Data start end clock (message.TypeName xid type_oid namespace name)) sent more h rest = (tt, rest)
-passed_begin from point oid place (Data start end clock (message.Logical xid transactional lsn prefix content)) sent more h rest = (tt, rest)
+passed_begin from point oid place (Data start end clock (message.Logical xid transactional lsn prefix content)) sent more h rest =
+    (tt, rest)
 passed_begin from point oid place (Data start end clock (message.StreamStart xid first)) sent more h rest = (tt, rest)
 passed_begin from point oid place (Data start end clock message.StreamStop) sent more h rest = (tt, rest)
 passed_begin from point oid place (Data start end clock (message.StreamCommit xid lsn done time)) sent more h rest = (tt, rest)
@@ -135,19 +148,25 @@ others_begin : (from : ℕ) (m : Sent) (sent : List Sent) → AllBeginFrom from 
 others_begin from (Keepalive end clock reply) sent h = h
 others_begin from (Data start end clock m) sent h = h.1
 
-passing_begin : (a : Addition) (from : ℕ) (place : Option ℕ) (sent : List Sent) → from < a.point → AllBeginFrom from sent → AllBeginFrom from (passing a place sent)
+passing_begin : (a : Addition) (from : ℕ) (place : Option ℕ) (sent : List Sent) → from < a.point → AllBeginFrom from sent
+    → AllBeginFrom from (passing a place sent)
 passing_begin a from place [] lt h = tt
 passing_begin a from place (m ∷ sent) lt h =
-    elim (is_behind a.point place m) as (λ b. AllBeginFrom from (cond b (rows_sent a ++ m ∷ sent) (passed a.point a.definition.oid place m ++ passing a (place_of m place) sent))) [
+    elim (is_behind a.point place m) as
+    (λ b. AllBeginFrom from (cond b (rows_sent a ++ m ∷ sent)
+    (passed a.point a.definition.oid place m ++ passing a (place_of m place) sent))) [
       | true ↦ rows_begin a from (m ∷ sent) lt h
-      | false ↦ passed_begin from a.point a.definition.oid place m sent (passing a (place_of m place) sent) h (passing_begin a from (place_of m place) sent lt (others_begin from m sent h))
+      | false ↦ passed_begin from a.point a.definition.oid place m sent (passing a (place_of m place) sent) h
+          (passing_begin a from (place_of m place) sent lt (others_begin from m sent h))
     ]
 
-items_tell : (place : Option ℕ) (lsn : ℕ) (items : List Item) (more : List Sent) → KeepalivesTell place more → KeepalivesTell place (items_at lsn items ++ more)
+items_tell : (place : Option ℕ) (lsn : ℕ) (items : List Item) (more : List Sent) → KeepalivesTell place more
+    → KeepalivesTell place (items_at lsn items ++ more)
 items_tell place lsn [] more h = h
 items_tell place lsn (i ∷ items) more h = items_tell place lsn items more h
 
-pushed_tell : (place : Option ℕ) (start end : ℕ) (clock : ℤ) (xid : Option ℕ) (items : List Item) (more : List Sent) → KeepalivesTell place more
+pushed_tell : (place : Option ℕ) (start end : ℕ) (clock : ℤ) (xid : Option ℕ) (items : List Item) (more : List Sent)
+    → KeepalivesTell place more
     → KeepalivesTell place (map (Data start end clock) (map (message.Item xid) items) ++ more)
 pushed_tell place start end clock xid [] more h = h
 pushed_tell place start end clock xid (i ∷ items) more h = pushed_tell place start end clock xid items more h
@@ -158,12 +177,15 @@ rows_tell a place more h =
     (items_tell (Some (rows_lsn a)) (rows_lsn a) (rows_items a) (commit_of_rows a ∷ more) h)
 
 -- what is told of a message that is passed on, before the point
-passed_tell : (a : Addition) (place : Option ℕ) (m : Sent) (sent : List Sent) → is_behind a.point place m ≡ false → KeepalivesTell place (m ∷ sent)
-    → KeepalivesTell (place_of m place) (passing a (place_of m place) sent) → KeepalivesTell place (passed a.point a.definition.oid place m ++ passing a (place_of m place) sent)
+passed_tell : (a : Addition) (place : Option ℕ) (m : Sent) (sent : List Sent) → is_behind a.point place m ≡ false
+    → KeepalivesTell place (m ∷ sent)
+    → KeepalivesTell (place_of m place) (passing a (place_of m place) sent)
+    → KeepalivesTell place (passed a.point a.definition.oid place m ++ passing a (place_of m place) sent)
 passed_tell a None (Keepalive end clock reply) sent isnt h rest =
     (passing_begin a end None sent (grind (arith, leb_tells)) h.0, rest)
 passed_tell a (Some l) (Keepalive end clock reply) sent isnt h rest =
-    elim (nat_le a.point end) as (λ b. KeepalivesTell (Some l) (cond b [] (Keepalive end clock reply ∷ []) ++ passing a (Some l) sent)) [ true ↦ rest | false ↦ rest ]
+    elim (nat_le a.point end) as (λ b. KeepalivesTell (Some l) (cond b [] (Keepalive end clock reply ∷ []) ++ passing a (Some l) sent))
+    [ true ↦ rest | false ↦ rest ]
 passed_tell a place (Data start end clock (message.Item xid item)) sent isnt h rest =
     pushed_tell place start end clock xid (item_without a.definition.oid item) (passing a place sent) rest
 passed_tell a place (Data start end clock (message.Begin lsn time xid)) sent isnt h rest = rest
@@ -176,7 +198,8 @@ passed_tell a place (Data start end clock message.StreamStop) sent isnt h rest =
 passed_tell a place (Data start end clock (message.StreamCommit xid lsn done time)) sent isnt h rest = rest
 passed_tell a place (Data start end clock (message.StreamAbort xid label)) sent isnt h rest = rest
 
-tell_outside : (point : ℕ) (place : Option ℕ) (m : Sent) (sent : List Sent) → is_behind point place m ≡ true → KeepalivesTell place (m ∷ sent) → KeepalivesTell None (m ∷ sent)
+tell_outside : (point : ℕ) (place : Option ℕ) (m : Sent) (sent : List Sent) → is_behind point place m ≡ true
+    → KeepalivesTell place (m ∷ sent) → KeepalivesTell None (m ∷ sent)
 tell_outside point None m sent is h = h
 tell_outside point (Some l) (Keepalive end clock reply) sent is h = absurd (cc)
 tell_outside point (Some l) (Data start end clock (message.Begin lsn time xid)) sent is h = h
@@ -195,11 +218,13 @@ others_tell None (Keepalive end clock reply) sent h = h.1
 others_tell (Some l) (Keepalive end clock reply) sent h = h
 others_tell place (Data start end clock m) sent h = h
 
-pub passing_tells : (a : Addition) (place : Option ℕ) (sent : List Sent) → KeepalivesTell place sent → KeepalivesTell place (passing a place sent)
+pub passing_tells : (a : Addition) (place : Option ℕ) (sent : List Sent) → KeepalivesTell place sent
+    → KeepalivesTell place (passing a place sent)
 passing_tells a place [] h = tt
 passing_tells a place (m ∷ sent) h =
     elim (is_behind a.point place m) as (λ b. is_behind a.point place m ≡ b
-    → KeepalivesTell place (cond b (rows_sent a ++ m ∷ sent) (passed a.point a.definition.oid place m ++ passing a (place_of m place) sent))) [
+    → KeepalivesTell place (cond b (rows_sent a ++ m ∷ sent)
+    (passed a.point a.definition.oid place m ++ passing a (place_of m place) sent))) [
       | true ↦ λ is. rows_tell a place (m ∷ sent) (tell_outside a.point place m sent is h)
       | false ↦ λ isnt. passed_tell a place m sent isnt h (passing_tells a (place_of m place) sent (others_tell place m sent h))
     ] refl

@@ -11,7 +11,13 @@ use Rattle.pgadding.proofs.Ordered.{InOrder, shaped}
 
 around : IsAround adding_t.point [] below above
 around = record {
-  history = (omega arith, omega arith, (tt, refl, (tt, refl, (tt, refl, (tt, refl, tt)))), (refl, tt), (omega arith, omega arith, (tt, refl, tt), (refl, tt), tt));
+  history = (
+    omega arith,
+    omega arith,
+    (tt, refl, (tt, refl, (tt, refl, (tt, refl, tt)))),
+    (refl, tt),
+    (omega arith, omega arith, (tt, refl, tt), (refl, tt), tt),
+  );
   some = omega arith;
   stored = tt;
   seen = (omega arith, tt);
@@ -22,7 +28,8 @@ order : InOrder None (messages_in session)
 order = (tt, (tt, (tt, (tt, (tt, (tt, (tt, (refl, (tt, (tt, (refl, tt)))))))))))
 
 items_seen : List Item
-items_seen = Relation t ∷ Relation u ∷ Insert 16384 (row 49) ∷ Insert 16385 (row 50) ∷ Truncate 0 (16384 ∷ 16385 ∷ []) ∷ Truncate 0 (16384 ∷ []) ∷ []
+items_seen = Relation t ∷ Relation u ∷ Insert 16384 (row 49) ∷ Insert 16385 (row 50) ∷ Truncate 0 (16384 ∷ 16385 ∷ [])
+    ∷ Truncate 0 (16384 ∷ []) ∷ []
 
 delivered : Delivers Two (below ++ above) 900 session
 unfolding items_seen
@@ -43,7 +50,10 @@ delivered = record {
         refl,
         (
           ((λ _. omega arith), tt),
-          (((λ _. omega arith), tt), (((λ _. omega arith), tt), ([], _, [], Insert 16384 (row 51) ∷ [], refl, tt, (refl, refl, refl, refl), refl, tt))),
+          (
+            ((λ _. omega arith), tt),
+            (((λ _. omega arith), tt), ([], _, [], Insert 16384 (row 51) ∷ [], refl, tt, (refl, refl, refl, refl), refl, tt)),
+          ),
         ),
       ),
     ),
@@ -57,7 +67,10 @@ is_example = record {
     delivered = delivered;
     whole = (tt, (tt, (tt, (tt, (tt, (tt, (tt, (tt, (tt, (tt, (tt, tt)))))))))));
     ends = refl;
-    read = ((omega arith, (tt, (tt, (tt, (tt, (tt, (tt, (tt, (omega arith, (tt, (tt, tt))))))))))), ((omega arith, (tt, (tt, tt))), ((omega arith, (tt, (tt, tt))), tt)));
+    read = (
+      (omega arith, (tt, (tt, (tt, (tt, (tt, (tt, (tt, (omega arith, (tt, (tt, tt))))))))))),
+      ((omega arith, (tt, (tt, tt))), ((omega arith, (tt, (tt, tt))), tt)),
+    );
   };
   keeps = inl refl;
 }

@@ -1,5 +1,6 @@
 -- The example of a repair is one.
-use Rattle.std.proofs.Common.{◌≡◌, ◌++◌, ℕ, List, [], ◌∷◌, false, true, cond, eqb, Option, Some, None, refl, sym, ap, subst, ◌∙◌, inl, arith, ◌||◌}
+use Rattle.std.proofs.Common.{◌≡◌, ◌++◌, ℕ, List, [], ◌∷◌, false, true, cond, eqb, Option, Some}
+use Rattle.std.proofs.Common.{None, refl, sym, ap, subst, ◌∙◌, inl, arith, ◌||◌}
 use Rattle.std.proofs.lemmas.Bool.Decides.{nat_tests}
 use Rattle.std.specs.FinMap as finite
 use Rattle.std.specs.FinMap.{get-insert, get-empty}
@@ -17,7 +18,8 @@ use Rattle.pgsub_core.specs.Server.Work.{is_among}
 use Rattle.pgadding.specs.Around.{IsAround}
 use Rattle.pgadding.specs.Given.{giving}
 use Rattle.pgadding.specs.Mended.{IsNotAmong, AreFound, IsMended, keyed_changes}
-use Rattle.pgadding.specs.WorkedRepair.{k, cells, place_of, one_row, our_rows, their_rows, tables_with, IsExampleOfARepair}
+use Rattle.pgadding.specs.WorkedRepair.{k, cells, place_of, one_row, our_rows, their_rows}
+use Rattle.pgadding.specs.WorkedRepair.{tables_with, IsExampleOfARepair}
 use Rattle.pgadding.proofs.Given.{any_tables}
 use Rattle.pgadding.proofs.MendedRows.{same_place_as}
 use Rattle.pgadding.proofs.MendedTables.{differ, not_itself}
@@ -37,20 +39,24 @@ are_ours : AreRows k our_rows
 are_ours = row_inserted k (finite.insert finite.empty (place_of 49) (one_row 98 49)) (place_of 51) (one_row 99 51)
     (row_inserted k finite.empty (place_of 49) (one_row 98 49) (no_rows k) (is_row 98 49)) (is_row 99 51)
 
-ours_at : (q : List ℕ) → finite.get our_rows q ≡ cond (same_place_as (place_of 51) q) (Some (one_row 99 51)) (cond (same_place_as (place_of 49) q) (Some (one_row 98 49)) None)
+ours_at : (q : List ℕ) → finite.get our_rows q
+    ≡ cond (same_place_as (place_of 51) q) (Some (one_row 99 51)) (cond (same_place_as (place_of 49) q) (Some (one_row 98 49)) None)
 ours_at q =
     get-insert nat_list_cmp_total (finite.insert finite.empty (place_of 49) (one_row 98 49)) (place_of 51) (one_row 99 51) q
     ∙ ap (λ there. cond (same_place_as (place_of 51) q) (Some (one_row 99 51)) there)
-    (get-insert nat_list_cmp_total finite.empty (place_of 49) (one_row 98 49) q ∙ ap (λ there. cond (same_place_as (place_of 49) q) (Some (one_row 98 49)) there) (get-empty (slice_cmp nat_cmp) q))
+    (get-insert nat_list_cmp_total finite.empty (place_of 49) (one_row 98 49) q
+    ∙ ap (λ there. cond (same_place_as (place_of 49) q) (Some (one_row 98 49)) there) (get-empty (slice_cmp nat_cmp) q))
 
 theirs_at : (q : List ℕ) → finite.get their_rows q ≡ cond (same_place_as (place_of 49) q) (Some (one_row 97 49)) None
 theirs_at q =
-    get-insert nat_list_cmp_total finite.empty (place_of 49) (one_row 97 49) q ∙ ap (λ there. cond (same_place_as (place_of 49) q) (Some (one_row 97 49)) there) (get-empty (slice_cmp nat_cmp) q)
+    get-insert nat_list_cmp_total finite.empty (place_of 49) (one_row 97 49) q
+    ∙ ap (λ there. cond (same_place_as (place_of 49) q) (Some (one_row 97 49)) there) (get-empty (slice_cmp nat_cmp) q)
 
 same_elsewhere : (q : List ℕ) → IsNotAmong q (place_of 49 ∷ place_of 51 ∷ []) → finite.get our_rows q ≡ finite.get their_rows q
 same_elsewhere q isnt =
     ours_at q
-    ∙ ap (λ b. cond b (Some (one_row 99 51)) (cond (same_place_as (place_of 49) q) (Some (one_row 98 49)) None)) (differ (place_of 51) q (λ e. isnt.1.0 (sym e)))
+    ∙ ap (λ b. cond b (Some (one_row 99 51)) (cond (same_place_as (place_of 49) q) (Some (one_row 98 49)) None))
+    (differ (place_of 51) q (λ e. isnt.1.0 (sym e)))
     ∙ ap (λ b. cond b (Some (one_row 98 49)) None) (differ (place_of 49) q (λ e. isnt.0 (sym e)))
     ∙ sym (theirs_at q ∙ ap (λ b. cond b (Some (one_row 97 49)) None) (differ (place_of 49) q (λ e. isnt.0 (sym e))))
 
@@ -58,22 +64,28 @@ same_elsewhere q isnt =
 abbrev both_changes : Option Row → Option Row → Option Row → Option Row → List Item
 both_changes a b c d = keyed_changes k a b ++ (keyed_changes k c d ++ [])
 
-changes_are : both_changes (finite.get their_rows (place_of 49)) (finite.get our_rows (place_of 49)) (finite.get their_rows (place_of 51)) (finite.get our_rows (place_of 51))
+changes_are : both_changes (finite.get their_rows (place_of 49)) (finite.get our_rows (place_of 49)) (finite.get their_rows (place_of 51))
+    (finite.get our_rows (place_of 51))
     ≡ Update 16386 None (cells 97 49) ∷ Delete 16386 Key (Null ∷ Text (51 ∷ []) ∷ []) ∷ []
 changes_are =
-    ap (λ a. both_changes a (finite.get our_rows (place_of 49)) (finite.get their_rows (place_of 51)) (finite.get our_rows (place_of 51))) (theirs_at (place_of 49))
-    ∙ ap (λ b. both_changes (Some (one_row 97 49)) b (finite.get their_rows (place_of 51)) (finite.get our_rows (place_of 51))) (ours_at (place_of 49))
+    ap (λ a. both_changes a (finite.get our_rows (place_of 49)) (finite.get their_rows (place_of 51)) (finite.get our_rows (place_of 51)))
+    (theirs_at (place_of 49))
+    ∙ ap (λ b. both_changes (Some (one_row 97 49)) b (finite.get their_rows (place_of 51)) (finite.get our_rows (place_of 51)))
+    (ours_at (place_of 49))
     ∙ ap (λ c. both_changes (Some (one_row 97 49)) (Some (one_row 98 49)) c (finite.get our_rows (place_of 51))) (theirs_at (place_of 51))
     ∙ ap (λ d. both_changes (Some (one_row 97 49)) (Some (one_row 98 49)) None d) (ours_at (place_of 51))
 
 -- ---- tables
 
-at_table : (rows : Rows) (oid : ℕ) → finite.get (tables_with rows) oid ≡ cond (eqb oid 16386) (Some (record { definition = k; rows = rows })) None
-at_table rows oid = put finite.empty 16386 (record { definition = k; rows = rows }) oid ∙ ap (λ there. cond (eqb oid 16386) (Some (record { definition = k; rows = rows })) there) (get-empty nat_cmp oid)
+at_table : (rows : Rows) (oid : ℕ)
+    → finite.get (tables_with rows) oid ≡ cond (eqb oid 16386) (Some (record { definition = k; rows = rows })) None
+at_table rows oid = put finite.empty 16386 (record { definition = k; rows = rows }) oid
+    ∙ ap (λ there. cond (eqb oid 16386) (Some (record { definition = k; rows = rows })) there) (get-empty nat_cmp oid)
 
 are_tables : (rows : Rows) → AreRows k rows → AreTables (tables_with rows)
 are_tables rows are oid table there =
-    elim (eqb oid 16386) as (λ b. eqb oid 16386 ≡ b → ◌≡◌ {A = Option Table} (cond b (Some (record { definition = k; rows = rows })) None) (Some table) → IsTable oid table) [
+    elim (eqb oid 16386) as (λ b. eqb oid 16386 ≡ b
+    → ◌≡◌ {A = Option Table} (cond b (Some (record { definition = k; rows = rows })) None) (Some table) → IsTable oid table) [
       | true ↦ λ yes e.
           let is : ◌≡◌ {A = Table} (record { definition = k; rows = rows }) table = same_some e in
           let at : 16386 ≡ oid = grind (arith, nat_tests) in
@@ -81,7 +93,8 @@ are_tables rows are oid table there =
       | false ↦ λ no e. absurd (cc)
     ] refl (sym (at_table rows oid) ∙ there)
 
-is_mended : IsMended (tables_with our_rows) (tables_with their_rows) (record { definition = k; changes = Update 16386 None (cells 97 49) ∷ Delete 16386 Key (Null ∷ Text (51 ∷ []) ∷ []) ∷ [] })
+is_mended : IsMended (tables_with our_rows) (tables_with their_rows)
+    (record { definition = k; changes = Update 16386 None (cells 97 49) ∷ Delete 16386 Key (Null ∷ Text (51 ∷ []) ∷ []) ∷ [] })
 is_mended = record {
   ours = our_rows;
   theirs = their_rows;
@@ -98,7 +111,8 @@ is_mended = record {
 
 no_other : (oid : ℕ) → is_among (16386 ∷ []) oid ≡ false → finite.get (tables_with our_rows) oid ≡ finite.get (tables_with their_rows) oid
 no_other oid isnt =
-    elim (eqb 16386 oid) as (λ b. eqb 16386 oid ≡ b → (b || false) ≡ false → finite.get (tables_with our_rows) oid ≡ finite.get (tables_with their_rows) oid) [
+    elim (eqb 16386 oid) as (λ b. eqb 16386 oid ≡ b → (b || false) ≡ false
+    → finite.get (tables_with our_rows) oid ≡ finite.get (tables_with their_rows) oid) [
       | true ↦ λ yes e. absurd (cc)
       | false ↦ λ no _.
           let other : eqb oid 16386 ≡ false = grind (arith, nat_tests) in

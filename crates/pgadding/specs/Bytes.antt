@@ -7,7 +7,8 @@ use Rattle.pgwire.specs.Frames as wire
 use Rattle.pgsub_core.specs.Server.History.{Transaction}
 use Rattle.pgsub_core.specs.Server.Stream.{Sent}
 use Rattle.pgsub_core.specs.Server.Reached.{Progress}
-use Rattle.pgsub_core.specs.Server.Sessions.{IsWireSent, IsPartOfNextFrame, EndsForeign, EachStarts, AreIncoming, frames_of, whole_frames}
+use Rattle.pgsub_core.specs.Server.Sessions.{IsWireSent, IsPartOfNextFrame, EndsForeign, EachStarts}
+use Rattle.pgsub_core.specs.Server.Sessions.{AreIncoming, frames_of, whole_frames}
 use Rattle.pgadding.specs.Addition.{Addition}
 use Rattle.pgadding.specs.Passing.{passed_on}
 use Rattle.pgadding.specs.Around.{IsAround, IsWholeSession, KeepsDefinition, with_rows}

@@ -11,7 +11,8 @@ use Rattle.pgorder.specs.declared.Version.{Version}
 use Rattle.pgapply.specs.Value.{Rows, Table, Tables, AreTables}
 use Rattle.pgapply.specs.Apply.{fold_changes}
 use Rattle.pgsub_core.specs.Server.Work.{Work, Nothing}
-use Rattle.pgsub_core.specs.Server.History.{Transaction, IsHistory, IsHistoryFrom, all_changes, tables_as_of}
+use Rattle.pgsub_core.specs.Server.History.{Transaction, IsHistory, IsHistoryFrom, all_changes}
+use Rattle.pgsub_core.specs.Server.History.{tables_as_of}
 use Rattle.pgsub_core.specs.Server.Stream.{Sent}
 use Rattle.pgsub_core.specs.Server.Reached.{Progress}
 use Rattle.pgsub_core.specs.Server.Sessions.{EachStarts}
@@ -52,8 +53,8 @@ AnyTablesAreGiven =
     → 1 ≤ p
     → IsHistory (giving tables ∷ []) × (tables_as_of (giving tables ∷ []) p ≡ Ok tables)
 
--- A copy has any tables at its position. Of the server's history up to the point `below` is still to
--- come.
+-- A copy has any tables at its position. Of the server's history up to the point `below` is still
+-- to come.
 pub record IsAnyCopy (r : Repair) (before below above : List Transaction)
     (old : Replica) : Type 0 where
   pub around : IsAround r.point before below above

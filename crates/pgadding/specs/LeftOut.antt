@@ -4,8 +4,10 @@ use Rattle.std.specs.Prelude.{ℕ, List, [], ◌∷◌, not, ◌==◌, if◌then
 use Rattle.std.specs.List.{filter}
 use Rattle.pglogical.specs.declared.message.RelationDef.{RelationDef}
 use Rattle.pglogical.specs.declared.message.Item.{Item}
-use Rattle.pglogical.specs.declared.message.Item.TheVariants.{Relation, Insert, Update, Delete, Truncate}
-use Rattle.pgsub_core.specs.Server.Work.{Work, Nothing, Changed, Subtransaction, RolledBack, is_among}
+use Rattle.pglogical.specs.declared.message.Item.TheVariants.{Relation, Insert, Update, Delete}
+use Rattle.pglogical.specs.declared.message.Item.TheVariants.{Truncate}
+use Rattle.pgsub_core.specs.Server.Work.{Work, Nothing, Changed, Subtransaction, RolledBack}
+use Rattle.pgsub_core.specs.Server.Work.{is_among}
 use Rattle.pgsub_core.specs.Server.History.{Transaction}
 
 abbrev pub other_oids : ℕ → List ℕ → List ℕ

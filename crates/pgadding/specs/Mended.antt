@@ -2,7 +2,8 @@
 -- The changes of what differs alone, by which a copy's rows become those of its server.
 -- PostgreSQL documentation, ALTER TABLE, REPLICA IDENTITY; Logical Replication, Publication;
 -- Logical Replication Message Formats, Insert, Update, Delete.
-use Rattle.std.specs.Prelude.{◌≡◌, ◌≢◌, ◌⊎◌, ◌≤◌, ◌-◌, ℕ, suc, zero, List, [], ◌∷◌, ◌++◌, Option, Some, None, true, false, if◌then◌else◌}
+use Rattle.std.specs.Prelude.{◌≡◌, ◌≢◌, ◌⊎◌, ◌≤◌, ◌-◌, ℕ, suc, zero, List, [], ◌∷◌, ◌++◌, Option}
+use Rattle.std.specs.Prelude.{Some, None, true, false, if◌then◌else◌}
 use Rattle.std.specs.FinMap as finite
 use Rattle.std.specs.List.{AllByRecursion, flat_map}
 use Rattle.pgtuple.specs.declared.cell.Cell.{Cell}

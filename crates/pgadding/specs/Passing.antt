@@ -1,7 +1,8 @@
 -- Part of the statement.
 -- What is passed on of a session in whole transactions while a table is added. PostgreSQL
 -- documentation, Logical Decoding Concepts, Exported Snapshots.
-use Rattle.std.specs.Prelude.{ℕ, List, [], ◌∷◌, ◌++◌, Bool, false, Option, Some, None, nat_le, map, if◌then◌else◌}
+use Rattle.std.specs.Prelude.{ℕ, List, [], ◌∷◌, ◌++◌, Bool, false, Option, Some, None, nat_le, map}
+use Rattle.std.specs.Prelude.{if◌then◌else◌}
 use Rattle.pglogical.specs.declared.message.Message.{Message}
 use Rattle.pglogical.specs.declared.message.Message.TheVariants as message
 use Rattle.pgsub_core.specs.Server.Stream.{Sent, Data, Keepalive}

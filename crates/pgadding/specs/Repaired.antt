@@ -18,7 +18,8 @@ use Rattle.pgsub_core.specs.Machine.Replica.{Replica, Running}
 use Rattle.pgsub_core.specs.Machine.ApplyState.{follow_all}
 use Rattle.pgadding.specs.Around.{IsAround, IsWholeSession}
 use Rattle.pgadding.specs.Bytes.{AreBytesOf}
-use Rattle.pgadding.specs.Repair.{Repair, IsRepair, IsRepairOf, AreMended, mended_oids, repair_transaction}
+use Rattle.pgadding.specs.Repair.{Repair, IsRepair, IsRepairOf, AreMended, mended_oids}
+use Rattle.pgadding.specs.Repair.{repair_transaction}
 use Rattle.pgadding.specs.Repairing.{repaired_on, with_repair}
 
 -- The repair's changes make the server's rows of the copy's.

@@ -37,7 +37,8 @@ module _ {K X : Type 0} {R : K → K → Ordering} (total : IsTotalOrder R) (sam
   missing k (e ∷ es) p = ap (λ o. cond (is_eq o) (Some e.1) (find R k es)) (less _ (first _ _ p)) ∙ missing k es (second _ _ p)
 
   module _ (P : K → X → Type 0) where
-    each_found : (es : List (K × X)) → T (is_sorted R es) → ((k : K) (x : X) → find R k es ≡ Some x → P k x) → AllByRecursion (λ (e : K × X). P e.0 e.1) es
+    each_found : (es : List (K × X)) → T (is_sorted R es) → ((k : K) (x : X) → find R k es ≡ Some x → P k x)
+        → AllByRecursion (λ (e : K × X). P e.0 e.1) es
     each_found [] p h = tt
     each_found (e ∷ es) p h = (
       h e.0 e.1 (ap (λ o. cond (is_eq o) (Some e.1) (find R e.0 es)) (tied_itself total e.0)),
@@ -47,5 +48,6 @@ module _ {K X : Type 0} {R : K → K → Ordering} (total : IsTotalOrder R) (sam
       ])),
     )
 
-    pub each_entry : (m : map.FinMap R X) → ((k : K) (x : X) → map.get m k ≡ Some x → P k x) → AllByRecursion (λ (e : K × X). P e.0 e.1) (map.entries m)
+    pub each_entry : (m : map.FinMap R X) → ((k : K) (x : X) → map.get m k ≡ Some x → P k x)
+        → AllByRecursion (λ (e : K × X). P e.0 e.1) (map.entries m)
     each_entry m h = each_found (map.entries m) (entries_sorted m) (λ k x is. h k x (get-entries m k ∙ is))

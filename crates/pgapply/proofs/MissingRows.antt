@@ -9,7 +9,8 @@ use Rattle.pgapply.specs.declared.op.Op.TheVariants as op
 use Rattle.pgapply.specs.declared.fault.StoreFault.TheVariants as fault
 use Rattle.pgapply.specs.Apply.{Change, apply, rows_after, carry_rows}
 use Rattle.pgapply.specs.Missing.{finds_none, missing_in, all_missing, nothing_missed, with_misses}
-use Rattle.pgapply.proofs.Relations.{text, t, f, x, y, rows_1, rows_x, tables_1, lookups, tv, place, row_of}
+use Rattle.pgapply.proofs.Relations.{text, t, f, x, y, rows_1, rows_x, tables_1, lookups, tv, place}
+use Rattle.pgapply.proofs.Relations.{row_of}
 
 -- ---- one change
 
@@ -83,7 +84,8 @@ deleted_twice : all_missing tables_1 (delete_t 49 ∷ delete_t 49 ∷ []) ≡ 16
 unfolding all_missing apply rows_after tuple_spelling
 deleted_twice = simp lookups
 
-inserted_before : all_missing map.empty (record { definition = t; op = op.Insert (text 49 ∷ text 97 ∷ []) } ∷ delete_t 49 ∷ delete_t 50 ∷ []) ≡ 16384 ∷ []
+inserted_before : all_missing map.empty
+    (record { definition = t; op = op.Insert (text 49 ∷ text 97 ∷ []) } ∷ delete_t 49 ∷ delete_t 50 ∷ []) ≡ 16384 ∷ []
 unfolding all_missing apply rows_after tuple_spelling
 inserted_before = simp lookups
 
@@ -93,9 +95,11 @@ counted_two : with_misses nothing_missed 304 (16384 ∷ 16385 ∷ []) ≡ record
 counted_two = refl
 
 -- the first one stays the first
-first_stays : with_misses (record { count = 2; first = Some (record { end = 304; oid = 16384 }) }) 560 (16386 ∷ []) ≡ record { count = 3; first = Some (record { end = 304; oid = 16384 }) }
+first_stays : with_misses (record { count = 2; first = Some (record { end = 304; oid = 16384 }) }) 560 (16386 ∷ [])
+    ≡ record { count = 3; first = Some (record { end = 304; oid = 16384 }) }
 first_stays = refl
 
 -- at the greatest count it stays
-at_the_greatest_count : with_misses (record { count = 18446744073709551615; first = None }) 304 (16384 ∷ []) ≡ record { count = 18446744073709551615; first = Some (record { end = 304; oid = 16384 }) }
+at_the_greatest_count : with_misses (record { count = 18446744073709551615; first = None }) 304 (16384 ∷ [])
+    ≡ record { count = 18446744073709551615; first = Some (record { end = 304; oid = 16384 }) }
 at_the_greatest_count = refl

@@ -1,6 +1,7 @@
 -- Which changes find no row, and how they are counted.
 -- PostgreSQL documentation, Logical Replication, Conflicts, update_missing and delete_missing.
-use Rattle.std.specs.Prelude.{◌≡◌, ◌+◌, ◌-◌, ◌^◌, ◌++◌, min, ℕ, List, [], ◌∷◌, Bool, false, Option, Some, None, Result, Ok, Err, is_none, if◌then◌else◌}
+use Rattle.std.specs.Prelude.{◌≡◌, ◌+◌, ◌-◌, ◌^◌, ◌++◌, min, ℕ, List, [], ◌∷◌, Bool, false, Option}
+use Rattle.std.specs.Prelude.{Some, None, Result, Ok, Err, is_none, if◌then◌else◌}
 use Rattle.std.specs.FinMap as map
 use Rattle.pgtuple.specs.declared.cell.Cell.{Cell}
 use Rattle.pglogical.specs.declared.message.RelationDef.{RelationDef}
@@ -30,9 +31,11 @@ abbrev pub missing_in : Result Rows StoreFault → RelationDef → Op → Option
 missing_in (Ok rows) def op = if finds_none def op rows then Some def.oid else None
 missing_in (Err fault) def op = None
 
--- the OID of the relation of which a change finds no row; rows of another shape are carried over first
+-- the OID of the relation of which a change finds no row; rows of another shape are carried over
+-- first
 abbrev pub missing : Tables → Change → Option ℕ
-missing tables change = missing_in (found_rows (map.get tables change.definition.oid) change.definition change.op) change.definition change.op
+missing tables change = missing_in (found_rows (map.get tables change.definition.oid) change.definition change.op) change.definition
+    change.op
 
 abbrev pub oids_of : Option ℕ → List ℕ
 oids_of None = []

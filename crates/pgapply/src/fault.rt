@@ -32,8 +32,8 @@ pub enum StoreFault {
     /// The SQL store refused a statement, for a cause that is none of the others.
     #[error("store 8 Refused")]
     Refused,
-    /// The tables hold what no store has written. Once a store is opened, that comes only where what lies below it doesn't give
-    /// back what was stored.
+    /// The tables hold what no store has written. Once a store is opened, that comes only where
+    /// what lies below it doesn't give back what was stored.
     #[error("store 10 NotAStore")]
     NotAStore,
     /// Memory has run out.

@@ -13,8 +13,8 @@ pub struct Miss {
     pub oid: u32,
 }
 
-/// How many changes found no row: each an Update or a Delete whose row isn't there, which then changes nothing. Copies that were
-/// complete from the start miss none.
+/// How many changes found no row: each an Update or a Delete whose row isn't there, which then
+/// changes nothing. Copies that were complete from the start miss none.
 ///
 /// PostgreSQL documentation, Logical Replication, Conflicts, update_missing and delete_missing.
 #[derive(Clone, Copy, Debug, PartialEq, Eq)]

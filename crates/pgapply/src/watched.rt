@@ -7,7 +7,8 @@ ghost use Rattle.pgapply.specs.Given.{GivesFront, GivesAll};
 ghost use Rattle.pgapply.specs.Missing.{Counts};
 ghost use Rattle.pgapply.specs.Noted.{noted, KeepsNotes};
 ghost use Rattle.pgapply.specs.Stored.{IsOwnFault};
-ghost use Rattle.pgapply.specs.Taken.{Folds, LeavesFold, LeavesStaged, Begins, Settles, Stays, RefusesWork, Shows};
+ghost use Rattle.pgapply.specs.Taken.{Folds, LeavesFold, LeavesStaged, Begins, Settles, Stays};
+ghost use Rattle.pgapply.specs.Taken.{RefusesWork, Shows};
 
 use crate::commit::Commit;
 use crate::fault::StoreFault;
@@ -42,8 +43,8 @@ impl<C: ReplicaStore + Drop> Watched<C> {
         }
     }
 
-    /// The OIDs of the relations that were described for changes since the last `forget`, oldest first. One may come more
-    /// than once.
+    /// The OIDs of the relations that were described for changes since the last `forget`, oldest
+    /// first. One may come more than once.
     pub fn changed(&self) -> &[u32]
         ensures { result.now ≡ self.now.changed.items }
     {

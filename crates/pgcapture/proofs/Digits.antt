@@ -1,6 +1,8 @@
 -- A line decodes where it is an even number of hexadecimal digits.
-use Rattle.std.proofs.Common.{◌≡◌, ◌%◌, ℕ, ◌-◌, List, [], ◌∷◌, length, true, false, Some, None, refl, sym, ◌∙◌}
-use Rattle.std.specs.Prelude.{Bool, ◌||◌, ◌&&◌, nat_le, ◌↔◌, IsOk, IsTrue, Ok, Err, Result, is_some, if◌then◌else◌}
+use Rattle.std.proofs.Common.{◌≡◌, ◌%◌, ℕ, ◌-◌, List, [], ◌∷◌, length, true, false, Some, None}
+use Rattle.std.proofs.Common.{refl, sym, ◌∙◌}
+use Rattle.std.specs.Prelude.{Bool, ◌||◌, ◌&&◌, nat_le, ◌↔◌, IsOk, IsTrue, Ok, Err, Result, is_some}
+use Rattle.std.specs.Prelude.{if◌then◌else◌}
 use Rattle.std.specs.Char.{is_ascii_hexdigit}
 use Rattle.std.specs.List.{list_all}
 use Rattle.std.proofs.lemmas.List.Sums.{AllPass-from_list_all, list_all-from_AllPass}

@@ -1,5 +1,6 @@
 -- What a capture text says: sessions, each of pieces of bytes in hexadecimal, a piece a line.
-use Rattle.std.specs.Prelude.{◌+◌, ◌==◌, ℕ, List, [], ◌∷◌, ◌++◌, Bool, true, Option, None, Some, Result, Ok, Err, if◌then◌else◌}
+use Rattle.std.specs.Prelude.{◌+◌, ◌==◌, ℕ, List, [], ◌∷◌, ◌++◌, Bool, true, Option, None, Some}
+use Rattle.std.specs.Prelude.{Result, Ok, Err, if◌then◌else◌}
 use Rattle.std.specs.Cmp.Lexicographic.{pointwise}
 use Rattle.hex.specs.Hex.{decode_of}
 use Rattle.hex.specs.declared.error.FromHexError.{FromHexError}
@@ -10,7 +11,8 @@ abbrev pub in_front : ℕ → List (List ℕ) → List (List ℕ)
 in_front byte [] = (byte ∷ []) ∷ []
 in_front byte (line ∷ lines) = (byte ∷ line) ∷ lines
 
--- the lines, each without the line feed that ends it; what stands behind the last line feed is a line too
+-- the lines, each without the line feed that ends it; what stands behind the last line feed is a
+-- line too
 abbrev pub lines_of : List ℕ → List (List ℕ)
 lines_of [] = [] ∷ []
 lines_of (byte ∷ text) = if byte == 10 then [] ∷ lines_of text else in_front byte (lines_of text)

@@ -1,8 +1,10 @@
 -- What the parse of the words comes to.
-use Rattle.std.proofs.Common.{◌≡◌, ◌∙◌, inl, inr, ⊎_elim, true, refl, sym, ap, subst, List, [], Option, Some, None, unwrap_or}
+use Rattle.std.proofs.Common.{◌≡◌, ◌∙◌, inl, inr, ⊎_elim, true, refl, sym, ap, subst, List, []}
+use Rattle.std.proofs.Common.{Option, Some, None, unwrap_or}
 use Rattle.std.specs.Option.{option_map}
 use Rattle.clap.specs.Kinds.{HasKind, IsAmong}
-use Rattle.clap.specs.Words.{App, HasMatchesOf, Row, Text, fault_of, is_simple, is_simple_and_free, kind_of, subcommand_of, subcommand_rows_of}
+use Rattle.clap.specs.Words.{App, HasMatchesOf, Row, Text, fault_of, is_simple, is_simple_and_free}
+use Rattle.clap.specs.Words.{kind_of, subcommand_of, subcommand_rows_of}
 use Rattle.clap.specs.declared.error.Error.{Error}
 use Rattle.clap.specs.declared.parser.matches.ArgMatches.{ArgMatches}
 use Rattle.clap.proofs.OnLiterals.{clap_on_literals}
@@ -28,7 +30,8 @@ pub record IsParsed (words : List Text) (m : ArgMatches) : Type 0 where
   pub is : subcommand_of pgsub_app words ≡ Some found
   pub named : IsCommandName found.0
 
-pub parsed : (words : List Text) (app : App) (m : ArgMatches) → app ≡ pgsub_app → HasMatchesOf app words m → (is_simple_and_free app ≡ true → fault_of app words ≡ []) → IsParsed words m
+pub parsed : (words : List Text) (app : App) (m : ArgMatches) → app ≡ pgsub_app → HasMatchesOf app words m
+    → (is_simple_and_free app ≡ true → fault_of app words ≡ []) → IsParsed words m
 parsed words app m same has free =
     let none = subst (λ (a : App). fault_of a words ≡ []) same (free (ap is_simple_and_free same ∙ free_pgsub)) in
     let one = names_one words none in
@@ -40,14 +43,16 @@ parsed words app m same has free =
       named = one.2;
     }
 
-pub refused_as : (words : List Text) (app : App) (error : Error) (told : CommandFault) → app ≡ pgsub_app → IsUsage error told → (is_simple_and_free app ≡ true → HasKind (fault_of app words) error) → IsRefusalOf words told
+pub refused_as : (words : List Text) (app : App) (error : Error) (told : CommandFault) → app ≡ pgsub_app → IsUsage error told
+    → (is_simple_and_free app ≡ true → HasKind (fault_of app words) error) → IsRefusalOf words told
 refused_as words app error Memory same is kinds = tt
 refused_as words app error (Usage told) same is kinds =
     let has = subst (λ (a : App). HasKind (fault_of a words) error) same (kinds (ap is_simple_and_free same ∙ free_pgsub)) in
     inl (subst (λ e. IsAmong (kind_of e) (fault_of pgsub_app words)) (sym is.0) (⊎_elim (λ e. absurd (is.1 e)) (λ a. a) has))
 
 -- where a word is missing
-pub refused_without : (words : List Text) (error : Error) (told : CommandFault) → LacksWord words → kind_of error ≡ MissingRequiredArgument → IsUsage error told → IsRefusalOf words told
+pub refused_without : (words : List Text) (error : Error) (told : CommandFault) → LacksWord words → kind_of error ≡ MissingRequiredArgument
+    → IsUsage error told → IsRefusalOf words told
 refused_without words error Memory lacks kind is = tt
 refused_without words error (Usage told) lacks kind is = inr (lacks, ap kind_of is.0 ∙ kind)
 
@@ -55,12 +60,15 @@ some-inj : {X : Type 0} {x y : X} → Some x ≡ Some y → x ≡ y
 some-inj {X} {x} {y} e = ap (λ (o : Option X). unwrap_or o x) e
 
 -- the subcommand that was met is the one that the words name
-pub is_named : (words : List Text) (m : ArgMatches) (name : Text) (rows : List Row) (p : IsParsed words m) → subcommand_rows_of m ≡ Some (name, rows) → (subcommand_of pgsub_app words ≡ Some (name, rows)) × IsCommandName name
+pub is_named : (words : List Text) (m : ArgMatches) (name : Text) (rows : List Row) (p : IsParsed words m)
+    → subcommand_rows_of m ≡ Some (name, rows) → (subcommand_of pgsub_app words ≡ Some (name, rows)) × IsCommandName name
 is_named words m name rows p e =
     let same : p.found ≡ (name, rows) = some-inj (sym p.met ∙ e) in
     (p.is ∙ ap Some same, subst (λ (q : Text × List Row). IsCommandName q.0) same p.named)
 
-pub none_met : {A : Type 0} (words : List Text) (m : ArgMatches) (o : Option A) (f : A → List Row) → IsParsed words m → o ≡ None → option_map f o ≡ option_map (λ p. p.1) (subcommand_rows_of m) → ⊥
+pub none_met : {A : Type 0} (words : List Text) (m : ArgMatches) (o : Option A) (f : A → List Row) → IsParsed words m → o ≡ None
+    → option_map f o ≡ option_map (λ p. p.1) (subcommand_rows_of m) → ⊥
 none_met words m o f p none rows =
-    let e : option_map f None ≡ option_map (λ q. q.1) (Some p.found) = ap (option_map f) (sym none) ∙ rows ∙ ap (option_map (λ (q : Text × List Row). q.1)) p.met in
+    let e : option_map f None ≡ option_map (λ q. q.1) (Some p.found) =
+    ap (option_map f) (sym none) ∙ rows ∙ ap (option_map (λ (q : Text × List Row). q.1)) p.met in
     cc

@@ -1,9 +1,12 @@
 -- Commands that are built up, and what their matches give.
-use Rattle.std.proofs.Common.{◌≡◌, ◌∙◌, ◌||◌, ◌↔◌, ◌≤◌, ◌<◌, ◌^◌, ℕ, true, false, refl, nat_eq, sym, ap, ap₂, subst, arith, true≢false, List, Option, Some, None, Result, Ok, Err, unwrap_or, Bor}
+use Rattle.std.proofs.Common.{◌≡◌, ◌∙◌, ◌||◌, ◌↔◌, ◌≤◌, ◌<◌, ◌^◌, ℕ, true, false, refl, nat_eq, sym}
+use Rattle.std.proofs.Common.{ap, ap₂, subst, arith, true≢false, List, Option, Some, None, Result}
+use Rattle.std.proofs.Common.{Ok, Err, unwrap_or, Bor}
 use Rattle.std.specs.Option.{option_map, is_some}
 use Rattle.std.proofs.lemmas.Bool.{eqb-true}
 use Rattle.std.specs.Str.Parse.{IsNumeral, ParsesUnsigned, digits_value, without_leading_plus}
-use Rattle.clap.specs.Words.{AddsArg, AddsSubcommand, App, ReadsOne, Rule, rule_of, with_rule, with_subcommand}
+use Rattle.clap.specs.Words.{AddsArg, AddsSubcommand, App, ReadsOne, Rule, rule_of, with_rule}
+use Rattle.clap.specs.Words.{with_subcommand}
 use Rattle.clap.specs.declared.builder.arg.Arg.{Arg}
 use Rattle.clap.specs.declared.builder.command.Command.{Command}
 use Rattle.pgcommand.specs.Asked.{IsCommand, ReadsAsOne, ReadsOr, ReadsUpTo}
@@ -14,11 +17,13 @@ none≢some e = true≢false (sym (ap is_some e))
 pub some-inj : {X : Type 0} {x y : X} → Some x ≡ Some y → x ≡ y
 some-inj {X} {x} {y} e = ap (λ (o : Option X). unwrap_or o x) e
 
-pub with_arg : (old new : Command) (a : Arg) (x : App) (r : Rule) → IsCommand x old → rule_of a ≡ r → a.global ≡ false → AddsArg old a new → IsCommand (with_rule x r) new
+pub with_arg : (old new : Command) (a : Arg) (x : App) (r : Rule) → IsCommand x old → rule_of a ≡ r → a.global ≡ false → AddsArg old a new
+    → IsCommand (with_rule x r) new
 with_arg old new a x r is rule local adds =
     (adds.shape local ∙ ap₂ with_rule is.0 rule, adds.globals ∙ ap₂ (λ p q. p || q) is.1 local)
 
-pub with_sub : (old new sub : Command) (x y : App) → IsCommand x old → IsCommand y sub → AddsSubcommand old sub new → IsCommand (with_subcommand x y.top) new
+pub with_sub : (old new sub : Command) (x y : App) → IsCommand x old → IsCommand y sub → AddsSubcommand old sub new
+    → IsCommand (with_subcommand x y.top) new
 with_sub old new sub x y is is_sub adds =
     (adds.shape is_sub.1 ∙ ap₂ with_subcommand is.0 (ap (λ (a : App). a.top) is_sub.0), adds.globals ∙ ap₂ (λ p q. p || q) is.1 is_sub.1)
 
@@ -28,22 +33,30 @@ default_text (Some s) d = refl
 
 -- a number that is read by its text is 1 exactly where the text reads so
 pub reads_as_one : (E : Type 0) (G : List ℕ → Result ℕ E → Type 0) (t : Option (List ℕ)) (r : Option ℕ)
-    → ((u : List ℕ) (x : Result ℕ E) → G u x → ParsesUnsigned 8 10 u x) → (t ≡ None → r ≡ None) → ((u : List ℕ) → t ≡ Some u → ReadsOne G u r)
+    → ((u : List ℕ) (x : Result ℕ E) → G u x → ParsesUnsigned 8 10 u x) → (t ≡ None → r ≡ None)
+    → ((u : List ℕ) → t ≡ Some u → ReadsOne G u r)
     → (r ≡ Some 1) ↔ ReadsAsOne t
 reads_as_one E G None r only none value =
     (λ e. absurd (none≢some (sym (none refl) ∙ e)), λ h. absurd (none≢some h.1))
 reads_as_one E G (Some u) (Some n) only none value =
-    let parsed = only u (Ok n) (value u refl) in
-    (λ e. (u, refl, parsed.0.0, sym parsed.1 ∙ some-inj e), λ h. let same = some-inj h.1 in ap Some (parsed.1 ∙ ap (λ text. digits_value 10 (without_leading_plus text)) same ∙ h.3))
+    let parsed = only u (Ok n) (value u refl) in (
+      λ e. (u, refl, parsed.0.0, sym parsed.1 ∙ some-inj e),
+      λ h. let same = some-inj h.1 in
+          ap Some (parsed.1 ∙ ap (λ text. digits_value 10 (without_leading_plus text)) same ∙ h.3),
+    )
 reads_as_one E G (Some u) None only none value =
     let failed = value u refl in (
       λ e. absurd (none≢some e),
       λ h. let same = some-inj h.1 in
-          absurd (only u (Err failed.0) failed.1 (subst (λ text. IsNumeral 10 (without_leading_plus text)) (sym same) h.2, rw (ap (λ text. digits_value 10 (without_leading_plus text)) same ∙ h.3) (omega arith))),
+          absurd (only u (Err failed.0) failed.1 (
+            subst (λ text. IsNumeral 10 (without_leading_plus text)) (sym same) h.2,
+            rw (ap (λ text. digits_value 10 (without_leading_plus text)) same ∙ h.3) (omega arith),
+          )),
     )
 
 pub pair_of : {X A B : Type 0} (o : Option X) (f : X → A) (g : X → B) (a : A) (b : B) → Some a ≡ option_map f o
-    → Some b ≡ option_map (λ (p : A × B). p.1) (option_map {U = A × B} (λ x. (f x, g x)) o) → option_map {U = A × B} (λ x. (f x, g x)) o ≡ Some (a, b)
+    → Some b ≡ option_map (λ (p : A × B). p.1) (option_map {U = A × B} (λ x. (f x, g x)) o)
+    → option_map {U = A × B} (λ x. (f x, g x)) o ≡ Some (a, b)
 pair_of None f g a b ea eb = absurd (none≢some (sym ea))
 pair_of (Some x) f g a b ea eb = ap₂ (λ p q. Some (p, q)) (sym (some-inj ea)) (sym (some-inj eb))
 
@@ -68,7 +81,8 @@ reads_up_to E G k most t None below only value n is text same numeral small =
 
 -- the same of a number that need not be given
 pub reads_or : (E : Type 0) (G : List ℕ → Result ℕ E → Type 0) (k most default : ℕ) (t : Option (List ℕ)) (r : Option ℕ) → most < 2 ^ k
-    → ((u : List ℕ) (x : Result ℕ E) → G u x → ParsesUnsigned k 10 u x) → (t ≡ None → r ≡ None) → ((u : List ℕ) → t ≡ Some u → ReadsOne G u r)
+    → ((u : List ℕ) (x : Result ℕ E) → G u x → ParsesUnsigned k 10 u x) → (t ≡ None → r ≡ None)
+    → ((u : List ℕ) → t ≡ Some u → ReadsOne G u r)
     → ReadsOr default most t (unwrap_or r default)
 reads_or E G k most default None r below only none value = ap (λ (o : Option ℕ). unwrap_or o default) (none refl)
 reads_or E G k most default (Some u) r below only none value =

@@ -1,19 +1,24 @@
 -- What the words of a command line ask for.
-use Rattle.std.specs.Prelude.{◌≡◌, ◌≢◌, ◌≤◌, ◌↔◌, ◌⊎◌, ◌||◌, not, if◌then◌else◌, ℕ, List, [], ◌∷◌, Some, None, is_some, true, codes, string_bytes, Bool, false, Option, unwrap_or, option_map, pos, String}
+use Rattle.std.specs.Prelude.{◌≡◌, ◌≢◌, ◌≤◌, ◌↔◌, ◌⊎◌, ◌||◌, not, if◌then◌else◌, ℕ, List, [], ◌∷◌}
+use Rattle.std.specs.Prelude.{Some, None, is_some, true, codes, string_bytes, Bool, false, Option}
+use Rattle.std.specs.Prelude.{unwrap_or, option_map, pos, String}
 use Rattle.std.specs.declared.alloc.Global.{Global}
 use Rattle.std.specs.Str.Parse.{IsNumeral, digits_value, without_leading_plus}
 use Rattle.clap.specs.declared.builder.command.Command.{Command}
 use Rattle.clap.specs.declared.builder.command.Command.TheViews.{out-Command}
-use Rattle.clap.specs.Words.{App, app_of, Row, Rule, Text, IsAmong, fault_of, first_of, one_of, new_app, new_rule, subcommand_of, with_rule, with_subcommand, kind_of}
+use Rattle.clap.specs.Words.{App, app_of, Row, Rule, Text, IsAmong, fault_of, first_of, one_of}
+use Rattle.clap.specs.Words.{new_app, new_rule, subcommand_of, with_rule, with_subcommand, kind_of}
 use Rattle.clap.specs.Simple.{on_top}
 use Rattle.clap.specs.declared.error.Error.{Error}
-use Rattle.clap.specs.declared.error.kind.ErrorKind.TheVariants.{MissingRequiredArgument, OutOfMemory}
+use Rattle.clap.specs.declared.error.kind.ErrorKind.TheVariants.{MissingRequiredArgument}
+use Rattle.clap.specs.declared.error.kind.ErrorKind.TheVariants.{OutOfMemory}
 use Rattle.clap.specs.declared.builder.action.ArgAction.TheVariants.{SetTrue}
 use Rattle.clap.specs.declared.builder.value_parser.ValueParser.TheVariants.{Signed, Unsigned}
 use Rattle.pgcommand.specs.declared.feed.FeedOptions.{FeedOptions}
 use Rattle.pgcommand.specs.declared.limits.Limits.{Limits}
 use Rattle.pgcommand.specs.declared.task.Task.{Task}
-use Rattle.pgcommand.specs.declared.task.Task.TheVariants.{Show, Apply, Dump, Follow, Same, Resume, Lsn}
+use Rattle.pgcommand.specs.declared.task.Task.TheVariants.{Show, Apply, Dump, Follow, Same, Resume}
+use Rattle.pgcommand.specs.declared.task.Task.TheVariants.{Lsn}
 use Rattle.pgcommand.specs.declared.fault.CommandFault.{CommandFault}
 use Rattle.pgcommand.specs.declared.fault.CommandFault.TheVariants.{Usage, Memory}
 use Rattle.pgorder.specs.declared.Version.{Version}
@@ -90,19 +95,26 @@ feed_seconds_rule = record (new_rule (codes "feed-segment-seconds")) {
 }
 
 abbrev pub with_feed : App → App
-with_feed a = with_rule (with_rule (with_rule (with_rule (with_rule (with_rule a feed_rule) (feed_text_rule (codes "feed-system"))) (feed_text_rule (codes "feed-database"))) (feed_text_rule (codes "feed-slot"))) feed_bytes_rule) feed_seconds_rule
+with_feed a = with_rule (with_rule
+    (with_rule (with_rule (with_rule (with_rule a feed_rule) (feed_text_rule (codes "feed-system")))
+    (feed_text_rule (codes "feed-database"))) (feed_text_rule (codes "feed-slot"))) feed_bytes_rule) feed_seconds_rule
 
 abbrev pub show_app : App
 show_app = with_rule (with_rule (new_app (codes "show")) proto_rule) (word_rule (codes "FILE"))
 
 abbrev pub apply_app : App
-apply_app = with_rule (with_feed (with_rule (with_rule (with_rule (with_rule (with_rule (with_rule (with_rule (new_app (codes "apply")) proto_rule) raw_rule) progress_rule) (store_rule false)) cache_rule) max_buffered_rule) max_frame_rule)) (word_rule (codes "FILE"))
+apply_app = with_rule (with_feed
+    (with_rule (with_rule (with_rule
+    (with_rule (with_rule (with_rule (with_rule (new_app (codes "apply")) proto_rule) raw_rule) progress_rule) (store_rule false))
+    cache_rule) max_buffered_rule) max_frame_rule)) (word_rule (codes "FILE"))
 
 abbrev pub dump_app : App
 dump_app = with_rule (with_rule (new_app (codes "dump")) (store_rule true)) cache_rule
 
 abbrev pub follow_app : App
-follow_app = with_feed (with_rule (with_rule (with_rule (with_rule (with_rule (new_app (codes "follow")) proto_rule) max_buffered_rule) max_frame_rule) (store_rule true)) cache_rule)
+follow_app = with_feed (with_rule
+    (with_rule (with_rule (with_rule (with_rule (new_app (codes "follow")) proto_rule) max_buffered_rule) max_frame_rule) (store_rule true))
+    cache_rule)
 
 abbrev pub same_app : App
 same_app = with_rule (with_rule (with_rule (new_app (codes "same")) proto_rule) (word_rule (codes "LEFT"))) (word_rule (codes "RIGHT"))
@@ -131,16 +143,18 @@ text_in name rows = unwrap_or (first_of name rows) []
 
 -- version 1 is asked for where the value of `--proto` reads as 1
 abbrev pub ReadsAsOne : Option Text → Type 0
-ReadsAsOne value = (text : Text) × (value ≡ Some text) × IsNumeral 10 (without_leading_plus text) × (digits_value 10 (without_leading_plus text) ≡ 1)
+ReadsAsOne value = (text : Text) × (value ≡ Some text) × IsNumeral 10 (without_leading_plus text)
+    × (digits_value 10 (without_leading_plus text) ≡ 1)
 
 abbrev pub IsVersion : List Row → Version → Type 0
 IsVersion rows version = (version ≡ One) ↔ ReadsAsOne (one_of (codes "proto") rows)
 
--- The number that the value of an option reads as, where that is at most so much. Each option has a default value, and another text is a
--- fault of the words.
+-- The number that the value of an option reads as, where that is at most so much. Each option has a
+-- default value, and another text is a fault of the words.
 abbrev pub ReadsUpTo : ℕ → Option Text → ℕ → Type 0
 ReadsUpTo most value n =
-    (text : Text) → value ≡ Some text → IsNumeral 10 (without_leading_plus text) → digits_value 10 (without_leading_plus text) ≤ most → n ≡ digits_value 10 (without_leading_plus text)
+    (text : Text) → value ≡ Some text → IsNumeral 10 (without_leading_plus text) → digits_value 10 (without_leading_plus text) ≤ most
+    → n ≡ digits_value 10 (without_leading_plus text)
 
 pub record IsLimits (rows : List Row) (limits : Limits) : Type 0 where
   pub buffered : ReadsUpTo 18446744073709551615 (one_of (codes "max-buffered") rows) limits.max_buffered
@@ -163,7 +177,8 @@ abbrev pub ReadsOr : ℕ → ℕ → Option Text → ℕ → Type 0
 ReadsOr default most None n = n ≡ default
 ReadsOr default most (Some text) n = ReadsUpTo most (Some text) n
 
--- a feed in the folder that `--feed` names, of what the other options tell, which are empty where they aren't given
+-- a feed in the folder that `--feed` names, of what the other options tell, which are empty where
+-- they aren't given
 pub record IsFeed (rows : List Row) (feed : FeedOptions) : Type 0 where
   pub folder : first_of (codes "feed") rows ≡ Some (string_bytes feed.folder)
   pub system : string_bytes feed.system ≡ text_in (codes "feed-system") rows
@@ -179,16 +194,25 @@ AsksFeed rows (Some feed) = IsFeed rows feed
 
 abbrev pub IsAsked : Text → List Row → Task → Type 0
 IsAsked name rows (Show version file) = (name ≡ codes "show") × IsVersion rows version × (string_bytes file ≡ text_in (codes "FILE") rows)
-IsAsked name rows (Apply version limits raw progress store cache feed file) = (name ≡ codes "apply") × IsVersion rows version × IsLimits rows limits × IsFlag (codes "raw") rows raw × IsFlag (codes "progress") rows progress × NamesStore rows store × IsCache rows cache × AsksFeed rows feed × (string_bytes file ≡ text_in (codes "FILE") rows)
+IsAsked name rows (Apply version limits raw progress store cache feed file) =
+    (name ≡ codes "apply") × IsVersion rows version × IsLimits rows limits × IsFlag (codes "raw") rows raw
+    × IsFlag (codes "progress") rows progress × NamesStore rows store × IsCache rows cache × AsksFeed rows feed
+    × (string_bytes file ≡ text_in (codes "FILE") rows)
 IsAsked name rows (Dump store cache) = (name ≡ codes "dump") × IsCache rows cache × (string_bytes store ≡ text_in (codes "store") rows)
-IsAsked name rows (Follow version limits store cache feed) = (name ≡ codes "follow") × IsVersion rows version × IsLimits rows limits × IsCache rows cache × AsksFeed rows feed × (string_bytes store ≡ text_in (codes "store") rows)
-IsAsked name rows (Same version left right) = (name ≡ codes "same") × IsVersion rows version × (string_bytes left ≡ text_in (codes "LEFT") rows) × (string_bytes right ≡ text_in (codes "RIGHT") rows)
+IsAsked name rows (Follow version limits store cache feed) =
+    (name ≡ codes "follow") × IsVersion rows version × IsLimits rows limits × IsCache rows cache × AsksFeed rows feed
+    × (string_bytes store ≡ text_in (codes "store") rows)
+IsAsked name rows (Same version left right) =
+    (name ≡ codes "same") × IsVersion rows version × (string_bytes left ≡ text_in (codes "LEFT") rows)
+    × (string_bytes right ≡ text_in (codes "RIGHT") rows)
 IsAsked name rows (Resume file) = (name ≡ codes "resume") × (string_bytes file ≡ text_in (codes "FILE") rows)
 IsAsked name rows (Lsn text) = (name ≡ codes "lsn") × (string_bytes text ≡ text_in (codes "TEXT") rows)
 
 -- the name of a subcommand
 abbrev pub IsCommandName : Text → Type 0
-IsCommandName name = (name ≡ codes "show") ⊎ ((name ≡ codes "apply") ⊎ ((name ≡ codes "dump") ⊎ ((name ≡ codes "follow") ⊎ ((name ≡ codes "same") ⊎ ((name ≡ codes "resume") ⊎ (name ≡ codes "lsn"))))))
+IsCommandName name = (name ≡ codes "show")
+    ⊎ ((name ≡ codes "apply")
+    ⊎ ((name ≡ codes "dump") ⊎ ((name ≡ codes "follow") ⊎ ((name ≡ codes "same") ⊎ ((name ≡ codes "resume") ⊎ (name ≡ codes "lsn"))))))
 
 abbrev pub is_given : Text → List Row → Bool
 is_given name rows = is_some (first_of name rows)
@@ -196,7 +220,10 @@ is_given name rows = is_some (first_of name rows)
 -- something of a feed is told
 abbrev pub tells_of_feed : List Row → Bool
 tells_of_feed rows =
-    is_given (codes "feed-system") rows || (is_given (codes "feed-database") rows || (is_given (codes "feed-slot") rows || (is_given (codes "feed-segment-bytes") rows || is_given (codes "feed-segment-seconds") rows)))
+    is_given (codes "feed-system") rows
+    || (is_given (codes "feed-database") rows
+    || (is_given (codes "feed-slot") rows
+    || (is_given (codes "feed-segment-bytes") rows || is_given (codes "feed-segment-seconds") rows)))
 
 -- a feed without a store is asked for, or something is told of a feed that isn't asked for
 abbrev pub lacks_word : List Row → Bool
@@ -204,15 +231,19 @@ lacks_word rows = if is_given (codes "feed") rows then not (is_given (codes "sto
 
 -- The words have no fault, and their subcommand, which lacks none, asks for the task.
 abbrev pub IsTaskOf : List Text → Task → Type 0
-IsTaskOf words task = (fault_of pgsub_app words ≡ []) × (name : Text) × (rows : List Row) × (subcommand_of pgsub_app words ≡ Some (name, rows)) × (lacks_word rows ≡ false) × IsAsked name rows task
+IsTaskOf words task = (fault_of pgsub_app words ≡ []) × (name : Text) × (rows : List Row)
+    × (subcommand_of pgsub_app words ≡ Some (name, rows)) × (lacks_word rows ≡ false) × IsAsked name rows task
 
 -- the words have no fault, but their subcommand lacks one
 abbrev pub LacksWord : List Text → Type 0
-LacksWord words = (fault_of pgsub_app words ≡ []) × (name : Text) × (rows : List Row) × (subcommand_of pgsub_app words ≡ Some (name, rows)) × (lacks_word rows ≡ true)
+LacksWord words = (fault_of pgsub_app words ≡ []) × (name : Text) × (rows : List Row) × (subcommand_of pgsub_app words ≡ Some (name, rows))
+    × (lacks_word rows ≡ true)
 
--- Why no task is given: an error of one of the kinds that the command line has at these words, a word that is missing, or memory ran out.
+-- Why no task is given: an error of one of the kinds that the command line has at these words, a
+-- word that is missing, or memory ran out.
 abbrev pub IsRefusalOf : List Text → CommandFault → Type 0
-IsRefusalOf words (Usage error) = IsAmong (kind_of error) (fault_of pgsub_app words) ⊎ (LacksWord words × (kind_of error ≡ MissingRequiredArgument))
+IsRefusalOf words (Usage error) =
+    IsAmong (kind_of error) (fault_of pgsub_app words) ⊎ (LacksWord words × (kind_of error ≡ MissingRequiredArgument))
 IsRefusalOf words Memory = Unit {0}
 
 -- out of memory is told apart from the other kinds

@@ -3,7 +3,12 @@
 ghost use Rattle.std.specs.Prelude.{◌≡◌, IfOk, codes, false};
 ghost use Rattle.clap.specs.Values.{kind_of};
 ghost use Rattle.clap.specs.Words.{App, new_app, rule_of, with_subcommand};
-ghost use Rattle.pgcommand.specs.Asked.{IsCommand, word_rule, proto_rule, raw_rule, progress_rule, store_rule, cache_rule, max_buffered_rule, max_frame_rule, feed_rule, feed_text_rule, feed_bytes_rule, feed_seconds_rule, with_feed, show_app, apply_app, dump_app, follow_app, same_app, resume_app, lsn_app, bare_app, pgsub_app};
+ghost use Rattle.pgcommand.specs.Asked.{IsCommand, word_rule, proto_rule, raw_rule, progress_rule};
+ghost use Rattle.pgcommand.specs.Asked.{store_rule, cache_rule, max_buffered_rule, max_frame_rule};
+ghost use Rattle.pgcommand.specs.Asked.{feed_rule, feed_text_rule, feed_bytes_rule};
+ghost use Rattle.pgcommand.specs.Asked.{feed_seconds_rule, with_feed, show_app, apply_app};
+ghost use Rattle.pgcommand.specs.Asked.{dump_app, follow_app, same_app, resume_app, lsn_app};
+ghost use Rattle.pgcommand.specs.Asked.{bare_app, pgsub_app};
 
 use clap::error::ErrorKind;
 use clap::{Arg, ArgAction, Command, Error, value_parser};
@@ -93,10 +98,12 @@ fn store<'a>(alloc: Global, required: bool, help: &'a str) -> Arg<'a>
 
 /// `--cache PAGES`.
 ///
-/// A page that `pgsub` makes has 1,024 bytes, and one that SQLite makes 4,096. A change needs some ten pages, those on its ways through
-/// three trees: with fewer than 100 most would be read again for each. No file has more pages than the greatest value.
+/// A page that `pgsub` makes has 1,024 bytes, and one that SQLite makes 4,096. A change needs some
+/// ten pages, those on its ways through three trees: with fewer than 100 most would be read again
+/// for each. No file has more pages than the greatest value.
 ///
-/// SQLite documentation, Implementation Limits For SQLite, Maximum Number Of Pages In A Database File.
+/// SQLite documentation, Implementation Limits For SQLite, Maximum Number Of Pages In A Database
+/// File.
 fn cache<'a>(alloc: Global) -> Arg<'a>
     ensures rule { rule_of result ≡ cache_rule }
     ensures local { result.global ≡ false }

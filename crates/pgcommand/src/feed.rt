@@ -1,6 +1,7 @@
 //! The feed that a task keeps beside its store.
 
-/// A feed of each commit, in the files of a folder. Where nothing is told of what it is of, that is empty.
+/// A feed of each commit, in the files of a folder. Where nothing is told of what it is of, that is
+/// empty.
 #[derive(Debug, Drop)]
 pub struct FeedOptions {
     /// The folder.
@@ -13,11 +14,13 @@ pub struct FeedOptions {
     pub slot: String,
     /// A file ends before the commit that would give it more bytes, 64 MiB by default.
     pub segment_bytes: u64,
-    /// And before a commit whose time is so many seconds after that of its first one, where this isn't 0. That is the default.
+    /// And before a commit whose time is so many seconds after that of its first one, where this
+    /// isn't 0. That is the default.
     pub segment_seconds: u32,
 }
 
 impl FeedOptions {
-    /// How many bytes a file has at most, but for one of a single commit, where the command line doesn't say it.
+    /// How many bytes a file has at most, but for one of a single commit, where the command line
+    /// doesn't say it.
     pub const SEGMENT_BYTES: u64 = 67108864;
 }

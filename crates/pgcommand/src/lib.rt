@@ -5,7 +5,8 @@
 //! ```text
 //! let words: Vec<String> = std::env::args(&rt)?.collect(alloc)?;
 //! match command_of(alloc, words.as_slice()) {
-//!     Ok(Task::Apply { version, limits, raw, store: None, file, .. }) => apply(version, limits, raw, file.as_str()),
+//!     Ok(Task::Apply { version, limits, raw, store: None, file, .. }) =>
+//!         apply(version, limits, raw, file.as_str()),
 //!     Ok(_) => ..,
 //!     // help and `--version` are such errors too: they go to standard output, with status 0
 //!     Err(CommandFault::Usage(error)) if error.use_stderr() => {

@@ -1,8 +1,11 @@
 //! The tasks of the program, and how the parsed words ask for them.
 
-ghost use Rattle.std.specs.Prelude.{◌≡◌, ◌↔◌, IfOk, Option, Some, is_some, true, codes, string_bytes};
+ghost use Rattle.std.specs.Prelude.{◌≡◌, ◌↔◌, IfOk, Option, Some, is_some, true, codes};
+ghost use Rattle.std.specs.Prelude.{string_bytes};
 ghost use Rattle.clap.specs.Words.{first_of, found_of, one_of, rows_of};
-ghost use Rattle.pgcommand.specs.Asked.{AsksFeed, IsAsked, IsCache, IsCommandName, IsFeed, IsFlag, IsLimits, NamesStore, ReadsAsOne, ReadsOr, ReadsUpTo, IsVersion, is_given, lacks_word, tells_of_feed, text_in};
+ghost use Rattle.pgcommand.specs.Asked.{AsksFeed, IsAsked, IsCache, IsCommandName, IsFeed, IsFlag};
+ghost use Rattle.pgcommand.specs.Asked.{IsLimits, NamesStore, ReadsAsOne, ReadsOr, ReadsUpTo};
+ghost use Rattle.pgcommand.specs.Asked.{IsVersion, is_given, lacks_word, tells_of_feed, text_in};
 
 use crate::feed::FeedOptions;
 use crate::limits::Limits;
@@ -13,9 +16,10 @@ use std::alloc::{AllocError, Global};
 /// How many pages of a store's file are kept in memory by default.
 pub const DEFAULT_CACHE: u32 = 20_000;
 
-/// What the program is asked for. `version` is that of the logical replication protocol, 2 by default, `limits` those of the stream
-/// that is applied, `Limits::DEFAULT` by default, and `cache` how many pages of the file `store` are kept in memory, `DEFAULT_CACHE` by
-/// default. Beside a store a feed of its commits is kept, if one is asked for.
+/// What the program is asked for. `version` is that of the logical replication protocol, 2 by
+/// default, `limits` those of the stream that is applied, `Limits::DEFAULT` by default, and `cache`
+/// how many pages of the file `store` are kept in memory, `DEFAULT_CACHE` by default. Beside a
+/// store a feed of its commits is kept, if one is asked for.
 #[derive(Debug, Drop)]
 pub enum Task {
     /// Print one line for each frame of a recording.
@@ -23,8 +27,9 @@ pub enum Task {
         version: Version,
         file: String,
     },
-    /// Apply a recording, or with `raw` the file's bytes as one session, and print the rows and the position. Both are kept in the
-    /// file `store`, if one is named. With `progress`, standard error is told meanwhile how far it is.
+    /// Apply a recording, or with `raw` the file's bytes as one session, and print the rows and the
+    /// position. Both are kept in the file `store`, if one is named. With `progress`, standard
+    /// error is told meanwhile how far it is.
     Apply {
         version: Version,
         limits: Limits,
@@ -40,8 +45,8 @@ pub enum Task {
         store: String,
         cache: u32,
     },
-    /// Follow a server: its bytes come from standard input, and statuses go to standard output. Rows and position are kept in the
-    /// file `store`.
+    /// Follow a server: its bytes come from standard input, and statuses go to standard output.
+    /// Rows and position are kept in the file `store`.
     Follow {
         version: Version,
         limits: Limits,
@@ -171,7 +176,8 @@ fn tells_of_feed(found: &ArgMatches<'_>) -> bool
         || is_given(found, "feed-segment-seconds")
 }
 
-/// The word that the matches of a subcommand lack: a feed needs a store, and what is told of one needs a feed.
+/// The word that the matches of a subcommand lack: a feed needs a store, and what is told of one
+/// needs a feed.
 pub(crate) fn missing_word(found: &ArgMatches<'_>) -> Option<&'static str>
     ensures { is_some result ≡ lacks_word (rows_of (found_of found.now)) }
 {

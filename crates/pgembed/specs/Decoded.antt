@@ -1,6 +1,8 @@
--- PostgreSQL documentation, Streaming Replication Protocol: the line of a server message, by the payload of its frame.
+-- PostgreSQL documentation, Streaming Replication Protocol: the line of a server message, by the
+-- payload of its frame.
 use Rattle.std.specs.Prelude.{◌≡◌, ℕ, ℤ, List, Bool}
-use Rattle.pgwire.specs.Payloads.{ServerMessage, XLogData, Keepalive, payload, IsServerMessage, HasPayloadFault}
+use Rattle.pgwire.specs.Payloads.{ServerMessage, XLogData, Keepalive, payload, IsServerMessage}
+use Rattle.pgwire.specs.Payloads.{HasPayloadFault}
 use Rattle.pglogical.specs.declared.message.Message.{Message}
 use Rattle.pglogical.specs.Spelling.{Says}
 use Rattle.pglogical.specs.Laws.{IsFaultOf}
@@ -30,5 +32,7 @@ IsRefusedBody in_block body fault = ⊥
 abbrev pub IsRefused : Bool → List ℕ → Fault → Type 0
 IsRefused in_block bytes Memory = Unit {0}
 IsRefused in_block bytes (Wire fault) = HasPayloadFault bytes fault
-IsRefused in_block bytes (Decode fault) = (start : ℕ) × (end : ℕ) × (clock : ℤ) × (body : List ℕ) × (bytes ≡ payload (XLogData start end clock body)) × IsFaultOf in_block body fault
+IsRefused in_block bytes (Decode fault) =
+    (start : ℕ) × (end : ℕ) × (clock : ℤ) × (body : List ℕ) × (bytes ≡ payload (XLogData start end clock body))
+    × IsFaultOf in_block body fault
 IsRefused in_block bytes fault = ⊥

@@ -1,5 +1,6 @@
 -- What a caller that isn't Rust gets: a number and bytes.
-use Rattle.std.specs.Prelude.{◌≡◌, ◌<◌, ◌≤◌, ◌⊎◌, ℕ, Bool, List, ◌++◌, length, drop, Option, Some, None}
+use Rattle.std.specs.Prelude.{◌≡◌, ◌<◌, ◌≤◌, ◌⊎◌, ℕ, Bool, List, ◌++◌, length, drop, Option, Some}
+use Rattle.std.specs.Prelude.{None}
 use Rattle.pgorder.specs.declared.Version.{Version}
 use Rattle.pgshow.specs.declared.fault.Fault.{Fault}
 use Rattle.pgshow.specs.declared.fault.Fault.TheVariants.{Wire, Decode, Order, Memory}
@@ -13,8 +14,8 @@ number_of (Decode fault) = 2
 number_of (Order fault) = 3
 number_of Memory = 9
 
--- These bytes were written to the front of the room, and 0 is returned; or they don't fit, and then nothing is written and 10 is returned.
--- How long they are is told in both cases.
+-- These bytes were written to the front of the room, and 0 is returned; or they don't fit, and then
+-- nothing is written and 10 is returned. How long they are is told in both cases.
 pub record IsPassed (bytes old new : List ℕ) (told result : ℕ) : Type 0 where
   pub length_is : told ≡ length bytes
   pub fits : length bytes ≤ length old → (result ≡ 0) × (new ≡ bytes ++ drop (length bytes) old)
@@ -33,5 +34,6 @@ number_in (Some fault) = number_of fault
 -- The lines of a session up to its first fault fit, and its number is returned; or they don't fit.
 abbrev pub PassesLines : Version → List ℕ → List ℕ → List ℕ → ℕ → ℕ → Type 0
 PassesLines version session old new told result =
-    (text : List ℕ) × (found : Option Fault) × IsShownAs version 16777216 session text found × (passed : ℕ) × IsPassed text old new told passed
+    (text : List ℕ) × (found : Option Fault) × IsShownAs version 16777216 session text found × (passed : ℕ)
+    × IsPassed text old new told passed
     × (passed ≡ 10 → result ≡ 10) × (passed ≡ 0 → result ≡ number_in found)

@@ -1,7 +1,7 @@
 //! The line of a server message.
 //!
-//! PostgreSQL documentation, Streaming Replication Protocol, XLogData and Primary keepalive message;
-//! Logical Replication Message Formats.
+//! PostgreSQL documentation, Streaming Replication Protocol, XLogData and Primary keepalive
+//! message; Logical Replication Message Formats.
 
 ghost use Rattle.std.specs.Prelude.{IfOk, IfErr, string_bytes};
 ghost use Rattle.pgembed.specs.Decoded.{IsLineOf, IsLineOfBody, IsRefused, IsRefusedBody};
@@ -34,14 +34,14 @@ fn xlog_line(
     Ok(line)
 }
 
-/// The line that `pgsub show` prints of the frame with this payload of CopyData, with its line feed.
-/// `in_block` says whether the message comes between Stream Start and Stream Stop: a change, Type or
-/// Message begins with its xid there.
+/// The line that `pgsub show` prints of the frame with this payload of CopyData, with its line
+/// feed. `in_block` says whether the message comes between Stream Start and Stream Stop: a change,
+/// Type or Message begins with its xid there.
 ///
 /// # Errors
 ///
-/// The fault of the payload, or of the logical message in it. Whether the message may come here isn't
-/// looked at, which depends on those before it; `show` does.
+/// The fault of the payload, or of the logical message in it. Whether the message may come here
+/// isn't looked at, which depends on those before it; `show` does.
 pub fn decode(alloc: Global, payload: &[u8], in_block: bool) -> Result<String, Fault>
     ensures line { IfOk result (λ line. IsLineOf in_block payload.now (string_bytes line)) }
     ensures refused { IfErr result (IsRefused in_block payload.now) }

@@ -9,8 +9,8 @@
 //! show(alloc, Version::Two, session, &mut lines)?;   // and all frames of a session
 //! ```
 //!
-//! `pass_line` and `pass_lines` are for callers that aren't Rust: a fault is a number with a text, and
-//! bytes go into room that the caller has.
+//! `pass_line` and `pass_lines` are for callers that aren't Rust: a fault is a number with a text,
+//! and bytes go into room that the caller has.
 #![tactic(auto)]
 
 pub mod decoding;

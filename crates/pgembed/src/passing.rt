@@ -38,8 +38,8 @@ pub fn pass(bytes: &[u8], room: &mut [u8], length: &mut usize) -> u32
     0
 }
 
-/// Writes the text of a fault, where there is room and memory for it, and returns its number. How many
-/// bytes the text has goes to `length`.
+/// Writes the text of a fault, where there is room and memory for it, and returns its number. How
+/// many bytes the text has goes to `length`.
 pub fn pass_fault(alloc: Global, fault: Fault, room: &mut [u8], length: &mut usize) -> u32
     ensures { result ≡ number_of fault }
 {
@@ -66,8 +66,8 @@ pub fn pass_line(
     }
 }
 
-/// Passes the lines of a session, as `show` makes them, and the text of the fault that ends them, if
-/// there is one. Its number is returned where the lines fit.
+/// Passes the lines of a session, as `show` makes them, and the text of the fault that ends them,
+/// if there is one. Its number is returned where the lines fit.
 pub fn pass_lines(
     alloc: Global,
     version: Version,

@@ -14,8 +14,8 @@ use std::alloc::Global;
 ///
 /// # Errors
 ///
-/// The first fault of the frames, the messages or their order. The lines of all frames before it are
-/// appended then; after `Memory` those of some frames.
+/// The first fault of the frames, the messages or their order. The lines of all frames before it
+/// are appended then; after `Memory` those of some frames.
 #[tactic(auto, using(crate::proofs::Memory::shows_nothing))]
 pub fn show(
     alloc: Global,

@@ -17,8 +17,8 @@ pub const MAX_BUFFERED: u64 = 67108864;
 /// The longest payload of a frame, in bytes: 16 MiB.
 pub const MAX_FRAME: u32 = 16777216;
 
-/// A subscriber over a store, with the spools and limits that `pgsub` has where its words name none,
-/// as after a disconnection.
+/// A subscriber over a store, with the spools and limits that `pgsub` has where its words name
+/// none, as after a disconnection.
 pub fn subscriber_over<C: ReplicaStore + Drop>(
     alloc: Global,
     store: C,

@@ -1,8 +1,11 @@
 -- What the calls of a segment leave.
-use Rattle.std.proofs.Common.{◌≡◌, ◌<◌, ◌≤◌, ◌+◌, ℕ, List, [], ◌∷◌, ◌++◌, drop, length, length-append, length-drop, append-nil, ap, ◌^◌, refl, sym, ◌∙◌, subst, arith}
+use Rattle.std.proofs.Common.{◌≡◌, ◌<◌, ◌≤◌, ◌+◌, ℕ, List, [], ◌∷◌, ◌++◌, drop, length}
+use Rattle.std.proofs.Common.{length-append, length-drop, append-nil, ap, ◌^◌, refl, sym, ◌∙◌}
+use Rattle.std.proofs.Common.{subst, arith}
 use Rattle.sqlite_disk.specs.Disk.{Holds, Only, Torn}
 use Rattle.pgledger.specs.Entries.{Entry, last_end}
-use Rattle.pgfeed.specs.Segments.{IsCut, IsFinished, IsFound, IsHead, KeepsEntries, Lasts, Reopens, WritesBehind}
+use Rattle.pgfeed.specs.Segments.{IsCut, IsFinished, IsFound, IsHead, KeepsEntries, Lasts, Reopens}
+use Rattle.pgfeed.specs.Segments.{WritesBehind}
 use Rattle.pgfeed.specs.Texts.{closing_line, entries_text, entry_text, segment_head}
 use Rattle.pgfeed.specs.Fits.{FitsEntry}
 use Rattle.pgfeed.specs.Cutting.Kept.{kept_behind, kept_front, kept_more}
@@ -14,24 +17,32 @@ torn_same : (at : ℕ) (file : List ℕ) → Torn at 0 file file
 torn_same at file = record { no_shorter = omega arith; no_longer = omega arith; below = λ i lt less. refl; above = λ i lt more. refl }
 
 -- nothing is written, and a crash leaves nothing else
-pub writes_none : (size : ℕ) (file : List ℕ) (before after : List ℕ → Type 0) → ((c : List ℕ) → after c → before c) → WritesBehind size file file before after
+pub writes_none : (size : ℕ) (file : List ℕ) (before after : List ℕ → Type 0) → ((c : List ℕ) → after c → before c)
+    → WritesBehind size file file before after
 writes_none size file before after less = (0, torn_same size file, λ c left. (c, less c left, torn_same size c))
 
-pub writes_same : (size : ℕ) (old new : List ℕ) (before after : List ℕ → Type 0) → new ≡ old → ((c : List ℕ) → after c → before c) → WritesBehind size old new before after
-writes_same size old new before after same less = subst (λ file. WritesBehind size old file before after) (sym same) (writes_none size old before after less)
+pub writes_same : (size : ℕ) (old new : List ℕ) (before after : List ℕ → Type 0) → new ≡ old → ((c : List ℕ) → after c → before c)
+    → WritesBehind size old new before after
+writes_same size old new before after same less =
+    subst (λ file. WritesBehind size old file before after) (sym same) (writes_none size old before after less)
 
-pub lasts_more : (base new_base size more place : ℕ) (old new : List ℕ) (before after : List ℕ → Type 0) → new_base ≡ base → size ≤ more → WritesBehind size old new before after → Lasts base size before place
+pub lasts_more : (base new_base size more place : ℕ) (old new : List ℕ) (before after : List ℕ → Type 0) → new_base ≡ base → size ≤ more
+    → WritesBehind size old new before after → Lasts base size before place
     → Lasts new_base more after place
 lasts_more base new_base size more place old new before after same up writes lasting =
     subst (λ b. Lasts b more after place) (sym same) (lasts_behind base size more place old new before after up writes lasting)
 
-pub reopens_less : (base new_base size more place other_base other_last other_size : ℕ) (old new file : List ℕ) (before after outcomes : List ℕ → Type 0) → new_base ≡ base → size ≤ more
-    → WritesBehind size old new before after → Reopens new_base more after place other_base other_last other_size file outcomes → Reopens base size before place other_base other_last other_size file outcomes
+pub reopens_less : (base new_base size more place other_base other_last other_size : ℕ) (old new file : List ℕ)
+    (before after outcomes : List ℕ → Type 0) → new_base ≡ base → size ≤ more
+    → WritesBehind size old new before after → Reopens new_base more after place other_base other_last other_size file outcomes
+    → Reopens base size before place other_base other_last other_size file outcomes
 reopens_less base new_base size more place other_base other_last other_size old new file before after outcomes same up writes opened =
-    reopens_before base size more place other_base other_last other_size old new file before after outcomes up writes (subst (λ b. Reopens b more after place other_base other_last other_size file outcomes) same opened)
+    reopens_before base size more place other_base other_last other_size old new file before after outcomes up writes
+    (subst (λ b. Reopens b more after place other_base other_last other_size file outcomes) same opened)
 
 -- what is synced lasts
-pub synced_lasts : (base last size : ℕ) (file : List ℕ) (after : List ℕ → Type 0) (es : List Entry) → KeepsEntries base last size file es → Only file after → Lasts base size after (last_end base es)
+pub synced_lasts : (base last size : ℕ) (file : List ℕ) (after : List ℕ → Type 0) (es : List Entry) → KeepsEntries base last size file es
+    → Only file after → Lasts base size after (last_end base es)
 synced_lasts base last size file after es k only =
     let front = kept_front base last size file es k in (
       k.head ++ entries_text base es,
@@ -42,29 +53,36 @@ synced_lasts base last size file after es k only =
       },
     )
 
-pub lasts_there : (base new_base size new_size place : ℕ) (after : List ℕ → Type 0) → new_base ≡ base → new_size ≡ size → Lasts base size after place → Lasts new_base new_size after place
+pub lasts_there : (base new_base size new_size place : ℕ) (after : List ℕ → Type 0) → new_base ≡ base → new_size ≡ size
+    → Lasts base size after place → Lasts new_base new_size after place
 lasts_there base new_base size new_size place after same stays lasting =
     subst (λ b. Lasts b new_size after place) (sym same) (subst (λ n. Lasts base n after place) (sym stays) lasting)
 
 -- an entry more, or as many where nothing is known of the write
-pub appended : (base new_base last new_last size more : ℕ) (old new : List ℕ) (before after : List ℕ → Type 0) (e : Entry) → new_base ≡ base → new_last ≡ e.end → more ≡ size + length (entry_text last e)
+pub appended : (base new_base last new_last size more : ℕ) (old new : List ℕ) (before after : List ℕ → Type 0) (e : Entry) → new_base ≡ base
+    → new_last ≡ e.end → more ≡ size + length (entry_text last e)
     → last < e.end → FitsEntry last e → Holds new size (entry_text last e) → WritesBehind size old new before after
     → (es : List Entry) → KeepsEntries base last size old es → KeepsEntries new_base new_last more new (es ++ e ∷ [])
 appended base new_base last new_last size more old new before after e same ends long above fits holds writes es k =
-    subst (λ b. KeepsEntries b new_last more new (es ++ e ∷ [])) (sym same) (subst (λ l. KeepsEntries base l more new (es ++ e ∷ [])) (sym ends)
+    subst (λ b. KeepsEntries b new_last more new (es ++ e ∷ [])) (sym same)
+    (subst (λ l. KeepsEntries base l more new (es ++ e ∷ [])) (sym ends)
     (kept_more base last size more writes.0 old new es e k writes.1 holds above fits long))
 
-pub untold : (base new_base last new_last size more : ℕ) (old new : List ℕ) (before after : List ℕ → Type 0) → new_base ≡ base → more ≡ size → new_last ≡ last → WritesBehind size old new before after
+pub untold : (base new_base last new_last size more : ℕ) (old new : List ℕ) (before after : List ℕ → Type 0) → new_base ≡ base → more ≡ size
+    → new_last ≡ last → WritesBehind size old new before after
     → (es : List Entry) → KeepsEntries base last size old es → KeepsEntries new_base new_last more new es
 untold base new_base last new_last size more old new before after same stays ends writes es k =
     subst (λ b. KeepsEntries b new_last more new es) (sym same) (subst (λ l. KeepsEntries base l more new es) (sym ends)
     (subst (λ n. KeepsEntries base last n new es) (sym stays) (kept_behind base last size writes.0 old new es k writes.1)))
 
 -- a head alone
-head_of : (base : ℕ) (head system database slot : List ℕ) → head ≡ segment_head base system database slot → length head ≡ 1024 → base < 2 ^ 64 → IsHead base head
-head_of base head system database slot is size fits = record { system = system; database = database; slot = slot; head_is = is; size = size; base_fits = fits }
+head_of : (base : ℕ) (head system database slot : List ℕ) → head ≡ segment_head base system database slot → length head ≡ 1024
+    → base < 2 ^ 64 → IsHead base head
+head_of base head system database slot is size fits =
+    record { system = system; database = database; slot = slot; head_is = is; size = size; base_fits = fits }
 
-pub head_keeps : (base b l n : ℕ) (head system database slot file : List ℕ) → head ≡ segment_head base system database slot → length head ≡ 1024 → base < 2 ^ 64 → b ≡ base → l ≡ base → n ≡ 1024 → file ≡ head
+pub head_keeps : (base b l n : ℕ) (head system database slot file : List ℕ) → head ≡ segment_head base system database slot
+    → length head ≡ 1024 → base < 2 ^ 64 → b ≡ base → l ≡ base → n ≡ 1024 → file ≡ head
     → KeepsEntries b l n file []
 head_keeps base b l n head system database slot file is size fits begins ends long whole = record {
   head = head;
@@ -76,7 +94,8 @@ head_keeps base b l n head system database slot file is size fits begins ends lo
   last_is = ends ∙ sym begins;
 }
 
-pub head_lasts : (base b n : ℕ) (head system database slot : List ℕ) (after : List ℕ → Type 0) → head ≡ segment_head base system database slot → length head ≡ 1024 → base < 2 ^ 64 → b ≡ base → n ≡ 1024 → Only head after
+pub head_lasts : (base b n : ℕ) (head system database slot : List ℕ) (after : List ℕ → Type 0)
+    → head ≡ segment_head base system database slot → length head ≡ 1024 → base < 2 ^ 64 → b ≡ base → n ≡ 1024 → Only head after
     → Lasts b n after base
 head_lasts base b n head system database slot after is size fits begins long only = (
   head,
@@ -95,8 +114,10 @@ head_lasts base b n head system database slot after is size fits begins long onl
 )
 
 -- whichever segment a crash left this text of, what was found in it and cut reopens that one
-pub left_reopens : (base size place at new_base new_last new_size : ℕ) (text file : List ℕ) (outcomes after : List ℕ → Type 0) → base ≡ at → outcomes text → new_base ≡ at → new_last ≡ place
-    → IsFound at place text new_size → IsCut text new_size file after → Reopens base size outcomes place new_base new_last new_size file after
+pub left_reopens : (base size place at new_base new_last new_size : ℕ) (text file : List ℕ) (outcomes after : List ℕ → Type 0) → base ≡ at
+    → outcomes text → new_base ≡ at → new_last ≡ place
+    → IsFound at place text new_size → IsCut text new_size file after
+    → Reopens base size outcomes place new_base new_last new_size file after
 left_reopens base size place at new_base new_last new_size text file outcomes after same left begins ends found cut = record {
   text = text;
   has = λ front lasting. lasting.each text left;
@@ -115,13 +136,15 @@ none_left (x ∷ xs) e = absurd (omega arith)
 some_line : (last : ℕ) → 0 < length (closing_line last)
 some_line last = omega (arith, length-append {A = ℕ})
 
-pub finished : (base last size : ℕ) (old new line : List ℕ) (after : List ℕ → Type 0) (es : List Entry) → KeepsEntries base last size old es → length old ≡ size → line ≡ closing_line last
+pub finished : (base last size : ℕ) (old new line : List ℕ) (after : List ℕ → Type 0) (es : List Entry) → KeepsEntries base last size old es
+    → length old ≡ size → line ≡ closing_line last
     → Torn size (length line) old new → (0 < length line → Holds new size line) → Only new after → IsFinished base last es new after
 finished base last size old new line after es k long is torn written only =
     let some : 0 < length line = omega (arith, some_line last, ap length is) in
     let kept = kept_behind base last size (length line) old new es k torn in
     let front = kept_front base last size new es kept in
-    let rest : kept.rest ≡ drop size new = sym (ap (drop size) front.0 ∙ drop_front size (kept.head ++ entries_text base es) kept.rest (sym front.1)) in
+    let rest : kept.rest ≡ drop size new =
+    sym (ap (drop size) front.0 ∙ drop_front size (kept.head ++ entries_text base es) kept.rest (sym front.1)) in
     let behind : drop size new ≡ line ++ drop (size + length line) new = holds_behind new size line (written some) in
     let most : length new ≤ size + length line = omega (arith, torn.no_longer) in
     let more = length-drop (size + length line) new in

@@ -8,9 +8,11 @@ use Rattle.pglsn.specs.Texts.{lsn_text, half_text}
 use Rattle.pgtuple.specs.declared.cell.Cell.TheVariants.{Null, Unchanged, Text, Binary}
 use Rattle.pglogical.specs.declared.message.RelationDef.{RelationDef}
 use Rattle.pglogical.specs.declared.message.OldKind.TheVariants.{Key, Full}
-use Rattle.pgledger.specs.declared.image.Image.TheVariants.{Inserted, Updated, Deleted, Truncated, Missed}
+use Rattle.pgledger.specs.declared.image.Image.TheVariants.{Inserted, Updated, Deleted, Truncated}
+use Rattle.pgledger.specs.declared.image.Image.TheVariants.{Missed}
 use Rattle.pgledger.specs.Entries.{Entry}
-use Rattle.pgfeed.specs.Texts.{body_text, closing_object, entry_text, key_data, segment_head, table_front, table_rest}
+use Rattle.pgfeed.specs.Texts.{body_text, closing_object, entry_text, key_data, segment_head}
+use Rattle.pgfeed.specs.Texts.{table_front, table_rest}
 
 abbrev stock : RelationDef
 stock = record {
@@ -81,7 +83,11 @@ interleaved = record {
       ∷ record { definition = stock; image = Deleted (Text (codes "A") ∷ Text (codes "1") ∷ []) }
       ∷ record { definition = stock2; image = Inserted (Text (codes "A") ∷ Text (codes "1") ∷ Text (codes "0.50") ∷ []) }
       ∷ record { definition = notes; image = Inserted (Text (codes "") ∷ Null ∷ []) }
-      ∷ record { definition = stock2; image = Updated (Text (codes "A") ∷ Text (codes "1") ∷ Text (codes "0.50") ∷ []) (Text (codes "B") ∷ Text (codes "1") ∷ Text (codes "0.50") ∷ []) }
+      ∷ record {
+        definition = stock2;
+        image = Updated (Text (codes "A") ∷ Text (codes "1") ∷ Text (codes "0.50") ∷ [])
+            (Text (codes "B") ∷ Text (codes "1") ∷ Text (codes "0.50") ∷ []);
+      }
       ∷ [];
 }
 
@@ -90,7 +96,8 @@ interleaved_text : entry_text 622870888 interleaved ≡
     ++ (codes "{\"op\":\"table\",\"oid\":16384,\"schema\":\"public\",\"table\":\"stock\",\"identity\":\"d\",\"key\":[\"sku\"],\"columns\":[[\"sku\",25,-1],[\"quantity\",23,-1]]}\n"
     ++ (codes "{\"op\":\"c\",\"oid\":16384,\"n\":0,\"before\":null,\"after\":[\"A\",\"1\"]}\n"
     ++ (codes "{\"op\":\"table\",\"oid\":16390,\"schema\":\"pg_catalog\",\"table\":\"no\\\"tes\",\"identity\":\"f\",\"key\":null,\"columns\":[[\"text\",25,-1],[\"data\",17,-1]]}\n"
-    ++ ((codes "{\"op\":\"c\",\"oid\":16390,\"n\":1,\"before\":null,\"after\":[\"" ++ 195 ∷ 169 ∷ codes " \\\"x\\\"\\n\",{\"hex\":\"00ff\"}]}\n")
+    ++ ((codes "{\"op\":\"c\",\"oid\":16390,\"n\":1,\"before\":null,\"after\":[\"" ++ 195 ∷ 169
+    ∷ codes " \\\"x\\\"\\n\",{\"hex\":\"00ff\"}]}\n")
     ++ (codes "{\"op\":\"d\",\"oid\":16384,\"n\":2,\"before\":[\"A\",\"1\"],\"after\":null}\n"
     ++ (codes "{\"op\":\"table\",\"oid\":16384,\"schema\":\"public\",\"table\":\"stock\",\"identity\":\"d\",\"key\":[\"sku\"],\"columns\":[[\"sku\",25,-1],[\"quantity\",23,-1],[\"price\",1700,655366]]}\n"
     ++ (codes "{\"op\":\"c\",\"oid\":16384,\"n\":3,\"before\":null,\"after\":[\"A\",\"1\",\"0.50\"]}\n"
@@ -123,7 +130,10 @@ missed = record {
   about = Some (record { final_lsn = 622870840; xid = 739; time = pos 753000000123456 });
   lines =
       record { definition = stock; image = Missed None (Some (Text (codes "A") ∷ Unchanged ∷ [])) }
-      ∷ record { definition = stock; image = Missed (Some (Key, (Text (codes "A") ∷ Null ∷ []))) (Some (Text (codes "B") ∷ Text (codes "1") ∷ [])) }
+      ∷ record {
+        definition = stock;
+        image = Missed (Some (Key, (Text (codes "A") ∷ Null ∷ []))) (Some (Text (codes "B") ∷ Text (codes "1") ∷ []));
+      }
       ∷ record { definition = stock; image = Missed (Some (Key, (Text (codes "A") ∷ Null ∷ []))) None }
       ∷ record { definition = notes; image = Missed (Some (Full, (Text (codes "a") ∷ Binary (16 ∷ []) ∷ []))) None }
       ∷ [];
@@ -160,7 +170,11 @@ untold_text = refl
 
 -- a time before 1970
 abbrev early : Entry
-early = record { end = 18446744073709551615; about = Some (record { final_lsn = 18446744073709551615; xid = 4294967295; time = negsuc 9223372036854775807 }); lines = [] }
+early = record {
+  end = 18446744073709551615;
+  about = Some (record { final_lsn = 18446744073709551615; xid = 4294967295; time = negsuc 9223372036854775807 });
+  lines = [];
+}
 
 early_text : entry_text 0 early ≡
     codes "{\"end\":\"FFFFFFFF/FFFFFFFF\",\"prev\":\"0/0\",\"bytes\":0,\"changes\":0,\"lsn\":\"FFFFFFFF/FFFFFFFF\",\"xid\":4294967295,\"ts_us\":-9222425352054775808}                                                                                                                         \n"
@@ -169,14 +183,19 @@ early_text = refl
 
 -- the greatest numbers
 abbrev late : Entry
-late = record { end = 18446744073709551615; about = Some (record { final_lsn = 18446744073709551615; xid = 4294967295; time = pos 9223372036854775807 }); lines = [] }
+late = record {
+  end = 18446744073709551615;
+  about = Some (record { final_lsn = 18446744073709551615; xid = 4294967295; time = pos 9223372036854775807 });
+  lines = [];
+}
 
 late_text : entry_text 18446744073709551614 late ≡
     codes "{\"end\":\"FFFFFFFF/FFFFFFFF\",\"prev\":\"FFFFFFFF/FFFFFFFE\",\"bytes\":0,\"changes\":0,\"lsn\":\"FFFFFFFF/FFFFFFFF\",\"xid\":4294967295,\"ts_us\":9224318721654775807}                                                                                                            \n"
 unfolding entry_text body_text lsn_text half_text digits escape_byte
 late_text = refl
 
-head : segment_head 622870584 (codes "7231") (codes "pu\"b") (codes "copy") ≡ codes "{\"feed\":1,\"base\":\"0/25204038\",\"system\":\"7231\",\"database\":\"pu\\\"b\",\"slot\":\"copy\"}                                                                                                                                                                                                                                                                                                                                                                                                                                                                                                                                                                                                                                                                                                                                                                                                                                                                                                                                                                                \n"
+head : segment_head 622870584 (codes "7231") (codes "pu\"b") (codes "copy")
+    ≡ codes "{\"feed\":1,\"base\":\"0/25204038\",\"system\":\"7231\",\"database\":\"pu\\\"b\",\"slot\":\"copy\"}                                                                                                                                                                                                                                                                                                                                                                                                                                                                                                                                                                                                                                                                                                                                                                                                                                                                                                                                                                                \n"
 unfolding lsn_text half_text digits escape_byte
 head = refl
 

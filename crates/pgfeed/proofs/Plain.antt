@@ -1,5 +1,6 @@
 -- What a feed tells in JSON has no floats, so that its text is the compact one.
-use Rattle.std.proofs.Common.{◌≡◌, ℕ, ℤ, pos, negsuc, List, [], ◌∷◌, Bool, true, false, Result, Ok, Err, IfOk, refl, String, string_bytes, cond}
+use Rattle.std.proofs.Common.{◌≡◌, ℕ, ℤ, pos, negsuc, List, [], ◌∷◌, Bool, true, false, Result, Ok}
+use Rattle.std.proofs.Common.{Err, IfOk, refl, String, string_bytes, cond}
 use Rattle.std.specs.declared.alloc.AllocError.{AllocError}
 use Rattle.std.specs.declared.alloc.Global.{Global}
 use Rattle.serde_json.specs.declared.value.Value.{Value}
@@ -33,7 +34,8 @@ pub columns_plain : (columns : List Column) → has_float (columns_data columns)
 columns_plain [] = refl
 columns_plain (column ∷ columns) = rw (integer_plain column.modifier, columns_plain columns)
 
-key_plain : (key : Bool) (name : List ℕ) (names : List Data) → has_float (list names) ≡ false → has_float (list (cond key (string name ∷ names) names)) ≡ false
+key_plain : (key : Bool) (name : List ℕ) (names : List Data) → has_float (list names) ≡ false
+    → has_float (list (cond key (string name ∷ names) names)) ≡ false
 key_plain true name names plain = plain
 key_plain false name names plain = plain
 
@@ -51,6 +53,7 @@ key_data_plain def = if_keyed (keyed def) (key_names def.columns) (keys_plain de
 
 -- the text of a value that stands for data without floats
 pub text_as : (text : Result (String Global) AllocError) (value : Value) (d : Data) → view value ≡ d → has_float d ≡ false
-    → IfOk text (λ s. has_float (view value) ≡ false → string_bytes s ≡ compact_text (view value)) → IfOk text (λ s. string_bytes s ≡ compact_text d)
+    → IfOk text (λ s. has_float (view value) ≡ false → string_bytes s ≡ compact_text (view value))
+    → IfOk text (λ s. string_bytes s ≡ compact_text d)
 text_as (Ok s) value d is plain h = rw is at (h (rw is plain))
 text_as (Err e) value d is plain h = tt

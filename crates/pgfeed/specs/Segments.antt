@@ -1,4 +1,5 @@
--- A segment of a feed in a file: what the file has, what a crash leaves of it, and opening what was left.
+-- A segment of a feed in a file: what the file has, what a crash leaves of it, and opening what was
+-- left.
 use Rattle.std.specs.Prelude.{◌≡◌, ◌<◌, ◌≤◌, ◌+◌, ◌^◌, ℕ, List, ◌++◌, length, take, drop}
 use Rattle.sqlite_disk.specs.Disk.{Follows, Only, Torn}
 use Rattle.pgledger.specs.Entries.{Entry, last_end}
@@ -15,8 +16,8 @@ pub record IsHead (base : ℕ) (head : List ℕ) : Type 0 where
   pub size : length head ≡ 1024
   pub base_fits : base < 2 ^ 64
 
--- The file has a head and these entries one after the other, in so many bytes, and maybe something behind them. The last one ends
--- there.
+-- The file has a head and these entries one after the other, in so many bytes, and maybe something
+-- behind them. The last one ends there.
 pub record KeepsEntries (base last size : ℕ) (file : List ℕ) (es : List Entry) : Type 0 where
   pub head : List ℕ
   pub rest : List ℕ
@@ -38,7 +39,8 @@ pub record IsFront (base place : ℕ) (front : List ℕ) : Type 0 where
 abbrev pub Begins : List ℕ → List ℕ → Type 0
 Begins front text = (rest : List ℕ) × (text ≡ front ++ rest)
 
--- Whatever a crash leaves begins with this front of a head and entries up to the LSN, which no later call writes to.
+-- Whatever a crash leaves begins with this front of a head and entries up to the LSN, which no
+-- later call writes to.
 pub record LastsAs (base size : ℕ) (outcomes : List ℕ → Type 0) (place : ℕ) (front : List ℕ) : Type 0 where
   pub is_front : IsFront base place front
   pub within : length front ≤ size
@@ -51,8 +53,8 @@ Lasts base size outcomes place = (front : List ℕ) × LastsAs base size outcome
 abbrev pub HasWhatLasts : ℕ → ℕ → (List ℕ → Type 0) → ℕ → List ℕ → Type 0
 HasWhatLasts base size outcomes place text = (front : List ℕ) → LastsAs base size outcomes place front → Begins front text
 
--- A segment with that base was found in the text, with an entry that ends at the LSN or none where it begins there. So many bytes are
--- its head and its entries up to that one.
+-- A segment with that base was found in the text, with an entry that ends at the LSN or none where
+-- it begins there. So many bytes are its head and its entries up to that one.
 pub record IsFound (base place : ℕ) (text : List ℕ) (size : ℕ) : Type 0 where
   pub marks : List Mark
   pub entries_size : ℕ
@@ -72,7 +74,8 @@ abbrev pub WritesBehind : ℕ → List ℕ → List ℕ → (List ℕ → Type 0
 WritesBehind size old new before after = (n : ℕ) × Torn size n old new × Follows (Torn size n) before after
 
 -- Another segment was opened at the LSN on a text that has what lasts up to it.
-pub record Reopens (base size : ℕ) (outcomes : List ℕ → Type 0) (place new_base new_last new_size : ℕ) (file : List ℕ) (after : List ℕ → Type 0) : Type 0 where
+pub record Reopens (base size : ℕ) (outcomes : List ℕ → Type 0) (place new_base new_last new_size : ℕ) (file : List ℕ)
+    (after : List ℕ → Type 0) : Type 0 where
   pub text : List ℕ
   pub has : HasWhatLasts base size outcomes place text
   pub base_is : new_base ≡ base

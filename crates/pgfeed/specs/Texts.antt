@@ -1,6 +1,9 @@
--- The text of a feed: lines of JSON (RFC 8259) in UTF-8, each ended by a line feed. Cells are as in a dump.
--- PostgreSQL documentation, Logical Replication Message Formats, Relation, Insert, Update, Delete, Truncate, Commit.
-use Rattle.std.specs.Prelude.{ℕ, suc, ◌-◌, ◌==◌, ◌&&◌, ℤ, pos, ◌+ℤ◌, List, [], ◌∷◌, ◌++◌, length, map, replicate, Bool, false, Option, Some, None, if◌then◌else◌, codes, decimal}
+-- The text of a feed: lines of JSON (RFC 8259) in UTF-8, each ended by a line feed. Cells are as in
+-- a dump. PostgreSQL documentation, Logical Replication Message Formats, Relation, Insert, Update,
+-- Delete, Truncate, Commit.
+use Rattle.std.specs.Prelude.{ℕ, suc, ◌-◌, ◌==◌, ◌&&◌, ℤ, pos, ◌+ℤ◌, List, [], ◌∷◌, ◌++◌, length}
+use Rattle.std.specs.Prelude.{map, replicate, Bool, false, Option, Some, None, if◌then◌else◌, codes}
+use Rattle.std.specs.Prelude.{decimal}
 use Rattle.std.specs.Fmt.{signed_decimal}
 use Rattle.std.specs.Cmp.Lexicographic.{pointwise}
 use Rattle.std.specs.Ordering.{int_eq}
@@ -17,7 +20,8 @@ use Rattle.pgrel.specs.Identity.{keyed}
 use Rattle.pgapply.specs.declared.commit.About.{About}
 use Rattle.pgapply.specs.Dump.{shown_namespace}
 use Rattle.pgledger.specs.declared.image.Image.{Image}
-use Rattle.pgledger.specs.declared.image.Image.TheVariants.{Inserted, Updated, Deleted, Truncated, Missed}
+use Rattle.pgledger.specs.declared.image.Image.TheVariants.{Inserted, Updated, Deleted, Truncated}
+use Rattle.pgledger.specs.declared.image.Image.TheVariants.{Missed}
 use Rattle.pgledger.specs.Images.{Line}
 use Rattle.pgledger.specs.Entries.{Entry}
 use Rattle.pgjson.specs.Cells.{cells_data, list}
@@ -43,7 +47,8 @@ segment_front base = codes "{\"feed\":1,\"base\":\"" ++ (lsn_text base ++ codes 
 -- what it is a feed of: the system's identifier, the database and the slot
 abbrev pub segment_rest : List ℕ → List ℕ → List ℕ → List ℕ
 segment_rest system database slot =
-    codes "\"system\":" ++ (quoted system ++ (codes ",\"database\":" ++ (quoted database ++ (codes ",\"slot\":" ++ (quoted slot ++ codes "}")))))
+    codes "\"system\":" ++ (quoted system
+    ++ (codes ",\"database\":" ++ (quoted database ++ (codes ",\"slot\":" ++ (quoted slot ++ codes "}")))))
 
 abbrev pub segment_object : ℕ → List ℕ → List ℕ → List ℕ → List ℕ
 segment_object base system database slot = segment_front base ++ segment_rest system database slot
@@ -60,12 +65,14 @@ unix_micros time = time +ℤ pos 946684800000000
 abbrev pub about_text : Option About → List ℕ
 about_text None = codes "\"lsn\":null,\"xid\":null,\"ts_us\":null}"
 about_text (Some about) =
-    codes "\"lsn\":\"" ++ (lsn_text about.final_lsn ++ (codes "\",\"xid\":" ++ (decimal about.xid ++ (codes ",\"ts_us\":" ++ (signed_decimal (unix_micros about.time) ++ codes "}")))))
+    codes "\"lsn\":\"" ++ (lsn_text about.final_lsn
+    ++ (codes "\",\"xid\":" ++ (decimal about.xid ++ (codes ",\"ts_us\":" ++ (signed_decimal (unix_micros about.time) ++ codes "}")))))
 
 -- where the commit ends, where the one before it ends, and how many bytes follow
 abbrev pub commit_front : ℕ → ℕ → ℕ → List ℕ
 commit_front end prev bytes =
-    codes "{\"end\":\"" ++ (lsn_text end ++ (codes "\",\"prev\":\"" ++ (lsn_text prev ++ (codes "\",\"bytes\":" ++ (decimal bytes ++ codes ",")))))
+    codes "{\"end\":\"" ++ (lsn_text end
+    ++ (codes "\",\"prev\":\"" ++ (lsn_text prev ++ (codes "\",\"bytes\":" ++ (decimal bytes ++ codes ",")))))
 
 -- how many changes follow, and what the commit is about
 abbrev pub commit_rest : ℕ → Option About → List ℕ
@@ -124,12 +131,14 @@ row_data (Some row) = cells_data row
 
 -- which change it is, of which relation, and which one in its commit, counted from 0
 abbrev pub change_front : List ℕ → ℕ → ℕ → List ℕ
-change_front op oid n = codes "{\"op\":\"" ++ (op ++ (codes "\",\"oid\":" ++ (decimal oid ++ (codes ",\"n\":" ++ (decimal n ++ codes ",")))))
+change_front op oid n = codes "{\"op\":\""
+    ++ (op ++ (codes "\",\"oid\":" ++ (decimal oid ++ (codes ",\"n\":" ++ (decimal n ++ codes ",")))))
 
 -- the row before the change and the row after it
 abbrev pub change_line : List ℕ → ℕ → ℕ → Option (List Cell) → Option (List Cell) → List ℕ
 change_line op oid n before after =
-    change_front op oid n ++ (codes "\"before\":" ++ (compact_text (row_data before) ++ (codes ",\"after\":" ++ (compact_text (row_data after) ++ codes "}\n"))))
+    change_front op oid n ++ (codes "\"before\":"
+    ++ (compact_text (row_data before) ++ (codes ",\"after\":" ++ (compact_text (row_data after) ++ codes "}\n"))))
 
 -- an Update has a new tuple, a Delete hasn't
 abbrev pub sent_op : Option (List Cell) → List ℕ
@@ -140,7 +149,8 @@ abbrev pub sent_text : Option (List Cell) → List ℕ
 sent_text new = codes "\"sent\":\"" ++ (sent_op new ++ codes "\",")
 
 abbrev pub sent_rows : Option (OldKind × List Cell) → Option (List Cell) → List ℕ
-sent_rows old new = codes "\"old\":" ++ (compact_text (prior_data old) ++ (codes ",\"new\":" ++ (compact_text (row_data new) ++ codes "}\n")))
+sent_rows old new = codes "\"old\":"
+    ++ (compact_text (prior_data old) ++ (codes ",\"new\":" ++ (compact_text (row_data new) ++ codes "}\n")))
 
 -- what was sent for a change that found no row
 abbrev pub missed_line : ℕ → ℕ → Option (OldKind × List Cell) → Option (List Cell) → List ℕ
@@ -163,13 +173,14 @@ same_definition a b =
     (a.oid == b.oid) && (pointwise ◌==◌ a.namespace b.namespace && (pointwise ◌==◌ a.name b.name
     && ((a.letter == b.letter) && pointwise same_column a.columns b.columns)))
 
--- whether a definition is told: of its relation's definitions in the commit so far, the newest first, it is the newest
+-- whether a definition is told: of its relation's definitions in the commit so far, the newest
+-- first, it is the newest
 abbrev pub is_told : List RelationDef → RelationDef → Bool
 is_told [] def = false
 is_told (other ∷ told) def = if other.oid == def.oid then same_definition other def else is_told told def
 
--- The lines of changes, where these definitions are told, the newest first, and so many changes: before a change of a relation
--- stands its definition, unless it is told.
+-- The lines of changes, where these definitions are told, the newest first, and so many changes:
+-- before a change of a relation stands its definition, unless it is told.
 unfoldable pub body_text : List RelationDef → ℕ → List Line → List ℕ
 body_text told n [] = []
 body_text told n (line ∷ lines) =

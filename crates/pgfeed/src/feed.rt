@@ -19,8 +19,8 @@ use pgledger::{Image, Ledger};
 use pglsn::Lsn;
 use std::alloc::Global;
 
-/// How many segments that have ended stay open at most: each is an open file, of which a process may
-/// have 1,024 where nothing else is set.
+/// How many segments that have ended stay open at most: each is an open file, of which a process
+/// may have 1,024 where nothing else is set.
 pub const MOST_ENDED: usize = 256;
 
 /// A feed: a ledger over a folder of segments that follow each other. The last one is open; the
@@ -316,12 +316,14 @@ impl<F: Folder + Drop> Ledger for Feed<F> {
             length self.new.ended.items ≤ 1) }
         ensures synced { self.new.synced ≡ self.old.synced }
         ensures appended { OnOk result (Appends (λ (l : Feed F F.File) es.
-            KeepsAll F.File.seen l.begins l.ended.items l.segment es) (entry_of commit.now.end commit.now.about
+            KeepsAll F.File.seen l.begins l.ended.items l.segment es)
+            (entry_of commit.now.end commit.now.about
             commit.now.work.now.changes images.now) self.old self.new) }
         ensures was_free { OnOk result (self.old.segment.is_stuck ≡ false) }
         ensures free { OnOk result (self.new.segment.is_stuck ≡ false) }
         ensures refused { OnErr result (AppendsAtMost (λ (l : Feed F F.File) es.
-            KeepsAll F.File.seen l.begins l.ended.items l.segment es) commit.now.end self.old self.new) }
+            KeepsAll F.File.seen l.begins l.ended.items l.segment es) commit.now.end self.old
+            self.new) }
         ensures stuck { OnErr result (self.new.segment.is_stuck ≡ true) }
         ensures fault { IfErr result IsOwnFault }
         ensures rests { Rests (λ (l : Feed F F.File). l.begins) (λ (l : Feed F F.File). true)
@@ -350,7 +352,8 @@ impl<F: Folder + Drop> Ledger for Feed<F> {
         ensures base { self.new.segment.base ≡ self.old.segment.base }
         ensures last { self.new.segment.last ≡ self.old.segment.last }
         ensures synced { OnOk result (Syncs (λ (l : Feed F F.File) es.
-            KeepsAll F.File.seen l.begins l.ended.items l.segment es) (λ (l : Feed F F.File). l.begins)
+            KeepsAll F.File.seen l.begins l.ended.items l.segment es)
+            (λ (l : Feed F F.File). l.begins)
             (λ (l : Feed F F.File) p. LastsUpTo F.File.may_leave l.ended.items l.segment p)
             self.old self.new) }
         ensures kept { Keeps (λ (l : Feed F F.File) es.

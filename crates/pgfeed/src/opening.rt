@@ -157,8 +157,8 @@ impl<D: Disk + Drop> Segment<D> {
     ///
     /// # Errors
     ///
-    /// `TooLong` where the names don't fit the head, and then the file is as it was. `Refused` where
-    /// a call of the file fails, and `Memory`.
+    /// `TooLong` where the names don't fit the head, and then the file is as it was. `Refused`
+    /// where a call of the file fails, and `Memory`.
     pub fn create(
         alloc: Global,
         mut disk: D,

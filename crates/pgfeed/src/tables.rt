@@ -8,7 +8,8 @@ ghost use Rattle.serde_json.specs.Written.{compact_text};
 ghost use Rattle.pgjson.specs.Cells.{list};
 ghost use Rattle.json.specs.Print.{quoted};
 ghost use Rattle.pgapply.specs.Dump.{shown_namespace};
-ghost use Rattle.pgfeed.specs.Texts.{column_data, columns_data, is_told, key_data, key_names, table_front, table_line, table_rest};
+ghost use Rattle.pgfeed.specs.Texts.{column_data, columns_data, is_told, key_data, key_names};
+ghost use Rattle.pgfeed.specs.Texts.{table_front, table_line, table_rest};
 
 use crate::values::{letter_text, quoted};
 use pglogical::{Column, RelationDef};

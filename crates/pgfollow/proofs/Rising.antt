@@ -1,5 +1,7 @@
 -- Statuses that rise.
-use Rattle.std.proofs.Common.{◌≡◌, ◌≤◌, ◌∙◌, ◌++◌, ℕ, ℤ, List, [], ◌∷◌, Bool, true, false, cond, nat_eq, Result, Ok, Err, refl, sym, ap, subst, append_assoc, append-nil, arith}
+use Rattle.std.proofs.Common.{◌≡◌, ◌≤◌, ◌∙◌, ◌++◌, ℕ, ℤ, List, [], ◌∷◌, Bool, true, false, cond}
+use Rattle.std.proofs.Common.{nat_eq, Result, Ok, Err, refl, sym, ap, subst, append_assoc}
+use Rattle.std.proofs.Common.{append-nil, arith}
 use Rattle.std.specs.List.{AllByRecursion, flat_map}
 use Rattle.std.proofs.lemmas.Grind.{flat_map-append}
 use Rattle.pglogical.specs.Reading.{message_at}
@@ -17,7 +19,8 @@ use Rattle.pgsub_core.specs.Server.Stream.{Sent, Data}
 use Rattle.pgsub_core.specs.Server.Stream as stream
 use Rattle.pgsub_core.specs.Machine.Replica.{Running}
 use Rattle.pgsub_core.specs.Subscriber.Subscribed.{Subscribed, status_of}
-use Rattle.pgsub_core.specs.Machine.Taking.{take, take_message, take_payload, take_frame, take_frames}
+use Rattle.pgsub_core.specs.Machine.Taking.{take, take_message, take_payload, take_frame}
+use Rattle.pgsub_core.specs.Machine.Taking.{take_frames}
 use Rattle.pgsub_core.specs.Subscriber.Confirming.{IsSafeStatus, AreSafeReplies}
 use Rattle.pgsub_core.specs.Machine.Feeding.{IsFedWhole}
 use Rattle.pgsub_core.specs.Subscriber.SubscriberValue.{SubscriberValue}
@@ -40,32 +43,42 @@ rises_join low mid high (status ∷ a) b h k = (h.0, h.1, rises_join status.flus
 pub none_rise : (low high : ℕ) → low ≤ high → AreRising low [] high
 none_rise low high le = record { statuses = []; are = refl; rise = le }
 
-pub one_rises : (low high : ℕ) (status : Status) → status.applied ≡ status.flushed → low ≤ status.flushed → status.flushed ≤ high → AreRising low (status_frame status) high
-one_rises low high status same le by = record { statuses = status ∷ []; are = sym (append-nil (status_frame status)); rise = (same, le, by) }
+pub one_rises : (low high : ℕ) (status : Status) → status.applied ≡ status.flushed → low ≤ status.flushed → status.flushed ≤ high
+    → AreRising low (status_frame status) high
+one_rises low high status same le by =
+    record { statuses = status ∷ []; are = sym (append-nil (status_frame status)); rise = (same, le, by) }
 
 pub rising_join : (low mid high : ℕ) (a b : List ℕ) → AreRising low a mid → AreRising mid b high → AreRising low (a ++ b) high
 rising_join low mid high a b x y = record {
   statuses = x.statuses ++ y.statuses;
-  are = ap (λ bs. bs ++ b) x.are ∙ ap (λ bs. flat_map status_frame x.statuses ++ bs) y.are ∙ sym (flat_map-append status_frame x.statuses y.statuses);
+  are = ap (λ bs. bs ++ b) x.are ∙ ap (λ bs. flat_map status_frame x.statuses ++ bs) y.are
+      ∙ sym (flat_map-append status_frame x.statuses y.statuses);
   rise = rises_join low mid high x.statuses y.statuses x.rise y.rise;
 }
 
 pub rising_by : (low high : ℕ) (bytes : List ℕ) → AreRising low bytes high → low ≤ high
 rising_by low high bytes are = rises_by low high are.statuses are.rise
 
-nothing_below : (history : List Transaction) (position c d : ℕ) → d ≤ c → NothingBetween history position c → NothingBetween history position d
+nothing_below : (history : List Transaction) (position c d : ℕ) → d ≤ c → NothingBetween history position c
+    → NothingBetween history position d
 nothing_below [] position c d le nothing = tt
-nothing_below (t ∷ history) position c d le nothing = ((λ changes by. nothing.0 changes (omega (arith, le, by))), nothing_below history position c d le nothing.1)
+nothing_below (t ∷ history) position c d le nothing =
+    ((λ changes by. nothing.0 changes (omega (arith, le, by))), nothing_below history position c d le nothing.1)
 
 -- what statuses that rise confirm is stored where the highest is
-all_safe : (history : List Transaction) (s : Subscribed) (low : ℕ) (statuses : List Status) → NothingBetween history s.position s.confirmed → Rises low statuses s.confirmed → AllByRecursion (IsSafeStatus history s) statuses
+all_safe : (history : List Transaction) (s : Subscribed) (low : ℕ) (statuses : List Status) → NothingBetween history s.position s.confirmed
+    → Rises low statuses s.confirmed → AllByRecursion (IsSafeStatus history s) statuses
 all_safe history s low [] stored h = tt
 all_safe history s low (status ∷ statuses) stored h =
-    let by = rises_by status.flushed s.confirmed statuses h.2 in
-    (record { same = h.0; confirmed = by; stored = nothing_below history s.position s.confirmed status.flushed by stored }, all_safe history s status.flushed statuses stored h.2)
+    let by = rises_by status.flushed s.confirmed statuses h.2 in (
+      record { same = h.0; confirmed = by; stored = nothing_below history s.position s.confirmed status.flushed by stored },
+      all_safe history s status.flushed statuses stored h.2,
+    )
 
-pub rising_safe : (history : List Transaction) (s : Subscribed) (low : ℕ) → NothingBetween history s.position s.confirmed → AreRising low s.replies s.confirmed → AreSafeReplies history s
-rising_safe history s low stored are = record { statuses = are.statuses; bytes = are.are; each = all_safe history s low are.statuses stored are.rise }
+pub rising_safe : (history : List Transaction) (s : Subscribed) (low : ℕ) → NothingBetween history s.position s.confirmed
+    → AreRising low s.replies s.confirmed → AreSafeReplies history s
+rising_safe history s low stored are =
+    record { statuses = are.statuses; bytes = are.are; each = all_safe history s low are.statuses stored are.rise }
 
 -- ---- the replies of frames
 
@@ -78,8 +91,11 @@ unreplied : (old new : Subscribed) → new.replies ≡ old.replies → old.confi
 unreplied old new same le = record { more = []; are = same ∙ sym (append-nil old.replies); rise = none_rise old.confirmed new.confirmed le }
 
 take_replies : (now : ℤ) (old new : Subscribed) (m : Sent) → take now old m ≡ Running new → Replies old new
-take_replies now old new (Data start end clock m) h = unreplied old new (takes_reply now old new (Data start end clock m) h) (takes_one now old new (Data start end clock m) h).grows
-take_replies now old new (stream.Keepalive end clock false) h = unreplied old new (takes_reply now old new (stream.Keepalive end clock false) h) (takes_one now old new (stream.Keepalive end clock false) h).grows
+take_replies now old new (Data start end clock m) h =
+    unreplied old new (takes_reply now old new (Data start end clock m) h) (takes_one now old new (Data start end clock m) h).grows
+take_replies now old new (stream.Keepalive end clock false) h =
+    unreplied old new (takes_reply now old new (stream.Keepalive end clock false) h)
+    (takes_one now old new (stream.Keepalive end clock false) h).grows
 take_replies now old new (stream.Keepalive end clock true) h =
     let status : Status = status_of (record new { replies = old.replies }) now false in
     let le : old.confirmed ≤ new.confirmed = (takes_one now old new (stream.Keepalive end clock true) h).grows in
@@ -89,18 +105,22 @@ take_replies now old new (stream.Keepalive end clock true) h =
       rise = one_rises old.confirmed new.confirmed status refl le (omega arith);
     }
 
-message_replies : (now : ℤ) (old new : Subscribed) (start end : ℕ) (clock : ℤ) (r : Result Message DecodeFault) → take_message now old start end clock r ≡ Running new → Replies old new
+message_replies : (now : ℤ) (old new : Subscribed) (start end : ℕ) (clock : ℤ) (r : Result Message DecodeFault)
+    → take_message now old start end clock r ≡ Running new → Replies old new
 message_replies now old new start end clock (Ok m) h = take_replies now old new (Data start end clock m) h
 message_replies now old new start end clock (Err k) h = absurd (cc)
 
-payload_replies : (now : ℤ) (old new : Subscribed) (r : Result ServerMessage WireFault) → take_payload now old r ≡ Running new → Replies old new
-payload_replies now old new (Ok (XLogData start end clock body)) h = message_replies now old new start end clock (message_at (is_in_block old.order.context) body) h
+payload_replies : (now : ℤ) (old new : Subscribed) (r : Result ServerMessage WireFault) → take_payload now old r ≡ Running new
+    → Replies old new
+payload_replies now old new (Ok (XLogData start end clock body)) h =
+    message_replies now old new start end clock (message_at (is_in_block old.order.context) body) h
 payload_replies now old new (Ok (Keepalive end clock asks)) h = take_replies now old new (stream.Keepalive end clock asks) h
 payload_replies now old new (Err k) h = absurd (cc)
 
 frame_replies : (now : ℤ) (old new : Subscribed) (f : Frame) → take_frame now old f ≡ Running new → Replies old new
 frame_replies now old new (CopyData bytes) h = payload_replies now old new (payload_at bytes) h
-frame_replies now old new CopyDone h = subst (λ (x : Subscribed). Replies old x) (running h) (unreplied old (record old { copy_done = true }) refl (omega arith))
+frame_replies now old new CopyDone h =
+    subst (λ (x : Subscribed). Replies old x) (running h) (unreplied old (record old { copy_done = true }) refl (omega arith))
 
 frames_replies : (now : ℤ) (fs : List Frame) (old new : Subscribed) → take_frames now old fs ≡ Running new → Replies old new
 frames_replies now [] old new h = subst (λ (x : Subscribed). Replies old x) (running h) (unreplied old old refl (omega arith))
@@ -115,14 +135,18 @@ frames_replies now (f ∷ fs) old new h =
     }
 
 -- what feeding a piece makes wait, where nothing waited
-pub fed_rises : (now : ℤ) (old new : Subscribed) (piece : List ℕ) → old.replies ≡ [] → IsFedWhole now old piece new → AreRising old.confirmed new.replies new.confirmed
+pub fed_rises : (now : ℤ) (old new : Subscribed) (piece : List ℕ) → old.replies ≡ [] → IsFedWhole now old piece new
+    → AreRising old.confirmed new.replies new.confirmed
 fed_rises now old new piece none fed =
     let replies = frames_replies now fed.fs old fed.state fed.takes in
-    let same : new.replies ≡ replies.more = ap (λ (x : Subscribed). x.replies) fed.left ∙ replies.are ∙ ap (λ bs. bs ++ replies.more) none in
-    subst (λ bs. AreRising old.confirmed bs new.confirmed) (sym same) (subst (λ n. AreRising old.confirmed replies.more n) (sym (ap (λ (x : Subscribed). x.confirmed) fed.left)) replies.rise)
+    let same : new.replies ≡ replies.more =
+    ap (λ (x : Subscribed). x.replies) fed.left ∙ replies.are ∙ ap (λ bs. bs ++ replies.more) none in
+    subst (λ bs. AreRising old.confirmed bs new.confirmed) (sym same)
+    (subst (λ n. AreRising old.confirmed replies.more n) (sym (ap (λ (x : Subscribed). x.confirmed) fed.left)) replies.rise)
 
 -- and the status where confirmed has moved
-pub news_rise : {C : Type 0} (now : ℤ) (told : ℕ) (s : SubscriberValue C) → AreRising s.applied.confirmed (news now told s) s.applied.confirmed
+pub news_rise : {C : Type 0} (now : ℤ) (told : ℕ) (s : SubscriberValue C)
+    → AreRising s.applied.confirmed (news now told s) s.applied.confirmed
 news_rise {C} now told s = by_news (nat_eq s.applied.confirmed told)
   where
     by_news : (b : Bool) → AreRising s.applied.confirmed (cond b [] (status_frame (status_at now s))) s.applied.confirmed

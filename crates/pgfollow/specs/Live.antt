@@ -1,7 +1,8 @@
--- Part of the statement.
--- PostgreSQL documentation, Streaming Replication Protocol, Standby status update: what following a server does, one part of its bytes
--- after the other, and what is written after each.
-use Rattle.std.specs.Prelude.{◌≡◌, ◌≤◌, ◌⊎◌, ◌++◌, ◌-◌, ◌^◌, ℕ, ℤ, List, [], ◌∷◌, Bool, true, false, Option, Some, None, Result, Ok, Err, length, nat_eq, if◌then◌else◌}
+-- Part of the statement. PostgreSQL documentation, Streaming Replication Protocol, Standby status
+-- update: what following a server does, one part of its bytes after the other, and what is written
+-- after each.
+use Rattle.std.specs.Prelude.{◌≡◌, ◌≤◌, ◌⊎◌, ◌++◌, ◌-◌, ◌^◌, ℕ, ℤ, List, [], ◌∷◌, Bool, true, false}
+use Rattle.std.specs.Prelude.{Option, Some, None, Result, Ok, Err, length, nat_eq, if◌then◌else◌}
 use Rattle.std.specs.List.{AllByRecursion}
 use Rattle.std.specs.Io.KnownBytes.{Appends, Consumes, IsAtEnd}
 use Rattle.pgwire.specs.Statuses.{status_frame}
@@ -27,7 +28,8 @@ abbrev pub ended_by : {A : Type 0} → Result A FollowFault → Option FollowFau
 ended_by (Ok done) = None
 ended_by (Err f) = Some f
 
--- Following ends with a read or a write that failed, or with what feeding an open subscriber can return.
+-- Following ends with a read or a write that failed, or with what feeding an open subscriber can
+-- return.
 abbrev pub IsOfFollowing : FollowFault → Type 0
 IsOfFollowing (follow.Stream f) = IsOfFeeding f
 IsOfFollowing f = Unit {0}
@@ -42,14 +44,16 @@ IsFront front bytes = (behind : List ℕ) × (bytes ≡ front ++ behind)
 
 -- the status of a subscriber now: received as written, confirmed as flushed and as applied
 abbrev pub status_at : {C : Type 0} → ℤ → SubscriberValue C → Status
-status_at now s = record { written = s.applied.received; flushed = s.applied.confirmed; applied = s.applied.confirmed; clock = now; ask = false }
+status_at now s = record
+    { written = s.applied.received; flushed = s.applied.confirmed; applied = s.applied.confirmed; clock = now; ask = false }
 
 -- what is written where confirmed has moved from this, and where it hasn't
 abbrev pub news : {C : Type 0} → ℤ → ℕ → SubscriberValue C → List ℕ
 news now told s = if nat_eq s.applied.confirmed told then [] else status_frame (status_at now s)
 
--- A part of a session's bytes that is fed: when, the bytes, whether the session ends with them, and the subscriber after them, before and
--- after its statuses are written and the session is forgotten where it ends.
+-- A part of a session's bytes that is fed: when, the bytes, whether the session ends with them, and
+-- the subscriber after them, before and after its statuses are written and the session is forgotten
+-- where it ends.
 pub record Step (C : Type 0) : Type 0 where
   pub now : ℤ
   pub part : List ℕ
@@ -61,7 +65,8 @@ pub record Step (C : Type 0) : Type 0 where
 abbrev pub IsShort : {C : Type 0} → Step C → Type 0
 IsShort step = length step.part ≤ piece_len
 
--- the bytes that are written after a part: the replies that wait, and the status where confirmed has moved
+-- the bytes that are written after a part: the replies that wait, and the status where confirmed
+-- has moved
 abbrev pub told_of : {C : Type 0} → SubscriberValue C → Step C → List ℕ
 told_of old step = step.fed.applied.replies ++ news step.now old.applied.confirmed step.fed
 
@@ -78,7 +83,8 @@ IsGreeted place wrote wrote' old start = IsStart place old start × ((now : ℤ)
 abbrev pub StopsGreeting : {C : Type 0} → (C → ℕ) → Option (List ℕ) → Option (List ℕ) → SubscriberValue C → FollowFault → Type 0
 StopsGreeting place wrote wrote' old follow.Read = ⊥
 StopsGreeting {C} place wrote wrote' old follow.Write =
-    (start : SubscriberValue C) × IsStart place old start × (now : ℤ) × (front : List ℕ) × IsFront front (status_frame (status_at now start)) × Appends wrote wrote' front
+    (start : SubscriberValue C) × IsStart place old start × (now : ℤ) × (front : List ℕ)
+    × IsFront front (status_frame (status_at now start)) × Appends wrote wrote' front
 StopsGreeting place wrote wrote' old (follow.Stream f) = (f ≡ fault.Memory) × (wrote' ≡ wrote)
 
 -- no status waits, and where the session ends it is forgotten
@@ -95,12 +101,15 @@ abbrev pub told_in : {C : Type 0} → SubscriberValue C → List (Step C) → Li
 told_in old [] = []
 told_in old (step ∷ steps) = told_of old step ++ told_in step.after steps
 
-module _ {C : Type 0} (holds : C → Tables → Type 0) (place : C → ℕ) (reopens : C → C → Type 0) (serves : C → Type 0) (count : C → Misses) where
-  -- the part was fed and its changes that find no row counted, and this is what a crash may leave then
+module _ {C : Type 0} (holds : C → Tables → Type 0) (place : C → ℕ) (reopens : C → C → Type 0) (serves : C → Type 0)
+    (count : C → Misses) where
+  -- the part was fed and its changes that find no row counted, and this is what a crash may leave
+  -- then
   pub record IsFedPart (now : ℤ) (old : SubscriberValue C) (part : List ℕ) (fed : SubscriberValue C) : Type 0 where
     pub feeds : Feeds holds place now old part fed
     pub counts : FeedsCounted holds place count now old part fed
-    pub crash : LeavesOldOr place reopens serves (FedOver (λ s. FeedsUntil holds place now old part s fault.Memory)) old.applied.store fed.applied.store
+    pub crash : LeavesOldOr place reopens serves (FedOver (λ s. FeedsUntil holds place now old part s fault.Memory)) old.applied.store
+        fed.applied.store
 
   -- a session ends with the part that its CopyDone completes
   pub record IsStep (old : SubscriberValue C) (step : Step C) : Type 0 where
@@ -113,9 +122,11 @@ module _ {C : Type 0} (holds : C → Tables → Type 0) (place : C → ℕ) (reo
   AreSteps old [] new = new ≡ old
   AreSteps old (step ∷ steps) new = IsStep old step × AreSteps step.after steps new
 
-  -- Parts were read and fed, one after the other, and what was to be told of each was written. These bytes more were read. No more bytes
-  -- are fed at once, and no more are read ahead, than one read gives.
-  pub record LiveSteps (unread rest : Option (List ℕ)) (pending : List ℕ) (wrote wrote' : Option (List ℕ)) (old new : SubscriberValue C) : Type 0 where
+  -- Parts were read and fed, one after the other, and what was to be told of each was written.
+  -- These bytes more were read. No more bytes are fed at once, and no more are read ahead, than one
+  -- read gives.
+  pub record LiveSteps (unread rest : Option (List ℕ)) (pending : List ℕ) (wrote wrote' : Option (List ℕ))
+      (old new : SubscriberValue C) : Type 0 where
     pub steps : List (Step C)
     pub each : AllByRecursion IsShort steps
     pub ahead : length pending ≤ piece_len
@@ -135,13 +146,15 @@ module _ {C : Type 0} (holds : C → Tables → Type 0) (place : C → ℕ) (reo
   IsFollowedPart wrote wrote' part old new =
       (step : Step C) × (step.part ≡ part) × (step.after ≡ new) × IsStep old step × Appends wrote wrote' (told_of old step)
 
-  -- Feeding a part stopped with this fault: where the store serves still, the subscriber is as after what came before the first fault.
+  -- Feeding a part stopped with this fault: where the store serves still, the subscriber is as
+  -- after what came before the first fault.
   pub record IsUnfed (now : ℤ) (old : SubscriberValue C) (part : List ℕ) (new : SubscriberValue C) (f : Fault) : Type 0 where
     pub unclosed : old.framing.closed ≡ false
     pub until : serves new.applied.store → FeedsUntil holds place now old part new f
     pub counts : serves new.applied.store → FeedsCountedFront holds place count now old part new
     pub stands : StandsAsFed place (λ s. FeedsUntil holds place now old part s fault.Memory) new
-    pub crash : LeavesOldOr place reopens serves (FedOver (λ s. FeedsUntil holds place now old part s fault.Memory)) old.applied.store new.applied.store
+    pub crash : LeavesOldOr place reopens serves (FedOver (λ s. FeedsUntil holds place now old part s fault.Memory)) old.applied.store
+        new.applied.store
 
   -- A part was fed, and of what is to be told of it these first bytes were written.
   pub record IsUntold (now : ℤ) (old : SubscriberValue C) (part : List ℕ) (new : SubscriberValue C) (front : List ℕ) : Type 0 where
@@ -151,30 +164,36 @@ module _ {C : Type 0} (holds : C → Tables → Type 0) (place : C → ℕ) (reo
     pub store : new.applied.store ≡ fed.applied.store
     pub confirmed : new.applied.confirmed ≡ fed.applied.confirmed
 
-  -- Why what comes of a part isn't told, by the fault. Where there is no memory for the status, nothing is written.
+  -- Why what comes of a part isn't told, by the fault. Where there is no memory for the status,
+  -- nothing is written.
   abbrev pub StopsPart : Option (List ℕ) → Option (List ℕ) → List ℕ → SubscriberValue C → SubscriberValue C → FollowFault → Type 0
   StopsPart wrote wrote' part old new follow.Read = ⊥
-  StopsPart wrote wrote' part old new follow.Write = (now : ℤ) × (front : List ℕ) × IsUntold now old part new front × Appends wrote wrote' front
+  StopsPart wrote wrote' part old new follow.Write =
+      (now : ℤ) × (front : List ℕ) × IsUntold now old part new front × Appends wrote wrote' front
   StopsPart wrote wrote' part old new (follow.Stream f) =
       (wrote' ≡ wrote) × ((now : ℤ) × (IsUnfed now old part new f ⊎ ((f ≡ fault.Memory) × IsUntold now old part new [])))
 
   -- the first bytes of these can't be fed or told,
   abbrev pub StopsFront : Option (List ℕ) → Option (List ℕ) → List ℕ → SubscriberValue C → SubscriberValue C → FollowFault → Type 0
-  StopsFront wrote wrote' bytes old new f = (part : List ℕ) × (later : List ℕ) × (bytes ≡ part ++ later) × StopsPart wrote wrote' part old new f
+  StopsFront wrote wrote' bytes old new f =
+      (part : List ℕ) × (later : List ℕ) × (bytes ≡ part ++ later) × StopsPart wrote wrote' part old new f
 
   -- or it stops behind some of them
   abbrev pub StopsPiece : Option (List ℕ) → Option (List ℕ) → List ℕ → SubscriberValue C → SubscriberValue C → FollowFault → Type 0
   StopsPiece wrote wrote' piece old new f =
-      (mid : SubscriberValue C) × (w : Option (List ℕ)) × (front : List ℕ) × (bytes : List ℕ) × (piece ≡ front ++ bytes) × FollowsPiece wrote w front old mid × StopsFront w wrote' bytes mid new f
+      (mid : SubscriberValue C) × (w : Option (List ℕ)) × (front : List ℕ) × (bytes : List ℕ) × (piece ≡ front ++ bytes)
+      × FollowsPiece wrote w front old mid × StopsFront w wrote' bytes mid new f
 
-  abbrev pub LiveStops : Option (List ℕ) → Option (List ℕ) → Option (List ℕ) → Option (List ℕ) → SubscriberValue C → SubscriberValue C → FollowFault → Type 0
+  abbrev pub LiveStops : Option (List ℕ) → Option (List ℕ) → Option (List ℕ) → Option (List ℕ) → SubscriberValue C → SubscriberValue C
+      → FollowFault → Type 0
   LiveStops unread rest wrote wrote' old new f =
       (mid : SubscriberValue C) × (w : Option (List ℕ)) × (part : List ℕ) × (later : List ℕ)
       × LiveSteps unread rest (part ++ later) wrote w old mid × StopsPart w wrote' part mid new f
 
-  -- How following ended: at the end of the bytes, or at a read that failed, where all that was read is fed and told; or with a part that
-  -- couldn't be fed or told, before what was read with it.
-  abbrev pub LiveEnds : Option (List ℕ) → Option (List ℕ) → ℕ → Option (List ℕ) → Option (List ℕ) → SubscriberValue C → SubscriberValue C → Option FollowFault → Type 0
+  -- How following ended: at the end of the bytes, or at a read that failed, where all that was read
+  -- is fed and told; or with a part that couldn't be fed or told, before what was read with it.
+  abbrev pub LiveEnds : Option (List ℕ) → Option (List ℕ) → ℕ → Option (List ℕ) → Option (List ℕ) → SubscriberValue C → SubscriberValue C
+      → Option FollowFault → Type 0
   LiveEnds unread rest reads wrote wrote' old new None = LiveSteps unread rest [] wrote wrote' old new × IsReadOut rest reads
   LiveEnds unread rest reads wrote wrote' old new (Some follow.Read) = LiveSteps unread rest [] wrote wrote' old new
   LiveEnds unread rest reads wrote wrote' old new (Some follow.Write) = LiveStops unread rest wrote wrote' old new follow.Write

@@ -1,6 +1,7 @@
--- Part of the statement.
--- PostgreSQL documentation, Streaming Replication Protocol, Standby status update: that what is told of a history is stored.
-use Rattle.std.specs.Prelude.{◌≡◌, ◌≤◌, ◌⊎◌, ◌++◌, ℕ, ℤ, List, [], ◌∷◌, Option, Some, None, if◌then◌else◌}
+-- Part of the statement. PostgreSQL documentation, Streaming Replication Protocol, Standby status
+-- update: that what is told of a history is stored.
+use Rattle.std.specs.Prelude.{◌≡◌, ◌≤◌, ◌⊎◌, ◌++◌, ℕ, ℤ, List, [], ◌∷◌, Option, Some, None}
+use Rattle.std.specs.Prelude.{if◌then◌else◌}
 use Rattle.std.specs.List.{flat_map}
 use Rattle.pgwire.specs.Statuses.{status_frame}
 use Rattle.pgwire.specs.declared.status.Status.{Status}
@@ -16,11 +17,13 @@ use Rattle.pgsub_core.specs.Subscriber.Missed.{CountsHistory}
 use Rattle.pgsub_core.specs.Subscriber.SubscriberValue.{SubscriberValue, seen}
 use Rattle.pgfollow.specs.declared.fault.FollowFault.{FollowFault}
 use Rattle.pgfollow.specs.declared.fault.FollowFault.TheVariants as follow
-use Rattle.pgfollow.specs.Live.{IsGreeted, LiveEnds, Step, StopsGreeting, news, status_at, told_of, told_in}
+use Rattle.pgfollow.specs.Live.{IsGreeted, LiveEnds, Step, StopsGreeting, news, status_at, told_of}
+use Rattle.pgfollow.specs.Live.{told_in}
 
 -- ---- the statuses, of any bytes
 
--- Each status confirms as flushed what it confirms as applied, and no less than the one before it: from this LSN up to that one.
+-- Each status confirms as flushed what it confirms as applied, and no less than the one before it:
+-- from this LSN up to that one.
 abbrev pub Rises : ℕ → List Status → ℕ → Type 0
 Rises low [] high = low ≤ high
 Rises low (status ∷ statuses) high = (status.applied ≡ status.flushed) × (low ≤ status.flushed) × Rises status.flushed statuses high
@@ -33,24 +36,26 @@ pub record AreRising (low : ℕ) (bytes : List ℕ) (high : ℕ) : Type 0 where
 
 -- ---- the sessions
 
--- Each session's bytes: the parts up to one with which it ends. What is read behind the last part belongs to the last session.
+-- Each session's bytes: the parts up to one with which it ends. What is read behind the last part
+-- belongs to the last session.
 abbrev pub sessions_from : {C : Type 0} → List ℕ → List (Step C) → List ℕ → List (List ℕ)
 sessions_from begun [] pending = (begun ++ pending) ∷ []
 sessions_from begun (step ∷ steps) pending =
     if step.ends then (begun ++ step.part) ∷ sessions_from [] steps pending else sessions_from (begun ++ step.part) steps pending
 
 module _ {C : Type 0} (holds : C → Tables → Type 0) (place : C → ℕ) (reopens : C → C → Type 0) where
-  -- The store holds exactly the history's rows up to its position, and every transaction that changes rows and ends by what is confirmed
-  -- is among them.
+  -- The store holds exactly the history's rows up to its position, and every transaction that
+  -- changes rows and ends by what is confirmed is among them.
   abbrev pub HoldsSafely : List Transaction → SubscriberValue C → Type 0
   HoldsSafely history s = (tables : Tables) × holds s.applied.store tables × IsSafeFor history (seen place s tables)
 
-  -- whatever a crash leaves of it now holds the history's rows up to a position, with all that is confirmed
+  -- whatever a crash leaves of it now holds the history's rows up to a position, with all that is
+  -- confirmed
   abbrev pub LeavesSafely : List Transaction → SubscriberValue C → Type 0
   LeavesSafely history s = (other : C) → reopens s.applied.store other → IsLeftSafely holds place history s other
 
-  -- These bytes are statuses. Every transaction that changes rows and ends by what one confirms is stored when it is written, and in
-  -- whatever a crash leaves then.
+  -- These bytes are statuses. Every transaction that changes rows and ends by what one confirms is
+  -- stored when it is written, and in whatever a crash leaves then.
   pub record IsToldSafely (history : List Transaction) (s : SubscriberValue C) (told : List ℕ) : Type 0 where
     pub rows : HoldsSafely history s
     pub statuses : (tables : Tables) → AreSafeReplies history (record (seen place s tables) { replies = told })
@@ -62,48 +67,61 @@ module _ {C : Type 0} (holds : C → Tables → Type 0) (place : C → ℕ) (reo
   AreToldSafely history old (step ∷ steps) = IsToldSafely history step.fed (told_of old step) × AreToldSafely history step.after steps
 
   -- Of whatever history the sessions are, and whatever tables the store held before:
-  pub record TellsSafely (serves : C → Type 0) (old start : SubscriberValue C) (first : List ℕ) (steps : List (Step C)) (pending : List ℕ) (new : SubscriberValue C) : Type 0 where
-    -- as long as they are, whatever comes later: the store holds the history's rows at the start and after each part, and what is told
-    -- then is stored
-    pub told : (history : List Transaction) (all_complete : List (List Sent)) (tables : Tables) (front later : List (Step C)) → steps ≡ front ++ later → holds old.applied.store tables
-        → IsSent history (seen place old tables) (sessions_from [] front []) all_complete → IsToldSafely history start first × AreToldSafely history start front
-    -- with all that was read: so it does at the end, and what a crash leaves then has all that is confirmed
+  pub record TellsSafely (serves : C → Type 0) (old start : SubscriberValue C) (first : List ℕ) (steps : List (Step C)) (pending : List ℕ)
+      (new : SubscriberValue C) : Type 0 where
+    -- as long as they are, whatever comes later: the store holds the history's rows at the start
+    -- and after each part, and what is told then is stored
+    pub told : (history : List Transaction) (all_complete : List (List Sent)) (tables : Tables) (front later : List (Step C))
+        → steps ≡ front ++ later → holds old.applied.store tables
+        → IsSent history (seen place old tables) (sessions_from [] front []) all_complete
+        → IsToldSafely history start first × AreToldSafely history start front
+    -- with all that was read: so it does at the end, and what a crash leaves then has all that is
+    -- confirmed
     pub at_end : (history : List Transaction) (all_complete : List (List Sent)) (tables : Tables) → holds old.applied.store tables
-        → IsSent history (seen place old tables) (sessions_from [] steps pending) all_complete → (serves new.applied.store → HoldsSafely history new) × LeavesSafely history new
+        → IsSent history (seen place old tables) (sessions_from [] steps pending) all_complete
+        → (serves new.applied.store → HoldsSafely history new) × LeavesSafely history new
 
-  -- Of any bytes: all that is told after the first status, after these parts, is statuses that rise.
+  -- Of any bytes: all that is told after the first status, after these parts, is statuses that
+  -- rise.
   abbrev pub TellsRising : SubscriberValue C → List (Step C) → SubscriberValue C → Type 0
-  TellsRising start steps mid = (tables : Tables) → holds start.applied.store tables → AreRising start.applied.confirmed (told_in start steps) mid.applied.confirmed
+  TellsRising start steps mid = (tables : Tables) → holds start.applied.store tables
+      → AreRising start.applied.confirmed (told_in start steps) mid.applied.confirmed
 
 -- ---- how following ends
 
 abbrev pub first_status : {C : Type 0} → SubscriberValue C → ℤ → List ℕ
 first_status start now = status_frame (status_at now start)
 
-module _ {C : Type 0} (holds : C → Tables → Type 0) (place : C → ℕ) (reopens : C → C → Type 0) (serves : C → Type 0) (count : C → Misses) (unread rest : Option (List ℕ)) (reads : ℕ) (wrote wrote' : Option (List ℕ)) (old new : SubscriberValue C) where
+module _ {C : Type 0} (holds : C → Tables → Type 0) (place : C → ℕ) (reopens : C → C → Type 0) (serves : C → Type 0) (count : C → Misses)
+    (unread rest : Option (List ℕ)) (reads : ℕ) (wrote wrote' : Option (List ℕ)) (old new : SubscriberValue C) where
   -- the parts that were followed
-  abbrev pub steps_in : (ended : Option FollowFault) → LiveEnds holds place reopens serves count unread rest reads wrote wrote' old new ended → List (Step C)
+  abbrev pub steps_in : (ended : Option FollowFault)
+      → LiveEnds holds place reopens serves count unread rest reads wrote wrote' old new ended → List (Step C)
   steps_in None e = e.0.steps
   steps_in (Some follow.Read) e = e.steps
   steps_in (Some follow.Write) e = e.4.steps
   steps_in (Some (follow.Stream f)) e = e.4.steps
 
   -- what was read behind them
-  abbrev pub pending_in : (ended : Option FollowFault) → LiveEnds holds place reopens serves count unread rest reads wrote wrote' old new ended → List ℕ
+  abbrev pub pending_in : (ended : Option FollowFault)
+      → LiveEnds holds place reopens serves count unread rest reads wrote wrote' old new ended → List ℕ
   pending_in None e = []
   pending_in (Some follow.Read) e = []
   pending_in (Some follow.Write) e = e.2 ++ e.3
   pending_in (Some (follow.Stream f)) e = e.2 ++ e.3
 
   -- the subscriber behind them
-  abbrev pub mid_in : (ended : Option FollowFault) → LiveEnds holds place reopens serves count unread rest reads wrote wrote' old new ended → SubscriberValue C
+  abbrev pub mid_in : (ended : Option FollowFault) → LiveEnds holds place reopens serves count unread rest reads wrote wrote' old new ended
+      → SubscriberValue C
   mid_in None e = new
   mid_in (Some follow.Read) e = new
   mid_in (Some follow.Write) e = e.0
   mid_in (Some (follow.Stream f)) e = e.0
 
-  -- Where writing what is told of the last part failed: all of that was stored, of which a front is written.
-  abbrev pub LastIsSafe : SubscriberValue C → (ended : Option FollowFault) → LiveEnds holds place reopens serves count unread rest reads wrote wrote' old new ended → Type 0
+  -- Where writing what is told of the last part failed: all of that was stored, of which a front is
+  -- written.
+  abbrev pub LastIsSafe : SubscriberValue C → (ended : Option FollowFault)
+      → LiveEnds holds place reopens serves count unread rest reads wrote wrote' old new ended → Type 0
   LastIsSafe before (Some follow.Write) e =
       (history : List Transaction) (all_complete : List (List Sent)) (tables : Tables) → holds before.applied.store tables
       → IsSent history (seen place before tables) (sessions_from [] e.4.steps (e.2 ++ e.3)) all_complete
@@ -112,21 +130,29 @@ module _ {C : Type 0} (holds : C → Tables → Type 0) (place : C → ℕ) (reo
   LastIsSafe before (Some follow.Read) e = Unit {0}
   LastIsSafe before (Some (follow.Stream f)) e = Unit {0}
 
-module _ {C : Type 0} (holds : C → Tables → Type 0) (place : C → ℕ) (reopens : C → C → Type 0) (serves : C → Type 0) (count : C → Misses) (unread rest : Option (List ℕ)) (reads : ℕ) (wrote wrote' : Option (List ℕ)) (old new : SubscriberValue C) where
+module _ {C : Type 0} (holds : C → Tables → Type 0) (place : C → ℕ) (reopens : C → C → Type 0) (serves : C → Type 0) (count : C → Misses)
+    (unread rest : Option (List ℕ)) (reads : ℕ) (wrote wrote' : Option (List ℕ)) (old new : SubscriberValue C) where
   -- The first status isn't told: nothing is read, and the store is as it was.
   abbrev pub NotGreeted : Option FollowFault → Type 0
-  NotGreeted ended = (f : FollowFault) × (ended ≡ Some f) × StopsGreeting place wrote wrote' old f × (new.applied.store ≡ old.applied.store) × (rest ≡ unread)
+  NotGreeted ended = (f : FollowFault) × (ended ≡ Some f) × StopsGreeting place wrote wrote' old f × (new.applied.store ≡ old.applied.store)
+      × (rest ≡ unread)
 
-  -- The first status is told, that of the opened store. Then parts are fed as they come, and told. All statuses rise, and what they confirm
-  -- of a history is stored when they are written, and stays so whatever a crash leaves; the store holds the history's rows then. While it
-  -- serves, it has counted at the end what the history misses up to its position.
+  -- The first status is told, that of the opened store. Then parts are fed as they come, and told.
+  -- All statuses rise, and what they confirm of a history is stored when they are written, and
+  -- stays so whatever a crash leaves; the store holds the history's rows then. While it serves, it
+  -- has counted at the end what the history misses up to its position.
   abbrev pub FollowsLive : Option FollowFault → Type 0
   FollowsLive ended =
       NotGreeted ended
       ⊎ ((start : SubscriberValue C) × (w : Option (List ℕ)) × (greeted : IsGreeted place wrote w old start)
       × (e : LiveEnds holds place reopens serves count unread rest reads w wrote' start new ended)
-      × TellsRising holds place reopens start (steps_in holds place reopens serves count unread rest reads w wrote' start new ended e) (mid_in holds place reopens serves count unread rest reads w wrote' start new ended e)
+      × TellsRising holds place reopens start (steps_in holds place reopens serves count unread rest reads w wrote' start new ended e)
+      (mid_in holds place reopens serves count unread rest reads w wrote' start new ended e)
       × LastIsSafe holds place reopens serves count unread rest reads w wrote' start new old ended e
-      × TellsSafely holds place reopens serves old start (first_status start greeted.1.0) (steps_in holds place reopens serves count unread rest reads w wrote' start new ended e) (pending_in holds place reopens serves count unread rest reads w wrote' start new ended e) new
+      × TellsSafely holds place reopens serves old start (first_status start greeted.1.0)
+      (steps_in holds place reopens serves count unread rest reads w wrote' start new ended e)
+      (pending_in holds place reopens serves count unread rest reads w wrote' start new ended e) new
       × (serves new.applied.store
-      → CountsHistory holds place count old (sessions_from [] (steps_in holds place reopens serves count unread rest reads w wrote' start new ended e) (pending_in holds place reopens serves count unread rest reads w wrote' start new ended e)) new))
+      → CountsHistory holds place count old
+      (sessions_from [] (steps_in holds place reopens serves count unread rest reads w wrote' start new ended e)
+      (pending_in holds place reopens serves count unread rest reads w wrote' start new ended e)) new))

@@ -1,4 +1,5 @@
-//! Follows a server as a filter: the bytes of sessions come from a reader, and statuses go to a writer.
+//! Follows a server as a filter: the bytes of sessions come from a reader, and statuses go to a
+//! writer.
 //!
 //! ```text
 //! let mut link = Link::new(rt.stdin(), rt.stdout());

@@ -1,13 +1,16 @@
-//! The two ends of a connection: what a server sends is read from one, and what it is sent is written to the other.
+//! The two ends of a connection: what a server sends is read from one, and what it is sent is
+//! written to the other.
 
-ghost use Rattle.std.specs.Prelude.{◌≡◌, ◌≤◌, ◌<◌, ℕ, List, take, false, true, None, length, OnOk, OnErr, IfErr, IfSome};
+ghost use Rattle.std.specs.Prelude.{◌≡◌, ◌≤◌, ◌<◌, ℕ, List, take, false, true, None, length, OnOk};
+ghost use Rattle.std.specs.Prelude.{OnErr, IfErr, IfSome};
 ghost use Rattle.std.specs.Io.KnownBytes.{Appends, Consumes, IsAtEnd, Keeps};
 ghost use Rattle.pgfollow.specs.Live.{IsFront};
 
 use crate::fault::FollowFault;
 use std::io::{Read, Write};
 
-/// A reader of a server's bytes and a writer of statuses, which know whether a read or a write of theirs failed.
+/// A reader of a server's bytes and a writer of statuses, which know whether a read or a write of
+/// theirs failed.
 #[derive(Drop)]
 pub struct Link<R: Drop, W: Drop> {
     pub(crate) reader: R,
@@ -44,7 +47,8 @@ impl<R: Read + Drop, W: Write + Drop> Link<R, W> {
         &self.writer
     }
 
-    // Reads once, at most as many bytes as `room` holds. 0 bytes are the end, and None is a read that failed.
+    // Reads once, at most as many bytes as `room` holds. 0 bytes are the end, and None is a read
+    // that failed.
     pub(crate) fn read_piece(&mut self, room: &mut [u8]) -> Option<usize>
         requires room { 0 < length room.old }
         requires sound { self.old.read_failed ≡ false }

@@ -2,12 +2,15 @@
 //!
 //! PostgreSQL documentation, Streaming Replication Protocol, Standby status update.
 
-ghost use Rattle.std.specs.Prelude.{◌≡◌, ◌≢◌, ◌≤◌, ◌<◌, ◌↔◌, ◌++◌, Err, false, true, ℕ, List, length, take, OnOk, OnErr, IfOk, IfErr};
+ghost use Rattle.std.specs.Prelude.{◌≡◌, ◌≢◌, ◌≤◌, ◌<◌, ◌↔◌, ◌++◌, Err, false, true, ℕ, List};
+ghost use Rattle.std.specs.Prelude.{length, take, OnOk, OnErr, IfOk, IfErr};
 ghost use Rattle.std.specs.Io.KnownBytes.{Appends};
 ghost use Rattle.pgapply.specs.Value.{Tables};
 ghost use Rattle.pgsub_core.specs.Subscriber.SubscriberValue.{seen};
 ghost use Rattle.pgfollow.specs.Told.{FollowsLive};
-ghost use Rattle.pgfollow.specs.Live.{FollowsPiece, IsFollowedPart, IsFront, IsGreeted, IsOfFollowing, LiveEnds, StopsFront, StopsGreeting, StopsPiece, ended_by, news, piece_len, settled};
+ghost use Rattle.pgfollow.specs.Live.{FollowsPiece, IsFollowedPart, IsFront, IsGreeted};
+ghost use Rattle.pgfollow.specs.Live.{IsOfFollowing, LiveEnds, StopsFront, StopsGreeting};
+ghost use Rattle.pgfollow.specs.Live.{StopsPiece, ended_by, news, piece_len, settled};
 
 use crate::clock::Clock;
 use crate::fault::FollowFault;
@@ -109,7 +112,8 @@ fn greet<R: Read + Drop, W: Write + Drop, P: Spools + Drop, C: ReplicaStore + Dr
     }
 }
 
-// Feeds the first bytes of a piece, up to the end of their session, and tells the server then what is stored. Returns how many they are.
+// Feeds the first bytes of a piece, up to the end of their session, and tells the server then what
+// is stored. Returns how many they are.
 fn follow_part<R: Read + Drop, W: Write + Drop, P: Spools + Drop, C: ReplicaStore + Drop>(
     link: &mut Link<R, W>,
     subscriber: &mut Subscriber<P, C>,
@@ -248,13 +252,15 @@ fn follow_reads<
     Ok(())
 }
 
-/// Follows a server: reads the frames of sessions as they come, feeds each piece of at most 65536 bytes, and tells the server then what
-/// is stored. A session ends with its CopyDone, and what follows is the next one's, as after a disconnection. It ends with the bytes, or
-/// after 2^64 - 1 reads.
+/// Follows a server: reads the frames of sessions as they come, feeds each piece of at most 65536
+/// bytes, and tells the server then what is stored. A session ends with its CopyDone, and what
+/// follows is the next one's, as after a disconnection. It ends with the bytes, or after 2^64 - 1
+/// reads.
 ///
-/// The first status is that of the opened store. After each piece, and at the end of each session, it writes the replies to keepalives
-/// that asked for one, and a status where confirmed has moved since the last one, and flushes. So what the writer gets is statuses alone,
-/// each of which confirms as flushed what it confirms as applied, and no less than the one before it.
+/// The first status is that of the opened store. After each piece, and at the end of each session,
+/// it writes the replies to keepalives that asked for one, and a status where confirmed has moved
+/// since the last one, and flushes. So what the writer gets is statuses alone, each of which
+/// confirms as flushed what it confirms as applied, and no less than the one before it.
 ///
 /// Let the sessions be some that a server sends of a history, and let the rows be the history's
 /// before. Then every transaction that changes rows and ends by what a status confirms is in the
@@ -268,10 +274,12 @@ fn follow_reads<
 ///
 /// # Errors
 ///
-/// `Read` exactly if a read failed, `Write` exactly if a write failed; then nothing more is read and nothing more is confirmed. Any other
-/// fault is that of feeding the piece that was read last, of which nothing is told, or out of memory.
+/// `Read` exactly if a read failed, `Write` exactly if a write failed; then nothing more is read
+/// and nothing more is confirmed. Any other fault is that of feeding the piece that was read last,
+/// of which nothing is told, or out of memory.
 ///
-/// PostgreSQL documentation, Streaming Replication Protocol, START_REPLICATION and Standby status update.
+/// PostgreSQL documentation, Streaming Replication Protocol, START_REPLICATION and Standby status
+/// update.
 pub fn follow_live<
     R: Read + Drop,
     W: Write + Drop,

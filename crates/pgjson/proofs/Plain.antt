@@ -1,5 +1,6 @@
 -- Frames and messages in JSON have no floats, so that their text is the compact one.
-use Rattle.std.proofs.Common.{◌≡◌, ℕ, ℤ, pos, negsuc, List, [], ◌∷◌, map, Bool, false, Option, Some, None, Result, Ok, Err, IfOk, refl, String, string_bytes}
+use Rattle.std.proofs.Common.{◌≡◌, ℕ, ℤ, pos, negsuc, List, [], ◌∷◌, map, Bool, false, Option, Some}
+use Rattle.std.proofs.Common.{None, Result, Ok, Err, IfOk, refl, String, string_bytes}
 use Rattle.std.specs.declared.alloc.AllocError.{AllocError}
 use Rattle.std.specs.declared.alloc.Global.{Global}
 use Rattle.serde_json.specs.declared.value.Value.{Value}
@@ -13,11 +14,13 @@ use Rattle.pglogical.specs.declared.message.Column.{Column}
 use Rattle.pglogical.specs.declared.message.OldKind.{OldKind}
 use Rattle.pglogical.specs.declared.message.OldKind.TheVariants.{Key, Full}
 use Rattle.pglogical.specs.declared.message.Item.{Item}
-use Rattle.pglogical.specs.declared.message.Item.TheVariants.{Relation, Insert, Update, Delete, Truncate}
+use Rattle.pglogical.specs.declared.message.Item.TheVariants.{Relation, Insert, Update, Delete}
+use Rattle.pglogical.specs.declared.message.Item.TheVariants.{Truncate}
 use Rattle.pglogical.specs.declared.message.Message.{Message}
 use Rattle.pglogical.specs.declared.message.Message.TheVariants as message
 use Rattle.pgjson.specs.Cells.{cell_data}
-use Rattle.pgjson.specs.Messages.{column_data, item_data, message_data, natural, old_data, prior_data, xid_data}
+use Rattle.pgjson.specs.Messages.{column_data, item_data, message_data, natural, old_data}
+use Rattle.pgjson.specs.Messages.{prior_data, xid_data}
 use Rattle.pgjson.specs.Lines.{data_data, keepalive_data, line}
 
 integer_plain : (n : ℤ) → is_float (of_integer n) ≡ false
@@ -80,7 +83,8 @@ pub keepalive_plain : (end : ℕ) (clock : ℤ) (reply : Bool) → has_float (ke
 keepalive_plain end clock reply = rw (integer_plain clock)
 
 -- the line of a value that stands for data without floats
-pub line_as : (text : Result (String Global) AllocError) (value : Value) (d : Data) → view value ≡ d → has_float d ≡ false → IfOk text (λ s. has_float (view value) ≡ false → string_bytes s ≡ line (view value))
+pub line_as : (text : Result (String Global) AllocError) (value : Value) (d : Data) → view value ≡ d → has_float d ≡ false
+    → IfOk text (λ s. has_float (view value) ≡ false → string_bytes s ≡ line (view value))
     → IfOk text (λ s. string_bytes s ≡ line d)
 line_as (Ok s) value d is plain h = rw is at (h (rw is plain))
 line_as (Err e) value d is plain h = tt

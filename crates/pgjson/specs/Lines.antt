@@ -1,5 +1,5 @@
--- PostgreSQL documentation, Streaming Replication Protocol (XLogData, Primary keepalive message) and Message Formats (CopyDone):
--- a line for each frame, in JSON without blanks.
+-- PostgreSQL documentation, Streaming Replication Protocol (XLogData, Primary keepalive message)
+-- and Message Formats (CopyDone): a line for each frame, in JSON without blanks.
 use Rattle.std.specs.Prelude.{ℕ, ℤ, List, [], ◌∷◌, ◌++◌, Bool, codes}
 use Rattle.serde_json.specs.Data.{Data, string}
 use Rattle.serde_json.specs.Written.{compact_text}

@@ -1,6 +1,8 @@
--- PostgreSQL documentation, Logical Replication Message Formats: messages in JSON, each an array of its name and its fields.
--- LSNs are strings, other numbers are numbers, and an xid that a message doesn't have is null.
-use Rattle.std.specs.Prelude.{ℕ, ℤ, List, [], ◌∷◌, map, Bool, true, false, Option, Some, None, codes, encode_utf8}
+-- PostgreSQL documentation, Logical Replication Message Formats: messages in JSON, each an array of
+-- its name and its fields. LSNs are strings, other numbers are numbers, and an xid that a message
+-- doesn't have is null.
+use Rattle.std.specs.Prelude.{ℕ, ℤ, List, [], ◌∷◌, map, Bool, true, false, Option, Some, None}
+use Rattle.std.specs.Prelude.{codes, encode_utf8}
 use Rattle.serde_json.specs.Data.{Data, null, number, unsigned, string}
 use Rattle.serde_json.specs.Find.{of_integer}
 use Rattle.pglsn.specs.Texts.{lsn_text}
@@ -10,7 +12,8 @@ use Rattle.pglogical.specs.declared.message.RelationDef.{RelationDef}
 use Rattle.pglogical.specs.declared.message.OldKind.{OldKind}
 use Rattle.pglogical.specs.declared.message.OldKind.TheVariants.{Key, Full}
 use Rattle.pglogical.specs.declared.message.Item.{Item}
-use Rattle.pglogical.specs.declared.message.Item.TheVariants.{Relation, Insert, Update, Delete, Truncate}
+use Rattle.pglogical.specs.declared.message.Item.TheVariants.{Relation, Insert, Update, Delete}
+use Rattle.pglogical.specs.declared.message.Item.TheVariants.{Truncate}
 use Rattle.pglogical.specs.declared.message.Message.{Message}
 use Rattle.pglogical.specs.declared.message.Message.TheVariants as message
 use Rattle.pgjson.specs.Cells.{cells_data, hex_data, list}
@@ -56,7 +59,8 @@ prior_data (Some old) = old_data old.0 old.1
 
 abbrev pub relation_data : Option ℕ → RelationDef → Data
 relation_data xid def =
-    list (string (codes "Relation") ∷ xid_data xid ∷ natural def.oid ∷ string def.namespace ∷ string def.name ∷ letter_data def.letter ∷ columns_data def.columns ∷ [])
+    list (string (codes "Relation") ∷ xid_data xid ∷ natural def.oid ∷ string def.namespace ∷ string def.name ∷ letter_data def.letter
+    ∷ columns_data def.columns ∷ [])
 
 abbrev pub item_data : Option ℕ → Item → Data
 item_data xid (Relation def) = relation_data xid def

@@ -1,6 +1,7 @@
 //! Relations and changes in JSON.
 //!
-//! PostgreSQL documentation, Logical Replication Message Formats, Relation, Insert, Update, Delete, Truncate.
+//! PostgreSQL documentation, Logical Replication Message Formats, Relation, Insert, Update, Delete,
+//! Truncate.
 
 ghost use Rattle.std.specs.Prelude.{◌≡◌, Option, IfOk};
 ghost use Rattle.serde_json.specs.View.{view};

@@ -1,6 +1,7 @@
 //! A line for each frame of a session.
 //!
-//! PostgreSQL documentation, Streaming Replication Protocol, XLogData and Primary keepalive message; Message Formats, CopyDone.
+//! PostgreSQL documentation, Streaming Replication Protocol, XLogData and Primary keepalive
+//! message; Message Formats, CopyDone.
 
 ghost use Rattle.std.specs.Prelude.{◌≡◌, IfOk, false, string_bytes};
 ghost use Rattle.serde_json.specs.Written.{compact_text, has_float};

@@ -5,7 +5,8 @@
 ghost use Rattle.std.specs.Prelude.{◌≡◌, IfOk};
 ghost use Rattle.serde_json.specs.View.{view};
 ghost use Rattle.pglogical.specs.Lent.{message_value};
-ghost use Rattle.pgjson.specs.Messages.{begin_data, commit_data, logical_data, message_data, origin_data, stream_commit_data, type_data};
+ghost use Rattle.pgjson.specs.Messages.{begin_data, commit_data, logical_data, message_data};
+ghost use Rattle.pgjson.specs.Messages.{origin_data, stream_commit_data, type_data};
 
 use crate::items::item_json;
 use crate::parts::{flag, lsn_json, xid_json};

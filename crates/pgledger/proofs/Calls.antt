@@ -7,7 +7,8 @@ module _ {L : Type 0} (begins : L → ℕ) (is_wanting : L → Bool) (outlasts :
   pub rests_same : (a : L) → Rests begins is_wanting outlasts reopens a a
   rests_same a = record { begins_is = refl; wanting_is = refl; outlasts_more = λ p h. h; reopens_less = λ p other h. h }
 
-  pub rests_then : (a b c : L) → Rests begins is_wanting outlasts reopens a b → Rests begins is_wanting outlasts reopens b c → Rests begins is_wanting outlasts reopens a c
+  pub rests_then : (a b c : L) → Rests begins is_wanting outlasts reopens a b → Rests begins is_wanting outlasts reopens b c
+      → Rests begins is_wanting outlasts reopens a c
   rests_then a b c one two = record {
     begins_is = two.begins_is ∙ one.begins_is;
     wanting_is = two.wanting_is ∙ one.wanting_is;
@@ -16,5 +17,6 @@ module _ {L : Type 0} (begins : L → ℕ) (is_wanting : L → Bool) (outlasts :
   }
 
   -- what outlasts a crash does so after another call
-  pub syncs_then : (keeps : L → List Entry → Type 0) (a b c : L) → Syncs keeps begins outlasts a b → Rests begins is_wanting outlasts reopens b c → Syncs keeps begins outlasts a c
+  pub syncs_then : (keeps : L → List Entry → Type 0) (a b c : L) → Syncs keeps begins outlasts a b
+      → Rests begins is_wanting outlasts reopens b c → Syncs keeps begins outlasts a c
   syncs_then keeps a b c syncs rests es kept = rests.outlasts_more _ (syncs es kept)

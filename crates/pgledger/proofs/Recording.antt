@@ -1,5 +1,7 @@
 -- A store's ledger goes on with its commits, and is the same where it is opened anew.
-use Rattle.std.proofs.Common.{◌≡◌, ◌≢◌, ◌<◌, ◌≤◌, ◌++◌, inl, inr, ℕ, List, [], ◌∷◌, Bool, true, false, Result, Ok, Err, OnOk, OnErr, Option, refl, sym, ap, subst, ◌∙◌, arith}
+use Rattle.std.proofs.Common.{◌≡◌, ◌≢◌, ◌<◌, ◌≤◌, ◌++◌, inl, inr, ℕ, List, [], ◌∷◌, Bool, true}
+use Rattle.std.proofs.Common.{false, Result, Ok, Err, OnOk, OnErr, Option, refl, sym, ap, subst}
+use Rattle.std.proofs.Common.{◌∙◌, arith}
 use Rattle.std.specs.Prelude.{◌==◌}
 use Rattle.std.specs.Cmp.{unsigned_Decides}
 use Rattle.std.proofs.lemmas.List.{append-nil}
@@ -9,7 +11,8 @@ use Rattle.pgapply.specs.Value.{Tables}
 use Rattle.pgapply.specs.Apply.{Change, fold_changes}
 use Rattle.pgledger.specs.Images.{images}
 use Rattle.pgledger.specs.Entries.{Entry, entry_of, last_end, LeadTo}
-use Rattle.pgledger.specs.Ledgers.{Appends, AppendsAtMost, CutsAt, Keeps, Rests, StaysOrSticks, Syncs}
+use Rattle.pgledger.specs.Ledgers.{Appends, AppendsAtMost, CutsAt, Keeps, Rests, StaysOrSticks}
+use Rattle.pgledger.specs.Ledgers.{Syncs}
 use Rattle.pgledger.specs.Records.{Plans, Records, Stages}
 
 -- ---- results
@@ -33,7 +36,8 @@ of_both (Err e) p q r f g = g q r
 -- something is staged
 pub some_staged : (reach place : ℕ) (is_empty : Bool) → place ≤ reach → is_empty ≡ (reach == place) → is_empty ≡ false → place < reach
 some_staged reach place is_empty order told differ =
-    let apart : reach ≢ place = λ same. let yes : (reach == place) ≡ true = (unsigned_Decides reach place).1 same in let never : ⊥ = cc in never in
+    let apart : reach ≢ place = λ same. let yes : (reach == place) ≡ true = (unsigned_Decides reach place).1 same in let never : ⊥ = cc in
+    never in
     omega (arith, order, apart)
 
 -- what was told ends where it leads
@@ -41,11 +45,18 @@ ends : (es : List Entry) (t : Tables) (at : ℕ) (t' : Tables) (at' : ℕ) → L
 ends [] t at t' at' l = sym l.1
 ends (e ∷ es) t at t' at' l = ends es l.1.2.0 e.end t' at' l.1.2.2
 
-goes_on : (es : List Entry) (t : Tables) (at : ℕ) (t' : Tables) (at' end : ℕ) (about : Option About) (changes : List Change) (next : Tables) → LeadTo t at es t' at' → at' < end → fold_changes t' changes ≡ Ok next
+goes_on : (es : List Entry) (t : Tables) (at : ℕ) (t' : Tables) (at' end : ℕ) (about : Option About) (changes : List Change) (next : Tables)
+    → LeadTo t at es t' at' → at' < end → fold_changes t' changes ≡ Ok next
     → LeadTo t at (es ++ entry_of end about changes (images t' changes) ∷ []) next end
 goes_on [] t at t' at' end about changes next l later e =
-    let place = l.1 in
-    (omega arith, (changes, ap (λ (x : Tables). entry_of end about changes (images x changes)) l.0, (next, subst (λ (x : Tables). fold_changes x changes ≡ Ok next) l.0 e, (refl, refl))))
+    let place = l.1 in (
+      omega arith,
+      (
+        changes,
+        ap (λ (x : Tables). entry_of end about changes (images x changes)) l.0,
+        (next, subst (λ (x : Tables). fold_changes x changes ≡ Ok next) l.0 e, (refl, refl)),
+      ),
+    )
 goes_on (x ∷ es) t at t' at' end about changes next l later e =
     (l.0, (l.1.0, l.1.1, (l.1.2.0, l.1.2.1, goes_on es l.1.2.0 x.end t' at' end about changes next l.1.2.2 later e)))
 
@@ -57,14 +68,27 @@ append_twice : (a b c : List Entry) → a ++ (b ++ c) ≡ a ++ b ++ c
 append_twice [] b c = refl
 append_twice (x ∷ a) b c = ap (λ l. x ∷ l) (append_twice a b c)
 
-module _ {L : Type 0} (begins : L → ℕ) (keeps : L → List Entry → Type 0) (outlasts : L → ℕ → Type 0) (is_stuck : L → Bool) (is_wanting : L → Bool) (reopens : L → ℕ → L → Type 0) where
+module _ {L : Type 0} (begins : L → ℕ) (keeps : L → List Entry → Type 0) (outlasts : L → ℕ → Type 0) (is_stuck : L → Bool)
+    (is_wanting : L → Bool) (reopens : L → ℕ → L → Type 0) where
   -- ---- a ledger that begins, and one that is opened anew
 
-  pub begun : (l : L) (tables : Tables) (place reach : ℕ) → keeps l [] → begins l ≡ place → outlasts l place → Records begins keeps outlasts is_stuck l tables place reach
-  begun l tables place reach kept here lasting = record { base = tables; told = []; later = []; kept = kept; leads = (refl, sym here); lasting = lasting; above = tt; none = λ _ _. refl }
+  pub begun : (l : L) (tables : Tables) (place reach : ℕ) → keeps l [] → begins l ≡ place → outlasts l place
+      → Records begins keeps outlasts is_stuck l tables place reach
+  begun l tables place reach kept here lasting =
+      record {
+        base = tables;
+        told = [];
+        later = [];
+        kept = kept;
+        leads = (refl, sym here);
+        lasting = lasting;
+        above = tt;
+        none = λ _ _. refl;
+      }
 
   module _ (cuts : CutsAt keeps begins outlasts reopens) (old new : L) where
-    cut : (es later : List Entry) (base tables : Tables) (place p reach : ℕ) → p ≡ place → reopens old p new → keeps old (es ++ later) → LeadTo base (begins old) es tables place → outlasts old place
+    cut : (es later : List Entry) (base tables : Tables) (place p reach : ℕ) → p ≡ place → reopens old p new → keeps old (es ++ later)
+        → LeadTo base (begins old) es tables place → outlasts old place
         → AllByRecursion (λ (e : Entry). place < e.end) later → Records begins keeps outlasts is_stuck new tables p reach
     cut es later base tables place p reach is r kept leads lasting above =
         let at : reopens old place new = subst (λ q. reopens old q new) is r in
@@ -81,14 +105,17 @@ module _ {L : Type 0} (begins : L → ℕ) (keeps : L → List Entry → Type 0)
         })
 
     -- what a crash leaves of it leads to the same tables
-    pub same_records : (tables : Tables) (place reach p reach' : ℕ) → p ≡ place → reopens old p new → Records begins keeps outlasts is_stuck old tables place reach → Records begins keeps outlasts is_stuck new tables p reach'
+    pub same_records : (tables : Tables) (place reach p reach' : ℕ) → p ≡ place → reopens old p new
+        → Records begins keeps outlasts is_stuck old tables place reach → Records begins keeps outlasts is_stuck new tables p reach'
     same_records tables place reach p reach' is r k = cut k.told k.later k.base tables place p reach' is r k.kept k.leads k.lasting k.above
 
   -- ---- what becomes of a ledger in a call
 
   module _ (old new : L) (rests : Rests begins is_wanting outlasts reopens old new) (tables : Tables) (place : ℕ) where
     -- it keeps what it kept, and may be stuck then
-    pub kept_records : (reach reach' : ℕ) → Keeps keeps old new → (is_stuck new ≡ false → reach' ≡ place → (is_stuck old ≡ false) × (reach ≡ place)) → Records begins keeps outlasts is_stuck old tables place reach
+    pub kept_records : (reach reach' : ℕ) → Keeps keeps old new
+        → (is_stuck new ≡ false → reach' ≡ place → (is_stuck old ≡ false) × (reach ≡ place))
+        → Records begins keeps outlasts is_stuck old tables place reach
         → Records begins keeps outlasts is_stuck new tables place reach'
     kept_records reach reach' keep free k = record {
       base = k.base;
@@ -102,13 +129,23 @@ module _ {L : Type 0} (begins : L → ℕ) (keeps : L → List Entry → Type 0)
     }
 
     -- perhaps a commit more is told that ends later
-    pub more_records : (reach reach' end : ℕ) → place < end → AppendsAtMost keeps end old new → (is_stuck new ≡ false → reach' ≡ place → ⊥) → Records begins keeps outlasts is_stuck old tables place reach
+    pub more_records : (reach reach' end : ℕ) → place < end → AppendsAtMost keeps end old new → (is_stuck new ≡ false → reach' ≡ place → ⊥)
+        → Records begins keeps outlasts is_stuck old tables place reach
         → Records begins keeps outlasts is_stuck new tables place reach'
     more_records reach reach' end later adds never k =
         let leads = subst (λ b. LeadTo k.base b k.told tables place) (sym rests.begins_is) k.leads in
         let lasting = rests.outlasts_more place k.lasting in
         elim (adds (k.told ++ k.later) k.kept) [
-          | inl same ↦ record { base = k.base; told = k.told; later = k.later; kept = same; leads = leads; lasting = lasting; above = k.above; none = λ stands here. absurd (never stands here) }
+          | inl same ↦ record {
+            base = k.base;
+            told = k.told;
+            later = k.later;
+            kept = same;
+            leads = leads;
+            lasting = lasting;
+            above = k.above;
+            none = λ stands here. absurd (never stands here);
+          }
           | inr one ↦ record {
             base = k.base;
             told = k.told;
@@ -122,37 +159,51 @@ module _ {L : Type 0} (begins : L → ℕ) (keeps : L → List Entry → Type 0)
         ]
 
     -- what was staged is dropped, and the store is where it was
-    pub dropped_records : (reach place' reach' : ℕ) → Keeps keeps old new → (is_stuck new ≡ false → (is_stuck old ≡ false) × (reach ≡ place)) → place' ≡ place → Records begins keeps outlasts is_stuck old tables place reach
+    pub dropped_records : (reach place' reach' : ℕ) → Keeps keeps old new
+        → (is_stuck new ≡ false → (is_stuck old ≡ false) × (reach ≡ place)) → place' ≡ place
+        → Records begins keeps outlasts is_stuck old tables place reach
         → Records begins keeps outlasts is_stuck new tables place' reach'
     dropped_records reach place' reach' keep free is k =
-        subst (λ p. Records begins keeps outlasts is_stuck new tables p reach') (sym is) (kept_records reach reach' keep (λ stands _. free stands) k)
+        subst (λ p. Records begins keeps outlasts is_stuck new tables p reach') (sym is)
+        (kept_records reach reach' keep (λ stands _. free stands) k)
 
     -- a commit was refused
     module _ (end : ℕ) (later : place < end) (adds : AppendsAtMost keeps end old new) (untold : StaysOrSticks is_stuck old new) where
-      pub refused_records : (reach : ℕ) → Records begins keeps outlasts is_stuck old tables place reach → Records begins keeps outlasts is_stuck new tables place reach
+      pub refused_records : (reach : ℕ) → Records begins keeps outlasts is_stuck old tables place reach
+          → Records begins keeps outlasts is_stuck new tables place reach
       refused_records reach k = elim untold [
         | inl same ↦ subst (λ l. Records begins keeps outlasts is_stuck l tables place reach) (sym same) k
         | inr stuck ↦ more_records reach reach end later adds (λ stands _. let never : ⊥ = cc in never) k
       ]
 
-      pub refused_plans : (reach : ℕ) → Plans begins keeps outlasts is_stuck old tables place reach → Plans begins keeps outlasts is_stuck new tables place reach
+      pub refused_plans : (reach : ℕ) → Plans begins keeps outlasts is_stuck old tables place reach
+          → Plans begins keeps outlasts is_stuck new tables place reach
       refused_plans reach h = elim untold [
         | inl same ↦ subst (λ l. Plans begins keeps outlasts is_stuck l tables place reach) (sym same) h
-        | inr stuck ↦ record { held = λ here. more_records reach reach end later adds (λ stands _. let never : ⊥ = cc in never) (h.held here); staged = λ stands. absurd (let never : ⊥ = cc in never) }
+        | inr stuck ↦ record {
+          held = λ here.
+              more_records reach reach end later adds (λ stands _. let never : ⊥ = cc in never) (h.held here);
+          staged =
+              λ stands. absurd (let never : ⊥ = cc in never);
+        }
       ]
 
     -- a commit more is staged
-    pub more_staged : (end : ℕ) (about : Option About) (changes : List Change) (next : Tables) → place < end → fold_changes tables changes ≡ Ok next
-        → Appends keeps (entry_of end about changes (images tables changes)) old new → Stages begins keeps outlasts is_stuck old tables place → Stages begins keeps outlasts is_stuck new next end
+    pub more_staged : (end : ℕ) (about : Option About) (changes : List Change) (next : Tables) → place < end
+        → fold_changes tables changes ≡ Ok next
+        → Appends keeps (entry_of end about changes (images tables changes)) old new
+        → Stages begins keeps outlasts is_stuck old tables place → Stages begins keeps outlasts is_stuck new next end
     more_staged end about changes next later e adds k = record {
       base = k.base;
       told = k.told ++ entry_of end about changes (images tables changes) ∷ [];
       kept = adds k.told k.kept;
-      leads = subst (λ b. LeadTo k.base b (k.told ++ entry_of end about changes (images tables changes) ∷ []) next end) (sym rests.begins_is) (goes_on k.told k.base (begins old) tables place end about changes next k.leads later e);
+      leads = subst (λ b. LeadTo k.base b (k.told ++ entry_of end about changes (images tables changes) ∷ []) next end)
+          (sym rests.begins_is) (goes_on k.told k.base (begins old) tables place end about changes next k.leads later e);
     }
 
     -- all that is staged is taken
-    pub settled_records : (reach' : ℕ) → Keeps keeps old new → Syncs keeps begins outlasts old new → Stages begins keeps outlasts is_stuck old tables place → Records begins keeps outlasts is_stuck new tables place reach'
+    pub settled_records : (reach' : ℕ) → Keeps keeps old new → Syncs keeps begins outlasts old new
+        → Stages begins keeps outlasts is_stuck old tables place → Records begins keeps outlasts is_stuck new tables place reach'
     settled_records reach' keep syncs k = record {
       base = k.base;
       told = k.told;
@@ -165,7 +216,8 @@ module _ {L : Type 0} (begins : L → ℕ) (keeps : L → List Entry → Type 0)
     }
 
   -- where nothing is staged, what is held is what is staged
-  pub held_plans : (l : L) (tables : Tables) (place reach : ℕ) → reach ≡ place → Records begins keeps outlasts is_stuck l tables place reach → Plans begins keeps outlasts is_stuck l tables place reach
+  pub held_plans : (l : L) (tables : Tables) (place reach : ℕ) → reach ≡ place → Records begins keeps outlasts is_stuck l tables place reach
+      → Plans begins keeps outlasts is_stuck l tables place reach
   held_plans l tables place reach here k = record {
     held = λ _. k;
     staged = λ stands. record {

@@ -22,8 +22,9 @@ abbrev pub last_end : ℕ → List Entry → ℕ
 last_end at [] = at
 last_end at (e ∷ es) = last_end e.end es
 
--- From these tables at this LSN the entries lead, commit by commit, to those tables at that one: each is of a commit whose changes
--- can be made, with their images, and ends later than the one before it.
+-- From these tables at this LSN the entries lead, commit by commit, to those tables at that one:
+-- each is of a commit whose changes can be made, with their images, and ends later than the one
+-- before it.
 abbrev pub LeadTo : Tables → ℕ → List Entry → Tables → ℕ → Type 0
 LeadTo tables at [] tables' at' = (tables' ≡ tables) × (at' ≡ at)
 LeadTo tables at (e ∷ es) tables' at' =

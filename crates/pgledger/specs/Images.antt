@@ -1,6 +1,8 @@
--- What changes do to single rows: each row whole, as it was before and as it is after.
--- PostgreSQL documentation, Logical Replication Message Formats, Insert, Update, Delete, Truncate; ALTER TABLE, REPLICA IDENTITY.
-use Rattle.std.specs.Prelude.{◌≡◌, ◌||◌, ◌==◌, List, [], ◌∷◌, length, false, ⊤, Option, Some, None, Result, Ok, Err, if◌then◌else◌}
+-- What changes do to single rows: each row whole, as it was before and as it is after. PostgreSQL
+-- documentation, Logical Replication Message Formats, Insert, Update, Delete, Truncate; ALTER
+-- TABLE, REPLICA IDENTITY.
+use Rattle.std.specs.Prelude.{◌≡◌, ◌||◌, ◌==◌, List, [], ◌∷◌, length, false, ⊤, Option, Some, None}
+use Rattle.std.specs.Prelude.{Result, Ok, Err, if◌then◌else◌}
 use Rattle.std.specs.FinMap as map
 use Rattle.pgtuple.specs.declared.cell.Cell.{Cell}
 use Rattle.pglogical.specs.declared.message.RelationDef.{RelationDef}
@@ -11,9 +13,11 @@ use Rattle.pgapply.specs.declared.op.Op.{Op}
 use Rattle.pgapply.specs.declared.op.Op.TheVariants.{Insert, Update, Delete, Truncate}
 use Rattle.pgapply.specs.declared.fault.StoreFault.{StoreFault}
 use Rattle.pgapply.specs.Value.{Row, Rows, Table, Tables, AreTables, identity_key}
-use Rattle.pgapply.specs.Apply.{Change, carry_rows, found_rows, with_row, without_row, row_at, apply, fold_changes}
+use Rattle.pgapply.specs.Apply.{Change, carry_rows, found_rows, with_row, without_row, row_at}
+use Rattle.pgapply.specs.Apply.{apply, fold_changes}
 use Rattle.pgledger.specs.declared.image.Image.{Image}
-use Rattle.pgledger.specs.declared.image.Image.TheVariants.{Inserted, Updated, Deleted, Truncated, Missed}
+use Rattle.pgledger.specs.declared.image.Image.TheVariants.{Inserted, Updated, Deleted, Truncated}
+use Rattle.pgledger.specs.declared.image.Image.TheVariants.{Missed}
 
 -- the cells that weren't sent are those of the row that was found
 abbrev pub updated_image : Option (OldKind × List Cell) → List Cell → Option Row → Image
@@ -55,7 +59,8 @@ unfoldable pub images : Tables → List Change → List Image
 images tables [] = []
 images tables (change ∷ changes) = change_image tables change ∷ images_after (apply tables change) (λ next. images next changes)
 
--- ---- what they are good for: who has the rows before a commit gets those after it, by whole rows alone
+-- ---- what they are good for: who has the rows before a commit gets those after it, by whole rows
+-- alone
 
 -- a cell for each column, all of them sent
 abbrev pub IsWhole : RelationDef → List Cell → Type 0
@@ -94,7 +99,8 @@ lines (change ∷ changes) (image ∷ more) = record { definition = change.defin
 abbrev pub rows_under : Option Table → RelationDef → Result Rows StoreFault
 rows_under None def = Ok map.empty
 rows_under (Some table) def =
-    if same_shape table.definition def || map.len table.rows == 0 then Ok table.rows else carry_rows table.definition def (map.entries table.rows) map.empty
+    if same_shape table.definition def || map.len table.rows == 0 then Ok table.rows
+    else carry_rows table.definition def (map.entries table.rows) map.empty
 
 -- the rows that an image speaks of; a truncation doesn't ask
 abbrev pub Finds : Option Table → RelationDef → Image → Rows → Type 0

@@ -21,19 +21,22 @@ module _ {L : Type 0} (keeps : L → List Entry → Type 0) where
     abbrev pub Syncs : L → L → Type 0
     Syncs old new = (es : List Entry) → keeps old es → outlasts new (last_end (begins old) es)
 
-    -- Opened anew at an LSN up to which its entries outlast a crash, it begins where it began, and keeps the entries up to the one that
-    -- ends there, or none where it begins there.
+    -- Opened anew at an LSN up to which its entries outlast a crash, it begins where it began, and
+    -- keeps the entries up to the one that ends there, or none where it begins there.
     abbrev pub CutsAt : (L → ℕ → L → Type 0) → Type 0
     CutsAt reopens =
-        (old new : L) (p : ℕ) (told later : List Entry) → reopens old p new → keeps old (told ++ later) → last_end (begins old) told ≡ p → outlasts old p
+        (old new : L) (p : ℕ) (told later : List Entry) → reopens old p new → keeps old (told ++ later) → last_end (begins old) told ≡ p
+        → outlasts old p
         → AllByRecursion (λ (e : Entry). p < e.end) later → keeps new told × (begins new ≡ begins old) × outlasts new p
 
 -- it is as it was, or it is stuck
 abbrev pub StaysOrSticks : {L : Type 0} → (L → Bool) → L → L → Type 0
 StaysOrSticks is_stuck old new = (new ≡ old) ⊎ (is_stuck new ≡ true)
 
--- what no call changes of a ledger: where it begins, whether it wants images, what outlasts a crash, and what a crash leaves
-pub record Rests {L : Type 0} (begins : L → ℕ) (is_wanting : L → Bool) (outlasts : L → ℕ → Type 0) (reopens : L → ℕ → L → Type 0) (old new : L) : Type 0 where
+-- what no call changes of a ledger: where it begins, whether it wants images, what outlasts a
+-- crash, and what a crash leaves
+pub record Rests {L : Type 0} (begins : L → ℕ) (is_wanting : L → Bool) (outlasts : L → ℕ → Type 0) (reopens : L → ℕ → L → Type 0)
+    (old new : L) : Type 0 where
   pub begins_is : begins new ≡ begins old
   pub wanting_is : is_wanting new ≡ is_wanting old
   pub outlasts_more : (p : ℕ) → outlasts old p → outlasts new p

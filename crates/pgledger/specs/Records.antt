@@ -5,8 +5,9 @@ use Rattle.pgapply.specs.Value.{Tables}
 use Rattle.pgledger.specs.Entries.{Entry, LeadTo}
 
 module _ {L : Type 0} (begins : L → ℕ) (keeps : L → List Entry → Type 0) (outlasts : L → ℕ → Type 0) (is_stuck : L → Bool) where
-  -- From some tables where the ledger begins its entries lead to these at the position, and outlast a crash. After them come those of
-  -- commits alone that are staged, and none where none is staged, unless the ledger is stuck.
+  -- From some tables where the ledger begins its entries lead to these at the position, and outlast
+  -- a crash. After them come those of commits alone that are staged, and none where none is staged,
+  -- unless the ledger is stuck.
   pub record Records (l : L) (tables : Tables) (place reach : ℕ) : Type 0 where
     pub base : Tables
     pub told : List Entry
@@ -24,7 +25,8 @@ module _ {L : Type 0} (begins : L → ℕ) (keeps : L → List Entry → Type 0)
     pub kept : keeps l told
     pub leads : LeadTo base (begins l) told tables reach
 
-  -- What is staged: unless the ledger is stuck, its entries lead to these tables. Where nothing is staged, they are those that are held.
+  -- What is staged: unless the ledger is stuck, its entries lead to these tables. Where nothing is
+  -- staged, they are those that are held.
   pub record Plans (l : L) (tables : Tables) (place reach : ℕ) : Type 0 where
     pub held : reach ≡ place → Records l tables place reach
     pub staged : is_stuck l ≡ false → Stages l tables reach

@@ -3,7 +3,8 @@
 ghost use Rattle.std.specs.Prelude.{◌≡◌, ℕ, List, Bool, true, false, OnOk, OnErr, IfErr};
 ghost use Rattle.pgapply.specs.Stored.{IsOwnFault};
 ghost use Rattle.pgledger.specs.Entries.{Entry, entry_of};
-ghost use Rattle.pgledger.specs.Ledgers.{Appends, AppendsAtMost, CutsAt, Keeps, Rests, Syncs, UnaskedKeeps};
+ghost use Rattle.pgledger.specs.Ledgers.{Appends, AppendsAtMost, CutsAt, Keeps, Rests, Syncs};
+ghost use Rattle.pgledger.specs.Ledgers.{UnaskedKeeps};
 
 use crate::image::Image;
 use pgapply::{Commit, StoreFault};

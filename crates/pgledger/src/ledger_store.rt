@@ -7,7 +7,8 @@ ghost use Rattle.pgapply.specs.Missing.{Counts};
 ghost use Rattle.pgapply.specs.Taken.{Folds, LeavesStaged, Settles, Stays, RefusesWork};
 ghost use Rattle.pgledger.specs.Images.{images};
 ghost use Rattle.pgledger.specs.Entries.{entry_of};
-ghost use Rattle.pgledger.specs.Ledgers.{Appends, AppendsAtMost, Keeps, Rests, StaysOrSticks, Syncs};
+ghost use Rattle.pgledger.specs.Ledgers.{Appends, AppendsAtMost, Keeps, Rests, StaysOrSticks};
+ghost use Rattle.pgledger.specs.Ledgers.{Syncs};
 
 use crate::ledger::Ledger;
 use pgapply::{Commit, ReplicaStore, StoreFault};

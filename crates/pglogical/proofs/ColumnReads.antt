@@ -1,5 +1,6 @@
 -- What the bytes of lent columns give, column by column.
-use Rattle.std.proofs.Common.{◌≡◌, ◌≢◌, ℕ, zero, suc, ◌-◌, List, [], ◌∷◌, Result, length, Ok, Err, refl, sym, ap, subst, ◌∙◌, arith}
+use Rattle.std.proofs.Common.{◌≡◌, ◌≢◌, ℕ, zero, suc, ◌-◌, List, [], ◌∷◌, Result, length, Ok, Err}
+use Rattle.std.proofs.Common.{refl, sym, ap, subst, ◌∙◌, arith}
 use Rattle.pglogical.specs.declared.fault.DecodeFault.{DecodeFault}
 use Rattle.pglogical.specs.declared.message.Column.{Column}
 use Rattle.pglogical.specs.declared.column_refs.ColumnRef.{ColumnRef}
@@ -13,7 +14,8 @@ read_is : (read : Read (List Column)) → IsRead read → (at : At) × (read ≡
 read_is (Ok x) h = (x.1, refl)
 read_is (Err f) h = absurd h
 
-pub is_read : (read : Read (List Column)) (columns : List Column) (at : At) → read ≡ Ok (columns, at) → IsRead read × (columns_read read ≡ columns)
+pub is_read : (read : Read (List Column)) (columns : List Column) (at : At) → read ≡ Ok (columns, at)
+    → IsRead read × (columns_read read ≡ columns)
 is_read read columns at e = rw e (tt, refl)
 
 -- the first column, and the others
@@ -28,8 +30,17 @@ first_read n at h =
     let whole = read_is (columns_at (suc n) at) h in
     let one = bind_ok (column_at at) (λ first. columns_at n first.1 >>= λ others. Ok (first.0 ∷ others.0, others.1)) _ whole.1 in
     let others = bind_ok (columns_at n one.0.1) (λ others. Ok (one.0.0 ∷ others.0, others.1)) _ one.2 in
-    let is = is_read (columns_at n one.0.1) others.0.0 others.0.1 others.1 in
-    (one.0, record { here = one.1; there = is.0; all = ap (λ (r : Read (List Column)). columns_read r) (ap (λ (r : Read Column). r >>= λ first. columns_at n first.1 >>= λ others. Ok (first.0 ∷ others.0, others.1)) one.1 ∙ ap (λ (r : Read (List Column)). r >>= λ others. Ok (one.0.0 ∷ others.0, others.1)) others.1) ∙ ap (λ (columns : List Column). one.0.0 ∷ columns) (sym is.1) })
+    let is = is_read (columns_at n one.0.1) others.0.0 others.0.1 others.1 in (
+      one.0,
+      record {
+        here = one.1;
+        there = is.0;
+        all = ap (λ (r : Read (List Column)). columns_read r)
+            (ap (λ (r : Read Column). r >>= λ first. columns_at n first.1 >>= λ others. Ok (first.0 ∷ others.0, others.1)) one.1
+            ∙ ap (λ (r : Read (List Column)). r >>= λ others. Ok (one.0.0 ∷ others.0, others.1)) others.1)
+            ∙ ap (λ (columns : List Column). one.0.0 ∷ columns) (sym is.1);
+      },
+    )
 
 pub none_left : (n : ℕ) (at : At) → n ≡ 0 → columns_read (columns_at n at) ≡ []
 unfolding columns_at
@@ -55,7 +66,8 @@ next_read (suc n) at other h =
     )
 
 -- what is called a column is that column
-pub known_column : (r : Result ColumnRef DecodeFault) (at new : At) (first : Column × At) → Gives (λ c. (column_value c, new)) r (column_at at) → column_at at ≡ Ok first
+pub known_column : (r : Result ColumnRef DecodeFault) (at new : At) (first : Column × At)
+    → Gives (λ c. (column_value c, new)) r (column_at at) → column_at at ≡ Ok first
     → (c : ColumnRef) × (r ≡ Ok c) × (column_value c ≡ first.0) × (new ≡ first.1)
 known_column (Ok c) at new first e here =
     let same : ◌≡◌ {A = Column × At} (column_value c, new) first = ok_is (column_value c, new) first (sym e ∙ here) in

@@ -1,5 +1,5 @@
--- What borrowed columns and OIDs are made of: a list that someone owns, or the bytes that encode it.
--- PostgreSQL documentation, Logical Replication Message Formats, Relation, Truncate.
+-- What borrowed columns and OIDs are made of: a list that someone owns, or the bytes that encode
+-- it. PostgreSQL documentation, Logical Replication Message Formats, Relation, Truncate.
 use Rattle.std.specs.Prelude.{ℕ, List}
 use Rattle.pglogical.specs.declared.message.Column.{Column}
 use Rattle.pglogical.specs.declared.column_refs.Columns.{Columns}

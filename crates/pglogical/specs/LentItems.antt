@@ -1,5 +1,5 @@
--- The item that is borrowed, by its parts.
--- PostgreSQL documentation, Logical Replication Message Formats, Relation, Insert, Update, Delete, Truncate.
+-- The item that is borrowed, by its parts. PostgreSQL documentation, Logical Replication Message
+-- Formats, Relation, Insert, Update, Delete, Truncate.
 use Rattle.pglogical.specs.declared.message.RelationDef.{RelationDef}
 use Rattle.pglogical.specs.declared.message.Item.{Item}
 use Rattle.pglogical.specs.declared.message.Item.TheVariants as owned

@@ -60,7 +60,8 @@ stream_abort_tag = 65
 
 -- the first bytes of all messages
 abbrev pub message_tags : List ℕ
-message_tags = begin_tag ∷ commit_tag ∷ origin_tag ∷ relation_tag ∷ type_tag ∷ insert_tag ∷ update_tag ∷ delete_tag ∷ truncate_tag ∷ message_tag ∷ stream_start_tag ∷ stream_stop_tag ∷ stream_commit_tag ∷ stream_abort_tag ∷ []
+message_tags = begin_tag ∷ commit_tag ∷ origin_tag ∷ relation_tag ∷ type_tag ∷ insert_tag ∷ update_tag ∷ delete_tag ∷ truncate_tag
+    ∷ message_tag ∷ stream_start_tag ∷ stream_stop_tag ∷ stream_commit_tag ∷ stream_abort_tag ∷ []
 
 -- N: the new tuple
 abbrev pub new_tuple_tag : ℕ

@@ -1,5 +1,5 @@
--- What the types of a borrowed item's parts say of it: numbers are within their width, and names are UTF-8.
--- PostgreSQL documentation, Logical Replication Message Formats, Relation, Truncate.
+-- What the types of a borrowed item's parts say of it: numbers are within their width, and names
+-- are UTF-8. PostgreSQL documentation, Logical Replication Message Formats, Relation, Truncate.
 use Rattle.std.specs.Prelude.{◌≡◌, ◌<◌, ◌^◌, ℕ, List, true, FitsSigned}
 use Rattle.std.specs.Int.{w32}
 use Rattle.std.specs.List.{AllByRecursion}

@@ -110,7 +110,8 @@ impl<'a> ColumnRefs<'a> {
         }
     }
 
-    /// The same columns with memory of their own. It returns an error only where memory runs out, at place 0.
+    /// The same columns with memory of their own. It returns an error only where memory runs out,
+    /// at place 0.
     pub fn to_columns(&self, alloc: Global) -> Result<Seq<Column>, DecodeFault>
         ensures same { IfOk result (λ columns. columns ≡ self.now) }
         ensures memory { IfErr result (λ fault. fault ≡ out_of_memory) }

@@ -1,11 +1,12 @@
-//! Logical messages: the fourteen of protocol versions 1 and 2, read from their bytes and written as them.
+//! Logical messages: the fourteen of protocol versions 1 and 2, read from their bytes and written
+//! as them.
 //!
 //! PostgreSQL documentation, Logical Replication Message Formats.
 //!
 //! ```text
 //! match decode_ref(body, in_block)? {                // borrowed from the body
 //!     MessageRef::Begin { final_lsn, xid, .. } => ..,
-//!     MessageRef::Item { item, .. } => ..,           // what a transaction consists of: relations and changes
+//!     MessageRef::Item { item, .. } => ..,           // a relation or a change of a transaction
 //!     _ => ..,
 //! }
 //! let message = decode(alloc, body, in_block)?;      // the same, with memory of its own

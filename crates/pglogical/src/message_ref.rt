@@ -1,8 +1,10 @@
-//! Messages, items and definitions that are borrowed, from owned ones or from the bytes that encode them.
+//! Messages, items and definitions that are borrowed, from owned ones or from the bytes that encode
+//! them.
 //!
 //! PostgreSQL documentation, Logical Replication Message Formats.
 
-ghost use Rattle.std.specs.Prelude.{◌≡◌, ◌↔◌, ◌<◌, ◌^◌, true, slice_get, IsTrue, IfSome, IfOk, IfErr};
+ghost use Rattle.std.specs.Prelude.{◌≡◌, ◌↔◌, ◌<◌, ◌^◌, true, slice_get, IsTrue, IfSome, IfOk};
+ghost use Rattle.std.specs.Prelude.{IfErr};
 ghost use Rattle.std.specs.Str.{is_utf8};
 ghost use Rattle.pgtuple.specs.Limits.{IsWireTuple};
 ghost use Rattle.pglogical.specs.Named.{named};
@@ -80,7 +82,8 @@ pub enum MessageRef<'a> {
 }
 
 impl<'a> MessageRef<'a> {
-    /// The same message with memory of its own. It returns an error only where memory runs out, at place 0.
+    /// The same message with memory of its own. It returns an error only where memory runs out, at
+    /// place 0.
     ///
     /// PostgreSQL documentation, Logical Replication Message Formats.
     pub fn to_message(&self, alloc: Global) -> Result<Message, DecodeFault>
@@ -164,7 +167,8 @@ impl<'a> MessageRef<'a> {
 
 /// An item that is borrowed, seen as the item.
 ///
-/// PostgreSQL documentation, Logical Replication Message Formats, Relation, Insert, Update, Delete, Truncate.
+/// PostgreSQL documentation, Logical Replication Message Formats, Relation, Insert, Update, Delete,
+/// Truncate.
 #[derive(Drop)]
 pub struct ItemRef<'a> {
     parts: ItemParts<'a>,
@@ -182,7 +186,8 @@ impl<'a> Model for ItemRef<'a> {
 impl<'a> ItemRef<'a> {
     /// An item, borrowed. It asks for no memory.
     ///
-    /// PostgreSQL documentation, Logical Replication Message Formats, Relation, Insert, Update, Delete, Truncate.
+    /// PostgreSQL documentation, Logical Replication Message Formats, Relation, Insert, Update,
+    /// Delete, Truncate.
     pub fn of(item: &'a Item) -> ItemRef<'a>
         ensures { result ≡ item.now }
     {
@@ -205,10 +210,11 @@ impl<'a> ItemRef<'a> {
         self.parts.lend()
     }
 
-    /// The OID that a change names, of a Truncate the first; None for a relation and for a Truncate of none. It asks for no
-    /// memory.
+    /// The OID that a change names, of a Truncate the first; None for a relation and for a Truncate
+    /// of none. It asks for no memory.
     ///
-    /// PostgreSQL documentation, Logical Replication Message Formats, Insert, Update, Delete, Truncate.
+    /// PostgreSQL documentation, Logical Replication Message Formats, Insert, Update, Delete,
+    /// Truncate.
     pub fn first_oid(&self) -> Option<u32>
         ensures { result ≡ slice_get (named self.now) 0 }
     {
@@ -224,9 +230,11 @@ impl<'a> ItemRef<'a> {
         }
     }
 
-    /// The same item with memory of its own. It returns an error only where memory runs out, at place 0.
+    /// The same item with memory of its own. It returns an error only where memory runs out, at
+    /// place 0.
     ///
-    /// PostgreSQL documentation, Logical Replication Message Formats, Relation, Insert, Update, Delete, Truncate.
+    /// PostgreSQL documentation, Logical Replication Message Formats, Relation, Insert, Update,
+    /// Delete, Truncate.
     pub fn to_item(&self, alloc: Global) -> Result<Item, DecodeFault>
         ensures same { IfOk result (λ i. i ≡ self.now) }
         ensures memory { IfErr result (λ fault. fault ≡ out_of_memory) }
@@ -234,8 +242,8 @@ impl<'a> ItemRef<'a> {
         self.parts.to_item(alloc)
     }
 
-    /// Whether a message can carry it: a relation as its definition says, a Truncate of options at most 3 and of at most
-    /// `MAX_INT32` OIDs, and each other change. It asks for no memory.
+    /// Whether a message can carry it: a relation as its definition says, a Truncate of options at
+    /// most 3 and of at most `MAX_INT32` OIDs, and each other change. It asks for no memory.
     ///
     /// PostgreSQL documentation, Logical Replication Message Formats, Relation, Truncate.
     pub fn spellable(&self) -> bool
@@ -252,10 +260,11 @@ impl<'a> ItemRef<'a> {
         }
     }
 
-    /// Where it is spellable it is within the limits of the wire, so that its encoding is read as it: its numbers and texts are what
-    /// their types have. It does nothing but show it.
+    /// Where it is spellable it is within the limits of the wire, so that its encoding is read as
+    /// it: its numbers and texts are what their types have. It does nothing but show it.
     ///
-    /// PostgreSQL documentation, Logical Replication Message Formats, Relation, Insert, Update, Delete, Truncate.
+    /// PostgreSQL documentation, Logical Replication Message Formats, Relation, Insert, Update,
+    /// Delete, Truncate.
     pub fn fits_wire(&self)
         ensures { IsSpellable self.now → IsWire self.now }
     {
@@ -290,7 +299,8 @@ impl<'a> ItemRef<'a> {
 
 /// A relation or a change that is borrowed, with the fields of `Item`.
 ///
-/// PostgreSQL documentation, Logical Replication Message Formats, Relation, Insert, Update, Delete, Truncate.
+/// PostgreSQL documentation, Logical Replication Message Formats, Relation, Insert, Update, Delete,
+/// Truncate.
 #[derive(Drop)]
 pub enum ItemParts<'a> {
     Relation(DefRef<'a>),
@@ -428,7 +438,8 @@ impl<'a> DefRef<'a> {
         }
     }
 
-    /// The same definition with memory of its own. It returns an error only where memory runs out, at place 0.
+    /// The same definition with memory of its own. It returns an error only where memory runs out,
+    /// at place 0.
     ///
     /// PostgreSQL documentation, Logical Replication Message Formats, Relation.
     pub fn to_def(&self, alloc: Global) -> Result<RelationDef, DecodeFault>

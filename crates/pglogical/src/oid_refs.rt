@@ -73,7 +73,8 @@ impl<'a> OidRefs<'a> {
         }
     }
 
-    /// The same OIDs with memory of their own. It returns an error only where memory runs out, at place 0.
+    /// The same OIDs with memory of their own. It returns an error only where memory runs out, at
+    /// place 0.
     pub fn to_oids(&self, alloc: Global) -> Result<Seq<u32>, DecodeFault>
         ensures same { IfOk result (λ oids. oids ≡ self.now) }
         ensures memory { IfErr result (λ fault. fault ≡ out_of_memory) }

@@ -1,5 +1,7 @@
 -- What is printed for a number reads as it.
-use Rattle.std.proofs.Common.{◌≡◌, ◌<◌, ◌≤◌, ◌*◌, ◌/◌, ◌%◌, ◌^◌, ℕ, zero, suc, List, [], ◌∷◌, ◌++◌, length, map, refl, ap, sym, ◌∙◌, subst, arith, length-append, append_assoc, append-nil, cond, true, false, eqb}
+use Rattle.std.proofs.Common.{◌≡◌, ◌<◌, ◌≤◌, ◌*◌, ◌/◌, ◌%◌, ◌^◌, ℕ, zero, suc, List, [], ◌∷◌, ◌++◌}
+use Rattle.std.proofs.Common.{length, map, refl, ap, sym, ◌∙◌, subst, arith, length-append}
+use Rattle.std.proofs.Common.{append_assoc, append-nil, cond, true, false, eqb}
 use Rattle.std.proofs.lemmas.List.{map-append, length-map}
 use Rattle.std.proofs.lemmas.Fmt.{digits_is_IsNumeral}
 use Rattle.std.proofs.Math.Nat.{div-lt_iff_lt-mul, pow-suc}
@@ -22,24 +24,40 @@ next_digit turns n = rw (not_none n) refl
 few_digits : (turns n : ℕ) → length (digits_with_fuel 16 turns n) ≤ turns
 few_digits zero n = omega arith
 few_digits (suc turns) zero = omega arith
-few_digits (suc turns) (suc n) = omega (arith, few_digits turns (suc n / 16), length-append (digits_with_fuel 16 turns (suc n / 16)) (suc n % 16 ∷ []), ap length (next_digit turns n))
+few_digits (suc turns) (suc n) =
+    omega (
+      arith,
+      few_digits turns (suc n / 16),
+      length-append (digits_with_fuel 16 turns (suc n / 16)) (suc n % 16 ∷ []),
+      ap length (next_digit turns n),
+    )
 
 -- std writes the same digits, from the last one on
-written : (fuel turns n : ℕ) (behind : List ℕ) → turns ≤ fuel → 0 < n → n < 16 ^ turns → digits_onto fuel 16 true n behind ≡ map upper_digit (digits_with_fuel 16 turns n) ++ behind
+written : (fuel turns n : ℕ) (behind : List ℕ) → turns ≤ fuel → 0 < n → n < 16 ^ turns
+    → digits_onto fuel 16 true n behind ≡ map upper_digit (digits_with_fuel 16 turns n) ++ behind
 written fuel zero n behind le some small = absurd (omega arith)
 written zero (suc turns) n behind le some small = absurd (omega arith)
 written (suc fuel) (suc turns) zero behind le some small = absurd (omega arith)
 written (suc fuel) (suc turns) (suc n) behind le some small =
-    let fewer : suc n / 16 < 16 ^ turns = (div-lt_iff_lt-mul (omega arith)).1 (let h : suc n < 16 ^ turns * 16 = subst (λ k. suc n < k) (pow-suc 16 turns) small in h) in
-    let split : (q : ℕ) → suc n / 16 ≡ q → digits_onto (suc fuel) 16 true (suc n) behind ≡ map upper_digit (digits_with_fuel 16 turns (suc n / 16) ++ suc n % 16 ∷ []) ++ behind =
-    λ q e. elim q as (λ k. suc n / 16 ≡ k → digits_onto (suc fuel) 16 true (suc n) behind ≡ map upper_digit (digits_with_fuel 16 turns (suc n / 16) ++ suc n % 16 ∷ []) ++ behind) [
+    let fewer : suc n / 16 < 16 ^ turns =
+    (div-lt_iff_lt-mul (omega arith)).1 (let h : suc n < 16 ^ turns * 16 = subst (λ k. suc n < k) (pow-suc 16 turns) small in h) in
+    let split : (q : ℕ) → suc n / 16 ≡ q
+    → digits_onto (suc fuel) 16 true (suc n) behind ≡ map upper_digit (digits_with_fuel 16 turns (suc n / 16) ++ suc n % 16 ∷ [])
+    ++ behind =
+    λ q e. elim q as (λ k. suc n / 16 ≡ k
+    → digits_onto (suc fuel) 16 true (suc n) behind ≡ map upper_digit (digits_with_fuel 16 turns (suc n / 16) ++ suc n % 16 ∷ [])
+    ++ behind) [
       | zero ↦ λ none. rw none (rw (no_digits turns) refl)
       | suc k ↦ λ more.
-          let rest : digits_onto fuel 16 true (suc n / 16) (digit_glyph true (suc n % 16) ∷ behind) ≡ map upper_digit (digits_with_fuel 16 turns (suc n / 16)) ++ digit_glyph true (suc n % 16) ∷ behind =
+          let rest : digits_onto fuel 16 true (suc n / 16) (digit_glyph true (suc n % 16) ∷ behind)
+          ≡ map upper_digit (digits_with_fuel 16 turns (suc n / 16)) ++ digit_glyph true (suc n % 16) ∷ behind =
           written fuel turns (suc n / 16) (digit_glyph true (suc n % 16) ∷ behind) (omega arith) (omega arith) fewer in
-          let last : map upper_digit (digits_with_fuel 16 turns (suc n / 16) ++ suc n % 16 ∷ []) ≡ map upper_digit (digits_with_fuel 16 turns (suc n / 16)) ++ digit_glyph true (suc n % 16) ∷ [] = map-append upper_digit _ _ in
+          let last : map upper_digit (digits_with_fuel 16 turns (suc n / 16) ++ suc n % 16 ∷ [])
+          ≡ map upper_digit (digits_with_fuel 16 turns (suc n / 16)) ++ digit_glyph true (suc n % 16) ∷ [] =
+          map-append upper_digit _ _ in
           let test : eqb (suc n / 16) 0 ≡ false = rw more (not_none k) in
-          rw (last, test) (rest ∙ sym (append_assoc (map upper_digit (digits_with_fuel 16 turns (suc n / 16))) (digit_glyph true (suc n % 16) ∷ []) behind))
+          rw (last, test) (rest ∙ sym
+          (append_assoc (map upper_digit (digits_with_fuel 16 turns (suc n / 16))) (digit_glyph true (suc n % 16) ∷ []) behind))
     ] e in
     split (suc n / 16) refl ∙ ap (λ ds. map upper_digit ds ++ behind) (sym (next_digit turns n))
 
@@ -54,7 +72,8 @@ some_text : (n : ℕ) → half_text (suc n) ≡ map upper_digit (digits_with_fue
 unfolding half_text
 some_text n = ap (λ test. cond test (48 ∷ []) (map upper_digit (digits_with_fuel 16 8 (suc n)))) (not_none n)
 
-some_half : (n : ℕ) → digits_onto 64 16 true (suc n) [] ≡ map upper_digit (digits_with_fuel 16 8 (suc n)) → digits 16 true (suc n) ≡ half_text (suc n)
+some_half : (n : ℕ) → digits_onto 64 16 true (suc n) [] ≡ map upper_digit (digits_with_fuel 16 8 (suc n))
+    → digits 16 true (suc n) ≡ half_text (suc n)
 unfolding digits
 some_half n e = e ∙ sym (some_text n)
 
@@ -87,4 +106,11 @@ text_reads n small =
     let low_fits : n % 2 ^ 32 < 2 ^ 32 = omega arith in
     let high = half_reads (n / 2 ^ 32) high_fits in
     let low = half_reads (n % 2 ^ 32) low_fits in
-    record { high = half_text (n / 2 ^ 32); low = half_text (n % 2 ^ 32); whole = refl; high_part = high.0; low_part = low.0; value = rw (high.1, low.1) (omega arith) }
+    record {
+      high = half_text (n / 2 ^ 32);
+      low = half_text (n % 2 ^ 32);
+      whole = refl;
+      high_part = high.0;
+      low_part = low.0;
+      value = rw (high.1, low.1) (omega arith);
+    }

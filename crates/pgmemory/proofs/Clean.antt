@@ -15,5 +15,6 @@ pub clean_store : {D : Type 0} {g : Ghosts D} → ((disk : D) → IsTrue (g.is_c
 unfolding pool.state
 clean_store honest it = no_doubt _ (and_from _ _ (honest _) (honest _))
 
-pub clean_over : {D : Type 0} {g : Ghosts D} → ((disk : D) → IsTrue (g.is_clean disk)) → (conn : Held (FileStore D g)) → HasCleanDisk (file_state conn)
+pub clean_over : {D : Type 0} {g : Ghosts D} → ((disk : D) → IsTrue (g.is_clean disk)) → (conn : Held (FileStore D g))
+    → HasCleanDisk (file_state conn)
 clean_over honest conn = clean_store honest conn.store

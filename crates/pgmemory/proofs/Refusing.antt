@@ -30,7 +30,8 @@ named_io files (left.Files now) = refl
 named_io files (left.Unopened now) = refl
 named_io files (left.Store store) = refl
 
-pub wants_room : (files : Files MemoryDisk) (rest : Left) (error : Error) → content files.db ≡ [] → (IsCleanLeft rest → FailsToOpenFiles files rest error) → IsWantOfRoom error
+pub wants_room : (files : Files MemoryDisk) (rest : Left) (error : Error) → content files.db ≡ []
+    → (IsCleanLeft rest → FailsToOpenFiles files rest error) → IsWantOfRoom error
 wants_room files rest error empty fails = elim (fails (clean_left rest)) [
   | inl memory ↦ inl memory
   | inr other ↦ elim other [

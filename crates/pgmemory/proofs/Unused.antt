@@ -1,6 +1,7 @@
 -- What an open finds in files that hold no database, as files without bytes.
 use Rattle.std.specs.List.{AllZip}
-use Rattle.std.proofs.Common.{◌≡◌, [], ◌∷◌, List, length, ◌<◌, ℕ, inl, inr, refl, sym, ap, ◌∙◌, subst, arith, take, get_or-take, min, Some, Option, true, false}
+use Rattle.std.proofs.Common.{◌≡◌, [], ◌∷◌, List, length, ◌<◌, ℕ, inl, inr, refl, sym, ap, ◌∙◌}
+use Rattle.std.proofs.Common.{subst, arith, take, get_or-take, min, Some, Option, true, false}
 use Rattle.std.specs.Prelude.{slice_index, unwrap_or, codes, ◌++◌}
 use Rattle.std.proofs.lemmas.List.{length-take}
 use Rattle.std.proofs.Math.Logic.{∥∥₁_elim}
@@ -33,7 +34,8 @@ paired_with_none R (x ∷ xs) pairs = absurd pairs
 abbrev schema_of : List Table → List Index → List View → Schema
 schema_of tables indexes views = record { tables = tables; indexes = indexes; views = views }
 
-schema_of_none : (tables : List Table) (indexes : List Index) (views : List View) → tables ≡ [] → indexes ≡ [] → views ≡ [] → schema_of tables indexes views ≡ schema_of [] [] []
+schema_of_none : (tables : List Table) (indexes : List Index) (views : List View) → tables ≡ [] → indexes ≡ [] → views ≡ []
+    → schema_of tables indexes views ≡ schema_of [] [] []
 schema_of_none tables indexes views no_tables no_indexes no_views = cc
 
 none_listed : (listed : List Row) (schema : Schema) → listed ≡ [] → AreListed listed schema → schema ≡ schema_of [] [] []
@@ -52,13 +54,16 @@ module _ (size : ℕ) (image : Image) (pages : Pages) (found : Adopts size image
   begins_well page is =
       let used : pages 1 ≡ Some (take size page) = ap (λ (p : Pages). p 1) (sym found.shows) ∙ trimmed_some size _ 1 page is in
       let head : header_in pages ≡ take 100 (take size page) = ap (λ (o : Option (List ℕ)). take 100 (unwrap_or o [])) used in
-      let magic : take 16 (take 100 (take size page)) ≡ codes "SQLite format 3" ++ 0 ∷ [] = ap (take 16) (sym head) ∙ sound.header.0.magic in
+      let magic : take 16 (take 100 (take size page)) ≡ codes "SQLite format 3" ++ 0 ∷ [] =
+      ap (take 16) (sym head) ∙ sound.header.0.magic in
       let long : min 16 (min 100 (min size (length page))) ≡ 16 =
-      sym (length-take 16 (take 100 (take size page)) ∙ ap (min 16) (length-take 100 (take size page) ∙ ap (min 100) (length-take size page))) ∙ ap length magic in
+      sym (length-take 16 (take 100 (take size page))
+      ∙ ap (min 16) (length-take 100 (take size page) ∙ ap (min 100) (length-take size page))) ∙ ap length magic in
       let some : 0 < size = omega arith in
       let first : slice_index (take 16 (take 100 (take size page))) 0 ≡ 83 = ap (λ (b : List ℕ). slice_index b 0) magic in (
         omega arith,
-        sym (get_or-take size page 0 0 some) ∙ sym (get_or-take 100 (take size page) 0 0 (omega arith)) ∙ sym (get_or-take 16 (take 100 (take size page)) 0 0 (omega arith)) ∙ first,
+        sym (get_or-take size page 0 0 some) ∙ sym (get_or-take 100 (take size page) 0 0 (omega arith))
+            ∙ sym (get_or-take 16 (take 100 (take size page)) 0 0 (omega arith)) ∙ first,
       )
 
   pub is_something : ¬ IsNothing image
@@ -67,14 +72,22 @@ module _ (size : ℕ) (image : Image) (pages : Pages) (found : Adopts size image
       let (long, begins) = begins_well page is in
       let never = λ (other : ℕ) (some : 0 < other).
       let gate = first_byte other some in
-      begun_is_not_blank (sealed (first_page other)) page (stored_size size) image found.stored found.found is (found.whole.sized 1 page is) (omega (arith, long, found.whole.sized 1 page is)) (begins ∙ sym gate) (λ none. let never = sym gate ∙ none in omega arith) in
-      elim nothing [ inl plain ↦ never (used_size 4096 false) (omega arith) plain | inr summed ↦ never (used_size 4096 true) (omega arith) summed ]
+      begun_is_not_blank (sealed (first_page other)) page (stored_size size) image found.stored found.found is (found.whole.sized 1 page is)
+      (omega (arith, long, found.whole.sized 1 page is)) (begins ∙ sym gate) (λ none. let never = sym gate ∙ none in omega arith) in
+      elim nothing [
+        | inl plain ↦ never (used_size 4096 false) (omega arith) plain
+        | inr summed ↦ never (used_size 4096 true) (omega arith)
+            summed
+      ]
 
 -- so where there is no database, what is found is empty
 pub nothing_is_empty : (image : Image) (trees : Trees) → IsNothing image → AreFoundIn image trees → IsEmpty trees
-nothing_is_empty image trees nothing (inl it) = absurd (∥∥₁_elim it.4 (λ (a b : ⊥). absurd a) (λ ours. is_something it.0 image it.1 it.3 ours.file.sound nothing))
+nothing_is_empty image trees nothing (inl it) =
+    absurd (∥∥₁_elim it.4 (λ (a b : ⊥). absurd a) (λ ours. is_something it.0 image it.1 it.3 ours.file.sound nothing))
 nothing_is_empty image trees nothing (inr it) = it.1
 
 module _ {D : Type 0} {g : Ghosts D} where
-  pub found_empty : (files : Files D) (conn : Held (FileStore D g)) → g.seen files.db ≡ [] → Finds files conn → IsEmpty (file_state conn).committed.trees
-  found_empty files conn none found = nothing_is_empty (image_of g files) (file_state conn).committed.trees (inl (inl (ap length none))) found.reads
+  pub found_empty : (files : Files D) (conn : Held (FileStore D g)) → g.seen files.db ≡ [] → Finds files conn
+      → IsEmpty (file_state conn).committed.trees
+  found_empty files conn none found =
+      nothing_is_empty (image_of g files) (file_state conn).committed.trees (inl (inl (ap length none))) found.reads

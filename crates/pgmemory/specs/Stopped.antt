@@ -9,4 +9,5 @@ use Rattle.sqlite.specs.Files.{HoldsDatabase}
 
 -- If the disks are honest, whatever may be left of the files holds a database that could be left.
 abbrev pub Leaves : {D : Type 0} → Ghosts D → (Trees → Type 0) → Files D → Type 0
-Leaves g may_leave files = AreClean g files.log files.db → (image : Image) → outcomes g files.log files.db image → ∥ ((db : Trees) × may_leave db × HoldsDatabase image db) ∥₁
+Leaves g may_leave files = AreClean g files.log files.db → (image : Image) → outcomes g files.log files.db image
+    → ∥ ((db : Trees) × may_leave db × HoldsDatabase image db) ∥₁

@@ -1,4 +1,5 @@
-//! A database that lives as long as its process: two disks in memory, and the SQL connection over them.
+//! A database that lives as long as its process: two disks in memory, and the SQL connection over
+//! them.
 //!
 //! A disk that may crash has to keep what was last synced beside what was written since. These
 //! disks end with their process, so each write is durable at once, and a sync has nothing to do.

@@ -10,8 +10,8 @@ ghost use Rattle.pgmemory.specs.Stopped.{Leaves};
 use sqlite::{FileStore, Files};
 use sqlite_disk::Disk;
 
-/// The two files as they are, without a word to the disks: what a stop at this moment leaves. Whatever they may then hold is
-/// a database that the store could leave.
+/// The two files as they are, without a word to the disks: what a stop at this moment leaves.
+/// Whatever they may then hold is a database that the store could leave.
 pub fn stop<D: Disk + Drop>(store: FileStore<D>) -> Files<D>
     requires numbered { IsClean (view store) → IsTrue (view store).is_numbered }
     requires sound { IsClean (view store) → AreDatabases (recovers store) }

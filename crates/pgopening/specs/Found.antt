@@ -20,8 +20,8 @@ pub record HasPages (size : ℕ) (content : Image) : Type 0 where
   pub begins : BeginsWell size content
   pub sized : (db : Trees) (held : HoldsDatabase content db) → held.0 ≡ size
 
--- The trees are just opened, and what files of this content recover to. Where they obey a schema, files of this content hold no other
--- database.
+-- The trees are just opened, and what files of this content recover to. Where they obey a schema,
+-- files of this content hold no other database.
 pub record AreOpened (content : Image) (v : View) : Type 0 where
   pub fresh : IsFresh v
   pub found : AreFoundIn content v.trees

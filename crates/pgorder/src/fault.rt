@@ -6,8 +6,8 @@ ghost use Rattle.std.specs.Prelude.{◌≡◌};
 use std::alloc::AllocFailed;
 use thiserror::Error;
 
-/// Why a message can't come where it does. Of several that hold, the version decides first, then where the message comes,
-/// then its xid or LSN.
+/// Why a message can't come where it does. Of several that hold, the version decides first, then
+/// where the message comes, then its xid or LSN.
 #[derive(Clone, Copy, Debug, PartialEq, Eq, Error)]
 pub enum OrderFault {
     /// A Relation, a change, a Type or an Origin outside pairs and blocks.

@@ -2,9 +2,12 @@
 ghost use Rattle.std.specs.Prelude.{◌≡◌, ◌≢◌, IfOk, IfErr, IsOk, OnErr, Err, IsTrue};
 ghost use Rattle.pglogical.specs.Spelling.{IsMessageFor};
 ghost use Rattle.pglogical.specs.Lent.{message_value};
-ghost use Rattle.pgorder.specs.Steps.{Outside, initial_order, order_step, in_version_2, step_inner, step_item, step_begin, step_commit, step_stream_start, step_stream_stop, step_stream_commit, step_stream_abort};
+ghost use Rattle.pgorder.specs.Steps.{Outside, initial_order, order_step, in_version_2, step_inner};
+ghost use Rattle.pgorder.specs.Steps.{step_item, step_begin, step_commit, step_stream_start};
+ghost use Rattle.pgorder.specs.Steps.{step_stream_stop, step_stream_commit, step_stream_abort};
 ghost use Rattle.pgorder.specs.Laws.{AnswersByShape};
-ghost use Rattle.pgorder.specs.States.{StreamOrder, is_in_block, is_outside, Answers, IsFirstSegment};
+ghost use Rattle.pgorder.specs.States.{StreamOrder, is_in_block, is_outside, Answers};
+ghost use Rattle.pgorder.specs.States.{IsFirstSegment};
 
 use crate::fault::OrderFault;
 use crate::open::OpenXids;
@@ -79,15 +82,16 @@ impl Order {
         self.open_xids.clear();
     }
 
-    /// Accepts the next message, or says why it can't come here; then nothing changes. Only the first segment of a streamed
-    /// transaction takes memory.
+    /// Accepts the next message, or says why it can't come here; then nothing changes. Only the
+    /// first segment of a streamed transaction takes memory.
     ///
-    /// PostgreSQL documentation, Logical Streaming Replication Protocol, Logical Streaming Replication Protocol Message Flow.
+    /// PostgreSQL documentation, Logical Streaming Replication Protocol, Logical Streaming
+    /// Replication Protocol Message Flow.
     pub fn step(&mut self, message: &MessageRef<'_>) -> Result<Event, OrderFault>
         requires { IsMessageFor (is_in_block self.old.state.context) (message_value message.now) }
 
-        // After any messages that leave this state: Ok exactly where the shape goes on, with the message's event, and else
-        // the first fault that holds.
+        // After any messages that leave this state: Ok exactly where the shape goes on, with the
+        // message's event, and else the first fault that holds.
         ensures shape { AnswersByShape self.old.version self.old.state
             (message_value message.now) result }
 

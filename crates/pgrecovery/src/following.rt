@@ -18,11 +18,12 @@ use sqlite_disk::Disk;
 
 /// Follows sessions as `pgsub_core::follow` does, over a store in two files.
 ///
-/// Of sessions of a history, whatever is returned, the rows are the history's up to the position, all that is confirmed is stored, and
-/// it is known what was handled and why it ended (`followed`).
+/// Of sessions of a history, whatever is returned, the rows are the history's up to the position,
+/// all that is confirmed is stored, and it is known what was handled and why it ended (`followed`).
 ///
-/// Let the store serve before, and let the disks give back what was written. Then a store that is opened on what a crash leaves of the
-/// files holds exactly the history's rows up to its own position, which is no lower, with all that was confirmed (`recovered`, law
+/// Let the store serve before, and let the disks give back what was written. Then a store that is
+/// opened on what a crash leaves of the files holds exactly the history's rows up to its own
+/// position, which is no lower, with all that was confirmed (`recovered`, law
 /// `crashes_lose_nothing_confirmed`).
 ///
 /// # Errors

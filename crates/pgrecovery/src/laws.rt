@@ -1,19 +1,22 @@
 //! What is found again after a crash, as the contract of a function that does nothing.
 
-ghost use Rattle.pgrecovery.specs.Recovered.{FollowedIsRecovered, LeftSafelyIsRecovered, ServedIsRecovered};
+ghost use Rattle.pgrecovery.specs.Recovered.{FollowedIsRecovered, LeftSafelyIsRecovered};
+ghost use Rattle.pgrecovery.specs.Recovered.{ServedIsRecovered};
 
 use sqlite::Alter;
 use sqlite_disk::Disk;
 
-/// Let a subscriber over a store in two files follow sessions of a history, and let the disks give back what was written. Then whatever
-/// content a crash leaves of the files, a store that is opened on files with this content holds exactly the rows of all transactions of
-/// the history up to its own position. That is no lower than the position before the crash, and every transaction that changes rows
-/// and ends by what was confirmed is among them. A new subscriber over that store starts as the next sessions ask it, also where they
-/// start as far as what was confirmed.
+/// Let a subscriber over a store in two files follow sessions of a history, and let the disks give
+/// back what was written. Then whatever content a crash leaves of the files, a store that is opened
+/// on files with this content holds exactly the rows of all transactions of the history up to its
+/// own position. That is no lower than the position before the crash, and every transaction that
+/// changes rows and ends by what was confirmed is among them. A new subscriber over that store
+/// starts as the next sessions ask it, also where they start as far as what was confirmed.
 ///
-/// It is so after `follow` (`followed`), whatever that returned, and at each status that `follow_live` writes (`live`), also where a
-/// failure of a disk has shut the store. The store is opened by `Store::open_files`, or by hand and `Store::adopt`. Where the old store
-/// serves, it may be opened as files of any kind (`served`), as by `Store::open_from`.
+/// It is so after `follow` (`followed`), whatever that returned, and at each status that
+/// `follow_live` writes (`live`), also where a failure of a disk has shut the store. The store is
+/// opened by `Store::open_files`, or by hand and `Store::adopt`. Where the old store serves, it may
+/// be opened as files of any kind (`served`), as by `Store::open_from`.
 ///
 /// PostgreSQL documentation, Logical Replication, Subscription.
 pub fn crashes_lose_nothing_confirmed<D: Disk, S: Alter>()

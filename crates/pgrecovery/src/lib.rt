@@ -1,5 +1,5 @@
-//! Crash recovery of a subscriber whose store is in two files: what `pgsub_core` says of following, joined with what `pgstore` says of
-//! opening.
+//! Crash recovery of a subscriber whose store is in two files: what `pgsub_core` says of following,
+//! joined with what `pgstore` says of opening.
 //!
 //! ```text
 //! follow_in_files(&mut subscriber, sessions, clock)  // whatever it returns
@@ -8,7 +8,8 @@
 //! let mut subscriber = Subscriber::new(alloc, store, spools, version, max_frame);
 //! ```
 //!
-//! The new subscriber holds the rows of the history up to its position, and nothing that was confirmed is lost.
+//! The new subscriber holds the rows of the history up to its position, and nothing that was
+//! confirmed is lost.
 #![tactic(auto)]
 
 pub mod following;

@@ -1,5 +1,7 @@
 -- Carried rows are within a tuple's limits.
-use Rattle.std.proofs.Common.{◌≡◌, ◌≤◌, ◌+◌, ◌∙◌, List, [], ◌∷◌, ℕ, zero, suc, Option, None, Some, Result, Ok, Err, IfOk, cond, length, take, length-take, refl, ap, arith}
+use Rattle.std.proofs.Common.{◌≡◌, ◌≤◌, ◌+◌, ◌∙◌, List, [], ◌∷◌, ℕ, zero, suc, Option, None, Some}
+use Rattle.std.proofs.Common.{Result, Ok, Err, IfOk, cond, length, take, length-take, refl, ap}
+use Rattle.std.proofs.Common.{arith}
 use Rattle.std.proofs.lemmas.Bool.{or_parts}
 use Rattle.std.specs.Prelude.{Bool, true, false, ◌||◌, if◌then◌else◌}
 use Rattle.std.specs.List.{AllByRecursion, position_from}
@@ -8,7 +10,8 @@ use Rattle.pgtuple.specs.declared.cell.Cell.TheVariants.{Null}
 use Rattle.pgtuple.specs.Limits.{IsCell, IsTuple}
 use Rattle.pglogical.specs.declared.message.Column.{Column}
 use Rattle.pgrel.specs.Identity.{is_unchanged, has_unchanged}
-use Rattle.pgrel.specs.Carried.{carried_cells, has_name, named_cell, placed_cell, placed_cells, places}
+use Rattle.pgrel.specs.Carried.{carried_cells, has_name, named_cell, placed_cell, placed_cells}
+use Rattle.pgrel.specs.Carried.{places}
 
 -- a cell for each new column
 pub carried_width : (old : List Column) (cells : List Cell) (new : List Column) → length (carried_cells old cells new) ≡ length new
@@ -17,18 +20,21 @@ carried_width old cells (c ∷ new) = ap suc (carried_width old cells new)
 
 -- ---- a row that is whole stays whole
 
-sent_named : (name : List ℕ) (columns : List Column) (cells : List Cell) → has_unchanged cells ≡ false → is_unchanged (named_cell name columns cells) ≡ false
+sent_named : (name : List ℕ) (columns : List Column) (cells : List Cell) → has_unchanged cells ≡ false
+    → is_unchanged (named_cell name columns cells) ≡ false
 sent_named name [] cells e = refl
 sent_named name (c ∷ cs) [] e = refl
 sent_named name (c ∷ cs) (cell ∷ cells) e =
     let parts = or_parts (is_unchanged cell) (has_unchanged cells) e in
     either (has_name name c) cell (named_cell name cs cells) parts.0 (sent_named name cs cells parts.1)
   where
-    either : (b : Bool) (here later : Cell) → is_unchanged here ≡ false → is_unchanged later ≡ false → is_unchanged (if b then here else later) ≡ false
+    either : (b : Bool) (here later : Cell) → is_unchanged here ≡ false → is_unchanged later ≡ false
+        → is_unchanged (if b then here else later) ≡ false
     either true here later g h = g
     either false here later g h = h
 
-pub carried_whole : (old : List Column) (cells : List Cell) (new : List Column) → has_unchanged cells ≡ false → has_unchanged (carried_cells old cells new) ≡ false
+pub carried_whole : (old : List Column) (cells : List Cell) (new : List Column) → has_unchanged cells ≡ false
+    → has_unchanged (carried_cells old cells new) ≡ false
 carried_whole old cells [] e = refl
 carried_whole old cells (c ∷ new) e =
     let here = sent_named c.name old cells e in
@@ -40,12 +46,16 @@ carried_whole old cells (c ∷ new) e =
 next_cell : (cells : List Cell) (cell : Cell) (k : ℕ) → placed_cell (cell ∷ cells) (Some (k + 1)) ≡ placed_cell cells (Some k)
 next_cell cells cell k = let e : k + 1 ≡ suc k = omega arith in ap (λ n. placed_cell (cell ∷ cells) (Some n)) e
 
-place_later : (name : List ℕ) (columns : List Column) (cells : List Cell) (cell : Cell) (k : ℕ) → placed_cell (cell ∷ cells) (position_from (has_name name) (k + 1) columns) ≡ placed_cell cells (position_from (has_name name) k columns)
+place_later : (name : List ℕ) (columns : List Column) (cells : List Cell) (cell : Cell) (k : ℕ)
+    → placed_cell (cell ∷ cells) (position_from (has_name name) (k + 1) columns)
+    ≡ placed_cell cells (position_from (has_name name) k columns)
 place_later name [] cells cell k = refl
 place_later name (c ∷ cs) cells cell k = either (has_name name c) (place_later name cs cells cell (k + 1))
   where
-    either : (b : Bool) → placed_cell (cell ∷ cells) (position_from (has_name name) (k + 1 + 1) cs) ≡ placed_cell cells (position_from (has_name name) (k + 1) cs)
-        → placed_cell (cell ∷ cells) (cond b (Some (k + 1)) (position_from (has_name name) (k + 1 + 1) cs)) ≡ placed_cell cells (cond b (Some k) (position_from (has_name name) (k + 1) cs))
+    either : (b : Bool) → placed_cell (cell ∷ cells) (position_from (has_name name) (k + 1 + 1) cs)
+        ≡ placed_cell cells (position_from (has_name name) (k + 1) cs)
+        → placed_cell (cell ∷ cells) (cond b (Some (k + 1)) (position_from (has_name name) (k + 1 + 1) cs))
+        ≡ placed_cell cells (cond b (Some k) (position_from (has_name name) (k + 1) cs))
     either true h = next_cell cells cell k
     either false h = h
 
@@ -53,7 +63,8 @@ no_cell : (place : Option ℕ) → placed_cell [] place ≡ Null
 no_cell None = refl
 no_cell (Some k) = refl
 
-named_by_place : (name : List ℕ) (columns : List Column) (cells : List Cell) → placed_cell cells (position_from (has_name name) 0 columns) ≡ named_cell name columns cells
+named_by_place : (name : List ℕ) (columns : List Column) (cells : List Cell)
+    → placed_cell cells (position_from (has_name name) 0 columns) ≡ named_cell name columns cells
 named_by_place name [] cells = refl
 named_by_place name (c ∷ cs) [] = no_cell (position_from (has_name name) 0 (c ∷ cs))
 named_by_place name (c ∷ cs) (cell ∷ cells) = either (has_name name c) (place_later name cs cells cell 0 ∙ named_by_place name cs cells)
@@ -83,7 +94,8 @@ placed_width : (cells : List Cell) (ps : List (Option ℕ)) → length (placed_c
 placed_width cells [] = refl
 placed_width cells (p ∷ ps) = ap suc (placed_width cells ps)
 
-pub placed_are_tuple : (cells : List Cell) (ps : List (Option ℕ)) (k : ℕ) → IsTuple cells → length ps ≤ 1600 → IsTuple (placed_cells cells (take k ps))
+pub placed_are_tuple : (cells : List Cell) (ps : List (Option ℕ)) (k : ℕ) → IsTuple cells → length ps ≤ 1600
+    → IsTuple (placed_cells cells (take k ps))
 placed_are_tuple cells ps k h most =
     let width = placed_width cells (take k ps) in
     let bound = length-take k ps in

@@ -1,6 +1,8 @@
 -- When a table is keyed, and how many cells an identity has.
-use Rattle.std.proofs.Common.{◌≡◌, ◌≤◌, ◌+◌, List, [], ◌∷◌, ℕ, length, ap, sym, ◌∙◌, refl, arith, inl, inr}
-use Rattle.std.specs.Prelude.{Bool, true, false, ◌&&◌, ◌||◌, ◌==◌, ◌↔◌, ◌⊎◌, IsTrue, count_by, if◌then◌else◌}
+use Rattle.std.proofs.Common.{◌≡◌, ◌≤◌, ◌+◌, List, [], ◌∷◌, ℕ, length, ap, sym, ◌∙◌, refl, arith}
+use Rattle.std.proofs.Common.{inl, inr}
+use Rattle.std.specs.Prelude.{Bool, true, false, ◌&&◌, ◌||◌, ◌==◌, ◌↔◌, ◌⊎◌, IsTrue, count_by}
+use Rattle.std.specs.Prelude.{if◌then◌else◌}
 use Rattle.std.specs.List.{list_any}
 use Rattle.std.specs.Cmp.{unsigned_Decides}
 use Rattle.std.proofs.lemmas.Bool.{and_parts, and_from, or_cases}
@@ -9,7 +11,8 @@ use Rattle.std.proofs.lemmas.List.Sums.{sum_by-append}
 use Rattle.pgtuple.specs.declared.cell.Cell.{Cell}
 use Rattle.pglogical.specs.declared.message.RelationDef.{RelationDef}
 use Rattle.pglogical.specs.declared.message.Column.{Column}
-use Rattle.pgrel.specs.Identity.{keyed, IsKeyed, identity, identity_default, identity_index, identity_full, key_cells}
+use Rattle.pgrel.specs.Identity.{keyed, IsKeyed, identity, identity_default, identity_index}
+use Rattle.pgrel.specs.Identity.{identity_full, key_cells}
 
 abbrev is_key : Column → Bool
 is_key c = c.key
@@ -35,7 +38,9 @@ keyed_means def =
             by_key_or_index = letters def.letter (or_cases (def.letter == identity_default) (def.letter == identity_index) parts.0);
             has_key_column = Any-from_list_any is_key def.columns parts.1;
           }),
-      (λ h. and_from test (list_any is_key def.columns) (or_from (def.letter == identity_default) (def.letter == identity_index) (letter_tests def.letter h.by_key_or_index)) (list_any-from_Any is_key def.columns h.has_key_column)),
+      (λ h. and_from test (list_any is_key def.columns)
+          (or_from (def.letter == identity_default) (def.letter == identity_index) (letter_tests def.letter h.by_key_or_index))
+          (list_any-from_Any is_key def.columns h.has_key_column)),
     )
 
 pub full_never_keyed : (def : RelationDef) → def.letter ≡ identity_full → keyed def ≡ false
@@ -59,22 +64,27 @@ identity_bound def row =
     ]
 
 -- one more column
-more_columns : (column : Column) (columns : List Column) → count_by is_key (column ∷ columns) ≡ (if column.key then 1 else 0) + count_by is_key columns
+more_columns : (column : Column) (columns : List Column)
+    → count_by is_key (column ∷ columns) ≡ (if column.key then 1 else 0) + count_by is_key columns
 more_columns column columns = let split = sum_by-append (λ c. if is_key c then 1 else 0) (column ∷ []) columns in omega (arith, split)
 
-key_cells_count : (columns : List Column) (cells : List Cell) → length cells ≡ length columns → length (key_cells columns cells) ≡ count_by is_key columns
+key_cells_count : (columns : List Column) (cells : List Cell) → length cells ≡ length columns
+    → length (key_cells columns cells) ≡ count_by is_key columns
 key_cells_count [] cells e = refl
 key_cells_count (column ∷ columns) [] e = absurd (omega arith)
 key_cells_count (column ∷ columns) (cell ∷ cells) e =
     let rest = key_cells_count columns cells (omega arith) in
-    let counted : length (if column.key then cell ∷ key_cells columns cells else key_cells columns cells) ≡ (if column.key then 1 else 0) + count_by is_key columns =
-    elim column.key as (λ b. length (if b then cell ∷ key_cells columns cells else key_cells columns cells) ≡ (if b then 1 else 0) + count_by is_key columns) [
+    let counted : length (if column.key then cell ∷ key_cells columns cells else key_cells columns cells) ≡ (if column.key then 1 else 0)
+    + count_by is_key columns =
+    elim column.key as (λ b. length (if b then cell ∷ key_cells columns cells else key_cells columns cells) ≡ (if b then 1 else 0)
+    + count_by is_key columns) [
       | true ↦ omega (arith, rest)
       | false ↦ omega (arith, rest)
     ] in
     counted ∙ sym (more_columns column columns)
 
-pub key_count : (def : RelationDef) (row : List Cell) → IsTrue (keyed def) → length row ≡ length def.columns → length (identity def row) ≡ count_by (λ (c : Column). c.key) def.columns
+pub key_count : (def : RelationDef) (row : List Cell) → IsTrue (keyed def) → length row ≡ length def.columns
+    → length (identity def row) ≡ count_by (λ (c : Column). c.key) def.columns
 key_count def row e w = ap (λ b. length (if b then key_cells def.columns row else row)) e ∙ key_cells_count def.columns row w
 
 pub bag_identity : (def : RelationDef) (row : List Cell) → keyed def ≡ false → identity def row ≡ row

@@ -19,10 +19,12 @@ more_cells false cell cells h hs = hs
 key_cells_are : (columns : List Column) (cells : List Cell) → AreCells cells → AreCells (key_cells columns cells)
 key_cells_are [] cells h = tt
 key_cells_are (column ∷ columns) [] h = tt
-key_cells_are (column ∷ columns) (cell ∷ cells) h = more_cells column.key cell (key_cells columns cells) h.0 (key_cells_are columns cells h.1)
+key_cells_are (column ∷ columns) (cell ∷ cells) h =
+    more_cells column.key cell (key_cells columns cells) h.0 (key_cells_are columns cells h.1)
 
 pub key_is_tuple : (columns : List Column) (cells : List Cell) → IsTuple cells → IsTuple (key_cells columns cells)
-key_is_tuple columns cells h = let bound = key_cells_bound columns cells in let width = h.width in record { width = omega (arith, bound, width); each = key_cells_are columns cells h.each }
+key_is_tuple columns cells h = let bound = key_cells_bound columns cells in let width = h.width in
+    record { width = omega (arith, bound, width); each = key_cells_are columns cells h.each }
 
 either_cell : (b : Bool) (old cell : Cell) → IsCell old → IsCell cell → IsCell (if b then old else cell)
 either_cell true old cell g h = g
@@ -34,4 +36,5 @@ resolved_are (cell ∷ cells) [] g h = g
 resolved_are (cell ∷ cells) (old ∷ olds) g h = (either_cell (is_unchanged cell) old cell h.0 g.0, resolved_are cells olds g.1 h.1)
 
 pub resolved_is_tuple : (new old : List Cell) → IsTuple new → IsTuple old → IsTuple (resolved new old)
-resolved_is_tuple new old g h = let same = resolved_width new old in let width = g.width in record { width = omega (arith, same, width); each = resolved_are new old g.each h.each }
+resolved_is_tuple new old g h = let same = resolved_width new old in let width = g.width in
+    record { width = omega (arith, same, width); each = resolved_are new old g.each h.each }

@@ -1,5 +1,6 @@
 -- The steps of the loops over the columns and the cells of a row.
-use Rattle.std.proofs.Common.{◌≡◌, ◌<◌, ◌+◌, List, [], ◌∷◌, ℕ, zero, suc, length, drop, ap, ◌∙◌, refl, arith, Some}
+use Rattle.std.proofs.Common.{◌≡◌, ◌<◌, ◌+◌, List, [], ◌∷◌, ℕ, zero, suc, length, drop, ap, ◌∙◌}
+use Rattle.std.proofs.Common.{refl, arith, Some}
 use Rattle.std.specs.Prelude.{slice_get, slice_index_or}
 use Rattle.std.proofs.lemmas.Option.{slice_get_read}
 use Rattle.pglogical.specs.declared.message.Column.{Column}
@@ -16,7 +17,8 @@ next (y ∷ ys) (suc k) x e = next ys k x e
 
 -- what is left of a list from an index on
 pub drop_next : {X : Type 0} (xs : List X) (k : ℕ) (x : X) → k < length xs → x ≡ slice_index_or xs k x → drop k xs ≡ x ∷ drop (k + 1) xs
-drop_next xs k x l e = let more : suc k ≡ k + 1 = omega arith in next xs k x (slice_get_read xs (length xs) k x refl l e) ∙ ap (λ n. x ∷ drop n xs) more
+drop_next xs k x l e = let more : suc k ≡ k + 1 = omega arith in
+    next xs k x (slice_get_read xs (length xs) k x refl l e) ∙ ap (λ n. x ∷ drop n xs) more
 
 pub drop_all : {X : Type 0} (xs : List X) (k : ℕ) → length xs ≡ k → drop k xs ≡ []
 drop_all [] zero e = refl

@@ -1,14 +1,17 @@
 -- Identities, shapes and checks of four tables, as the definitions give them.
-use Rattle.std.proofs.Common.{◌≡◌, refl, ◌∷◌, [], ◌++◌, List, ℕ, Bool, Some, None, Ok, Err, negsuc, true, false}
+use Rattle.std.proofs.Common.{◌≡◌, refl, ◌∷◌, [], ◌++◌, List, ℕ, Bool, Some, None, Ok, Err, negsuc}
+use Rattle.std.proofs.Common.{true, false}
 use Rattle.std.specs.Prelude.{codes}
 use Rattle.pgtuple.specs.declared.cell.Cell.{Cell}
 use Rattle.pgtuple.specs.declared.cell.Cell.TheVariants.{Null, Unchanged, Text, Binary}
 use Rattle.pglogical.specs.declared.message.RelationDef.{RelationDef}
 use Rattle.pglogical.specs.declared.message.Column.{Column}
 use Rattle.pglogical.specs.declared.message.OldKind.TheVariants.{Key, Full}
-use Rattle.pgrel.specs.declared.fault.RelFault.TheVariants.{Width, UnknownIdentity, UnchangedInInsert, NoIdentity}
+use Rattle.pgrel.specs.declared.fault.RelFault.TheVariants.{Width, UnknownIdentity}
+use Rattle.pgrel.specs.declared.fault.RelFault.TheVariants.{UnchangedInInsert, NoIdentity}
 use Rattle.pgrel.specs.Carried.{carried}
-use Rattle.pgrel.specs.Identity.{keyed, identity, same_shape, resolved, checked_insert, checked_identity, searched_identity}
+use Rattle.pgrel.specs.Identity.{keyed, identity, same_shape, resolved, checked_insert}
+use Rattle.pgrel.specs.Identity.{checked_identity, searched_identity}
 
 abbrev column : Bool → List ℕ → ℕ → Column
 column key name type_oid = record { key = key; name = name; type_oid = type_oid; modifier = negsuc 0 }
@@ -198,7 +201,8 @@ insert_unchanged : checked_insert t (text 57 ∷ Unchanged ∷ []) ≡ Err Uncha
 insert_unchanged = refl
 
 -- a cell that wasn't sent is the old row's
-big_kept : resolved (text 49 ∷ text 98 ∷ Unchanged ∷ []) (text 49 ∷ text 97 ∷ Text (codes "big") ∷ []) ≡ text 49 ∷ text 98 ∷ Text (codes "big") ∷ []
+big_kept : resolved (text 49 ∷ text 98 ∷ Unchanged ∷ []) (text 49 ∷ text 97 ∷ Text (codes "big") ∷ []) ≡ text 49 ∷ text 98
+    ∷ Text (codes "big") ∷ []
 big_kept = refl
 
 null_is_sent : resolved (Null ∷ []) (text 97 ∷ []) ≡ Null ∷ []
@@ -218,15 +222,18 @@ all_dropped : carried t no_columns (text 49 ∷ text 97 ∷ []) ≡ []
 all_dropped = refl
 
 -- cells follow the names of their columns, whatever their places, types and key flags are
-columns_swapped : carried t (record t { columns = column true (codes "v") 20 ∷ column false (codes "id") 25 ∷ [] }) (text 49 ∷ text 97 ∷ []) ≡ text 97 ∷ text 49 ∷ []
+columns_swapped : carried t (record t { columns = column true (codes "v") 20 ∷ column false (codes "id") 25 ∷ [] }) (text 49 ∷ text 97 ∷ [])
+    ≡ text 97 ∷ text 49 ∷ []
 columns_swapped = refl
 
 -- a renamed column is a new one
-column_renamed : carried t (record t { columns = column true (codes "id") 23 ∷ column false (codes "V") 25 ∷ [] }) (text 49 ∷ text 97 ∷ []) ≡ text 49 ∷ Null ∷ []
+column_renamed : carried t (record t { columns = column true (codes "id") 23 ∷ column false (codes "V") 25 ∷ [] }) (text 49 ∷ text 97 ∷ [])
+    ≡ text 49 ∷ Null ∷ []
 column_renamed = refl
 
 -- of two old columns of one name the first, for each new one of it
-first_of_two : carried (record t { columns = column true (codes "v") 23 ∷ column false (codes "v") 25 ∷ [] }) (record t { columns = column true (codes "v") 23 ∷ column false (codes "v") 25 ∷ [] }) (text 49 ∷ text 97 ∷ []) ≡ text 49 ∷ text 49 ∷ []
+first_of_two : carried (record t { columns = column true (codes "v") 23 ∷ column false (codes "v") 25 ∷ [] })
+    (record t { columns = column true (codes "v") 23 ∷ column false (codes "v") 25 ∷ [] }) (text 49 ∷ text 97 ∷ []) ≡ text 49 ∷ text 49 ∷ []
 first_of_two = refl
 
 -- a cell is carried as it is

@@ -11,7 +11,8 @@ use Rattle.std.specs.Cmp.Derive.Mapped.{pointwise-map}
 use Rattle.pgtuple.specs.declared.cell.Cell.{Cell}
 use Rattle.pglogical.specs.declared.message.RelationDef.{RelationDef}
 use Rattle.pglogical.specs.declared.message.Column.{Column}
-use Rattle.pgrel.specs.Identity.{keyed, identity, identity_default, identity_index, key_cells, shape, same_shape, same_column}
+use Rattle.pgrel.specs.Identity.{keyed, identity, identity_default, identity_index, key_cells}
+use Rattle.pgrel.specs.Identity.{shape, same_shape, same_column}
 use Rattle.pgrel.specs.Laws.{ShapeGivesIdentity}
 
 -- what the shape has of a column
@@ -30,12 +31,14 @@ pairs_decide p q = (
       let flags : p.0 ≡ q.0 = (booleans_Decides p.0 q.0).0 parts.0 in
       let names : p.1 ≡ q.1 = (names_decide p.1 q.1).0 parts.1 in
       λ i. (flags i, names i)),
-  (λ e. and_from (beq p.0 q.0) (pointwise ◌==◌ p.1 q.1) ((booleans_Decides p.0 q.0).1 (ap (λ r. r.0) e)) ((names_decide p.1 q.1).1 (ap (λ r. r.1) e))),
+  (λ e. and_from (beq p.0 q.0) (pointwise ◌==◌ p.1 q.1) ((booleans_Decides p.0 q.0).1 (ap (λ r. r.0) e))
+      ((names_decide p.1 q.1).1 (ap (λ r. r.1) e))),
 )
 
 columns_decide : (xs ys : List Column) → Decides (pointwise same_column xs ys) (map flag_and_name xs ≡ map flag_and_name ys)
 columns_decide xs ys =
-    let mapped : pointwise same_pair (map flag_and_name xs) (map flag_and_name ys) ≡ pointwise same_column xs ys = pointwise-map flag_and_name same_pair xs ys in
+    let mapped : pointwise same_pair (map flag_and_name xs) (map flag_and_name ys) ≡ pointwise same_column xs ys =
+    pointwise-map flag_and_name same_pair xs ys in
     let decided = pointwise_decides pairs_decide (map flag_and_name xs) (map flag_and_name ys) in
     ((λ e. decided.0 (mapped ∙ e)), (λ e. sym mapped ∙ decided.1 e))
 
@@ -45,7 +48,8 @@ shapes_decide a b = (
       let letters : a.letter ≡ b.letter = (unsigned_Decides a.letter b.letter).0 parts.0 in
       let columns : map flag_and_name a.columns ≡ map flag_and_name b.columns = (columns_decide a.columns b.columns).0 parts.1 in
       λ i. (letters i, columns i)),
-  (λ e. and_from (a.letter == b.letter) (pointwise same_column a.columns b.columns) ((unsigned_Decides a.letter b.letter).1 (ap (λ s. s.0) e)) ((columns_decide a.columns b.columns).1 (ap (λ s. s.1) e))),
+  (λ e. and_from (a.letter == b.letter) (pointwise same_column a.columns b.columns)
+      ((unsigned_Decides a.letter b.letter).1 (ap (λ s. s.0) e)) ((columns_decide a.columns b.columns).1 (ap (λ s. s.1) e))),
 )
 
 -- the key cells and the test for a key column, by what the shape has of the columns
@@ -59,7 +63,8 @@ cells_by_shape [] cells = refl
 cells_by_shape (column ∷ columns) [] = refl
 cells_by_shape (column ∷ columns) (cell ∷ cells) = ap (λ rest. if column.key then cell ∷ rest else rest) (cells_by_shape columns cells)
 
-flags_by_shape : (columns : List Column) → list_any (λ (c : Column). c.key) columns ≡ list_any (λ (p : Bool × List ℕ). p.0) (map flag_and_name columns)
+flags_by_shape : (columns : List Column)
+    → list_any (λ (c : Column). c.key) columns ≡ list_any (λ (p : Bool × List ℕ). p.0) (map flag_and_name columns)
 flags_by_shape [] = refl
 flags_by_shape (column ∷ columns) = ap (λ rest. column.key || rest) (flags_by_shape columns)
 

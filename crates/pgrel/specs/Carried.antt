@@ -1,6 +1,8 @@
 -- A row of a table whose definition changes: the row as it stands under the new definition.
--- PostgreSQL documentation, Logical Replication Message Formats, Relation; Logical Replication, Restrictions (schema changes).
-use Rattle.std.specs.Prelude.{ℕ, Bool, List, [], ◌∷◌, Option, None, Some, map, ◌==◌, if◌then◌else◌, slice_get, unwrap_or}
+-- PostgreSQL documentation, Logical Replication Message Formats, Relation; Logical Replication,
+-- Restrictions (schema changes).
+use Rattle.std.specs.Prelude.{ℕ, Bool, List, [], ◌∷◌, Option, None, Some, map, ◌==◌, if◌then◌else◌}
+use Rattle.std.specs.Prelude.{slice_get, unwrap_or}
 use Rattle.std.specs.List.{position_from}
 use Rattle.std.specs.Cmp.Lexicographic.{pointwise}
 use Rattle.pgtuple.specs.declared.cell.Cell.{Cell}
@@ -17,7 +19,8 @@ named_cell name [] cells = Null
 named_cell name (column ∷ columns) [] = Null
 named_cell name (column ∷ columns) (cell ∷ cells) = if has_name name column then cell else named_cell name columns cells
 
--- Each new column takes the cell of the first old column of its name, and null if there is none. Old cells without a column go.
+-- Each new column takes the cell of the first old column of its name, and null if there is none.
+-- Old cells without a column go.
 abbrev pub carried_cells : List Column → List Cell → List Column → List Cell
 carried_cells old cells new = map (λ (c : Column). named_cell c.name old cells) new
 

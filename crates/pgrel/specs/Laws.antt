@@ -4,7 +4,8 @@ use Rattle.std.specs.Prelude.{◌≡◌, ◌≤◌, ◌↔◌, List, length, cou
 use Rattle.pgtuple.specs.declared.cell.Cell.{Cell}
 use Rattle.pglogical.specs.declared.message.RelationDef.{RelationDef}
 use Rattle.pglogical.specs.declared.message.Column.{Column}
-use Rattle.pgrel.specs.Identity.{keyed, IsKeyed, identity, identity_full, shape, same_shape, has_unchanged, resolved}
+use Rattle.pgrel.specs.Identity.{keyed, IsKeyed, identity, identity_full, shape, same_shape}
+use Rattle.pgrel.specs.Identity.{has_unchanged, resolved}
 use Rattle.pgrel.specs.Carried.{carried, placed_cells, places}
 
 -- the test for one shape tells whether the shapes are equal
@@ -39,7 +40,8 @@ KeyHasCellForEachKeyColumn = (def : RelationDef) (row : List Cell) → IsTrue (k
 abbrev pub IdentityIsNoWiderThanRow : Type 0
 IdentityIsNoWiderThanRow = (def : RelationDef) (row : List Cell) → length (identity def row) ≤ length row
 
--- A new row keeps its width when its missing cells are filled in. If the old row has as many cells and all of them, so does it then.
+-- A new row keeps its width when its missing cells are filled in. If the old row has as many cells
+-- and all of them, so does it then.
 abbrev pub ResolvedKeepsWidth : Type 0
 ResolvedKeepsWidth = (new old : List Cell) → length (resolved new old) ≡ length new
 
@@ -55,7 +57,8 @@ abbrev pub CarriedHasNewWidth : Type 0
 CarriedHasNewWidth = (old new : RelationDef) (cells : List Cell) → length (carried old new cells) ≡ length new.columns
 
 abbrev pub CarriedHasAllCells : Type 0
-CarriedHasAllCells = (old new : RelationDef) (cells : List Cell) → has_unchanged cells ≡ false → has_unchanged (carried old new cells) ≡ false
+CarriedHasAllCells = (old new : RelationDef) (cells : List Cell) → has_unchanged cells ≡ false
+    → has_unchanged (carried old new cells) ≡ false
 
 -- a row whose cells are taken by index is the row by name
 abbrev pub CarriedByPlaces : Type 0

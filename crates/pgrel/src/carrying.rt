@@ -13,8 +13,8 @@ use pgtuple::{Cell, CellRef, Tuple, TupleRef};
 use std::alloc::Global;
 use std::marker::Model;
 
-/// Where the cells of a table's new rows are in its old ones, so that one comparison of names serves all rows: for each new
-/// column the index of the first old column of its name.
+/// Where the cells of a table's new rows are in its old ones, so that one comparison of names
+/// serves all rows: for each new column the index of the first old column of its name.
 #[derive(Debug, Drop)]
 pub struct Carrying {
     places: Vec<Option<usize>>,
@@ -31,7 +31,8 @@ impl Model for Carrying {
 }
 
 impl Carrying {
-    /// From the old definition to the new one. Each new column is looked up among the old ones. The one error is out of memory.
+    /// From the old definition to the new one. Each new column is looked up among the old ones. The
+    /// one error is out of memory.
     pub fn new(alloc: Global, old: &RelationDef, new: &RelationDef) -> Result<Carrying, RelFault>
         requires definition { IsDefinition new.now }
         ensures ok { IfOk result (λ it. it ≡ places old.now.columns new.now.columns) }
@@ -45,7 +46,8 @@ impl Carrying {
         Ok(Carrying { places })
     }
 
-    /// A row as it is under the new definition, in one pass over the row. The one error is out of memory.
+    /// A row as it is under the new definition, in one pass over the row. The one error is out of
+    /// memory.
     pub fn carry(&self, alloc: Global, row: &TupleRef<'_>) -> Result<Tuple, RelFault>
         ensures ok { IfOk result (λ cells. cells ≡ placed_cells row.now self.now) }
         ensures memory { IfErr result (λ fault. fault ≡ RelFault.Memory) }
@@ -96,8 +98,9 @@ fn cell_at(alloc: Global, cells: &[CellRef<'_>], place: Option<usize>) -> Result
     }
 }
 
-/// A row as it is under the new definition: each new column takes the cell of the first old column of its name, and null where
-/// there is none; old cells without a column go. The one error is out of memory.
+/// A row as it is under the new definition: each new column takes the cell of the first old column
+/// of its name, and null where there is none; old cells without a column go. The one error is out
+/// of memory.
 ///
 /// For several rows [`Carrying`] looks the columns up once.
 pub fn carry(

@@ -1,9 +1,10 @@
 //! The identity of a row, and which tuples of a change fit its definition.
 //!
-//! PostgreSQL documentation, ALTER TABLE, REPLICA IDENTITY; Logical Replication Message Formats, Relation, Insert, Update,
-//! Delete.
+//! PostgreSQL documentation, ALTER TABLE, REPLICA IDENTITY; Logical Replication Message Formats,
+//! Relation, Insert, Update, Delete.
 
-ghost use Rattle.std.specs.Prelude.{◌≡◌, ◌⊎◌, ◌++◌, ◌∷◌, List, length, IsSome, IfOk, IfErr, option_map};
+ghost use Rattle.std.specs.Prelude.{◌≡◌, ◌⊎◌, ◌++◌, ◌∷◌, List, length, IsSome, IfOk, IfErr};
+ghost use Rattle.std.specs.Prelude.{option_map};
 ghost use Rattle.std.specs.Option.{option_to_list};
 ghost use Rattle.pgrel.specs.Steps.{sent_cell};
 ghost use Rattle.pgtuple.specs.Lent.{cell_value};
@@ -35,9 +36,9 @@ use pglogical::{Column, OldKind, RelationDef};
 use pgtuple::{CellRef, Cells, Tuple, TupleRef};
 use std::alloc::Global;
 
-/// Whether the table's rows are identified by their key: the replica identity letter is `d` or `i` and some column is flagged
-/// as part of the key. Otherwise the table has no usable key (the code calls it a bag): its rows are identified by all their
-/// cells, and counted in copies.
+/// Whether the table's rows are identified by their key: the replica identity letter is `d` or `i`
+/// and some column is flagged as part of the key. Otherwise the table has no usable key (the code
+/// calls it a bag): its rows are identified by all their cells, and counted in copies.
 pub fn keyed(def: &RelationDef) -> bool
     ensures { result ≡ keyed def.now }
 {
@@ -53,8 +54,8 @@ fn has_key_column(columns: &[Column]) -> bool
     columns.iter().any(|column| column.key)
 }
 
-/// Whether two definitions have equal letters and equal lists of key flags and column names. Rows of one are
-/// then rows of the other, with the same identities.
+/// Whether two definitions have equal letters and equal lists of key flags and column names. Rows
+/// of one are then rows of the other, with the same identities.
 pub fn same_shape(a: &RelationDef, b: &RelationDef) -> bool
     ensures { result ≡ same_shape a.now b.now }
 {
@@ -181,8 +182,9 @@ fn identity_tuple(alloc: Global, def: &RelationDef, row: &TupleRef<'_>) -> Resul
     }
 }
 
-/// The identity of a row: its key cells in column order, or in a bag all its cells. A cell that wasn't sent is a cell like
-/// another here. The error is `Width` for a row that hasn't the definition's width, else out of memory.
+/// The identity of a row: its key cells in column order, or in a bag all its cells. A cell that
+/// wasn't sent is a cell like another here. The error is `Width` for a row that hasn't the
+/// definition's width, else out of memory.
 pub fn row_identity(alloc: Global, def: &RelationDef, row: &TupleRef<'_>) -> Result<Tuple, RelFault>
     ensures ok { IfOk result (λ cells. checked_identity def.now row.now ≡ Ok cells) }
     ensures err { IfErr result (IsRefusalOf (checked_identity def.now row.now)) }
@@ -194,10 +196,11 @@ pub fn row_identity(alloc: Global, def: &RelationDef, row: &TupleRef<'_>) -> Res
     }
 }
 
-/// The identity by which an update or a delete finds its row: that of the old tuple if one was sent, else that of the new
-/// one. The checks come in this order: the old tuple's width, the new tuple's width, `NoIdentity` where the table isn't keyed
-/// and isn't one of replica identity FULL whose old row was sent whole, and `UnknownIdentity` where a cell of the identity
-/// wasn't sent. Out of memory is returned only after them.
+/// The identity by which an update or a delete finds its row: that of the old tuple if one was
+/// sent, else that of the new one. The checks come in this order: the old tuple's width, the new
+/// tuple's width, `NoIdentity` where the table isn't keyed and isn't one of replica identity FULL
+/// whose old row was sent whole, and `UnknownIdentity` where a cell of the identity wasn't sent.
+/// Out of memory is returned only after them.
 pub fn search_identity(
     alloc: Global,
     def: &RelationDef,
@@ -272,7 +275,8 @@ fn known_identity(alloc: Global, def: &RelationDef, row: &TupleRef<'_>) -> Resul
     identity_tuple(alloc, def, row)
 }
 
-/// The new row, with the old row's cell in place of each that wasn't sent. The one error is out of memory.
+/// The new row, with the old row's cell in place of each that wasn't sent. The one error is out of
+/// memory.
 pub fn resolve(alloc: Global, new: &TupleRef<'_>, old_row: &TupleRef<'_>) -> Result<Tuple, RelFault>
     requires { length new.now ≡ length old_row.now }
     ensures ok { IfOk result (λ row. row ≡ resolved new.now old_row.now) }

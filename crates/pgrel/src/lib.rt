@@ -1,9 +1,11 @@
 //! The relation cache, and the identity of rows.
 //!
-//! PostgreSQL documentation, Logical Replication Message Formats, Relation; ALTER TABLE, REPLICA IDENTITY.
+//! PostgreSQL documentation, Logical Replication Message Formats, Relation; ALTER TABLE, REPLICA
+//! IDENTITY.
 //!
-//! A [`Book`] has the last definition of each relation that a Relation message described. Of a definition and the tuples of a
-//! change it tells by which cells the row is found, and which checks the tuples fail:
+//! A [`Book`] has the last definition of each relation that a Relation message described. Of a
+//! definition and the tuples of a change it tells by which cells the row is found, and which checks
+//! the tuples fail:
 //!
 //! ```text
 //! book.set(def)?;                              // at a Relation message

@@ -1,5 +1,8 @@
--- The entries of a relation, in the order of the index, give its rows in the order of their identities.
-use Rattle.std.proofs.Common.{◌≡◌, inl, inr, ℕ, pos, Bool, true, false, List, [], ◌∷◌, ◌++◌, map, filter, Some, refl, sym, ap, subst, subst₂, ◌∙◌, Less, Equal, true≢false, nat_cmp, is_gt}
+-- The entries of a relation, in the order of the index, give its rows in the order of their
+-- identities.
+use Rattle.std.proofs.Common.{◌≡◌, inl, inr, ℕ, pos, Bool, true, false, List, [], ◌∷◌, ◌++◌, map}
+use Rattle.std.proofs.Common.{filter, Some, refl, sym, ap, subst, subst₂, ◌∙◌, Less, Equal}
+use Rattle.std.proofs.Common.{true≢false, nat_cmp, is_gt}
 use Rattle.std.specs.Prelude.{T}
 use Rattle.std.specs.Ordering.{is_eq, is_lt, ordering_then}
 use Rattle.std.specs.List.{AllByRecursion}
@@ -58,27 +61,35 @@ module _ (db : Trees) (held : AreHeld (db 1)) (indexed : IsIndexOf (1 ∷ 2 ∷ 
   row_of : (e : Row) → Has (db 2) e → IsWithin o e → (r : Row) × Has (db 1) r × (e ≡ entry r) × (key_in r ≡ o ∷ ident_at e)
   row_of e h within = let r = entry_row db held indexed up e h in (r.0, r.1, r.2, sym (ap key_at r.2) ∙ its_key e within)
 
-  lower : (e f : Row) → Has (db 2) e → Has (db 2) f → IsWithin o e → IsWithin o f → entry_cmp plain e f ≡ Less → is_lt (R (ident_at e) (ident_at f)) ≡ true
+  lower : (e f : Row) → Has (db 2) e → Has (db 2) f → IsWithin o e → IsWithin o f → entry_cmp plain e f ≡ Less
+      → is_lt (R (ident_at e) (ident_at f)) ≡ true
   lower e f he hf we wf less =
-      let keys : is_lt (R (o ∷ ident_at e) (o ∷ ident_at f)) ≡ true = subst₂ (λ p q. is_lt (R p q) ≡ true) (its_key e we) (its_key f wf) (rising db held indexed up e f he hf less) in
+      let keys : is_lt (R (o ∷ ident_at e) (o ∷ ident_at f)) ≡ true =
+      subst₂ (λ p q. is_lt (R p q) ≡ true) (its_key e we) (its_key f wf) (rising db held indexed up e f he hf less) in
       ap (λ c. is_lt (ordering_then c (R (ident_at e) (ident_at f)))) (sym (tied_itself nat_cmp_total o)) ∙ keys
 
-  all_lower : (e : Row) (es : List Row) → ((f : Row) → Has es f → is_lt (R (ident_at e) (ident_at f)) ≡ true) → T (below_all R (ident_at e) (map (λ f. (ident_at f, copies_at f)) es))
+  all_lower : (e : Row) (es : List Row) → ((f : Row) → Has es f → is_lt (R (ident_at e) (ident_at f)) ≡ true)
+      → T (below_all R (ident_at e) (map (λ f. (ident_at f, copies_at f)) es))
   all_lower e [] each = tt
   all_lower e (f ∷ es) each = rw (each f (inl refl)) (all_lower e es (λ x h. each x (inr h)))
 
-  sorted : (es : List Row) → ((e : Row) → Has es e → Has (db 2) e × IsWithin o e) → IsIndex plain es → T (is_sorted R (map (λ f. (ident_at f, copies_at f)) es))
+  sorted : (es : List Row) → ((e : Row) → Has es e → Has (db 2) e × IsWithin o e) → IsIndex plain es
+      → T (is_sorted R (map (λ f. (ident_at f, copies_at f)) es))
   sorted [] within rises = tt
   sorted (e ∷ es) within rises =
       let first = within e (inl refl) in
-      both _ _ (all_lower e es (λ f h. let later = within f (inr h) in lower e f first.0 later.0 first.1 later.1 (all_has _ es f rises.0 h))) (sorted es (λ f h. within f (inr h)) rises.1)
+      both _ _ (all_lower e es
+      (λ f h. let later = within f (inr h) in lower e f first.0 later.0 first.1 later.1 (all_has _ es f rises.0 h)))
+      (sorted es (λ f h. within f (inr h)) rises.1)
 
   -- a row of the relation has such an entry
   entry_within : (r : Row) → Has (db 1) r → number_in (column r 1) ≡ o → IsWithin o (entry r)
   entry_within r h oid = ap (λ x. column x 1) (held.formed r h) ∙ ap (λ n. Int (pos n)) oid
 
-  module _ (es : List Row) (rises : IsIndex plain es) (within : (e : Row) → Has es e → Has (db 2) e × IsWithin o e) (all : (e : Row) → Has (db 2) e → IsWithin o e → Has es e) where
-    one_at : (r : Row) → Has (db 1) r → (q : List ℕ) → key_in r ≡ o ∷ q → find R q (map (λ f. (ident_at f, copies_at f)) es) ≡ Some (copies_in r)
+  module _ (es : List Row) (rises : IsIndex plain es) (within : (e : Row) → Has es e → Has (db 2) e × IsWithin o e)
+      (all : (e : Row) → Has (db 2) e → IsWithin o e → Has es e) where
+    one_at : (r : Row) → Has (db 1) r → (q : List ℕ) → key_in r ≡ o ∷ q
+        → find R q (map (λ f. (ident_at f, copies_at f)) es) ≡ Some (copies_in r)
     one_at r h q is =
         let oid : number_in (column r 1) ≡ o = cc in
         let at : ident_at (entry r) ≡ q = cc in
@@ -88,7 +99,8 @@ module _ (db : Trees) (held : AreHeld (db 1)) (indexed : IsIndexOf (1 ∷ 2 ∷ 
         let s = row_of f w.0 w.1 in
         s.2 ∙ ap entry (held.keyed s.0 r s.1 h (s.3 ∙ ap (λ i. o ∷ i) (e ∙ at) ∙ sym is)))
         (all (entry r) (row_entry db held indexed up r h) (entry_within r h oid)) in
-        subst (λ k. find R k (map (λ f. (ident_at f, copies_at f)) es) ≡ Some (copies_at (entry r))) at one ∙ ap Some (copies_are db held indexed up r h)
+        subst (λ k. find R k (map (λ f. (ident_at f, copies_at f)) es) ≡ Some (copies_at (entry r))) at one
+        ∙ ap Some (copies_are db held indexed up r h)
 
     gives : (q : List ℕ) → find R q (map (λ f. (ident_at f, copies_at f)) es) ≡ get (tables_in db).rows (o ∷ q)
     gives q = alike _ _
@@ -98,7 +110,8 @@ module _ (db : Trees) (held : AreHeld (db 1)) (indexed : IsIndexOf (1 ∷ 2 ∷ 
         let r = row_of e.0 w.0 w.1 in
         let at : key_in r.0 ≡ o ∷ q = r.3 ∙ ap (λ i. o ∷ i) e.2 in
         let copies : copies_in r.0 ≡ v = sym (copies_are db held indexed up r.0 r.1) ∙ sym (ap copies_at r.2) ∙ e.3 in
-        ap (get (tables_in db).rows) (sym at) ∙ row_got nat_list_cmp_total same_key key_in copies_in (db 1) r.0 held.keyed r.1 ∙ ap Some copies)
+        ap (get (tables_in db).rows) (sym at) ∙ row_got nat_list_cmp_total same_key key_in copies_in (db 1) r.0 held.keyed r.1
+        ∙ ap Some copies)
         (λ v h.
         let r = got_row nat_list_cmp_total same_key key_in copies_in (db 1) (o ∷ q) v h in
         one_at r.0 r.1 q r.2 ∙ ap Some r.3)
@@ -128,11 +141,15 @@ module _ (db : Trees) (held : AreHeld (db 1)) (indexed : IsIndexOf (1 ∷ 2 ∷ 
   within_own e within = ap (λ v. is_eq (nat_cmp (number_in v) o)) within ∙ ap is_eq (tied_itself nat_cmp_total o)
 
   all_own : ListsRows o (tables_in db) (map copies_at (filter own (db 2)))
-  all_own = listed (filter own (db 2)) (ascending-filter _ own (db 2) up) (λ e h. let k = has_filtered own (db 2) e h in (k.0, own_within e k.0 k.1)) (λ e h within. has_kept own (db 2) e h (within_own e within))
+  all_own = listed (filter own (db 2)) (ascending-filter _ own (db 2) up)
+      (λ e h. let k = has_filtered own (db 2) e h in (k.0, own_within e k.0 k.1))
+      (λ e h within. has_kept own (db 2) e h (within_own e within))
 
   -- the row of an entry fits, if all of the relation fit
   pub fits_at : AllFit o (tables_in db) → (e : Row) → Has (db 2) e → IsWithin o e → FitsCopies (copies_at e)
-  fits_at fit e h within = all_has FitsCopies (map copies_at (filter own (db 2))) (copies_at e) (fit _ all_own) (mapped_has copies_at (filter own (db 2)) e (has_kept own (db 2) e h (within_own e within)))
+  fits_at fit e h within =
+      all_has FitsCopies (map copies_at (filter own (db 2))) (copies_at e) (fit _ all_own)
+      (mapped_has copies_at (filter own (db 2)) e (has_kept own (db 2) e h (within_own e within)))
 
   -- ---- the entries behind a seek by the OID
 
@@ -140,10 +157,12 @@ module _ (db : Trees) (held : AreHeld (db 1)) (indexed : IsIndexOf (1 ∷ 2 ∷ 
   sought_entries = from_key plain (front_of o) (db 2)
 
   pub sought_in : (e : Row) → Has sought_entries e → Has (db 2) e × (front.passes o (db 1) (db 2) held indexed up e ≡ true)
-  sought_in e h = has_filtered (front.passes o (db 1) (db 2) held indexed up) (db 2) e (subst (λ l. Has l e) (front.left_is o (db 1) (db 2) held indexed up) h)
+  sought_in e h = has_filtered (front.passes o (db 1) (db 2) held indexed up) (db 2) e
+      (subst (λ l. Has l e) (front.left_is o (db 1) (db 2) held indexed up) h)
 
   pub sought_rise : IsIndex plain sought_entries
-  sought_rise = subst (IsIndex plain) (sym (front.left_is o (db 1) (db 2) held indexed up)) (ascending-filter _ (front.passes o (db 1) (db 2) held indexed up) (db 2) up)
+  sought_rise = subst (IsIndex plain) (sym (front.left_is o (db 1) (db 2) held indexed up))
+      (ascending-filter _ (front.passes o (db 1) (db 2) held indexed up) (db 2) up)
 
   sought_has : (e : Row) → Has (db 2) e → IsWithin o e → Has sought_entries e
   sought_has e h within =
@@ -158,7 +177,8 @@ module _ (db : Trees) (held : AreHeld (db 1)) (indexed : IsIndexOf (1 ∷ 2 ∷ 
       ap (λ x. prefix_cmp plain x (front_of o)) r.2 ∙ front.tied o (db 1) (db 2) held indexed up r.0 r.1 oid
 
   -- behind an entry of another relation there is none of this one
-  pub none_behind : (first : Row) (more : List Row) → IsIndex plain (first ∷ more) → Has sought_entries first → ¬ IsWithin o first → (e : Row) → Has (db 2) e → IsWithin o e → ¬ Has (first ∷ more) e
+  pub none_behind : (first : Row) (more : List Row) → IsIndex plain (first ∷ more) → Has sought_entries first → ¬ IsWithin o first
+      → (e : Row) → Has (db 2) e → IsWithin o e → ¬ Has (first ∷ more) e
   none_behind first more rises there other e h within (inl same) = other (subst (IsWithin o) same within)
   none_behind first more rises there other e h within (inr later) =
       let passed = sought_in first there in
@@ -179,7 +199,8 @@ module _ (db : Trees) (held : AreHeld (db 1)) (indexed : IsIndexOf (1 ∷ 2 ∷ 
     within_front e h = ((sought_in e (subst (λ l. Has l e) (sym split) (has_left done left e h))).0, each e h)
 
     pub all_read : ((e : Row) → Has (db 2) e → IsWithin o e → ¬ Has left e) → ListsRows o (tables_in db) (map copies_at done)
-    all_read none = listed done front_rises within_front (λ e h within. elim (has_either done left e (subst (λ l. Has l e) split (sought_has e h within))) [
-      | inl it ↦ it
-      | inr later ↦ absurd (none e h within later)
-    ])
+    all_read none = listed done front_rises within_front
+        (λ e h within. elim (has_either done left e (subst (λ l. Has l e) split (sought_has e h within))) [
+          | inl it ↦ it
+          | inr later ↦ absurd (none e h within later)
+        ])

@@ -1,15 +1,19 @@
 -- Marks, rollbacks and commits keep what holds between calls.
-use Rattle.std.proofs.Common.{◌≡◌, ◌≢◌, ◌⊎◌, inl, inr, ℕ, zero, suc, ℤ, ◌<◌, ◌-◌, ◌++◌, false, List, [], ◌∷◌, map, length, take, get_or, Option, Some, None, IsTrue, refl, sym, ap, subst, subst₂, ◌∙◌, arith}
+use Rattle.std.proofs.Common.{◌≡◌, ◌≢◌, ◌⊎◌, inl, inr, ℕ, zero, suc, ℤ, ◌<◌, ◌-◌, ◌++◌, false, List}
+use Rattle.std.proofs.Common.{[], ◌∷◌, map, length, take, get_or, Option, Some, None, IsTrue, refl}
+use Rattle.std.proofs.Common.{sym, ap, subst, subst₂, ◌∙◌, arith}
 use Rattle.std.specs.List.{AllByRecursion}
 use Rattle.std.proofs.lemmas.List.{map-append}
 use Rattle.sqlite.specs.State.{Savepoint}
 use Rattle.sqlite.specs.Store.{Ghosts}
 use Rattle.sqlite_trees.specs.Tree.{Trees}
-use Rattle.sqlite_trees.specs.View.{Commits, GoesBack, IsClean, IsRolledBack, Marks, Releases, Snapshot, View, newest, snapshot}
+use Rattle.sqlite_trees.specs.View.{Commits, GoesBack, IsClean, IsRolledBack, Marks, Releases}
+use Rattle.sqlite_trees.specs.View.{Snapshot, View, newest, snapshot}
 use Rattle.sqlite_trees.proofs.ListLemmas.{all-get_or}
 use Rattle.pgtables.specs.Kept.{IsKept}
 use Rattle.pgrows.specs.Rows as said
-use Rattle.pgrows.specs.Rows.{AreLow, GoesOn, IsBehind, IsGood, IsSaved, IsUnder, database, mark_of, saved_in, shown_mark, state}
+use Rattle.pgrows.specs.Rows.{AreLow, GoesOn, IsBehind, IsGood, IsSaved, IsUnder, database, mark_of}
+use Rattle.pgrows.specs.Rows.{saved_in, shown_mark, state}
 
 -- ---- lists of marks
 
@@ -44,10 +48,12 @@ some_long [] some = absurd (some refl)
 some_long (x ∷ xs) some = omega arith
 
 -- the newest mark is the last of those that are shown
-newest_is : (ms : List Snapshot) (d : Snapshot) (older : List Savepoint) (mark : Savepoint) → map shown_mark ms ≡ older ++ mark ∷ [] → shown_mark (get_or ms (length ms - 1) d) ≡ mark
+newest_is : (ms : List Snapshot) (d : Snapshot) (older : List Savepoint) (mark : Savepoint) → map shown_mark ms ≡ older ++ mark ∷ []
+    → shown_mark (get_or ms (length ms - 1) d) ≡ mark
 newest_is [] d older mark h = absurd (none_pushed older mark h)
 newest_is (m ∷ []) d [] mark h = cc
-newest_is (m ∷ []) d (x ∷ older) mark h = absurd (none_pushed older mark (let e : ◌≡◌ {A = List Savepoint} [] (older ++ mark ∷ []) = cc in e))
+newest_is (m ∷ []) d (x ∷ older) mark h =
+    absurd (none_pushed older mark (let e : ◌≡◌ {A = List Savepoint} [] (older ++ mark ∷ []) = cc in e))
 newest_is (m ∷ n ∷ ms) d [] mark h = absurd (cc)
 newest_is (m ∷ n ∷ ms) d (x ∷ older) mark h =
     let later : map shown_mark (n ∷ ms) ≡ older ++ mark ∷ [] = cc in
@@ -63,7 +69,8 @@ low_self (Some n) c db h = h
 pub marked_under : (old new : View) (last : Option ℤ) → Marks old new → IsUnder old last → IsUnder new last
 marked_under old new last marks under =
     let here : IsSaved last old.committed old.trees = record { kept = under.good.kept; below = under.below } in
-    let all = all_pushed (λ (p : Savepoint). IsSaved last old.committed p.db.trees) (saved_in old) (shown_mark (snapshot old)) under.behind.marks here in
+    let all = all_pushed (λ (p : Savepoint). IsSaved last old.committed p.db.trees) (saved_in old) (shown_mark (snapshot old))
+    under.behind.marks here in
     let marked : View = record old { marks = old.marks ++ snapshot old ∷ [] } in
     let it : IsUnder marked last = record {
       good = record { unbroken = under.good.unbroken; kept = under.good.kept };
@@ -71,7 +78,8 @@ marked_under old new last marks under =
       behind = record {
         numbered = under.behind.numbered;
         committed = under.behind.committed;
-        marks = subst (AllByRecursion (λ (p : Savepoint). IsSaved last old.committed p.db.trees)) (sym (map-append shown_mark old.marks (snapshot old ∷ []))) all;
+        marks = subst (AllByRecursion (λ (p : Savepoint). IsSaved last old.committed p.db.trees))
+            (sym (map-append shown_mark old.marks (snapshot old ∷ []))) all;
       };
     } in
     subst (λ v. IsUnder v last) (sym marks.is) it
@@ -87,16 +95,20 @@ released_under old new last is under =
       behind = record {
         numbered = under.behind.numbered;
         committed = under.behind.committed;
-        marks = subst (AllByRecursion (λ (p : Savepoint). IsSaved last old.committed p.db.trees)) (sym (map_taken shown_mark n old.marks)) all;
+        marks = subst (AllByRecursion (λ (p : Savepoint). IsSaved last old.committed p.db.trees)) (sym (map_taken shown_mark n old.marks))
+            all;
       };
     } in
     subst (λ v. IsUnder v last) (sym is) it
 
 pub went_back_under : (old new : View) (last : Option ℤ) → old.marks ≢ [] → GoesBack old new → IsBehind old last → IsUnder new last
 went_back_under old new last some back behind =
-    let saved : IsSaved last old.committed (newest old).trees = all-get_or (λ (m : Snapshot). IsSaved last old.committed m.trees) old.marks (length old.marks - 1) (snapshot old)
-    (all_unmapped (λ (p : Savepoint). IsSaved last old.committed p.db.trees) shown_mark old.marks behind.marks) (some_long old.marks some) in
-    let gone : View = record old { trees = (newest old).trees; shape = (newest old).shape; reals = (newest old).reals; cursors = new.cursors; is_broken = false } in
+    let saved : IsSaved last old.committed (newest old).trees =
+    all-get_or (λ (m : Snapshot). IsSaved last old.committed m.trees) old.marks (length old.marks - 1) (snapshot old)
+    (all_unmapped (λ (p : Savepoint). IsSaved last old.committed p.db.trees) shown_mark old.marks behind.marks)
+    (some_long old.marks some) in
+    let gone : View = record old
+    { trees = (newest old).trees; shape = (newest old).shape; reals = (newest old).reals; cursors = new.cursors; is_broken = false } in
     let it : IsUnder gone last = record {
       good = record { unbroken = refl; kept = saved.kept };
       below = saved.below;
@@ -104,7 +116,8 @@ went_back_under old new last some back behind =
     } in
     subst (λ v. IsUnder v last) (sym back.is) it
 
-pub rolled_under : (old new : View) (last : Option ℤ) → IsClean new → IsTrue new.is_open → IsRolledBack old new → IsTrue new.is_numbered → IsSaved last old.committed old.committed → IsUnder new last
+pub rolled_under : (old new : View) (last : Option ℤ) → IsClean new → IsTrue new.is_open → IsRolledBack old new → IsTrue new.is_numbered
+    → IsSaved last old.committed old.committed → IsUnder new last
 rolled_under old new last clean up back numbered saved =
     let undone = back.undone up in
     let kept = back.kept clean in
@@ -123,7 +136,8 @@ rolled_under old new last clean up back numbered saved =
 pub committed_under : (old new : View) (last : Option ℤ) → Commits old new → IsUnder old last → IsUnder new last
 committed_under old new last commits under =
     let low = low_self last old.committed old.trees under.below in
-    let done : View = record old { committed = old.trees; committed_shape = old.shape; committed_reals = old.reals; marks = []; cursors = new.cursors } in
+    let done : View = record old
+    { committed = old.trees; committed_shape = old.shape; committed_reals = old.reals; marks = []; cursors = new.cursors } in
     let it : IsUnder done last = record {
       good = record { unbroken = under.good.unbroken; kept = under.good.kept };
       below = low;
@@ -149,14 +163,16 @@ module _ {S : Type 0} (g : Ghosts S) (old new : S) where
     is_open = ap (λ (v : View). v.is_open) is ∙ up;
     now_is = ap (λ (v : View). database v.trees) is;
     committed_is = ap (λ (v : View). database v.committed) is;
-    marks_are = ap saved_in is ∙ map_taken shown_mark (length (g.view old).marks - 1) (g.view old).marks ∙ ap (λ n. take (n - 1) (saved_in (g.view old))) (sym (map_long shown_mark (g.view old).marks));
+    marks_are = ap saved_in is ∙ map_taken shown_mark (length (g.view old).marks - 1) (g.view old).marks
+        ∙ ap (λ n. take (n - 1) (saved_in (g.view old))) (sym (map_long shown_mark (g.view old).marks));
   }
 
   pub shows_back : GoesBack (g.view old) (g.view new) → said.GoesBack (state g old) (state g new)
   shows_back back older mark is = record {
     was_open = back.was_open;
     is_open = ap (λ (v : View). v.is_open) back.is ∙ back.was_open;
-    now_is = ap (λ (v : View). database v.trees) back.is ∙ ap (λ (p : Savepoint). p.db) (newest_is (g.view old).marks (snapshot (g.view old)) older mark is);
+    now_is = ap (λ (v : View). database v.trees) back.is
+        ∙ ap (λ (p : Savepoint). p.db) (newest_is (g.view old).marks (snapshot (g.view old)) older mark is);
     committed_is = ap (λ (v : View). database v.committed) back.is;
     marks_are = ap saved_in back.is;
   }
@@ -173,7 +189,8 @@ list_cases [] = inl refl
 list_cases (x ∷ xs) = inr (λ e. cc)
 
 -- who goes back was open
-pub back_open : (old new : View) → (old.marks ≢ [] → GoesBack old new) → (old.marks ≡ [] → new ≡ old) → IsTrue new.is_open → IsTrue old.is_open
+pub back_open : (old new : View) → (old.marks ≢ [] → GoesBack old new) → (old.marks ≡ [] → new ≡ old) → IsTrue new.is_open
+    → IsTrue old.is_open
 back_open old new back same up = elim (list_cases old.marks) [
   | inl none ↦ subst IsTrue (ap (λ (v : View). v.is_open) (same none)) up
   | inr some ↦ (back some).was_open

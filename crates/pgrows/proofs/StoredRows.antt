@@ -17,11 +17,14 @@ same_copies row k l h m =
     λ i. record { body = body i; copies = copies i }
 
 -- only memory has run out
-pub of_copies : {X : Type 0} (r : Result X FromSqlError) (row : Row) (k : Copies) → IfErr r (λ e. (k : Copies) → HasCopies row k → FitsCopies k → e ≡ OutOfMemory) → HasCopies row k → FitsCopies k → IfErr r (λ e. e ≡ OutOfMemory)
+pub of_copies : {X : Type 0} (r : Result X FromSqlError) (row : Row) (k : Copies)
+    → IfErr r (λ e. (k : Copies) → HasCopies row k → FitsCopies k → e ≡ OutOfMemory) → HasCopies row k → FitsCopies k
+    → IfErr r (λ e. e ≡ OutOfMemory)
 of_copies (Ok x) row k h has fits = tt
 of_copies (Err e) row k h has fits = h k has fits
 
 -- the fault that a `?` passes on
-pub passed_on : {X : Type 0} (r : Result X ReadFault) (fault : ReadFault) → fault ≢ Malformed → IsErrAnd r (λ f. f ≡ fault) → IfErr r (λ f. f ≢ Malformed)
+pub passed_on : {X : Type 0} (r : Result X ReadFault) (fault : ReadFault) → fault ≢ Malformed → IsErrAnd r (λ f. f ≡ fault)
+    → IfErr r (λ f. f ≢ Malformed)
 passed_on (Ok x) fault formed h = tt
 passed_on (Err f) fault formed h = λ e. formed (sym h ∙ e)

@@ -1,5 +1,6 @@
 -- What a dump gives, row by row in the order of the index.
-use Rattle.std.specs.Prelude.{◌≡◌, ◌++◌, ℕ, ℤ, ⊤, pos, List, [], ◌∷◌, filter, slice_get, unwrap_or, Option, Some, MatchOption}
+use Rattle.std.specs.Prelude.{◌≡◌, ◌++◌, ℕ, ℤ, ⊤, pos, List, [], ◌∷◌, filter, slice_get, unwrap_or}
+use Rattle.std.specs.Prelude.{Option, Some, MatchOption}
 use Rattle.std.specs.FinMap.{get}
 use Rattle.sqlite.specs.Order.{Row, column, bytes}
 use Rattle.sqlite.specs.Tree.{Trees, has_rowid}
@@ -30,7 +31,8 @@ DefinesKnown db r known = MatchOption known ⊤ (Defines db r)
 
 -- what was given, behind what was taken before, is a front of the dump
 abbrev pub GivesFront : Tables → (List Row → Type 0) → (List Row → Type 0) → Type 0
-GivesFront t old new = (done : List Row) × (left : List Row) × (dump_of t ≡ done ++ left) × ((before : List Row) → old before → new (before ++ done))
+GivesFront t old new = (done : List Row) × (left : List Row) × (dump_of t ≡ done ++ left)
+    × ((before : List Row) → old before → new (before ++ done))
 
 -- all of the dump was given
 abbrev pub GivesAll : Tables → (List Row → Type 0) → (List Row → Type 0) → Type 0

@@ -25,6 +25,7 @@ pub record IsReached (o : ℕ) (i : List ℕ) (e : Row) : Type 0 where
 abbrev pub IsNext : ℕ → List ℕ → Row → FinMap (slice_cmp nat_cmp) Copies → Type 0
 IsNext o l e rows = (i : List ℕ) → is_lt (slice_cmp nat_cmp l i) ≡ true → IsSome (get rows (o ∷ i)) → IsReached o i e
 
--- Each row of the first entry's relation above it is that of the second, or behind it. Of a first entry that is empty this says nothing.
+-- Each row of the first entry's relation above it is that of the second, or behind it. Of a first
+-- entry that is empty this says nothing.
 abbrev pub IsGap : Row → Row → FinMap (slice_cmp nat_cmp) Copies → Type 0
 IsGap low high rows = (o : ℕ) (l : List ℕ) → column low 0 ≡ Int (pos o) → column low 1 ≡ Blob l → IsNext o l high rows

@@ -1,5 +1,7 @@
 -- What a store of trees shows of the three tables, and what holds of it between calls.
-use Rattle.std.specs.Prelude.{◌≡◌, ◌≢◌, ◌≤ℤ◌, ◌-◌, ◌++◌, ℕ, ℤ, pos, true, false, Bool, if◌then◌else◌, List, [], ◌∷◌, map, length, take, Option, None, MatchOption, IsTrue}
+use Rattle.std.specs.Prelude.{◌≡◌, ◌≢◌, ◌≤ℤ◌, ◌-◌, ◌++◌, ℕ, ℤ, pos, true, false, Bool}
+use Rattle.std.specs.Prelude.{if◌then◌else◌, List, [], ◌∷◌, map, length, take, Option, None}
+use Rattle.std.specs.Prelude.{MatchOption, IsTrue}
 use Rattle.std.specs.List.{AllByRecursion}
 use Rattle.sqlite.specs.declared.types.Value.TheVariants.{Int, Blob}
 use Rattle.sqlite.specs.Order.{Row, column}
@@ -12,7 +14,8 @@ use Rattle.sqlite_rules.specs.Lists.{Has}
 use Rattle.sqlite_rules.specs.Edit.{id_in}
 use Rattle.pgtables.specs.Schema.{store_schema}
 use Rattle.pgrows.specs.Gap.{IsGap}
-use Rattle.pgtables.specs.Kept.{Copies, IsKept, Tables, held_row, is_there, key_in, number_in, tables_in, with_row}
+use Rattle.pgtables.specs.Kept.{Copies, IsKept, Tables, held_row, is_there, key_in, number_in}
+use Rattle.pgtables.specs.Kept.{tables_in, with_row}
 
 abbrev pub database : Trees → Database
 database db = record { schema = store_schema; trees = db }
@@ -37,7 +40,8 @@ shown_mark m = record { name = []; begins = false; db = database m.trees }
 abbrev pub saved_in : View → List Savepoint
 saved_in v = map shown_mark v.marks
 
--- the last commit and each savepoint hold tables of a store, and the trees are numbered as they are listed
+-- the last commit and each savepoint hold tables of a store, and the trees are numbered as they are
+-- listed
 pub record IsBehind (v : View) (last : Option ℤ) : Type 0 where
   pub numbered : IsTrue v.is_numbered
   pub committed : IsSaved last v.committed v.committed

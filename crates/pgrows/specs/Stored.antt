@@ -10,7 +10,8 @@ HasCopies row k = (column row 3 ≡ Blob k.body) × (column row 4 ≡ Int (pos k
 
 -- the row of a table has this definition
 abbrev pub HasDefinition : Row → Definition → Type 0
-HasDefinition row d = (column row 2 ≡ Text d.namespace) × (column row 3 ≡ Text d.name) × (column row 4 ≡ Int (pos d.letter)) × (column row 5 ≡ Blob d.columns)
+HasDefinition row d = (column row 2 ≡ Text d.namespace) × (column row 3 ≡ Text d.name) × (column row 4 ≡ Int (pos d.letter))
+    × (column row 5 ≡ Blob d.columns)
 
 -- the entry is one of the relation's
 abbrev pub IsWithin : ℕ → Row → Type 0

@@ -3,8 +3,10 @@
 ghost use Rattle.std.specs.Prelude.{◌≡◌, ℤ, false, Option, Some, IfOk, OnOk, OnErr};
 ghost use Rattle.sqlite.specs.State.{HasCleanDisk};
 ghost use Rattle.sqlite_trees.specs.View.{IsClean, IsQuiet, OnlyWrites};
-ghost use Rattle.pgtables.specs.Kept.{IsKept, is_there, tables_in, with_place, with_row, without_row};
-ghost use Rattle.pgrows.specs.Rows.{AreBelow, AreRows, IsGood, Keeps, Makes, Stands, database, state, tables_of, with_row_if_there};
+ghost use Rattle.pgtables.specs.Kept.{IsKept, is_there, tables_in, with_place, with_row};
+ghost use Rattle.pgtables.specs.Kept.{without_row};
+ghost use Rattle.pgrows.specs.Rows.{AreBelow, AreRows, IsGood, Keeps, Makes, Stands, database};
+ghost use Rattle.pgrows.specs.Rows.{state, tables_of, with_row_if_there};
 
 use crate::entry::{write_entry, write_place, write_row};
 use crate::find::{INDEX, PLACE, TABLE, find};

@@ -5,7 +5,8 @@ ghost use Rattle.sqlite.specs.State.{HasCleanDisk};
 ghost use Rattle.sqlite_rules.specs.Lists.{Has};
 ghost use Rattle.sqlite_trees.specs.View.{IsClean, IsQuiet, StayLive};
 ghost use Rattle.sqlite_exec.specs.Calls.{OnlyReads};
-ghost use Rattle.pgrows.specs.Dump.{Defines, DefinesKnown, GivesAll, GivesFront, LeavesAt, shown_by};
+ghost use Rattle.pgrows.specs.Dump.{Defines, DefinesKnown, GivesAll, GivesFront, LeavesAt};
+ghost use Rattle.pgrows.specs.Dump.{shown_by};
 ghost use Rattle.pgrows.specs.Rows.{AreRows, IsGood, Keeps, Makes, state, tables_of};
 
 use crate::entry::{id_of, oid_in, write_shown};

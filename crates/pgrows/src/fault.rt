@@ -42,7 +42,8 @@ impl<T: Drop> From<AllocFailed<T>> for ReadFault {
     }
 }
 
-/// What was read of a row. Each error but out of memory says that the row isn't one that a store writes.
+/// What was read of a row. Each error but out of memory says that the row isn't one that a store
+/// writes.
 pub(crate) fn well_formed<T: Drop>(read: Result<T, FromSqlError>) -> Result<T, ReadFault>
     ensures ok { IfOk result (λ value. read ≡ Ok value) }
     ensures formed { IfErr read (λ error. error ≡ OutOfMemory) →

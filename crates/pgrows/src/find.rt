@@ -19,7 +19,8 @@ pub(crate) const INDEX: u32 = 2;
 
 pub(crate) const PLACE: u32 = 3;
 
-/// The rowid of the row that has the key. `found` is the first entry from the key on then, or empty where there is none.
+/// The rowid of the row that has the key. `found` is the first entry from the key on then, or empty
+/// where there is none.
 pub(crate) fn find<S: Alter>(
     store: &mut S,
     key: &mut Row,

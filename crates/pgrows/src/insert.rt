@@ -1,13 +1,15 @@
 //! Puts a row whose key is new.
 
-ghost use Rattle.std.specs.Prelude.{◌≡◌, ◌<ℤ◌, ℤ, true, false, IsSome, Some, None, IfOk, OnOk, OnErr, ◌∷◌};
+ghost use Rattle.std.specs.Prelude.{◌≡◌, ◌<ℤ◌, ℤ, true, false, IsSome, Some, None, IfOk, OnOk};
+ghost use Rattle.std.specs.Prelude.{OnErr, ◌∷◌};
 ghost use Rattle.std.specs.FinMap.{get};
 ghost use Rattle.sqlite.specs.State.{HasCleanDisk};
 ghost use Rattle.sqlite_trees.specs.View.{IsClean, IsQuiet, OnlyWrites};
 ghost use Rattle.sqlite_exec.specs.Calls.{OnlyReads};
 ghost use Rattle.pgtables.specs.Kept.{IsKept, tables_in, with_row};
 ghost use Rattle.pgrows.specs.Gap.{IsGap, IsNext};
-ghost use Rattle.pgrows.specs.Rows.{AreBelow, AreRows, HasGap, IsFree, IsGood, IsUnder, Keeps, Makes, Stands, database, index_row, state, tables_of};
+ghost use Rattle.pgrows.specs.Rows.{AreBelow, AreRows, HasGap, IsFree, IsGood, IsUnder, Keeps};
+ghost use Rattle.pgrows.specs.Rows.{Makes, Stands, database, index_row, state, tables_of};
 
 use crate::entry::{write_entry, write_row};
 use crate::find::{INDEX, TABLE, find};
@@ -36,7 +38,8 @@ fn read_top<S: Alter>(store: &mut S, row: &mut Row) -> Result<i64, StoreError>
     Ok(0)
 }
 
-/// A rowid that none is above: the last that was given, or else the table's last. The first call after the opening reads it.
+/// A rowid that none is above: the last that was given, or else the table's last. The first call
+/// after the opening reads it.
 pub(crate) fn top_of<S: Alter>(
     store: &mut S,
     row: &mut Row,

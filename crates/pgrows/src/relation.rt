@@ -5,7 +5,8 @@ ghost use Rattle.sqlite.specs.State.{HasCleanDisk};
 ghost use Rattle.sqlite_trees.specs.View.{IsClean, IsQuiet};
 ghost use Rattle.sqlite_exec.specs.Calls.{OnlyReads};
 ghost use Rattle.pgtables.specs.Kept.{without_rows};
-ghost use Rattle.pgrows.specs.Rows.{AreRows, HasNone, IsFirst, IsGood, IsUnder, Keeps, Makes, state, tables_of};
+ghost use Rattle.pgrows.specs.Rows.{AreRows, HasNone, IsFirst, IsGood, IsUnder, Keeps, Makes};
+ghost use Rattle.pgrows.specs.Rows.{state, tables_of};
 
 use crate::change::take_out;
 use crate::entry::{blob_in, id_within, write_front};

@@ -1,16 +1,19 @@
 //! A store of trees that holds the three tables of a store.
 
-ghost use Rattle.std.specs.Prelude.{◌≡◌, ◌≢◌, ◌∷◌, [], None, true, false, IsSome, IsTrue, IfOk, IfErr, IfSome, OnOk, OnErr};
+ghost use Rattle.std.specs.Prelude.{◌≡◌, ◌≢◌, ◌∷◌, [], None, true, false, IsSome, IsTrue, IfOk};
+ghost use Rattle.std.specs.Prelude.{IfErr, IfSome, OnOk, OnErr};
 ghost use Rattle.std.specs.FinMap.{get};
 ghost use Rattle.sqlite.specs.Held as connection;
 ghost use Rattle.sqlite.specs.State.{HasCleanDisk, Survives};
 ghost use Rattle.sqlite.specs.Steps.{IsFresh};
 ghost use Rattle.pgtables.specs.Kept as connected;
-ghost use Rattle.pgtables.specs.Kept.{IsKept, is_there, with_definition, with_place, with_row, without_row, without_rows};
+ghost use Rattle.pgtables.specs.Kept.{IsKept, is_there, with_definition, with_place, with_row};
+ghost use Rattle.pgtables.specs.Kept.{without_row, without_rows};
 ghost use Rattle.pgtables.specs.Shown.{AllFit, FitsCopies, FitsDefinition, ListsRows};
 ghost use Rattle.pgrows.specs.declared.fault.ReadFault.TheVariants.{Malformed};
 ghost use Rattle.pgrows.specs.Dump.{GivesAll, GivesFront, LeavesAt};
-ghost use Rattle.pgrows.specs.Rows.{Drops, GoesBack, IfServing, IsNumbered, Keeps, Makes, Marks, Shows, database, state, tables_of, with_row_if_there};
+ghost use Rattle.pgrows.specs.Rows.{Drops, GoesBack, IfServing, IsNumbered, Keeps, Makes, Marks};
+ghost use Rattle.pgrows.specs.Rows.{Shows, database, state, tables_of, with_row_if_there};
 
 use crate::change::{put_place, remove, set};
 use crate::define::put_defined;
@@ -30,8 +33,9 @@ use sqlite_value::row::Row;
 use std::alloc::Global;
 use std::marker::Model;
 
-/// A store whose trees are those of the three tables, inside a transaction that is always open. A call that fails rolls nothing
-/// back: from then on each call fails until `back` goes to the newest mark, or `undo` or `commit` to the last commit.
+/// A store whose trees are those of the three tables, inside a transaction that is always open. A
+/// call that fails rolls nothing back: from then on each call fails until `back` goes to the newest
+/// mark, or `undo` or `commit` to the last commit.
 #[derive(Drop)]
 pub struct Rows<S: Alter> {
     store: S,
@@ -43,7 +47,8 @@ pub struct Rows<S: Alter> {
     // between them needs no search.
     low: Row,
     high: Row,
-    // No row of the commit, of a mark or of the transaction has a rowid above it. It isn't known before the first change.
+    // No row of the commit, of a mark or of the transaction has a rowid above it. It isn't known
+    // before the first change.
     last: Option<i64>,
     failed: bool,
 }
@@ -90,7 +95,8 @@ impl<S: Alter + Drop> Rows<S> {
         }
     }
 
-    /// The rows of trees that were just opened and hold the tables of a store. It takes no memory, and reads nothing.
+    /// The rows of trees that were just opened and hold the tables of a store. It takes no memory,
+    /// and reads nothing.
     pub fn of_trees(alloc: Global, store: S) -> Rows<S>
         requires fresh { IfServing S.Store store (IsFresh (S.Store.view store)) }
         requires kept { IfServing S.Store store (IsKept (state S.Store store).now) }
@@ -109,11 +115,13 @@ impl<S: Alter + Drop> Rows<S> {
         }
     }
 
-    /// A connection to the tables as they were committed. The SQL library reads and checks each row once more.
+    /// A connection to the tables as they were committed. The SQL library reads and checks each row
+    /// once more.
     ///
     /// # Errors
     ///
-    /// Those of the SQL library, and `Closed` where a failure of the disk has shut the store, which comes back beside them.
+    /// Those of the SQL library, and `Closed` where a failure of the disk has shut the store, which
+    /// comes back beside them.
     pub fn into_connection(self, alloc: Global) -> Result<Connection<S>, (Error, S)>
         ensures { IfOk result (λ conn. HasCleanDisk (connection.state S.Store conn) →
             HasCleanDisk (state S.Store self) × IsTrue (state S.Store self).is_open
@@ -549,7 +557,8 @@ impl<S: Alter> Rows<S> {
         self.failed = false;
     }
 
-    /// Commits what was changed, and drops each mark. Where that or an earlier call failed, it goes back to the last commit.
+    /// Commits what was changed, and drops each mark. Where that or an earlier call failed, it goes
+    /// back to the last commit.
     pub fn commit(&mut self) -> Result<(), StoreError>
         ensures committed { HasCleanDisk (state S.Store self.new) → OnOk result
             (Shows S.Store self.old self.new (state S.Store self.old).now.trees
@@ -620,8 +629,8 @@ impl<S: Alter> Rows<S> {
         self.store
     }
 
-    /// What is committed are tables of a store, and the trees are numbered as they are listed. The call does nothing: a store of
-    /// rows shows this only to a caller that asks.
+    /// What is committed are tables of a store, and the trees are numbered as they are listed. The
+    /// call does nothing: a store of rows shows this only to a caller that asks.
     pub fn see_kept(&self)
         ensures kept { IfServing S.Store self.now (IsKept (state S.Store self.now).committed) }
         ensures numbered { IfServing S.Store self.now (IsNumbered S.Store self.now) }
@@ -629,7 +638,8 @@ impl<S: Alter> Rows<S> {
         let _store = &self.store;
     }
 
-    /// Whether no call has failed since the last mark or commit. Then what the transaction shows are tables of a store.
+    /// Whether no call has failed since the last mark or commit. Then what the transaction shows
+    /// are tables of a store.
     pub fn is_sound(&self) -> bool
         ensures sound { result ≡ true → HasCleanDisk (state S.Store self.now) →
             IsTrue (state S.Store self.now).is_open × IsKept (state S.Store self.now).now }

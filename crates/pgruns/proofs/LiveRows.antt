@@ -1,4 +1,5 @@
--- A worked run as bytes: two sessions, with a CopyDone between them, and the statuses that are written after their parts.
+-- A worked run as bytes: two sessions, with a CopyDone between them, and the statuses that are
+-- written after their parts.
 use Rattle.std.proofs.Common.{◌≡◌, ◌≤◌, ◌++◌, [], ◌∷◌, List, ℕ, Bool, true, false, refl, pos, arith}
 use Rattle.std.specs.FinMap as map
 use Rattle.pgwire.specs.declared.status.Status.{Status}
@@ -16,7 +17,8 @@ use Rattle.pgfollow.specs.Told.{AreRising, Rises, first_status, sessions_from}
 abbrev One : Type 0
 One = SubscriberValue ℕ
 
--- a subscriber that has stored and confirmed up to one LSN, and received up to another, with these replies waiting
+-- a subscriber that has stored and confirmed up to one LSN, and received up to another, with these
+-- replies waiting
 abbrev at : ℕ → ℕ → List ℕ → Bool → One
 at confirmed received replies copy_done = record {
   applied = record {
@@ -44,8 +46,8 @@ status received stored = 100 ∷ 0 ∷ 0 ∷ 0 ∷ 38 ∷ 114 ∷ (received ++ (
 abbrev copy_done : List ℕ
 copy_done = 99 ∷ 0 ∷ 0 ∷ 0 ∷ 4 ∷ []
 
--- within a transaction nothing is told; with its commit, and a CopyDone behind it, one status; and in the next session a keepalive that
--- asks gets its reply before the status
+-- within a transaction nothing is told; with its commit, and a CopyDone behind it, one status; and
+-- in the next session a keepalive that asks gets its reply before the status
 abbrev within : Step ℕ
 within = record { now = pos 7; part = 1 ∷ 2 ∷ []; ends = false; fed = at 304 512 [] false; after = at 304 512 [] false }
 
@@ -53,7 +55,13 @@ abbrev last : Step ℕ
 last = record { now = pos 7; part = 3 ∷ copy_done; ends = true; fed = at 560 560 [] true; after = at 560 560 [] false }
 
 abbrev asked : Step ℕ
-asked = record { now = pos 7; part = 4 ∷ []; ends = false; fed = at 640 640 (status (short 2 128) (short 2 128)) false; after = at 640 640 [] false }
+asked = record {
+  now = pos 7;
+  part = 4 ∷ [];
+  ends = false;
+  fed = at 640 640 (status (short 2 128) (short 2 128)) false;
+  after = at 640 640 [] false;
+}
 
 abbrev steps : List (Step ℕ)
 steps = within ∷ last ∷ asked ∷ []

@@ -1,5 +1,6 @@
 -- The file of a new store holds an empty database.
-use Rattle.std.proofs.Common.{◌≡◌, ◌∙◌, ◌++◌, ◌∷◌, true, ℕ, List, [], Result, Ok, Err, OnOk, length, take, replicate, refl, sym, ap, subst, inl, inr, arith}
+use Rattle.std.proofs.Common.{◌≡◌, ◌∙◌, ◌++◌, ◌∷◌, true, ℕ, List, [], Result, Ok, Err, OnOk, length}
+use Rattle.std.proofs.Common.{take, replicate, refl, sym, ap, subst, inl, inr, arith}
 use Rattle.std.proofs.lemmas.List.{length-map}
 use Rattle.std.proofs.lemmas.List.FromFn.{length-range_with_len}
 use Rattle.std.specs.List.{range_with_len}
@@ -35,11 +36,15 @@ long = length-map (range_with_len 0 1024) (first_page_byte 1024) ∙ length-rang
 headed : IsFirstPage new_page (take 100 new_page)
 unfolding first_page cell_count content_start page_cells
 headed =
-    let leaf = empty_page (record { tree = Table; leaf = true }) new_page 100 (omega (arith, long)) (omega arith) refl refl (let all : content_start new_page 100 ≡ 1024 = refl in all ∙ sym long) refl refl in
+    let leaf = empty_page (record { tree = Table; leaf = true }) new_page 100 (omega (arith, long)) (omega arith) refl refl
+    (let all : content_start new_page 100 ≡ 1024 = refl in all ∙ sym long) refl refl in
     record {
       exact = ap first_page (sym long);
       begins = refl;
-      valid = (record { magic = refl; size = refl; versions = inr refl }, record { fractions = refl; format = inl refl; encoding = inl refl; no_vacuum = (refl, refl); counted = refl });
+      valid = (
+        record { magic = refl; size = refl; versions = inr refl },
+        record { fractions = refl; format = inl refl; encoding = inl refl; no_vacuum = (refl, refl); counted = refl },
+      );
       pages = refl;
       first = refl;
       free = refl;
@@ -59,7 +64,8 @@ unfolding sealed
 plain = rw long refl
 
 abbrev AreWell : ℕ → List ℕ → Type 0
-AreWell size stored = (trimmed size (only_page stored) ≡ pages) × AreSealed size (only_page stored) × AreWhole (stored_size size) (only_page stored)
+AreWell size stored = (trimmed size (only_page stored) ≡ pages) × AreSealed size (only_page stored)
+    × AreWhole (stored_size size) (only_page stored)
 
 well : AreWell 1024 new_page
 well = subst (AreWell 1024) plain (subst (λ (n : ℕ). AreWell n (sealed new_page)) long (only_sealed new_page))
@@ -90,8 +96,24 @@ new_files_are_empty =
     let unlisted = catalog_rows 1024 [] (in_use 1024 pages) in
     inr (
       db,
-      (1024, valid, record { pages = pages; wanted = []; schema = _; found = adopts_of 1024 new_image pages recovered; ours = ours; reads = refl; sound = empty_is_sound db unlisted }),
-      (λ tree low. past_version tree low (all_trees 1024 [] (in_use 1024 pages)) (version_in pages) ∙ named_tree tree low 1024 [] (in_use 1024 pages), unlisted),
+      (
+        1024,
+        valid,
+        record {
+          pages = pages;
+          wanted = [];
+          schema = _;
+          found = adopts_of 1024 new_image pages recovered;
+          ours = ours;
+          reads = refl;
+          sound = empty_is_sound db unlisted;
+        },
+      ),
+      (
+        λ tree low. past_version tree low (all_trees 1024 [] (in_use 1024 pages)) (version_in pages)
+            ∙ named_tree tree low 1024 [] (in_use 1024 pages),
+        unlisted,
+      ),
     )
 
 -- ---- how it is written
@@ -99,9 +121,12 @@ new_files_are_empty =
 -- the bytes of its header and of the page's own; behind them are zeros
 abbrev pub headers : List ℕ
 headers =
-    83 ∷ 81 ∷ 76 ∷ 105 ∷ 116 ∷ 101 ∷ 32 ∷ 102 ∷ 111 ∷ 114 ∷ 109 ∷ 97 ∷ 116 ∷ 32 ∷ 51 ∷ 0 ∷ 4 ∷ 0 ∷ 2 ∷ 2 ∷ 0 ∷ 64 ∷ 32 ∷ 32 ∷ 0 ∷ 0 ∷ 0 ∷ 0 ∷ 0 ∷ 0 ∷ 0 ∷ 1 ∷ 0 ∷ 0 ∷ 0 ∷ 0 ∷
-    0 ∷ 0 ∷ 0 ∷ 0 ∷ 0 ∷ 0 ∷ 0 ∷ 1 ∷ 0 ∷ 0 ∷ 0 ∷ 4 ∷ 0 ∷ 0 ∷ 0 ∷ 0 ∷ 0 ∷ 0 ∷ 0 ∷ 0 ∷ 0 ∷ 0 ∷ 0 ∷ 1 ∷ 0 ∷ 0 ∷ 0 ∷ 0 ∷ 0 ∷ 0 ∷ 0 ∷ 0 ∷ 0 ∷ 0 ∷ 0 ∷ 0 ∷
-    0 ∷ 0 ∷ 0 ∷ 0 ∷ 0 ∷ 0 ∷ 0 ∷ 0 ∷ 0 ∷ 0 ∷ 0 ∷ 0 ∷ 0 ∷ 0 ∷ 0 ∷ 0 ∷ 0 ∷ 0 ∷ 0 ∷ 0 ∷ 0 ∷ 0 ∷ 0 ∷ 0 ∷ 0 ∷ 46 ∷ 118 ∷ 136 ∷ 13 ∷ 0 ∷ 0 ∷ 0 ∷ 0 ∷ 4 ∷ 0 ∷ 0 ∷ []
+    83 ∷ 81 ∷ 76 ∷ 105 ∷ 116 ∷ 101 ∷ 32 ∷ 102 ∷ 111 ∷ 114 ∷ 109 ∷ 97 ∷ 116 ∷ 32 ∷ 51 ∷ 0 ∷ 4 ∷ 0 ∷ 2 ∷ 2 ∷ 0 ∷ 64 ∷ 32 ∷ 32 ∷ 0 ∷ 0 ∷ 0 ∷ 0
+    ∷ 0 ∷ 0 ∷ 0 ∷ 1 ∷ 0 ∷ 0 ∷ 0 ∷ 0 ∷
+    0 ∷ 0 ∷ 0 ∷ 0 ∷ 0 ∷ 0 ∷ 0 ∷ 1 ∷ 0 ∷ 0 ∷ 0 ∷ 4 ∷ 0 ∷ 0 ∷ 0 ∷ 0 ∷ 0 ∷ 0 ∷ 0 ∷ 0 ∷ 0 ∷ 0 ∷ 0 ∷ 1 ∷ 0 ∷ 0 ∷ 0 ∷ 0 ∷ 0 ∷ 0 ∷ 0 ∷ 0 ∷ 0 ∷ 0
+    ∷ 0 ∷ 0 ∷
+    0 ∷ 0 ∷ 0 ∷ 0 ∷ 0 ∷ 0 ∷ 0 ∷ 0 ∷ 0 ∷ 0 ∷ 0 ∷ 0 ∷ 0 ∷ 0 ∷ 0 ∷ 0 ∷ 0 ∷ 0 ∷ 0 ∷ 0 ∷ 0 ∷ 0 ∷ 0 ∷ 0 ∷ 0 ∷ 46 ∷ 118 ∷ 136 ∷ 13 ∷ 0 ∷ 0 ∷ 0 ∷ 0
+    ∷ 4 ∷ 0 ∷ 0 ∷ []
 
 pub whole : headers ++ replicate 916 0 ≡ new_page
 unfolding first_page

@@ -5,7 +5,8 @@ use Rattle.pgledger.specs.declared.recorded.Recorded.{Recorded}
 abbrev pub with_ledger : {S G : Type 0} → S → G → Recorded S G
 with_ledger store ledger = record { store = store; ledger = ledger }
 
-pub of_parts : {S G : Type 0} (r : Recorded S G) (store : S) (ledger : G) → r.store ≡ store → r.ledger ≡ ledger → r ≡ with_ledger store ledger
+pub of_parts : {S G : Type 0} (r : Recorded S G) (store : S) (ledger : G) → r.store ≡ store → r.ledger ≡ ledger
+    → r ≡ with_ledger store ledger
 of_parts r store ledger e f = ap₂ with_ledger e f
 
 pub along : {A : Type 0} (P : A → A → Type 0) (old new : A) {other next : A} → old ≡ other → new ≡ next → P old new → P other next

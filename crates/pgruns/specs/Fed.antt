@@ -16,7 +16,8 @@ feed_line feed.TooLong = codes "pgsub: feed 2 TooLong" ++ 10 ∷ []
 feed_line feed.Refused = codes "pgsub: feed 3 Refused" ++ 10 ∷ []
 feed_line feed.Memory = codes "pgsub: memory" ++ 10 ∷ []
 
--- the exit status of following: the folder is no feed of this store, or its files can't be used, or memory ran out
+-- the exit status of following: the folder is no feed of this store, or its files can't be used, or
+-- memory ran out
 abbrev pub status_of_unfed : FeedFault → ℕ
 status_of_unfed feed.NotAFeed = 3
 status_of_unfed feed.TooLong = 3
@@ -48,10 +49,12 @@ abbrev pub FeedLasts : {F D : Type 0} → (D → List ℕ → Type 0) → Feed F
 FeedLasts may_leave l p = LastsUpTo may_leave l.ended.items l.segment p
 
 abbrev pub FeedReopens : {F D : Type 0} → (D → List ℕ) → (D → List ℕ → Type 0) → Feed F D → ℕ → Feed F D → Type 0
-FeedReopens seen may_leave l p other = (other.begins ≡ l.begins) × (other.ended.items ≡ []) × OpensAt seen may_leave l.ended.items l.segment p other.segment
+FeedReopens seen may_leave l p other =
+    (other.begins ≡ l.begins) × (other.ended.items ≡ []) × OpensAt seen may_leave l.ended.items l.segment p other.segment
 
 -- It was opened at this LSN. A new one begins there, and keeps nothing yet.
-pub record IsOpenedAt {F D : Type 0} (seen : D → List ℕ) (may_leave : D → List ℕ → Type 0) (is_clean : D → Bool) (p : ℕ) (l : Feed F D) : Type 0 where
+pub record IsOpenedAt {F D : Type 0} (seen : D → List ℕ) (may_leave : D → List ℕ → Type 0) (is_clean : D → Bool) (p : ℕ)
+    (l : Feed F D) : Type 0 where
   pub opened : OpensSome seen may_leave (IsTrue (is_clean l.segment.disk)) p l.segment
   pub alone : l.ended.items ≡ []
   pub last : l.segment.last ≡ p

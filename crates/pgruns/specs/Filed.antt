@@ -1,7 +1,8 @@
--- Part of the statement.
--- PostgreSQL documentation, Logical Replication, Subscription; SQLite documentation, Write-Ahead Logging: a run over a store in two files.
--- The store is opened on what the files held, and closed at the end.
-use Rattle.std.specs.Prelude.{◌≡◌, ◌==◌, ℕ, List, [], Option, None, Some, Result, Ok, Err, if◌then◌else◌}
+-- Part of the statement. PostgreSQL documentation, Logical Replication, Subscription; SQLite
+-- documentation, Write-Ahead Logging: a run over a store in two files. The store is opened on what
+-- the files held, and closed at the end.
+use Rattle.std.specs.Prelude.{◌≡◌, ◌==◌, ℕ, List, [], Option, None, Some, Result, Ok, Err}
+use Rattle.std.specs.Prelude.{if◌then◌else◌}
 use Rattle.sqlite_disk.specs.declared.Disk as disk
 use Rattle.sqlite_disk.specs.declared.Files.{Files}
 use Rattle.sqlite_store.specs.declared.store.FileStore.{FileStore}
@@ -46,18 +47,22 @@ abbrev pub status_closed : (StoreFault → ℕ) → ℕ → Option StoreFault �
 status_closed status ended None = ended
 status_closed status ended (Some f) = if ended == 0 then status f else ended
 
--- Standard error gets what a run tells of the fault that it ended with, and then the line of the fault of closing its store, where there is one.
+-- Standard error gets what a run tells of the fault that it ended with, and then the line of the
+-- fault of closing its store, where there is one.
 abbrev pub TellsBoth : {E : Type 0} → (E → List ℕ → E → Type 0) → (E → Type 0) → (E → E → Type 0) → Option StoreFault → E → E → Type 0
-TellsBoth {E} takes failed tells closing old new = (between : E) × tells old between × Tells takes failed [] [] (ending_of_closing closing) between new
+TellsBoth {E} takes failed tells closing old new =
+    (between : E) × tells old between × Tells takes failed [] [] (ending_of_closing closing) between new
 
 -- ---- the store of a run
 
 module _ {S : Type 0} (g : Ghosts S) where
   -- `FollowsOver`, of a store that tells a listener of each settling
-  abbrev pub FollowsTold : (L : Type 0) → Option (List ℕ) → Option (List ℕ) → ℕ → Option (List ℕ) → Option (List ℕ) → Limits → Version → StoreValue S → StoreValue S → Option FollowFault → Type 0
+  abbrev pub FollowsTold : (L : Type 0) → Option (List ℕ) → Option (List ℕ) → ℕ → Option (List ℕ) → Option (List ℕ) → Limits → Version
+      → StoreValue S → StoreValue S → Option FollowFault → Type 0
   FollowsTold L unread rest reads wrote wrote' limits version opened ended why =
       (told : Reported (StoreValue S) L) × (last : Reported (StoreValue S) L) × (told.store ≡ opened) × (last.store ≡ ended)
-      × FollowsOver {C = Reported (StoreValue S) L} (λ r. HasTables g r.store) (λ r. r.store.position) (λ r other. Reopens g g r.store other.store) (λ r. Serves g r.store)
+      × FollowsOver {C = Reported (StoreValue S) L} (λ r. HasTables g r.store) (λ r. r.store.position)
+      (λ r other. Reopens g g r.store other.store) (λ r. Serves g r.store)
       (λ r. r.store.group.missed) unread rest reads wrote wrote' limits version told last why
 
   -- a crash of the one store leaves nothing that it couldn't leave of the other
@@ -65,21 +70,26 @@ module _ {S : Type 0} (g : Ghosts S) where
   LeavesNothingNew old new = (other : StoreValue S) → Reopens g g new other → Reopens g g old other
 
 module _ {D : Type 0} {g : disk.Ghosts D} where
-  -- A store is closed to its files: whatever content they have then, or after a crash later, is one that it could leave. Where the log
-  -- can't be copied, its trees can leave nothing new. The disks were honest while it was open, if they have been so up to then.
+  -- A store is closed to its files: whatever content they have then, or after a crash later, is one
+  -- that it could leave. Where the log can't be copied, its trees can leave nothing new. The disks
+  -- were honest while it was open, if they have been so up to then.
   abbrev pub ClosesTo : StoreValue (FileStore D g) → Result (Files D) (StoreFault × FileStore D g) → Type 0
-  ClosesTo ended (Ok files) = (AreClean g files.log files.db → IsHonest over_files ended) × Leaves g (state over_files ended.rows).may_leave files
+  ClosesTo ended (Ok files) =
+      (AreClean g files.log files.db → IsHonest over_files ended) × Leaves g (state over_files ended.rows).may_leave files
   ClosesTo ended (Err e) =
-      HasCleanDisk (state over_files e.1) → IsHonest over_files ended × ((db : Trees) → (state over_files e.1).may_leave db → (state over_files ended.rows).may_leave db)
+      HasCleanDisk (state over_files e.1)
+      → IsHonest over_files ended × ((db : Trees) → (state over_files e.1).may_leave db → (state over_files ended.rows).may_leave db)
 
   -- why the log can't be copied, where it can't
   abbrev pub fault_of_closing : Result (Files D) (StoreFault × FileStore D g) → Option StoreFault
   fault_of_closing (Ok files) = None
   fault_of_closing (Err e) = Some e.0
 
-  -- A run over files that had this content: a store that holds what is stored in them was opened, if the disks gave back what was written
-  -- until the run had ended; the run led from it to another; and that one was closed.
-  pub record RunsInFiles (content : Image) (leads : StoreValue (FileStore D g) → StoreValue (FileStore D g) → Type 0) (closing : Result (Files D) (StoreFault × FileStore D g)) : Type 0 where
+  -- A run over files that had this content: a store that holds what is stored in them was opened,
+  -- if the disks gave back what was written until the run had ended; the run led from it to
+  -- another; and that one was closed.
+  pub record RunsInFiles (content : Image) (leads : StoreValue (FileStore D g) → StoreValue (FileStore D g) → Type 0)
+      (closing : Result (Files D) (StoreFault × FileStore D g)) : Type 0 where
     pub opened : StoreValue (FileStore D g)
     pub ended : StoreValue (FileStore D g)
     pub found : IsHonest over_files ended → HoldsContent over_files content opened

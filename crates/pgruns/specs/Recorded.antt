@@ -1,5 +1,5 @@
--- Part of the statement.
--- PostgreSQL documentation, Logical Replication, Subscription: a run over a store with a ledger of its commits.
+-- Part of the statement. PostgreSQL documentation, Logical Replication, Subscription: a run over a
+-- store with a ledger of its commits.
 use Rattle.std.specs.Prelude.{◌≡◌, ℕ, List, Bool, Option, Result}
 use Rattle.sqlite.specs.Store.{Ghosts}
 use Rattle.pgcommand.specs.declared.limits.Limits.{Limits}
@@ -29,24 +29,35 @@ module _ {S G : Type 0} (g : Ghosts S) where
   module _ (begins : G → ℕ) (keeps : G → List Entry → Type 0) (outlasts : G → ℕ → Type 0) (is_stuck : G → Bool) where
     -- the store holds these tables, and the entries of the ledger lead to them
     abbrev pub HoldsRecorded : Recorded (StoreValue S) G → Tables → Type 0
-    HoldsRecorded r tables = HasTables g r.store tables × Records begins keeps outlasts is_stuck r.ledger tables r.store.position r.store.group.reach
+    HoldsRecorded r tables =
+        HasTables g r.store tables × Records begins keeps outlasts is_stuck r.ledger tables r.store.position r.store.group.reach
 
     -- `FollowsOver`, of a store with its ledger that tells a listener of each settling
-    abbrev pub FollowsRecorded : (G → ℕ → G → Type 0) → (L : Type 0) → Option (List ℕ) → Option (List ℕ) → ℕ → Option (List ℕ) → Option (List ℕ) → Limits → Version → StoreValue S → G → StoreValue S → G → Option FollowFault → Type 0
+    abbrev pub FollowsRecorded : (G → ℕ → G → Type 0) → (L : Type 0) → Option (List ℕ) → Option (List ℕ) → ℕ → Option (List ℕ)
+        → Option (List ℕ) → Limits → Version → StoreValue S → G → StoreValue S → G → Option FollowFault → Type 0
     FollowsRecorded reopens L unread rest reads wrote wrote' limits version opened begun ended left why =
         (told : Reported (Recorded (StoreValue S) G) L) × (last : Reported (Recorded (StoreValue S) G) L)
         × (told.store.store ≡ opened) × (told.store.ledger ≡ begun) × (last.store.store ≡ ended) × (last.store.ledger ≡ left)
-        × FollowsOver {C = Reported (Recorded (StoreValue S) G) L} (λ r. HoldsRecorded r.store) (λ r. r.store.store.position) (λ r other. ReopensRecorded reopens r.store other.store)
+        × FollowsOver {C = Reported (Recorded (StoreValue S) G) L} (λ r. HoldsRecorded r.store) (λ r. r.store.store.position)
+        (λ r other. ReopensRecorded reopens r.store other.store)
         (λ r. Serves g r.store.store) (λ r. r.store.store.group.missed) unread rest reads wrote wrote' limits version told last why
 
-module _ {S G R W : Type 0} (g : Ghosts S) (begins : G → ℕ) (keeps : G → List Entry → Type 0) (outlasts : G → ℕ → Type 0) (is_stuck : G → Bool) (reopens : G → ℕ → G → Type 0) where
-  -- What came was applied to the one, which led to the other: its lines were written, and what the store holds then, and what a crash may
-  -- leave of it, is as of a run without a ledger.
-  pub record AppliesRecorded (gives starts : R → List ℕ → Type 0) (unread : R → Type 0) (takes : W → List ℕ → W → Type 0) (failed : W → Type 0) (limits : Limits) (input : Option (Version × Incoming R)) (old new : Recorded (StoreValue S) G) (ended : Result Ending RunFault) (out out' : W) : Type 0 where
+module _ {S G R W : Type 0} (g : Ghosts S) (begins : G → ℕ) (keeps : G → List Entry → Type 0) (outlasts : G → ℕ → Type 0)
+    (is_stuck : G → Bool) (reopens : G → ℕ → G → Type 0) where
+  -- What came was applied to the one, which led to the other: its lines were written, and what the
+  -- store holds then, and what a crash may leave of it, is as of a run without a ledger.
+  pub record AppliesRecorded (gives starts : R → List ℕ → Type 0) (unread : R → Type 0) (takes : W → List ℕ → W → Type 0)
+      (failed : W → Type 0) (limits : Limits) (input : Option (Version × Incoming R)) (old new : Recorded (StoreValue S) G)
+      (ended : Result Ending RunFault) (out out' : W) : Type 0 where
     pub writes : Writes takes failed (λ f. IsHonest g new.store → IsReadFault f)
-        (λ stopped lines. IsHonest g new.store → PrintsOver gives starts unread (HoldsRecorded g begins keeps outlasts is_stuck) (λ r. r.store.position) limits input old new stopped lines) out out' ended
-    pub kept : Serves g new.store → HoldsAfter gives starts unread (HoldsRecorded g begins keeps outlasts is_stuck) (λ r. r.store.position) limits input old new
+        (λ stopped lines. IsHonest g new.store
+        → PrintsOver gives starts unread (HoldsRecorded g begins keeps outlasts is_stuck) (λ r. r.store.position) limits input old new
+        stopped lines) out out' ended
+    pub kept : Serves g new.store
+        → HoldsAfter gives starts unread (HoldsRecorded g begins keeps outlasts is_stuck) (λ r. r.store.position) limits input old new
     pub left : IsHonest g new.store
-        → MayBeLeft gives starts unread (HoldsRecorded g begins keeps outlasts is_stuck) (λ r. r.store.position) (ReopensRecorded g reopens) (λ r. Serves g r.store) limits input old new
+        → MayBeLeft gives starts unread (HoldsRecorded g begins keeps outlasts is_stuck) (λ r. r.store.position) (ReopensRecorded g reopens)
+        (λ r. Serves g r.store) limits input old new
     pub crash : IsHonest g new.store → Serves g old.store
-        → LosesNothing gives starts unread (HoldsRecorded g begins keeps outlasts is_stuck) (λ r. r.store.position) (ReopensRecorded g reopens) limits input old new
+        → LosesNothing gives starts unread (HoldsRecorded g begins keeps outlasts is_stuck) (λ r. r.store.position)
+        (ReopensRecorded g reopens) limits input old new

@@ -1,7 +1,8 @@
 //! Closes the store of a run.
 
 ghost use Rattle.std.specs.Prelude.{◌≡◌, []};
-ghost use Rattle.pgruns.specs.Filed.{ClosesTo, ending_of_closing, fault_of_closing, status_closed, status_of_unclosed};
+ghost use Rattle.pgruns.specs.Filed.{ClosesTo, ending_of_closing, fault_of_closing, status_closed};
+ghost use Rattle.pgruns.specs.Filed.{status_of_unclosed};
 ghost use Rattle.pgsub_cli.specs.Runs.{Tells};
 ghost use Rattle.pgsub_cli.specs.Storing.{status_of_unopened};
 

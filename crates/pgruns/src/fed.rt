@@ -1,7 +1,8 @@
-//! Runs over a store in the files at a path that keep a feed of its commits in a folder: opens both,
-//! runs, and closes them.
+//! Runs over a store in the files at a path that keep a feed of its commits in a folder: opens
+//! both, runs, and closes them.
 
-ghost use Rattle.std.specs.Prelude.{◌≡◌, ◌↔◌, [], false, true, None, Option, Result, Err, Some, IfOk, IfErr, IfSome};
+ghost use Rattle.std.specs.Prelude.{◌≡◌, ◌↔◌, [], false, true, None, Option, Result, Err, Some};
+ghost use Rattle.std.specs.Prelude.{IfOk, IfErr, IfSome};
 ghost use Rattle.sqlite.specs.Files.{over_files};
 ghost use Rattle.sqlite.specs.Held as connection;
 ghost use Rattle.sqlite.specs.State.{HasCleanDisk};
@@ -23,9 +24,12 @@ ghost use Rattle.pgsub_cli.specs.FollowedLive.{ending_of};
 ghost use Rattle.pgsub_cli.specs.FollowStatus.{status_of_follow, status_of_unfollowed};
 ghost use Rattle.pgsub_cli.specs.Runs.{Tells, status_of};
 ghost use Rattle.pgsub_cli.specs.Storing.{status_of_unopened};
-ghost use Rattle.pgruns.specs.Filed.{RunsInFiles, TellsBoth, fault_of_closing, status_closed, status_of_unclosed};
+ghost use Rattle.pgruns.specs.Filed.{RunsInFiles, TellsBoth, fault_of_closing, status_closed};
+ghost use Rattle.pgruns.specs.Filed.{status_of_unclosed};
 ghost use Rattle.pgruns.specs.Recorded.{AppliesRecorded, FollowsRecorded};
-ghost use Rattle.pgruns.specs.Fed.{FeedKeeps, FeedLasts, FeedReopens, IsOpenedAt, TellsUnfed, feed_begins, is_stuck_feed, status_of_unapplied, status_of_unfed};
+ghost use Rattle.pgruns.specs.Fed.{FeedKeeps, FeedLasts, FeedReopens, IsOpenedAt, TellsUnfed};
+ghost use Rattle.pgruns.specs.Fed.{feed_begins, is_stuck_feed, status_of_unapplied};
+ghost use Rattle.pgruns.specs.Fed.{status_of_unfed};
 
 use crate::closing::{close_told, followed_status, run_status};
 use crate::filed::{Filed, open_file};
@@ -72,8 +76,8 @@ fn open_feed<D: Folder + Drop>(
     }
 }
 
-/// Follows a server over the store in the file at a path, as `follow_file` does, and keeps a feed of
-/// its commits.
+/// Follows a server over the store in the file at a path, as `follow_file` does, and keeps a feed
+/// of its commits.
 pub fn follow_fed_file<
     F: Start,
     D: Folder + Drop,

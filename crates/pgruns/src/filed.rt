@@ -1,6 +1,7 @@
 //! Runs over a store in the files at a path: opens it, runs, and closes it.
 
-ghost use Rattle.std.specs.Prelude.{◌≡◌, ◌↔◌, [], false, true, Option, Result, Err, Some, IfOk, IfErr, IfSome};
+ghost use Rattle.std.specs.Prelude.{◌≡◌, ◌↔◌, [], false, true, Option, Result, Err, Some, IfOk};
+ghost use Rattle.std.specs.Prelude.{IfErr, IfSome};
 ghost use Rattle.sqlite.specs.Files.{over_files};
 ghost use Rattle.sqlite.specs.Held as connection;
 ghost use Rattle.sqlite.specs.State.{HasCleanDisk};
@@ -21,7 +22,8 @@ ghost use Rattle.pgsub_cli.specs.declared.fault.RunFault.{RunFault};
 ghost use Rattle.pgsub_cli.specs.declared.fault.RunFault.TheVariants.{Stream};
 ghost use Rattle.pgsub_cli.specs.Caused.{TellsCaused};
 ghost use Rattle.pgsub_cli.specs.Dumped.{Dumps};
-ghost use Rattle.pgruns.specs.Filed.{FollowsTold, LeavesNothingNew, RunsInFiles, TellsBoth, fault_of_closing, status_closed, status_of_unclosed};
+ghost use Rattle.pgruns.specs.Filed.{FollowsTold, LeavesNothingNew, RunsInFiles, TellsBoth};
+ghost use Rattle.pgruns.specs.Filed.{fault_of_closing, status_closed, status_of_unclosed};
 ghost use Rattle.pgsub_cli.specs.FollowedLive.{ending_of};
 ghost use Rattle.pgsub_cli.specs.FollowStatus.{status_of_follow, status_of_unfollowed};
 ghost use Rattle.pgsub_cli.specs.Runs.{Tells, Writes, status_of};

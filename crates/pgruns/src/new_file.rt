@@ -1,8 +1,8 @@
 //! The file of a new store, an empty database with small pages.
 //!
-//! The SQL library makes a file with pages of 4,096 bytes, and writes each page that a commit changes
-//! whole to the log. A commit of one row changes three, so smaller pages halve what it costs. It keeps
-//! the size of a file that is there.
+//! The SQL library makes a file with pages of 4,096 bytes, and writes each page that a commit
+//! changes whole to the log. A commit of one row changes three, so smaller pages halve what it
+//! costs. It keeps the size of a file that is there.
 
 ghost use Rattle.std.specs.Io.KnownBytes.{Appends};
 ghost use Rattle.std.specs.Prelude.{◌≡◌, ◌⊎◌, OnOk, IfErr};
@@ -17,8 +17,8 @@ use std::os::unix::fs::{MetadataExt, OpenOptionsExt};
 use std::path::Path;
 use std::{fs, io};
 
-/// The first bytes of an empty database with pages of 1,024 bytes and a write-ahead log: its header,
-/// and that of a page without cells.
+/// The first bytes of an empty database with pages of 1,024 bytes and a write-ahead log: its
+/// header, and that of a page without cells.
 ///
 /// SQLite documentation, Database File Format, The Database Header, B-tree Pages.
 const HEADERS: &[u8] = b"SQLite format 3\0\
@@ -110,7 +110,8 @@ pub(crate) fn make_file(rt: &HostRuntime, path: &str) -> Result<(), StoreFault>
     }
     let part = beside(rt, path, ".pgsub-new")?;
     if fs::metadata(rt, part.as_str()).is_ok_and(|about| about.nlink() > 1) {
-        // Its run was killed before it took the first name away; the library opens no file with two.
+        // Its run was killed before it took the first name away; the library opens no file with
+        // two.
         let _ = fs::remove_file(rt, part.as_str());
     }
     if let Ok(about) = fs::metadata(rt, path) {

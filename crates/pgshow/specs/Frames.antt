@@ -1,9 +1,10 @@
--- PostgreSQL documentation, Streaming Replication Protocol and Logical Streaming Replication Protocol: frames that stand in order, and
--- why the next one doesn't.
+-- PostgreSQL documentation, Streaming Replication Protocol and Logical Streaming Replication
+-- Protocol: frames that stand in order, and why the next one doesn't.
 use Rattle.std.specs.Prelude.{◌≡◌, ◌⊎◌, ℕ, ℤ, List, [], ◌∷◌, ◌++◌, Bool, map, Ok}
 use Rattle.std.specs.List.{flat_map, AllByRecursion}
 use Rattle.pgwire.specs.Frames as wire
-use Rattle.pgwire.specs.Payloads.{XLogData, Keepalive as KeepaliveMessage, payload, IsServerMessage, HasPayloadFault}
+use Rattle.pgwire.specs.Payloads.{XLogData, Keepalive as KeepaliveMessage, payload, IsServerMessage}
+use Rattle.pgwire.specs.Payloads.{HasPayloadFault}
 use Rattle.pglogical.specs.declared.fault.DecodeFault.{DecodeFault}
 use Rattle.pglogical.specs.declared.message.Message.{Message}
 use Rattle.pglogical.specs.Spelling.{message_spelling, IsWireMessage}
@@ -42,7 +43,8 @@ IsWireSaid (Data start end clock m) = IsServerMessage (XLogData start end clock 
 IsWireSaid (Keepalive end clock reply) = IsServerMessage (KeepaliveMessage end clock reply)
 IsWireSaid Done = Unit {0}
 
--- The bytes are these frames and then others, and the messages in the frames have the shape of a stream.
+-- The bytes are these frames and then others, and the messages in the frames have the shape of a
+-- stream.
 pub record BeginsWith (v : Version) (max : ℕ) (bytes : List ℕ) (said : List Said) (rest : List ℕ) : Type 0 where
   pub whole : bytes ≡ wire.frames (map frame_of said) ++ rest
   pub each : wire.AreFrames max (map frame_of said)
@@ -51,15 +53,18 @@ pub record BeginsWith (v : Version) (max : ℕ) (bytes : List ℕ) (said : List 
 
 -- the payload is XLogData, of whose body this holds
 abbrev pub OfBody : List ℕ → (List ℕ → Type 0) → Type 0
-OfBody bytes Holds = (start : ℕ) × (end : ℕ) × (clock : ℤ) × (body : List ℕ) × IsServerMessage (XLogData start end clock body) × (bytes ≡ payload (XLogData start end clock body)) × Holds body
+OfBody bytes Holds = (start : ℕ) × (end : ℕ) × (clock : ℤ) × (body : List ℕ) × IsServerMessage (XLogData start end clock body)
+    × (bytes ≡ payload (XLogData start end clock body)) × Holds body
 
 -- A body after these messages can't be read: an xid stands in it exactly inside a block.
 abbrev pub IsUnreadable : Version → List Message → List ℕ → DecodeFault → Type 0
-IsUnreadable v messages body fault = (state : OrderState) × (order_run v initial_order messages ≡ Ok state) × laws.IsFaultOf (is_in_block state.context) body fault
+IsUnreadable v messages body fault =
+    (state : OrderState) × (order_run v initial_order messages ≡ Ok state) × laws.IsFaultOf (is_in_block state.context) body fault
 
 -- A body after these messages is a message that can't stand there.
 abbrev pub IsMisplaced : Version → List Message → List ℕ → OrderFault → Type 0
-IsMisplaced v messages body fault = (m : Message) × (body ≡ message_spelling m) × IsWireMessage m × (¬ IsShaped v (messages ++ m ∷ [])) × IsFaultOf v messages m fault
+IsMisplaced v messages body fault =
+    (m : Message) × (body ≡ message_spelling m) × IsWireMessage m × (¬ IsShaped v (messages ++ m ∷ [])) × IsFaultOf v messages m fault
 
 -- why a body after these messages isn't shown
 abbrev pub IsRefusedBody : Version → List Message → List ℕ → Fault → Type 0
@@ -91,9 +96,11 @@ pub record HasRefusedFrame (v : Version) (max : ℕ) (said : List Said) (rest : 
   pub each : wire.AreFrames max (map frame_of said ++ frame ∷ [])
   pub refused : IsRefusedFrame v (messages_in said) frame fault
 
--- Why the bytes after these frames aren't shown: they can't be the front of a frame, or the next frame has the fault, or memory ran out.
+-- Why the bytes after these frames aren't shown: they can't be the front of a frame, or the next
+-- frame has the fault, or memory ran out.
 abbrev pub IsNextFault : Version → ℕ → List Said → List ℕ → Fault → Type 0
 IsNextFault v max said rest Memory = Unit {0}
-IsNextFault v max said rest (Wire fault) = wire.IsFramingFault max (wire.has_copy_done (map frame_of said)) rest fault ⊎ HasRefusedFrame v max said rest (Wire fault)
+IsNextFault v max said rest (Wire fault) =
+    wire.IsFramingFault max (wire.has_copy_done (map frame_of said)) rest fault ⊎ HasRefusedFrame v max said rest (Wire fault)
 IsNextFault v max said rest (Decode fault) = HasRefusedFrame v max said rest (Decode fault)
 IsNextFault v max said rest (Order fault) = HasRefusedFrame v max said rest (Order fault)

@@ -1,5 +1,6 @@
 -- The lines of a session.
-use Rattle.std.specs.Prelude.{◌≡◌, ℕ, List, [], map, true, Option, MatchOption, Result, Ok, Err, Some, None}
+use Rattle.std.specs.Prelude.{◌≡◌, ℕ, List, [], map, true, Option, MatchOption, Result, Ok, Err}
+use Rattle.std.specs.Prelude.{Some, None}
 use Rattle.std.specs.List.{flat_map}
 use Rattle.pgwire.specs.Frames as wire
 use Rattle.pgorder.specs.declared.Version.{Version}
@@ -19,8 +20,9 @@ lines_of said = flat_map line_of said
 abbrev pub IsAtEnd : ℕ → List Said → List ℕ → Type 0
 IsAtEnd max said rest = wire.IsPartial max rest × (wire.has_copy_done (map frame_of said) ≡ true → rest ≡ [])
 
--- The bytes of a session are shown by this text: the lines of the frames that stand in order, and then either less than a whole frame
--- is left or the next thing has this fault. Where memory ran out, of some frames in front.
+-- The bytes of a session are shown by this text: the lines of the frames that stand in order, and
+-- then either less than a whole frame is left or the next thing has this fault. Where memory ran
+-- out, of some frames in front.
 pub record IsShownAs (v : Version) (max : ℕ) (bytes text : List ℕ) (found : Option Fault) : Type 0 where
   pub said : List Said
   pub rest : List ℕ

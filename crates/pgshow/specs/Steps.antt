@@ -16,7 +16,9 @@ use Rattle.pgorder.specs.Steps.{initial_order, order_run}
 use Rattle.pgorder.specs.States.{StreamOrder}
 use Rattle.pgshow.specs.declared.fault.Fault.{Fault}
 use Rattle.pgshow.specs.declared.fault.Fault.TheVariants.{Wire, Decode, Order, Memory}
-use Rattle.pgshow.specs.Frames.{Said, Data, frame_of, message_in, messages_in, BeginsWith, IsNextFault, IsRefusedBody, IsRefusedFrame, IsRefusedPayload, IsWireSaid}
+use Rattle.pgshow.specs.Frames.{Said, Data, frame_of, message_in, messages_in, BeginsWith}
+use Rattle.pgshow.specs.Frames.{IsNextFault, IsRefusedBody, IsRefusedFrame, IsRefusedPayload}
+use Rattle.pgshow.specs.Frames.{IsWireSaid}
 use Rattle.pgshow.specs.Shown.{line_of, lines_of}
 
 -- these messages were taken from the start on, and leave this order
@@ -27,7 +29,9 @@ pub record IsAfter (v : Version) (messages : List Message) (order : StreamOrder)
 
 -- a body says this message, which is taken
 abbrev pub TakesBody : List ℕ → Message → StreamOrder → StreamOrder → Type 0
-TakesBody body m old new = (body ≡ message_spelling m) × IsWireMessage m × ((v : Version) (messages : List Message) → IsAfter v messages old → IsAfter v (messages ++ m ∷ []) new)
+TakesBody body m old new =
+    (body ≡ message_spelling m) × IsWireMessage m
+    × ((v : Version) (messages : List Message) → IsAfter v messages old → IsAfter v (messages ++ m ∷ []) new)
 
 abbrev pub RefusesBody : List ℕ → StreamOrder → Fault → Type 0
 RefusesBody body old fault = (v : Version) (messages : List Message) → IsAfter v messages old → IsRefusedBody v messages body fault
@@ -51,7 +55,8 @@ RefusesFrame frame old fault = (v : Version) (messages : List Message) → IsAft
 -- the frame that stands whole was shown and released, or none stands
 abbrev pub ShowsWhole : Deframed → StreamOrder → List ℕ → Deframed → StreamOrder → List ℕ → Type 0
 ShowsWhole d order text d' order' text' =
-    ((frame : wire.Frame) × (line : List ℕ) × Stands d frame × (d' ≡ after_release d frame) × TakesFrame frame line order order' × (text' ≡ text ++ line))
+    ((frame : wire.Frame) × (line : List ℕ) × Stands d frame × (d' ≡ after_release d frame) × TakesFrame frame line order order'
+    × (text' ≡ text ++ line))
     ⊎ (Waits d × (d' ≡ d) × (order' ≡ order) × (text' ≡ text))
 
 -- the frame that stands whole has this fault, and no line

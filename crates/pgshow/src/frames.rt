@@ -1,12 +1,14 @@
 //! The line of one frame.
 //!
-//! PostgreSQL documentation, Streaming Replication Protocol; Logical Streaming Replication Protocol.
+//! PostgreSQL documentation, Streaming Replication Protocol; Logical Streaming Replication
+//! Protocol.
 
 ghost use Rattle.std.specs.Prelude.{IfErr, IfOk, string_bytes};
 ghost use Rattle.pglogical.specs.Lent.{message_value};
 ghost use Rattle.pgwire.specs.Frames.{CopyData};
 ghost use Rattle.pgwire.specs.Lent.{frame_value};
-ghost use Rattle.pgshow.specs.Steps.{RefusesBody, RefusesFrame, RefusesPayload, TakesBody, TakesData, TakesFrame};
+ghost use Rattle.pgshow.specs.Steps.{RefusesBody, RefusesFrame, RefusesPayload, TakesBody};
+ghost use Rattle.pgshow.specs.Steps.{TakesData, TakesFrame};
 
 use crate::fault::Fault;
 use pgjson::{data_line, done_line, keepalive_line};

@@ -1,5 +1,5 @@
-//! The lines of recorded sessions: one for each frame, up to the first fault of the frames, of their messages, or of the
-//! messages' order.
+//! The lines of recorded sessions: one for each frame, up to the first fault of the frames, of
+//! their messages, or of the messages' order.
 //!
 //! ```text
 //! let mut lines = String::new(alloc);

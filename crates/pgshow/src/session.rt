@@ -2,12 +2,14 @@
 //!
 //! PostgreSQL documentation, Streaming Replication Protocol, START_REPLICATION.
 
-ghost use Rattle.std.specs.Prelude.{◌≡◌, ◌≢◌, ◌++◌, ◌≤◌, ℕ, List, None, Ok, Err, IfErr, IfOk, OnOk, string_bytes};
+ghost use Rattle.std.specs.Prelude.{◌≡◌, ◌≢◌, ◌++◌, ◌≤◌, ℕ, List, None, Ok, Err, IfErr, IfOk, OnOk};
+ghost use Rattle.std.specs.Prelude.{string_bytes};
 ghost use Rattle.std.specs.List.{flat_map};
 ghost use Rattle.pgwire.specs.declared.fault.WireFault.{WireFault};
 ghost use Rattle.pgwire.specs.Deframed.{IsFed, Waits};
 ghost use Rattle.pgshow.specs.Shown.{IsShownAs, fault_in};
-ghost use Rattle.pgshow.specs.Steps.{RefusesFeed, RefusesWhole, ShowsPiece, ShowsWhole, StopsInPiece};
+ghost use Rattle.pgshow.specs.Steps.{RefusesFeed, RefusesWhole, ShowsPiece, ShowsWhole};
+ghost use Rattle.pgshow.specs.Steps.{StopsInPiece};
 
 use crate::fault::Fault;
 use crate::frames::frame_line;
@@ -71,12 +73,13 @@ fn show_piece(
     Ok(())
 }
 
-/// Appends the lines of a session's frames, a line for each. A frame at the end that isn't whole has none.
+/// Appends the lines of a session's frames, a line for each. A frame at the end that isn't whole
+/// has none.
 ///
 /// # Errors
 ///
-/// The first fault of the frames, the messages or their order. The lines of all frames before it are appended then; after
-/// `Memory` those of some frames.
+/// The first fault of the frames, the messages or their order. The lines of all frames before it
+/// are appended then; after `Memory` those of some frames.
 pub fn show_session(
     alloc: Global,
     version: Version,

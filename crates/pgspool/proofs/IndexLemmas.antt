@@ -1,5 +1,7 @@
 -- The fields of a spool after a push and after a cut.
-use Rattle.std.proofs.Common.{◌≡◌, ◌+◌, ◌-◌, ◌≤◌, ℕ, List, [], ◌∷◌, ◌++◌, None, Some, take, length, sym, ap, subst, ◌∙◌, arith, position, slice_get, zero-add, eqb, cond, true, false}
+use Rattle.std.proofs.Common.{◌≡◌, ◌+◌, ◌-◌, ◌≤◌, ℕ, List, [], ◌∷◌, ◌++◌, None, Some, take, length}
+use Rattle.std.proofs.Common.{sym, ap, subst, ◌∙◌, arith, position, slice_get, zero-add, eqb, cond}
+use Rattle.std.proofs.Common.{true, false}
 use Rattle.std.specs.Prelude.{nat_eq, is_some}
 use Rattle.std.specs.List.{AllByRecursion}
 use Rattle.std.specs.Map.{keys_of, lookup}
@@ -29,16 +31,19 @@ spellable_cut label (x ∷ xs) all =
     ]
 
 pub AreIndexed-push : (held : List LabelledItem) (firsts : FirstPlaces) (bytes : ℕ) (label : ℕ) (item : Item) (now : FirstPlaces)
-    → AreIndexed held firsts bytes → IsSpellable item → now ≡ noted firsts label (record { place = length held; bytes = bytes }) → AreIndexed (held ++ (label, item) ∷ []) now (bytes + cost item)
+    → AreIndexed held firsts bytes → IsSpellable item → now ≡ noted firsts label (record { place = length held; bytes = bytes })
+    → AreIndexed (held ++ (label, item) ∷ []) now (bytes + cost item)
 AreIndexed-push held firsts bytes label item now is spellable noted_is = record {
   indexed = noted_is
-      ∙ (λ i. noted (is.indexed i) label (record { place = sym (zero-add (length held)) i; bytes = (is.counted ∙ sym (zero-add (costs held))) i }))
+      ∙ (λ i. noted (is.indexed i) label
+      (record { place = sym (zero-add (length held)) i; bytes = (is.counted ∙ sym (zero-add (costs held))) i }))
       ∙ sym (first_places_from_push [] 0 0 held (label, item));
   counted = ap (λ n. n + cost item) is.counted ∙ sym (sum_by_push (λ (l : LabelledItem). cost l.1) held (label, item));
   spellable = spellable_push held (label, item) is.spellable spellable;
 }
 
-pub AreIndexed-cut : (held : List LabelledItem) (firsts : FirstPlaces) (bytes : ℕ) (label : ℕ) → AreIndexed held firsts bytes → (kept : List LabelledItem) (now : FirstPlaces) (left : ℕ)
+pub AreIndexed-cut : (held : List LabelledItem) (firsts : FirstPlaces) (bytes : ℕ) (label : ℕ) → AreIndexed held firsts bytes
+    → (kept : List LabelledItem) (now : FirstPlaces) (left : ℕ)
     → kept ≡ cut label held → now ≡ first_places (cut label held) → left ≡ costs (cut label held) → AreIndexed kept now left
 AreIndexed-cut held firsts bytes label is kept now left kept_is now_is left_is = record {
   indexed = now_is ∙ ap first_places (sym kept_is);
@@ -47,8 +52,10 @@ AreIndexed-cut held firsts bytes label is kept now left kept_is now_is left_is =
 }
 
 -- what a found entry says of the cut, by the fields
-pub tells_cut : (held : List LabelledItem) (firsts : FirstPlaces) (bytes : ℕ) (label index key : ℕ) (first : FirstPlace) → AreIndexed held firsts bytes
-    → Some first ≡ lookup (nat_eq label) firsts → Some index ≡ position (nat_eq label) (keys_of firsts) → slice_get firsts index ≡ Some (key, first)
+pub tells_cut : (held : List LabelledItem) (firsts : FirstPlaces) (bytes : ℕ) (label index key : ℕ) (first : FirstPlace)
+    → AreIndexed held firsts bytes
+    → Some first ≡ lookup (nat_eq label) firsts → Some index ≡ position (nat_eq label) (keys_of firsts)
+    → slice_get firsts index ≡ Some (key, first)
     → TellsCut label held firsts index first
 tells_cut held firsts bytes label index key first is value found entry =
     let tells = cut-seen label held index key first
@@ -57,8 +64,12 @@ tells_cut held firsts bytes label index key first is value found entry =
     (ap (λ l. slice_get l index) (sym is.indexed) ∙ entry) in
     record { kept = tells.kept; before = ap (take index) is.indexed ∙ tells.before; bytes = tells.bytes }
 
-pub cut_none : (held : List LabelledItem) (firsts : FirstPlaces) (bytes : ℕ) (label : ℕ) → AreIndexed held firsts bytes → None ≡ lookup (nat_eq label) firsts → held ≡ cut label held
-cut_none held firsts bytes label is none = sym (cut-unseen label held (ap (λ l. has_label label l) (sym is.indexed) ∙ ap is_some (sym none)))
+pub cut_none : (held : List LabelledItem) (firsts : FirstPlaces) (bytes : ℕ) (label : ℕ) → AreIndexed held firsts bytes
+    → None ≡ lookup (nat_eq label) firsts → held ≡ cut label held
+cut_none held firsts bytes label is none =
+    sym (cut-unseen label held (ap (λ l. has_label label l) (sym is.indexed) ∙ ap is_some (sym none)))
 
-pub left_of_cut : (label : ℕ) (held : List LabelledItem) (bytes left : ℕ) → bytes ≡ costs held → left ≡ costs (cut label held) → (left ≤ bytes) × (costs (cut label held) + (bytes - left) ≡ costs held)
-left_of_cut label held bytes left all kept = let less : costs (cut label held) ≤ costs held = costs_never_grow label held in (omega arith, omega arith)
+pub left_of_cut : (label : ℕ) (held : List LabelledItem) (bytes left : ℕ) → bytes ≡ costs held → left ≡ costs (cut label held)
+    → (left ≤ bytes) × (costs (cut label held) + (bytes - left) ≡ costs held)
+left_of_cut label held bytes left all kept = let less : costs (cut label held) ≤ costs held = costs_never_grow label held in
+    (omega arith, omega arith)

@@ -15,7 +15,8 @@ t = Relation (record {
   namespace = codes "public";
   name = codes "t";
   letter = 100;
-  columns = record { key = true; name = codes "id"; type_oid = 23; modifier = negsuc 0 } ∷ record { key = false; name = codes "v"; type_oid = 25; modifier = negsuc 0 } ∷ [];
+  columns = record { key = true; name = codes "id"; type_oid = 23; modifier = negsuc 0 }
+      ∷ record { key = false; name = codes "v"; type_oid = 25; modifier = negsuc 0 } ∷ [];
 })
 
 -- public.w (id integer key, v text, w text)
@@ -25,7 +26,9 @@ w = Relation (record {
   namespace = codes "public";
   name = codes "w";
   letter = 100;
-  columns = record { key = true; name = codes "id"; type_oid = 23; modifier = negsuc 0 } ∷ record { key = false; name = codes "v"; type_oid = 25; modifier = negsuc 0 } ∷ record { key = false; name = codes "w"; type_oid = 25; modifier = negsuc 0 } ∷ [];
+  columns = record { key = true; name = codes "id"; type_oid = 23; modifier = negsuc 0 }
+      ∷ record { key = false; name = codes "v"; type_oid = 25; modifier = negsuc 0 }
+      ∷ record { key = false; name = codes "w"; type_oid = 25; modifier = negsuc 0 } ∷ [];
 })
 
 abbrev insert_t : List ℕ → List ℕ → Item
@@ -53,7 +56,8 @@ cost-insert_w = refl
 
 -- one transaction with two subtransactions, of which one is inside the other's items
 abbrev until_22 : List LabelledItem
-until_22 = (20, t) ∷ (20, insert_t (codes "1") (codes "a")) ∷ (21, w) ∷ (21, insert_w (codes "1") (codes "p") (codes "q")) ∷ (21, insert_t (codes "2") (codes "b")) ∷ []
+until_22 = (20, t) ∷ (20, insert_t (codes "1") (codes "a")) ∷ (21, w) ∷ (21, insert_w (codes "1") (codes "p") (codes "q"))
+    ∷ (21, insert_t (codes "2") (codes "b")) ∷ []
 
 abbrev behind_22 : List LabelledItem
 behind_22 = (22, insert_t (codes "3") (codes "c")) ∷ (21, insert_t (codes "4") (codes "d")) ∷ []
@@ -87,7 +91,8 @@ at_the_end : costs (cut 21 (cut 22 (until_22 ++ behind_22)) ++ later) ≡ 169
 unfolding item_spelling tuple_spelling
 at_the_end = refl
 
-surviving : items_of (cut 21 (cut 22 (until_22 ++ behind_22)) ++ later) ≡ t ∷ insert_t (codes "1") (codes "a") ∷ w ∷ insert_w (codes "2") (codes "r") (codes "s") ∷ []
+surviving : items_of (cut 21 (cut 22 (until_22 ++ behind_22)) ++ later) ≡ t ∷ insert_t (codes "1") (codes "a") ∷ w
+    ∷ insert_w (codes "2") (codes "r") (codes "s") ∷ []
 surviving = refl
 
 dropped : costs [] ≡ 0

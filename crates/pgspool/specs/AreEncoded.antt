@@ -1,4 +1,5 @@
--- What is true of the fields of a transaction's items that are kept as bytes: each of them can be read again.
+-- What is true of the fields of a transaction's items that are kept as bytes: each of them can be
+-- read again.
 use Rattle.std.specs.Prelude.{◌≡◌, ℕ, List}
 use Rattle.std.specs.List.{AllByRecursion}
 use Rattle.pgspool.specs.declared.mark.Mark.{Mark}

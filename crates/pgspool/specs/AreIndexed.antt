@@ -1,4 +1,5 @@
--- What is true of what is kept beside a transaction's items: where each label first stands, and what the items cost.
+-- What is true of what is kept beside a transaction's items: where each label first stands, and
+-- what the items cost.
 use Rattle.std.specs.Prelude.{◌≡◌, ℕ, List}
 use Rattle.std.specs.List.{AllByRecursion}
 use Rattle.pglogical.specs.Spelling.{IsSpellable}

@@ -17,7 +17,8 @@ noted firsts label first = if has_label label firsts then firsts else firsts ++ 
 -- after the items that come behind so many, which cost so many bytes
 abbrev pub first_places_from : FirstPlaces → ℕ → ℕ → List LabelledItem → FirstPlaces
 first_places_from firsts place bytes [] = firsts
-first_places_from firsts place bytes (held ∷ rest) = first_places_from (noted firsts held.0 (record { place = place; bytes = bytes })) (place + 1) (bytes + cost held.1) rest
+first_places_from firsts place bytes (held ∷ rest) =
+    first_places_from (noted firsts held.0 (record { place = place; bytes = bytes })) (place + 1) (bytes + cost held.1) rest
 
 abbrev pub first_places : List LabelledItem → FirstPlaces
 first_places held = first_places_from [] 0 0 held

@@ -38,11 +38,13 @@ abbrev pub CostsNeverGrow : Type 0
 CostsNeverGrow = (label : ℕ) (held : List LabelledItem) → costs (cut label held) ≤ costs held
 
 abbrev pub CostsAddUp : Type 0
-CostsAddUp = (label : ℕ) (held : List LabelledItem) → (cut label held ++ cut_away label held ≡ held) × (costs (cut label held) + costs (cut_away label held) ≡ costs held)
+CostsAddUp = (label : ℕ) (held : List LabelledItem)
+    → (cut label held ++ cut_away label held ≡ held) × (costs (cut label held) + costs (cut_away label held) ≡ costs held)
 
 -- a transaction's items change the costs of all by the difference
 abbrev pub AllCostsChange : Type 0
-AllCostsChange = (held : HeldMap) (xid : ℕ) (items : List LabelledItem) → all_costs (map.insert held xid items) + costs (held_of held xid) ≡ all_costs held + costs items
+AllCostsChange = (held : HeldMap) (xid : ℕ) (items : List LabelledItem)
+    → all_costs (map.insert held xid items) + costs (held_of held xid) ≡ all_costs held + costs items
 
 abbrev pub AllCostsShrink : Type 0
 AllCostsShrink = (held : HeldMap) (xid : ℕ) → all_costs (map.remove held xid) + costs (held_of held xid) ≡ all_costs held

@@ -1,5 +1,7 @@
--- Items kept as the bytes that spell them outside a block, one behind the other, with the label and the start of each.
-use Rattle.std.specs.Prelude.{◌≡◌, ℕ, List, [], ◌∷◌, ◌+◌, ◌-◌, length, take, drop, Option, Some, None, Result, Ok, Err, false, unwrap_or}
+-- Items kept as the bytes that spell them outside a block, one behind the other, with the label and
+-- the start of each.
+use Rattle.std.specs.Prelude.{◌≡◌, ℕ, List, [], ◌∷◌, ◌+◌, ◌-◌, length, take, drop, Option, Some}
+use Rattle.std.specs.Prelude.{None, Result, Ok, Err, false, unwrap_or}
 use Rattle.std.specs.List.{flat_map}
 use Rattle.pglogical.specs.declared.message.Item.{Item}
 use Rattle.pglogical.specs.declared.message.Item.TheVariants.{Truncate}
@@ -61,4 +63,6 @@ next_start (m ∷ ms) end = m.start
 -- the items, from the bytes at the first one's start on
 abbrev pub held_in : List Mark → List ℕ → List LabelledItem
 held_in [] bytes = []
-held_in (m ∷ ms) bytes = (m.subxid, item_in (take (next_start ms (m.start + length bytes) - m.start) bytes)) ∷ held_in ms (drop (next_start ms (m.start + length bytes) - m.start) bytes)
+held_in (m ∷ ms) bytes =
+    (m.subxid, item_in (take (next_start ms (m.start + length bytes) - m.start) bytes))
+    ∷ held_in ms (drop (next_start ms (m.start + length bytes) - m.start) bytes)

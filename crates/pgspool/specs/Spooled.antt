@@ -1,4 +1,5 @@
--- What spools are seen as: each open transaction's items, and the most bytes that all of them may cost.
+-- What spools are seen as: each open transaction's items, and the most bytes that all of them may
+-- cost.
 use Rattle.std.specs.Prelude.{◌≡◌, ◌≤◌, ℕ, List, map as mapped, refl}
 use Rattle.std.specs.Coded.{Coded, code_by, coded×, coded_ℕ, coded_list}
 use Rattle.std.specs.FinMap as map

@@ -94,7 +94,8 @@ impl TransactionItems for DecodedItems {
 }
 
 impl DecodedItems {
-    /// Gives back the room of items that a cut took away whole. Nothing has to be moved, so this takes no memory.
+    /// Gives back the room of items that a cut took away whole. Nothing has to be moved, so this
+    /// takes no memory.
     fn give_back_all(&mut self)
         ensures { self.new ≡ self.old }
     {

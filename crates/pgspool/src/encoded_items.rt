@@ -1,5 +1,6 @@
 //! The items of one open transaction, as the bytes that encode them.
-ghost use Rattle.std.specs.Prelude.{◌≡◌, option_map, slice_get, slice_range, length, None, false, ◌≤◌};
+ghost use Rattle.std.specs.Prelude.{◌≡◌, option_map, slice_get, slice_range, length, None, false};
+ghost use Rattle.std.specs.Prelude.{◌≤◌};
 ghost use Rattle.pglogical.specs.Lent.{message_value};
 ghost use Rattle.pglogical.specs.Reading.{message_at};
 ghost use Rattle.pglogical.specs.Spelling.{IsWire, item_spelling};
@@ -15,14 +16,15 @@ use pglogical::{ItemRef, MessageRef, decode_ref, encode_item};
 use std::alloc::{AllocError, Global};
 use std::marker::Model;
 
-/// One transaction's items, each under its subxid, seen as their list: one buffer with the encodings of all, one after the other,
-/// and where each begins.
+/// One transaction's items, each under its subxid, seen as their list: one buffer with the
+/// encodings of all, one after the other, and where each begins.
 ///
 /// Beside them is noted where each subtransaction's first item is, in the order of these items, so
 /// that a cut finds its index at once.
 ///
-/// A push asks for memory only to move to less room after a cut, and for the growth of its three collections, before it changes any
-/// of them: the encoding is written right into the room that the buffer then has.
+/// A push asks for memory only to move to less room after a cut, and for the growth of its three
+/// collections, before it changes any of them: the encoding is written right into the room that the
+/// buffer then has.
 #[derive(Debug, Drop)]
 pub struct EncodedItems {
     buffer: Vec<u8>,
@@ -92,7 +94,8 @@ fn read_item(bytes: &[u8]) -> Option<ItemRef<'_>>
     }
 }
 
-// These bytes, which encode an item within the limits of the wire, are read as it. It does nothing but show it.
+// These bytes, which encode an item within the limits of the wire, are read as it. It does nothing
+// but show it.
 fn can_be_read(bytes: &[u8], item: &ItemRef<'_>)
     requires spelled { bytes.now ≡ item_spelling None item.now }
     requires wire { IsWire item.now }
@@ -129,7 +132,8 @@ impl TransactionItems for EncodedItems {
         read_item(part(self.buffer.as_slice(), start, end))
     }
 
-    // All growths come first. After them no memory is asked for: the buffer has room for the encoding.
+    // All growths come first. After them no memory is asked for: the buffer has room for the
+    // encoding.
     fn push(
         &mut self,
         _alloc: Global,
@@ -174,7 +178,8 @@ impl TransactionItems for EncodedItems {
 }
 
 impl EncodedItems {
-    /// Gives back the room of items that a cut took away whole. Nothing has to be moved, so this takes no memory.
+    /// Gives back the room of items that a cut took away whole. Nothing has to be moved, so this
+    /// takes no memory.
     fn give_back_all(&mut self)
         ensures { self.new ≡ self.old }
     {

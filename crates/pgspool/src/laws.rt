@@ -1,8 +1,10 @@
 //! What holds of cuts and costs, whatever is buffered.
-ghost use Rattle.pgspool.specs.Laws.{CutIsLongestFront, CutTwiceIsCutOnce, CutsCommute, CutTakesNothingUnseen, CostsNeverGrow, CostsAddUp, AllCostsChange, AllCostsShrink, ClosedStaysClosed};
+ghost use Rattle.pgspool.specs.Laws.{CutIsLongestFront, CutTwiceIsCutOnce, CutsCommute};
+ghost use Rattle.pgspool.specs.Laws.{CutTakesNothingUnseen, CostsNeverGrow, CostsAddUp};
+ghost use Rattle.pgspool.specs.Laws.{AllCostsChange, AllCostsShrink, ClosedStaysClosed};
 
-/// A cut leaves the longest front without an item under the label. So to cut twice is to cut once, the order of two cuts is free,
-/// and a label that no item has takes nothing away.
+/// A cut leaves the longest front without an item under the label. So to cut twice is to cut once,
+/// the order of two cuts is free, and a label that no item has takes nothing away.
 pub fn cuts_leave_longest_front()
     ensures longest { CutIsLongestFront }
     ensures once { CutTwiceIsCutOnce }
@@ -17,8 +19,8 @@ pub fn cuts_split_costs()
     ensures add_up { CostsAddUp }
 {}
 
-/// The costs of all items follow each change of one transaction's items, and nothing changes where the one that is dropped isn't
-/// open.
+/// The costs of all items follow each change of one transaction's items, and nothing changes where
+/// the one that is dropped isn't open.
 pub fn all_costs_follow()
     ensures changed { AllCostsChange }
     ensures dropped { AllCostsShrink }

@@ -7,8 +7,8 @@ use indexmap::IndexMap;
 /// Room for so many bytes, items or subtransactions is kept, however few there are.
 const SMALL_ROOM: usize = 64;
 
-/// Gives back room once three quarters of it are unused, so that no more is moved than was cut away. Where there is no memory
-/// to move to, the room stays.
+/// Gives back room once three quarters of it are unused, so that no more is moved than was cut
+/// away. Where there is no memory to move to, the room stays.
 pub(crate) fn give_back_spare<T>(items: &mut Vec<T>)
     ensures { items.new.items ≡ items.old.items }
 {

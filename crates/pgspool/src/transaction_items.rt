@@ -1,12 +1,14 @@
 //! What spools know of one transaction's items, however these are kept.
-ghost use Rattle.std.specs.Prelude.{◌≡◌, ◌<◌, ◌+◌, ◌^◌, List, [], ◌∷◌, ◌++◌, OnOk, OnErr, IfSome, option_map, slice_get, length};
+ghost use Rattle.std.specs.Prelude.{◌≡◌, ◌<◌, ◌+◌, ◌^◌, List, [], ◌∷◌, ◌++◌, OnOk, OnErr, IfSome};
+ghost use Rattle.std.specs.Prelude.{option_map, slice_get, length};
 ghost use Rattle.pglogical.specs.Spelling.{IsSpellable};
 ghost use Rattle.pgspool.specs.Labels.{LabelledItem, cut, cost, costs};
 
 use pglogical::ItemRef;
 use std::alloc::{AllocError, Global};
 
-/// The items of one open transaction, each under the xid of the transaction or subtransaction that made it.
+/// The items of one open transaction, each under the xid of the transaction or subtransaction that
+/// made it.
 pub trait TransactionItems: Drop {
     /// The items, however they are kept.
     ghost listed: { Self → List LabelledItem };
@@ -43,7 +45,8 @@ pub trait TransactionItems: Drop {
         ensures ok { OnOk result (listed self.new ≡ listed self.old ++ (subxid, item.now) ∷ []) }
         ensures err { OnErr result (listed self.new ≡ listed self.old) };
 
-    /// Keeps the items before the first one of a subtransaction, and returns the bytes that the others cost.
+    /// Keeps the items before the first one of a subtransaction, and returns the bytes that the
+    /// others cost.
     fn cut(&mut self, subxid: u32) -> u64
         ensures held { listed self.new ≡ cut subxid (listed self.old) }
         ensures freed { costs (listed self.new) + result ≡ costs (listed self.old) };

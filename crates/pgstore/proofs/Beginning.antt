@@ -16,9 +16,11 @@ use Rattle.pgstore.specs.StoreValue.{AreOf, nothing_stored}
 use Rattle.pgstore.proofs.Stores.{no_value}
 
 module _ {S : Type 0} (g : Ghosts S) (old begun last new : Held S) (is : begun ≡ record old { in_transaction = true }) where
-  empty_trees : (db : Trees) → stored.IsUnderWay g last → tables_of g last ≡ stored.no_tables → db ≡ (state g last).now.trees → AreOf nothing_stored db
+  empty_trees : (db : Trees) → stored.IsUnderWay g last → tables_of g last ≡ stored.no_tables → db ≡ (state g last).now.trees
+      → AreOf nothing_stored db
   empty_trees db under none same =
-      let whole : ◌≡◌ {A = Database} (state g last).now (record { schema = store_schema; trees = db }) = λ i. record { schema = under.kept.schema i; trees = sym same i } in
+      let whole : ◌≡◌ {A = Database} (state g last).now (record { schema = store_schema; trees = db }) =
+      λ i. record { schema = under.kept.schema i; trees = sym same i } in
       let tables : tables_in db ≡ stored.no_tables = ap tables_in same ∙ none in
       record {
         kept = subst stored.IsKept whole under.kept;
@@ -28,8 +30,11 @@ module _ {S : Type 0} (g : Ghosts S) (old begun last new : Held S) (is : begun �
       }
 
   -- all was committed, or nothing
-  pub crash_begun : (HasCleanDisk (state g last) → stored.IsUnderWay g last × (tables_of g last ≡ stored.no_tables)) → Survives (state g begun) (state g last) (λ _. ⊥)
-      → Survives (state g last) (state g new) (λ db. db ≡ (state g last).now.trees) → Survives (state g old) (state g new) (AreOf nothing_stored)
+  pub crash_begun : (HasCleanDisk (state g last) → stored.IsUnderWay g last × (tables_of g last ≡ stored.no_tables))
+      → Survives (state g begun) (state g last) (λ _. ⊥)
+      → Survives (state g last) (state g new) (λ db. db ≡ (state g last).now.trees)
+      → Survives (state g old) (state g new) (AreOf nothing_stored)
   crash_begun made one two = survives_begin g old (state g new) _ (subst (λ h. Survives (state g h) (state g new) (AreOf nothing_stored)) is
-      (survives_then (state g begun) (state g last) (state g new) (λ _. ⊥) (λ db. db ≡ (state g last).now.trees) _ (λ _ db none. absurd none)
+      (survives_then (state g begun) (state g last) (state g new) (λ _. ⊥) (λ db. db ≡ (state g last).now.trees) _
+      (λ _ db none. absurd none)
       (λ clean db same. let it = made (omega (arith, two.clean)) in empty_trees db it.0 it.1 same) one two))

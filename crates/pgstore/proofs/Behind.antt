@@ -1,5 +1,6 @@
 -- A commit that is put behind others in a transaction, or undone alone.
-use Rattle.std.proofs.Common.{◌≡◌, ◌+◌, ◌-◌, ◌++◌, ℕ, List, [], ◌∷◌, length, take, Ok, IsTrue, refl, sym, ap, subst, ◌∙◌, arith}
+use Rattle.std.proofs.Common.{◌≡◌, ◌+◌, ◌-◌, ◌++◌, ℕ, List, [], ◌∷◌, length, take, Ok, IsTrue, refl}
+use Rattle.std.proofs.Common.{sym, ap, subst, ◌∙◌, arith}
 use Rattle.sqlite.specs.Effect.{Database}
 use Rattle.sqlite.specs.Store.{Ghosts}
 use Rattle.sqlite.specs.State.{HasCleanDisk, Savepoint}
@@ -25,7 +26,8 @@ older_taken older mark =
     let fewer : length (older ++ mark ∷ []) - 1 ≡ length older = omega (arith, e) in
     ap (λ n. take n (older ++ mark ∷ [])) fewer ∙ front_taken older mark
 
-module _ {S : Type 0} (g : Ghosts S) (old marked made new : S) (marks : Marks (state g old) (state g marked)) (goes : Goes g marked made) (clean : HasCleanDisk (state g made)) where
+module _ {S : Type 0} (g : Ghosts S) (old marked made new : S) (marks : Marks (state g old) (state g marked)) (goes : Goes g marked made)
+    (clean : HasCleanDisk (state g made)) where
   -- its mark is the newest
   newest : IsTrue (state g made).is_open → (state g made).marks ≡ (state g old).marks ++ mark_of (state g old) ∷ []
   newest still = (goes.keeps clean).marks still ∙ marks.marks_are
@@ -39,12 +41,18 @@ module _ {S : Type 0} (g : Ghosts S) (old marked made new : S) (marks : Marks (s
       let still = returns.0 in
       let back = returns.1 (state g old).marks (mark_of (state g old)) (newest still) in
       record {
-        over = record { was_open = marks.was_open; is_open = back.is_open; committed_is = back.committed_is ∙ same_commit still; marks_are = back.marks_are };
+        over = record {
+          was_open = marks.was_open;
+          is_open = back.is_open;
+          committed_is = back.committed_is ∙ same_commit still;
+          marks_are = back.marks_are;
+        };
         same = back.now_is;
       }
 
   -- the changes stay
-  pub stages : (definitions : List RelationDef) (changes : List (ℕ × Op)) → FoldsOn g marked made definitions changes none_given → Drops (state g made) (state g new) → Stages g old new definitions changes
+  pub stages : (definitions : List RelationDef) (changes : List (ℕ × Op)) → FoldsOn g marked made definitions changes none_given
+      → Drops (state g made) (state g new) → Stages g old new definitions changes
   stages definitions changes folds drops =
       let still = drops.was_open in
       record {
@@ -52,7 +60,8 @@ module _ {S : Type 0} (g : Ghosts S) (old marked made new : S) (marks : Marks (s
           was_open = marks.was_open;
           is_open = drops.is_open;
           committed_is = drops.committed_is ∙ same_commit still;
-          marks_are = drops.marks_are ∙ ap (λ (l : List Savepoint). take (length l - 1) l) (newest still) ∙ older_taken (state g old).marks (mark_of (state g old));
+          marks_are = drops.marks_are ∙ ap (λ (l : List Savepoint). take (length l - 1) l) (newest still)
+              ∙ older_taken (state g old).marks (mark_of (state g old));
         };
         folds = λ v h.
             let f = (folds.made clean marks.is_open).1 v (subst (λ (d : Database). IsStored v (tables_in d.trees)) (sym marks.now_is) h) in

@@ -8,8 +8,19 @@ use Rattle.pgstore.specs.Acts.{Goes}
 
 pub goes_none : {S : Type 0} (g : Ghosts S) (a : S) → Goes g a a
 goes_none g a = record {
-  keeps = λ clean. record { commit = record { was_open = λ still. still; committed = λ still. refl }; marks = λ still. refl; numbered = refl };
-  survives = record { clean = omega arith; shield = λ h. h; counts = omega arith; limit = refl; closes = λ clean h. inl h; crash = λ clean db h. inl h };
+  keeps = λ clean. record {
+    commit = record { was_open = λ still. still; committed = λ still. refl };
+    marks = λ still. refl;
+    numbered = refl;
+  };
+  survives = record {
+    clean = omega arith;
+    shield = λ h. h;
+    counts = omega arith;
+    limit = refl;
+    closes = λ clean h. inl h;
+    crash = λ clean db h. inl h;
+  };
 }
 
 module _ {S : Type 0} (g : Ghosts S) (a b c : S) where
@@ -19,7 +30,10 @@ module _ {S : Type 0} (g : Ghosts S) (a b c : S) where
         let first = one.keeps (omega (arith, survives.clean)) in
         let second = keeps clean in
         record {
-          commit = record { was_open = λ still. first.commit.was_open (second.commit.was_open still); committed = λ still. second.commit.committed still ∙ first.commit.committed (second.commit.was_open still) };
+          commit = record {
+            was_open = λ still. first.commit.was_open (second.commit.was_open still);
+            committed = λ still. second.commit.committed still ∙ first.commit.committed (second.commit.was_open still);
+          };
           marks = λ still. second.marks still ∙ first.marks (second.commit.was_open still);
           numbered = second.numbered ∙ first.numbered;
         };

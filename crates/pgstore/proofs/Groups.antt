@@ -1,5 +1,6 @@
 -- What holds of the commits that are staged, and what becomes of them.
-use Rattle.std.proofs.Common.{◌≡◌, ◌≢◌, ◌≤◌, ◌<◌, ◌^◌, inl, inr, ℕ, Bool, true, false, List, Ok, IsTrue, refl, sym, ap, subst, ◌∙◌, arith}
+use Rattle.std.proofs.Common.{◌≡◌, ◌≢◌, ◌≤◌, ◌<◌, ◌^◌, inl, inr, ℕ, Bool, true, false, List, Ok}
+use Rattle.std.proofs.Common.{IsTrue, refl, sym, ap, subst, ◌∙◌, arith}
 use Rattle.std.specs.Prelude.{◌==◌}
 use Rattle.std.specs.Int.{w64, to_be_bytes}
 use Rattle.std.specs.Cmp.{unsigned_Decides}
@@ -25,7 +26,10 @@ use Rattle.pgapply.specs.Taken as taken
 use Rattle.pgstore.specs.Spelled.{IsStored}
 use Rattle.pgstore.specs.Acts.{CountsFrom, RefusesToFold, committed_of}
 use Rattle.pgstore.specs.Staged.{before_of, HasStaged, KeepsStaged, LeavesSettled, Settles}
-use Rattle.pgstore.specs.StoreValue.{Group, IsAtLeast, IsGroup, IsStore, HasTables, Keeps, LeavesGroup, LeavesSynced, Plans, Serves, StoreValue, begun_at, lost_of, refused_of, settled_of, staged_of, taken_of, unstaged_of}
+use Rattle.pgstore.specs.StoreValue.{Group, IsAtLeast, IsGroup, IsStore, HasTables, Keeps}
+use Rattle.pgstore.specs.StoreValue.{LeavesGroup, LeavesSynced, Plans, Serves, StoreValue, begun_at}
+use Rattle.pgstore.specs.StoreValue.{lost_of, refused_of, settled_of, staged_of, taken_of}
+use Rattle.pgstore.specs.StoreValue.{unstaged_of}
 use Rattle.pgstore.proofs.Stores.{IsSettled, at_rest, crash_leaves, open_keeps}
 
 apart : (a b : ℕ) → (a == b) ≡ false → a ≢ b
@@ -33,7 +37,8 @@ apart a b differ same = let yes : (a == b) ≡ true = (unsigned_Decides a b).1 s
 
 -- ---- nothing is staged
 
-pub empty_group : {S : Type 0} (g : Ghosts S) (rows : S) (position : ℕ) (group : Group) → position < 2 ^ 64 → group.reach ≡ position → group.is_lost ≡ false → group.stages_missed ≡ group.missed → IsGroup g rows position group
+pub empty_group : {S : Type 0} (g : Ghosts S) (rows : S) (position : ℕ) (group : Group) → position < 2 ^ 64 → group.reach ≡ position
+    → group.is_lost ≡ false → group.stages_missed ≡ group.missed → IsGroup g rows position group
 empty_group g rows position group range here stands even = record {
   order = omega (arith, here);
   range = omega (arith, here, range);
@@ -47,10 +52,12 @@ module _ {S : Type 0} (g : Ghosts S) (rows : S) (position : ℕ) (range : positi
   begun_empty is = subst (IsGroup g rows position) (sym is) (empty_group g rows position (begun_at position) range refl refl refl)
 
   pub unstaged_empty : (before : Group) → group ≡ unstaged_of position before → IsGroup g rows position group
-  unstaged_empty before is = subst (IsGroup g rows position) (sym is) (empty_group g rows position (unstaged_of position before) range refl refl refl)
+  unstaged_empty before is =
+      subst (IsGroup g rows position) (sym is) (empty_group g rows position (unstaged_of position before) range refl refl refl)
 
   pub taken_empty : (misses : Misses) → group ≡ taken_of position misses → IsGroup g rows position group
-  taken_empty misses is = subst (IsGroup g rows position) (sym is) (empty_group g rows position (taken_of position misses) range refl refl refl)
+  taken_empty misses is = subst (IsGroup g rows position) (sym is)
+      (empty_group g rows position (taken_of position misses) range refl refl refl)
 
 module _ {S : Type 0} (g : Ghosts S) (s : StoreValue S) (is : IsGroup g s.rows s.position s.group) (here : s.group.reach ≡ s.position) where
   first_is : (s.group.reach == s.position) ≡ true
@@ -69,7 +76,8 @@ module _ {S : Type 0} (g : Ghosts S) (s : StoreValue S) (is : IsGroup g s.rows s
   held_begins t held _ = subst (λ b. IsStored t (before_of g b s.rows)) (sym first_is) held
 
 -- nothing was staged, and nothing is
-pub first_group : {S : Type 0} (g : Ghosts S) (old new : S) (position : ℕ) (group : Group) → group.reach ≡ position → IsGroup g old position group → IsGroup g new position group
+pub first_group : {S : Type 0} (g : Ghosts S) (old new : S) (position : ℕ) (group : Group) → group.reach ≡ position
+    → IsGroup g old position group → IsGroup g new position group
 first_group g old new position group here is = record {
   order = is.order;
   range = is.range;
@@ -80,13 +88,16 @@ first_group g old new position group here is = record {
 
 -- ---- a commit is staged
 
-module _ {S : Type 0} (g : Ghosts S) (old new : S) (position : ℕ) (group : Group) (is_first : Bool) (first : is_first ≡ (group.reach == position)) (doubts : doubt (state g old).is_clean ≤ doubt (state g new).is_clean) where
+module _ {S : Type 0} (g : Ghosts S) (old new : S) (position : ℕ) (group : Group) (is_first : Bool)
+    (first : is_first ≡ (group.reach == position)) (doubts : doubt (state g old).is_clean ≤ doubt (state g new).is_clean) where
   -- what was staged, by the value of the store
-  pub was_planned : (t : Tables) → Plans g (record { rows = old; position = position; group = group }) t → group.is_lost ≡ false → IsStored t (before_of g is_first old)
+  pub was_planned : (t : Tables) → Plans g (record { rows = old; position = position; group = group }) t → group.is_lost ≡ false
+      → IsStored t (before_of g is_first old)
   was_planned t plans not = subst (λ b. IsStored t (before_of g b old)) (sym first) (plans not)
 
   -- what it is staged behind are tables of a store
-  before_stored : IsStore g old position → IsGroup g old position group → group.is_lost ≡ false → HasCleanDisk (state g old) → IsTrue (state g old).is_open → (v : Tables) × IsStored v (before_of g is_first old)
+  before_stored : IsStore g old position → IsGroup g old position group → group.is_lost ≡ false → HasCleanDisk (state g old)
+      → IsTrue (state g old).is_open → (v : Tables) × IsStored v (before_of g is_first old)
   before_stored store is not clean still = elim (cases_Bool is_first) [
     | inl one ↦ let v = store.stored clean still in (v.0, subst (λ b. IsStored v.0 (before_of g b old)) (sym one) v.1)
     | inr more ↦
@@ -96,8 +107,10 @@ module _ {S : Type 0} (g : Ghosts S) (old new : S) (position : ℕ) (group : Gro
         (v.0, subst (λ b. IsStored v.0 (before_of g b old)) (sym more) v.1)
   ]
 
-  module _ (definitions : List RelationDef) (entries : List (ℕ × Op)) (changes : List Change) (are : change_values definitions entries ≡ changes) where
-    pub staged_group : (end : ℕ) (misses : Misses) → group.reach < end → end < 2 ^ 64 → group.is_lost ≡ false → IsStore g old position → IsGroup g old position group → (HasCleanDisk (state g new) → HasStaged g is_first old new definitions entries)
+  module _ (definitions : List RelationDef) (entries : List (ℕ × Op)) (changes : List Change)
+      (are : change_values definitions entries ≡ changes) where
+    pub staged_group : (end : ℕ) (misses : Misses) → group.reach < end → end < 2 ^ 64 → group.is_lost ≡ false → IsStore g old position
+        → IsGroup g old position group → (HasCleanDisk (state g new) → HasStaged g is_first old new definitions entries)
         → IsGroup g new position (staged_of end misses group)
     staged_group end misses later range not store is staged =
         let order = is.order in
@@ -113,8 +126,10 @@ module _ {S : Type 0} (g : Ghosts S) (old new : S) (position : ℕ) (group : Gro
               (f.0, f.2);
         }
 
-    pub stages_folds : (end : ℕ) (misses : Misses) → position ≤ group.reach → group.reach < end → group.is_lost ≡ false → HasStaged g is_first old new definitions entries
-        → taken.Folds (Plans g) (record { rows = old; position = position; group = group }) (record { rows = new; position = position; group = staged_of end misses group }) changes
+    pub stages_folds : (end : ℕ) (misses : Misses) → position ≤ group.reach → group.reach < end → group.is_lost ≡ false
+        → HasStaged g is_first old new definitions entries
+        → taken.Folds (Plans g) (record { rows = old; position = position; group = group })
+        (record { rows = new; position = position; group = staged_of end misses group }) changes
     stages_folds end misses order later not it t plans =
         let f = it.folds t (was_planned t plans not) in
         let other : (end == position) ≡ false = elim (cases_Bool (end == position)) [
@@ -123,16 +138,20 @@ module _ {S : Type 0} (g : Ghosts S) (old new : S) (position : ℕ) (group : Gro
         ] in
         (f.0, subst (λ cs. fold_changes t cs ≡ Ok f.0) are f.1, λ _. subst (λ b. IsStored f.0 (before_of g b new)) (sym other) f.2)
 
-    pub stages_count : (end : ℕ) (misses : Misses) (behind : Group) → group.is_lost ≡ false → CountsFrom (before_of g is_first old) definitions entries end group.stages_missed misses
+    pub stages_count : (end : ℕ) (misses : Misses) (behind : Group) → group.is_lost ≡ false
+        → CountsFrom (before_of g is_first old) definitions entries end group.stages_missed misses
         → Counts (Plans g) (record { rows = old; position = position; group = group }) changes end group.stages_missed misses
-    stages_count end misses behind not counts t plans = subst (λ cs. misses ≡ with_misses group.stages_missed end (all_missing t cs)) are (counts t (was_planned t plans not))
+    stages_count end misses behind not counts t plans =
+        subst (λ cs. misses ≡ with_misses group.stages_missed end (all_missing t cs)) are (counts t (was_planned t plans not))
 
-    pub stage_refuses : (fault : StoreFault) → group.is_lost ≡ false → RefusesToFold (before_of g is_first old) definitions entries fault → taken.RefusesWork (Plans g) (record { rows = old; position = position; group = group }) changes fault
+    pub stage_refuses : (fault : StoreFault) → group.is_lost ≡ false → RefusesToFold (before_of g is_first old) definitions entries fault
+        → taken.RefusesWork (Plans g) (record { rows = old; position = position; group = group }) changes fault
     stage_refuses fault not refuses t plans = subst (λ cs. IsFault fault (fold_changes t cs)) are (refuses t (was_planned t plans not))
 
   -- it is refused
   module _ (commit : HasCleanDisk (state g new) → KeepsCommit (state g old) (state g new)) where
-    pub unstaged_group : (HasCleanDisk (state g new) → KeepsStaged g is_first old new) → IsGroup g old position group → IsGroup g new position group
+    pub unstaged_group : (HasCleanDisk (state g new) → KeepsStaged g is_first old new) → IsGroup g old position group
+        → IsGroup g new position group
     unstaged_group kept is = record {
       order = is.order;
       range = is.range;
@@ -140,19 +159,23 @@ module _ {S : Type 0} (g : Ghosts S) (old new : S) (position : ℕ) (group : Gro
       some = is.some;
       stored = λ more not clean still.
           let other : is_first ≡ false = elim (cases_Bool is_first) [
-            | inl one ↦ absurd (let e = (unsigned_Decides group.reach position).0 (sym first ∙ one) in let never : ⊥ = omega (arith, more, e) in never)
+            | inl one ↦ absurd (let e = (unsigned_Decides group.reach position).0 (sym first ∙ one) in
+                let never : ⊥ = omega (arith, more, e) in never)
             | inr differ ↦ differ
           ] in
           let v = is.stored more not (omega (arith, doubts, clean)) ((commit clean).was_open still) in
           (v.0, subst (IsStored v.0) (sym (kept clean other)) v.1);
     }
 
-    pub plans_stay : (HasCleanDisk (state g new) → KeepsStaged g is_first old new) → Serves g (record { rows = new; position = position; group = group })
-        → taken.Stays (Plans g) (record { rows = old; position = position; group = group }) (record { rows = new; position = position; group = group })
+    pub plans_stay : (HasCleanDisk (state g new) → KeepsStaged g is_first old new)
+        → Serves g (record { rows = new; position = position; group = group })
+        → taken.Stays (Plans g) (record { rows = old; position = position; group = group })
+        (record { rows = new; position = position; group = group })
     plans_stay kept now t plans not = elim (cases_Bool is_first) [
       | inl one ↦
           subst (λ b. IsStored t (before_of g b new)) (sym one ∙ first)
-          (subst (λ (d : Database). IsStored t (tables_in d.trees)) (sym ((commit now.honest).committed now.is_open)) (subst (λ b. IsStored t (before_of g b old)) (sym first ∙ one) (plans not)))
+          (subst (λ (d : Database). IsStored t (tables_in d.trees)) (sym ((commit now.honest).committed now.is_open))
+          (subst (λ b. IsStored t (before_of g b old)) (sym first ∙ one) (plans not)))
       | inr more ↦
           subst (λ b. IsStored t (before_of g b new)) (sym more ∙ first)
           (subst (IsStored t) (sym (kept now.honest more)) (subst (λ b. IsStored t (before_of g b old)) (sym first ∙ more) (plans not)))
@@ -171,7 +194,8 @@ module _ {S : Type 0} (g : Ghosts S) (old new : S) (position : ℕ) (group : Gro
         stored = λ _ lost. absurd (let never : ⊥ = cc in never);
       }
 
-  module _ (commit : HasCleanDisk (state g new) → KeepsCommit (state g old) (state g new)) (lost : Bool) (kept : HasCleanDisk (state g new) → lost ≡ false → KeepsStaged g is_first old new) where
+  module _ (commit : HasCleanDisk (state g new) → KeepsCommit (state g old) (state g new)) (lost : Bool)
+      (kept : HasCleanDisk (state g new) → lost ≡ false → KeepsStaged g is_first old new) where
     pub refused_group : IsGroup g old position group → IsGroup g new position (refused_of lost is_first group)
     refused_group is = go lost is_first refl refl
       where
@@ -181,34 +205,41 @@ module _ {S : Type 0} (g : Ghosts S) (old new : S) (position : ℕ) (group : Gro
         go true false l e = lost_group e is
 
     pub refused_plans : Serves g (record { rows = new; position = position; group = refused_of lost is_first group })
-        → taken.Stays (Plans g) (record { rows = old; position = position; group = group }) (record { rows = new; position = position; group = refused_of lost is_first group })
+        → taken.Stays (Plans g) (record { rows = old; position = position; group = group })
+        (record { rows = new; position = position; group = refused_of lost is_first group })
     refused_plans now = go lost is_first refl refl
       where
         serving : Serves g (record { rows = new; position = position; group = group })
         serving = record { honest = now.honest; is_open = now.is_open }
 
-        go : (l f : Bool) → lost ≡ l → is_first ≡ f → taken.Stays (Plans g) (record { rows = old; position = position; group = group }) (record { rows = new; position = position; group = refused_of l f group })
+        go : (l f : Bool) → lost ≡ l → is_first ≡ f
+            → taken.Stays (Plans g) (record { rows = old; position = position; group = group })
+            (record { rows = new; position = position; group = refused_of l f group })
         go false f stands e = plans_stay commit (λ clean. kept clean stands) serving
         go true true l e = plans_stay commit (λ clean more. absurd (let never : ⊥ = cc in never)) serving
         go true false l e = λ t plans stands. absurd (let never : ⊥ = cc in never)
 
 -- an open store has tables with what is staged
-pub some_planned : {S : Type 0} (g : Ghosts S) (rows : S) (position : ℕ) (group : Group) → IsStore g rows position → IsGroup g rows position group → Serves g (record { rows = rows; position = position; group = group })
+pub some_planned : {S : Type 0} (g : Ghosts S) (rows : S) (position : ℕ) (group : Group) → IsStore g rows position
+    → IsGroup g rows position group → Serves g (record { rows = rows; position = position; group = group })
     → (t : Tables) × Plans g (record { rows = rows; position = position; group = group }) t
 some_planned g rows position group store is now = elim (cases_Bool group.is_lost) [
   | inl lost ↦ let v = store.stored now.honest now.is_open in (v.0, λ not. absurd (let never : ⊥ = cc in never))
-  | inr not ↦ let v = before_stored g rows rows position group (group.reach == position) refl (omega arith) store is not now.honest now.is_open in (v.0, λ _. v.1)
+  | inr not ↦ let v = before_stored g rows rows position group (group.reach == position) refl (omega arith) store is not now.honest
+      now.is_open in (v.0, λ _. v.1)
 ]
 
 -- ---- what is staged is taken
 
-pub some_staged : {S : Type 0} (g : Ghosts S) (rows : S) (position : ℕ) (group : Group) (is_empty : Bool) → IsGroup g rows position group → is_empty ≡ (group.reach == position) → is_empty ≡ false → position < group.reach
+pub some_staged : {S : Type 0} (g : Ghosts S) (rows : S) (position : ℕ) (group : Group) (is_empty : Bool) → IsGroup g rows position group
+    → is_empty ≡ (group.reach == position) → is_empty ≡ false → position < group.reach
 some_staged g rows position group is_empty is told differ =
     let order = is.order in
     let other = apart group.reach position (sym told ∙ differ) in
     omega (arith, order, other)
 
-module _ {S : Type 0} (g : Ghosts S) (old new : S) (position : ℕ) (group : Group) (more : position < group.reach) (stands : group.is_lost ≡ false) (end : ℕ) (here : end ≡ group.reach) where
+module _ {S : Type 0} (g : Ghosts S) (old new : S) (position : ℕ) (group : Group) (more : position < group.reach)
+    (stands : group.is_lost ≡ false) (end : ℕ) (here : end ≡ group.reach) where
   behind_it : (group.reach == position) ≡ false
   behind_it = elim (cases_Bool (group.reach == position)) [
     | inl same ↦ absurd (let e = (unsigned_Decides group.reach position).0 same in let never : ⊥ = omega (arith, more, e) in never)
@@ -218,7 +249,8 @@ module _ {S : Type 0} (g : Ghosts S) (old new : S) (position : ℕ) (group : Gro
   shown : (t : Tables) → Plans g (record { rows = old; position = position; group = group }) t → IsStored t (tables_of g old)
   shown t plans = subst (λ b. IsStored t (before_of g b old)) behind_it (plans stands)
 
-  pub settled_store : doubt (state g old).is_clean ≤ doubt (state g new).is_clean → IsGroup g old position group → (HasCleanDisk (state g new) → Settles g old new (to_be_bytes w64 end)) → IsSettled g → IsStore g new end
+  pub settled_store : doubt (state g old).is_clean ≤ doubt (state g new).is_clean → IsGroup g old position group
+      → (HasCleanDisk (state g new) → Settles g old new (to_be_bytes w64 end)) → IsSettled g → IsStore g new end
   settled_store doubts is settled law =
       let far = is.range in
       let range : end < 2 ^ 64 = omega (arith, here, far) in
@@ -234,8 +266,10 @@ module _ {S : Type 0} (g : Ghosts S) (old new : S) (position : ℕ) (group : Gro
         crash = crash_leaves g law new;
         keeps = λ clean.
             let it = settled clean in
-            let v = held clean in
-            (record { tables = v.0; position = end }, open_keeps g new (record { tables = v.0; position = end }) law it.is_open it.kept v.1 it.position_is range);
+            let v = held clean in (
+              record { tables = v.0; position = end },
+              open_keeps g new (record { tables = v.0; position = end }) law it.is_open it.kept v.1 it.position_is range,
+            );
       }
 
   pub settled_empty : IsGroup g old position group → (behind : Group) → behind ≡ settled_of group → IsGroup g new end behind
@@ -243,30 +277,51 @@ module _ {S : Type 0} (g : Ghosts S) (old new : S) (position : ℕ) (group : Gro
       let far = is.range in
       subst (IsGroup g new end) (sym same) (empty_group g new end (settled_of group) (omega (arith, here, far)) (sym here) refl refl)
 
-  pub settles_held : Settles g old new (to_be_bytes w64 end) → (t : Tables) → Plans g (record { rows = old; position = position; group = group }) t → IsStored t (committed_of g new)
+  pub settles_held : Settles g old new (to_be_bytes w64 end) → (t : Tables)
+      → Plans g (record { rows = old; position = position; group = group }) t → IsStored t (committed_of g new)
   settles_held it t plans = it.holds t (shown t plans)
 
-  leaves_group : group.reach < 2 ^ 64 → (db : Trees) → LeavesSettled g old (to_be_bytes w64 end) db → LeavesGroup g (record { rows = old; position = position; group = group }) db
-  leaves_group range db left = (left.was_open, λ t plans. record { kept = left.kept; stored = left.holds t (shown t plans); position = left.position_is ∙ ap (to_be_bytes w64) here; range = range })
+  leaves_group : group.reach < 2 ^ 64 → (db : Trees) → LeavesSettled g old (to_be_bytes w64 end) db
+      → LeavesGroup g (record { rows = old; position = position; group = group }) db
+  leaves_group range db left = (
+    left.was_open,
+    λ t plans.
+        record {
+          kept = left.kept;
+          stored = left.holds t (shown t plans);
+          position = left.position_is ∙ ap (to_be_bytes w64) here;
+          range = range;
+        },
+  )
 
-  pub survives_group : group.reach < 2 ^ 64 → Survives (state g old) (state g new) (LeavesSettled g old (to_be_bytes w64 end)) → Survives (state g old) (state g new) (LeavesGroup g (record { rows = old; position = position; group = group }))
+  pub survives_group : group.reach < 2 ^ 64 → Survives (state g old) (state g new) (LeavesSettled g old (to_be_bytes w64 end))
+      → Survives (state g old) (state g new) (LeavesGroup g (record { rows = old; position = position; group = group }))
   survives_group range s = survives_weaker (state g old) (state g new) _ _ (λ _ db h. leaves_group range db h) s
 
   -- with a ledger
-  pub survives_synced : (was_stuck : Bool) (Before After : Type 0) → (Before → After) → group.reach < 2 ^ 64 → Survives (state g old) (state g new) (λ db. LeavesSettled g old (to_be_bytes w64 end) db × (was_stuck ≡ false) × Before)
+  pub survives_synced : (was_stuck : Bool) (Before After : Type 0) → (Before → After) → group.reach < 2 ^ 64
+      → Survives (state g old) (state g new) (λ db. LeavesSettled g old (to_be_bytes w64 end) db × (was_stuck ≡ false) × Before)
       → Survives (state g old) (state g new) (LeavesSynced g was_stuck After (record { rows = old; position = position; group = group }))
-  survives_synced was_stuck Before After on range s = survives_weaker (state g old) (state g new) _ _ (λ _ db h. (leaves_group range db h.0, h.1, on h.2)) s
+  survives_synced was_stuck Before After on range s =
+      survives_weaker (state g old) (state g new) _ _ (λ _ db h. (leaves_group range db h.0, h.1, on h.2)) s
 
   -- what a settling leaves that wasn't answered Ok is at least as far
-  pub unsettled_left : IsGroup g old position group → Survives (state g old) (state g new) (LeavesSettled g old (to_be_bytes w64 end)) → (v : Stored) → v.position ≡ position
-      → ((group : Group) → Keeps g (record { rows = old; position = position; group = group }) v) → HasCleanDisk (state g new) → (db : Trees) → (state g new).may_leave db → IsAtLeast v db
+  pub unsettled_left : IsGroup g old position group → Survives (state g old) (state g new) (LeavesSettled g old (to_be_bytes w64 end))
+      → (v : Stored) → v.position ≡ position
+      → ((group : Group) → Keeps g (record { rows = old; position = position; group = group }) v) → HasCleanDisk (state g new)
+      → (db : Trees) → (state g new).may_leave db → IsAtLeast v db
   unsettled_left is s v at keeps clean db may = elim (s.crash clean db may) [
     | inl before ↦ (keeps at_rest).left db before
     | inr left ↦
         let was : HasCleanDisk (state g old) = let doubts = s.clean in omega (arith, doubts, clean) in
         let t = is.stored more stands was left.was_open in (
           record { tables = t.0; position = group.reach },
-          record { kept = left.kept; stored = left.holds t.0 t.1; position = left.position_is ∙ ap (to_be_bytes w64) here; range = is.range },
+          record {
+            kept = left.kept;
+            stored = left.holds t.0 t.1;
+            position = left.position_is ∙ ap (to_be_bytes w64) here;
+            range = is.range;
+          },
           omega (arith, more, at),
           λ e. absurd (let never : ⊥ = omega (arith, more, at, e) in never),
         )

@@ -1,5 +1,6 @@
 -- Whether a change finds a row, by what the tables of bytes tell.
-use Rattle.std.proofs.Common.{◌≡◌, ℕ, List, ◌∷◌, Bool, true, false, Option, Some, None, Ok, refl, sym, ap, ◌∙◌}
+use Rattle.std.proofs.Common.{◌≡◌, ℕ, List, ◌∷◌, Bool, true, false, Option, Some, None, Ok, refl}
+use Rattle.std.proofs.Common.{sym, ap, ◌∙◌}
 use Rattle.std.specs.Prelude.{not, is_none, is_some, option_map}
 use Rattle.std.specs.FinMap as map
 use Rattle.pgtuple.specs.declared.cell.Cell.{Cell}
@@ -24,19 +25,23 @@ module _ (v : Tables) (def : RelationDef) (rows : Rows) (t : stored.Tables) (h :
   absent = ap (λ o. not (is_some o)) (own_row v def rows t h.spelled place) ∙ none_of spelled_row (map.get rows place)
 
   -- what is told of the place is told of the row
-  module _ (searched : List Cell) (at : place ≡ tuple_spelling searched) (missed : Bool) (told : missed ≡ not (is_there def.oid place t)) where
+  module _ (searched : List Cell) (at : place ≡ tuple_spelling searched) (missed : Bool)
+      (told : missed ≡ not (is_there def.oid place t)) where
     not_at : missed ≡ is_absent (Ok searched) rows
     not_at = told ∙ absent ∙ ap (λ p. is_none (map.get rows p)) at
 
-    pub update_misses : (prior : Option (OldKind × List Cell)) (row : List Cell) → searched_identity def prior (Some row) ≡ Ok searched → missed ≡ finds_none def (Update prior row) rows
+    pub update_misses : (prior : Option (OldKind × List Cell)) (row : List Cell) → searched_identity def prior (Some row) ≡ Ok searched
+        → missed ≡ finds_none def (Update prior row) rows
     update_misses prior row checked = not_at ∙ ap (λ r. is_absent r rows) (sym checked)
 
-    pub delete_misses : (kind : OldKind) (row : List Cell) → searched_identity def (Some (kind, row)) None ≡ Ok searched → missed ≡ finds_none def (Delete kind row) rows
+    pub delete_misses : (kind : OldKind) (row : List Cell) → searched_identity def (Some (kind, row)) None ≡ Ok searched
+        → missed ≡ finds_none def (Delete kind row) rows
     delete_misses kind row checked = not_at ∙ ap (λ r. is_absent r rows) (sym checked)
 
 -- a row that was looked up, or not
 pub told_none : (oid : ℕ) (place : List ℕ) (t : stored.Tables) → map.get t.rows (oid ∷ place) ≡ None → true ≡ not (is_there oid place t)
 told_none oid place t none = sym (ap (λ o. not (is_some o)) none)
 
-pub told_some : (oid : ℕ) (place : List ℕ) (t : stored.Tables) (there : stored.Copies) → map.get t.rows (oid ∷ place) ≡ Some there → false ≡ not (is_there oid place t)
+pub told_some : (oid : ℕ) (place : List ℕ) (t : stored.Tables) (there : stored.Copies) → map.get t.rows (oid ∷ place) ≡ Some there
+    → false ≡ not (is_there oid place t)
 told_some oid place t there some = sym (ap (λ o. not (is_some o)) some)

@@ -19,34 +19,45 @@ use Rattle.pgstore.specs.Acts.{committed_of}
 use Rattle.pgapply.specs.Value.{Tables}
 use Rattle.pgapply.specs.Stored.{Stored}
 use Rattle.pgstore.specs.Spelled.{IsStored}
-use Rattle.pgstore.specs.StoreValue.{AreOf, Holds, IsValueOf, LeavesAdopted, StoreValue, nothing_stored}
-use Rattle.pgstore.specs.Reopened.{AdoptedHoldsContent, HoldsContent, IsEmptyContent, LeftIsReopened, RefusedStaysAsFound, Reopens, ReopensNothingOlder, ReopensTheSame}
+use Rattle.pgstore.specs.StoreValue.{AreOf, Holds, IsValueOf, LeavesAdopted, StoreValue}
+use Rattle.pgstore.specs.StoreValue.{nothing_stored}
+use Rattle.pgstore.specs.Reopened.{AdoptedHoldsContent, HoldsContent, IsEmptyContent}
+use Rattle.pgstore.specs.Reopened.{LeftIsReopened, RefusedStaysAsFound, Reopens}
+use Rattle.pgstore.specs.Reopened.{ReopensNothingOlder, ReopensTheSame}
 use Rattle.pgstore.proofs.Founding.{whole_value}
 use Rattle.pgstore.proofs.Stores.{IsSettled}
 
 -- two databases with the same trees are one
 pub same_database : (a b : Database) → IsDatabase a → IsDatabase b → a.trees ≡ b.trees → a ≡ b
 same_database a b one two trees =
-    let schema : a.schema ≡ b.schema = schema_once (a.trees catalog_tree) a.schema b.schema one.lists (subst (λ (t : Trees). IsDatabase (record { schema = b.schema; trees = t })) (sym trees) two).lists in
+    let schema : a.schema ≡ b.schema =
+    schema_once (a.trees catalog_tree) a.schema b.schema one.lists
+    (subst (λ (t : Trees). IsDatabase (record { schema = b.schema; trees = t })) (sym trees) two).lists in
     λ i. record { schema = schema i; trees = trees i }
 
 pub adopted_holds : {S : Type 0} (g : Ghosts S) → AdoptedHoldsContent g
 adopted_holds g content conn s finds opens live adopts =
     let now = (state g conn).now in
     let sound : IsDatabase now = (live opens.is_open).0 in
-    let seen : (db : Trees) → HoldsDatabase content db → now.trees ≡ db = λ db holds. ap (λ (d : Database). d.trees) opens.clean ∙ finds.holds db holds in
-    let none : now.trees catalog_tree ≡ [] → Holds g s nothing_stored = λ none. adopts.bare (schema_is_empty now.schema now.trees none sound) in
+    let seen : (db : Trees) → HoldsDatabase content db → now.trees ≡ db =
+    λ db holds. ap (λ (d : Database). d.trees) opens.clean ∙ finds.holds db holds in
+    let none : now.trees catalog_tree ≡ [] → Holds g s nothing_stored =
+    λ none. adopts.bare (schema_is_empty now.schema now.trees none sound) in
     record {
-      stood = λ db holds is_database v is. adopts.value v (subst (IsValueOf v) (sym (same_database now db sound is_database (seen db.trees holds))) is);
+      stood = λ db holds is_database v is.
+          adopts.value v (subst (IsValueOf v) (sym (same_database now db sound is_database (seen db.trees holds))) is);
       empty = λ is. elim is [
-        | inl nothing ↦ none (ap (λ (d : Database). d.trees catalog_tree) opens.clean ∙ (nothing_is_empty content (state g conn).committed.trees nothing finds.reads).1)
+        | inl nothing ↦ none (ap (λ (d : Database). d.trees catalog_tree) opens.clean
+            ∙ (nothing_is_empty content (state g conn).committed.trees nothing finds.reads).1)
         | inr bare ↦ none (ap (λ (t : Trees). t catalog_tree) (seen bare.0 bare.1) ∙ bare.2.1)
       ];
     }
 
 -- a connection of which no store was made
-pub refused_stays : {S : Type 0} (g : Ghosts S) → IsSettled g → (opened conn : Held S) → Survives (state g opened) (state g conn) (LeavesAdopted g opened)
-    → IfServing g conn ((state g opened).in_transaction ≡ false → (state g conn).now ≡ (state g opened).now) → RefusedStaysAsFound g opened conn
+pub refused_stays : {S : Type 0} (g : Ghosts S) → IsSettled g → (opened conn : Held S)
+    → Survives (state g opened) (state g conn) (LeavesAdopted g opened)
+    → IfServing g conn ((state g opened).in_transaction ≡ false → (state g conn).now ≡ (state g opened).now)
+    → RefusedStaysAsFound g opened conn
 refused_stays g law opened conn survives same content finds opens =
     let trees : (state g opened).now.trees ≡ (state g opened).committed.trees = ap (λ (d : Database). d.trees) opens.clean in
     record {
@@ -58,8 +69,11 @@ refused_stays g law opened conn survives same content finds opens =
     }
 
 -- of a database with all tables
-pub holds_stored : {S : Type 0} (g : Ghosts S) (content : Image) (s : StoreValue S) → HoldsContent g content s → (db : Trees) → HoldsDatabase content db → (v : Stored) → AreOf v db → Holds g s v
-holds_stored g content s it db holds v are = it.stood (record { schema = store_schema; trees = db }) holds are.kept.sound v (whole_value (record { schema = store_schema; trees = db }) v refl are)
+pub holds_stored : {S : Type 0} (g : Ghosts S) (content : Image) (s : StoreValue S) → HoldsContent g content s → (db : Trees)
+    → HoldsDatabase content db → (v : Stored) → AreOf v db → Holds g s v
+holds_stored g content s it db holds v are =
+    it.stood (record { schema = store_schema; trees = db }) holds are.kept.sound v
+    (whole_value (record { schema = store_schema; trees = db }) v refl are)
 
 -- two values of one store are stored alike
 pub same_stored : (v w : Tables) (t u : stored.Tables) → IsStored v t → IsStored w t → IsStored v u → IsStored w u
@@ -78,7 +92,8 @@ module _ {S T : Type 0} (g : Ghosts S) (h : Ghosts T) where
   reopens_same old new v contains again w holds =
       let there = again.opened v (contains.left again.db again.left) in
       record {
-        stored = same_stored v.tables w.tables (committed_of g old.rows) (committed_of h new.rows) contains.holds.stored holds.stored there.stored;
+        stored = same_stored v.tables w.tables (committed_of g old.rows) (committed_of h new.rows) contains.holds.stored holds.stored
+            there.stored;
         position = holds.position ∙ sym contains.holds.position ∙ there.position;
       }
 

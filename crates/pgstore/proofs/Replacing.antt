@@ -17,21 +17,29 @@ use Rattle.pgstore.specs.Carries.{AreKept, IsReadAs, emptied}
 use Rattle.pgstore.proofs.Definitions.{stored_table, found_other, emptied_first}
 use Rattle.pgstore.proofs.CarriedOn.{kept_rows}
 
-module _ (v : Tables) (def : RelationDef) (t : stored.Tables) (h : IsStored v t) (there : stored.Definition) (at : map.get t.defined def.oid ≡ Some there)
+module _ (v : Tables) (def : RelationDef) (t : stored.Tables) (h : IsStored v t) (there : stored.Definition)
+    (at : map.get t.defined def.oid ≡ Some there)
     (shaped : (old : RelationDef) → IsDefinition old → there ≡ spelled_definition old → false ≡ same_shape old def) (op : Op) where
-  pub emptied_finds : is_truncate op ≡ true → (columns : List ℕ) → columns ≡ columns_spelling def.columns → (next : stored.Tables) → next ≡ emptied def columns t
+  pub emptied_finds : is_truncate op ≡ true → (columns : List ℕ) → columns ≡ columns_spelling def.columns → (next : stored.Tables)
+      → next ≡ emptied def columns t
       → (rows : Rows) × (found_rows (map.get v def.oid) def op ≡ Ok rows) × IsChanging v def rows next
   emptied_finds goes columns are next is =
-      let it = stored_table v def t h there at in
-      (map.empty, found_other v def t h there at shaped op ∙ carried_not it.0 def op goes, emptied_first v def t h next columns are is there at)
+      let it = stored_table v def t h there at in (
+        map.empty,
+        found_other v def t h there at shaped op ∙ carried_not it.0 def op goes,
+        emptied_first v def t h next columns are is there at,
+      )
 
-  module _ (stays : is_truncate op ≡ false) (columns : List ℕ) (are : columns ≡ columns_spelling def.columns) (before : RelationDef) (read : IsReadAs there def before) where
+  module _ (stays : is_truncate op ≡ false) (columns : List ℕ) (are : columns ≡ columns_spelling def.columns) (before : RelationDef)
+      (read : IsReadAs there def before) where
     -- what is carried by the columns that were read is what the change finds
-    found_carried : found_rows (map.get v def.oid) def op ≡ carry_rows before def (map.entries (stored_table v def t h there at).0.rows) map.empty
+    found_carried : found_rows (map.get v def.oid) def op
+        ≡ carry_rows before def (map.entries (stored_table v def t h there at).0.rows) map.empty
     found_carried =
         let it = stored_table v def t h there at in
         found_other v def t h there at shaped op ∙ carried_whole it.0 def op stays
-        ∙ sym (carry_alike before it.0.definition def (read.columns it.0.definition (h.spellable def.oid it.0 it.1).definition it.2) (map.entries it.0.rows) map.empty)
+        ∙ sym (carry_alike before it.0.definition def (read.columns it.0.definition (h.spellable def.oid it.0 it.1).definition it.2)
+        (map.entries it.0.rows) map.empty)
 
     kept : AreKept before def (map.entries (stored_table v def t h there at).0.rows) t
     kept =
@@ -42,12 +50,16 @@ module _ (v : Tables) (def : RelationDef) (t : stored.Tables) (h : IsStored v t)
     first = emptied_first v def t h (emptied def columns t) columns are refl there at
 
     pub carried_finds : (next : stored.Tables)
-        → ((entries : List (List ℕ × Row)) → IsChanging v def map.empty (emptied def columns t) → AreKept before def entries t → MakesOf v def (carry_rows before def entries map.empty) next)
+        → ((entries : List (List ℕ × Row)) → IsChanging v def map.empty (emptied def columns t) → AreKept before def entries t
+        → MakesOf v def (carry_rows before def entries map.empty) next)
         → (rows : Rows) × (found_rows (map.get v def.oid) def op ≡ Ok rows) × IsChanging v def rows next
     carried_finds next carries =
         let made = carries (map.entries (stored_table v def t h there at).0.rows) first kept in
         (made.0, found_carried ∙ made.1, made.2)
 
-    pub carried_refuses : (e : StoreFault) → ((entries : List (List ℕ × Row)) → IsChanging v def map.empty (emptied def columns t) → AreKept before def entries t → IsFault e (carry_rows before def entries map.empty))
+    pub carried_refuses : (e : StoreFault)
+        → ((entries : List (List ℕ × Row)) → IsChanging v def map.empty (emptied def columns t) → AreKept before def entries t
+        → IsFault e (carry_rows before def entries map.empty))
         → IsFault e (found_rows (map.get v def.oid) def op)
-    carried_refuses e refuses = subst (IsFault e) (sym found_carried) (refuses (map.entries (stored_table v def t h there at).0.rows) first kept)
+    carried_refuses e refuses =
+        subst (IsFault e) (sym found_carried) (refuses (map.entries (stored_table v def t h there at).0.rows) first kept)

@@ -1,5 +1,6 @@
 -- What a store contains, when it is made and when a commit is taken.
-use Rattle.std.proofs.Common.{◌≡◌, ◌≤◌, ◌<◌, ◌^◌, inl, inr, ℕ, false, List, [], ◌∷◌, Ok, IsTrue, refl, sym, ap, subst, ◌∙◌, arith}
+use Rattle.std.proofs.Common.{◌≡◌, ◌≤◌, ◌<◌, ◌^◌, inl, inr, ℕ, false, List, [], ◌∷◌, Ok, IsTrue}
+use Rattle.std.proofs.Common.{refl, sym, ap, subst, ◌∙◌, arith}
 use Rattle.std.specs.Prelude.{option_map}
 use Rattle.std.specs.Int.{w64, to_be_bytes}
 use Rattle.std.specs.Ordering.{nat_cmp}
@@ -28,7 +29,9 @@ use Rattle.pgapply.specs.Stored.{Stored, IsFault}
 use Rattle.pgapply.specs.Missing.{nothing_missed}
 use Rattle.pgstore.specs.Spelled.{IsStored, spelled_definition, spelled_row, row_in}
 use Rattle.pgstore.specs.Acts.{HasTaken, LeavesTaken, RefusesToFold, committed_of}
-use Rattle.pgstore.specs.StoreValue.{AreOf, Group, IsAtLeast, Keeps, IsStore, HasMade, Serves, Holds, Contains, Takes, Stays, RefusesWork, LeavesWork, nothing_stored}
+use Rattle.pgstore.specs.StoreValue.{AreOf, Group, IsAtLeast, Keeps, IsStore, HasMade, Serves}
+use Rattle.pgstore.specs.StoreValue.{Holds, Contains, Takes, Stays, RefusesWork, LeavesWork}
+use Rattle.pgstore.specs.StoreValue.{nothing_stored}
 use Rattle.pgapply.proofs.KeepsForm.{none_keeps}
 
 -- nothing is staged, and nothing was missed
@@ -46,7 +49,9 @@ module _ {S : Type 0} (g : Ghosts S) (law : IsSettled g) (rows : S) where
   crash_leaves clean still db may = law rows db still may
 
 -- what a store contains is left
-pub contains : {S : Type 0} (g : Ghosts S) (rows : S) (position : ℕ) (group : Group) → IsStore g rows position → Serves g (record { rows = rows; position = position; group = group }) → (v : Stored) × Contains g (record { rows = rows; position = position; group = group }) v
+pub contains : {S : Type 0} (g : Ghosts S) (rows : S) (position : ℕ) (group : Group) → IsStore g rows position
+    → Serves g (record { rows = rows; position = position; group = group })
+    → (v : Stored) × Contains g (record { rows = rows; position = position; group = group }) v
 contains g rows position group is now =
     let v = is.stored now.honest now.is_open in
     let kept = is.kept now.honest now.is_open in (
@@ -66,7 +71,9 @@ contains g rows position group is now =
     )
 
 -- the trees that a store has, where all that it says of them holds
-trees_of : {S : Type 0} (g : Ghosts S) (rows : S) (v : Stored) (db : Trees) → stored.IsKept (state g rows).committed → IsStored v.tables (committed_of g rows) → (committed_of g rows).place ≡ to_be_bytes w64 v.position → v.position < 2 ^ 64 → db ≡ (state g rows).committed.trees → AreOf v db
+trees_of : {S : Type 0} (g : Ghosts S) (rows : S) (v : Stored) (db : Trees) → stored.IsKept (state g rows).committed
+    → IsStored v.tables (committed_of g rows) → (committed_of g rows).place ≡ to_be_bytes w64 v.position → v.position < 2 ^ 64
+    → db ≡ (state g rows).committed.trees → AreOf v db
 trees_of g rows v db kept is place range same =
     let whole : ◌≡◌ {A = Database} (state g rows).committed (database db) = ap database (sym same) in
     record {
@@ -81,8 +88,10 @@ very : (v : Stored) (db : Trees) → AreOf v db → IsAtLeast v db
 very v db is = (v, is, omega arith, λ _. is)
 
 -- an open store keeps what it has
-pub open_keeps : {S : Type 0} (g : Ghosts S) (rows : S) (v : Stored) → IsSettled g → IsTrue (state g rows).is_open → stored.IsKept (state g rows).committed
-    → IsStored v.tables (committed_of g rows) → (committed_of g rows).place ≡ to_be_bytes w64 v.position → v.position < 2 ^ 64 → (group : Group) → Keeps g (record { rows = rows; position = v.position; group = group }) v
+pub open_keeps : {S : Type 0} (g : Ghosts S) (rows : S) (v : Stored) → IsSettled g → IsTrue (state g rows).is_open
+    → stored.IsKept (state g rows).committed
+    → IsStored v.tables (committed_of g rows) → (committed_of g rows).place ≡ to_be_bytes w64 v.position → v.position < 2 ^ 64
+    → (group : Group) → Keeps g (record { rows = rows; position = v.position; group = group }) v
 open_keeps g rows v law still kept is place range group = record {
   position = refl;
   holds = λ _. record { stored = is; position = refl };
@@ -91,20 +100,25 @@ open_keeps g rows v law still kept is place range group = record {
 
 -- ---- a connection that was adopted
 
-module _ {S : Type 0} (g : Ghosts S) (conn : Held S) (even : IsTrue (connection.state g conn).is_open → (connection.state g conn).now ≡ (connection.state g conn).committed) where
+module _ {S : Type 0} (g : Ghosts S) (conn : Held S)
+    (even : IsTrue (connection.state g conn).is_open → (connection.state g conn).now ≡ (connection.state g conn).committed) where
   -- its trees are committed
   pub adopted_trees : IsTrue (connection.state g conn).is_open → (state g conn.store).committed.trees ≡ (connection.state g conn).now.trees
   adopted_trees still = sym (ap (λ (d : Database). d.trees) (even still))
 
-  pub adopted_kept : IsTrue (connection.state g conn).is_open → stored.IsKept (connection.state g conn).now → stored.IsKept (state g conn.store).committed
+  pub adopted_kept : IsTrue (connection.state g conn).is_open → stored.IsKept (connection.state g conn).now
+      → stored.IsKept (state g conn.store).committed
   adopted_kept still kept =
-      let whole : ◌≡◌ {A = Database} (connection.state g conn).now (state g conn.store).committed = λ i. record { schema = kept.schema i; trees = sym (adopted_trees still) i } in
+      let whole : ◌≡◌ {A = Database} (connection.state g conn).now (state g conn.store).committed =
+      λ i. record { schema = kept.schema i; trees = sym (adopted_trees still) i } in
       subst stored.IsKept whole kept
 
 -- the limit of steps of a connection isn't the store's
-pub adopted_survives : {S : Type 0} (g : Ghosts S) (old new : Held S) (P : Trees → Type 0) → Survives (connection.state g old) (connection.state g new) P
+pub adopted_survives : {S : Type 0} (g : Ghosts S) (old new : Held S) (P : Trees → Type 0)
+    → Survives (connection.state g old) (connection.state g new) P
     → Survives (connection.state g old) (record (state g new.store) { step_limit = (connection.state g old).step_limit }) P
-adopted_survives g old new P s = record { clean = s.clean; shield = s.shield; counts = s.counts; limit = refl; closes = s.closes; crash = s.crash }
+adopted_survives g old new P s =
+    record { clean = s.clean; shield = s.shield; counts = s.counts; limit = refl; closes = s.closes; crash = s.crash }
 
 -- ---- a new store
 
@@ -112,7 +126,8 @@ pub no_value : IsStored map.empty stored.no_tables
 no_value = record {
   spelled = record {
     defined = λ oid. get-empty nat_cmp oid ∙ sym (ap (option_map (λ (t : Table). spelled_definition t.definition)) (get-empty nat_cmp oid));
-    rows = λ oid place. get-empty (slice_cmp nat_cmp) (oid ∷ place) ∙ sym (ap (λ o. option_map spelled_row (row_in o place)) (get-empty nat_cmp oid));
+    rows = λ oid place. get-empty (slice_cmp nat_cmp) (oid ∷ place)
+        ∙ sym (ap (λ o. option_map spelled_row (row_in o place)) (get-empty nat_cmp oid));
     keyed = get-empty (slice_cmp nat_cmp) [];
   };
   form = none_keeps;
@@ -137,22 +152,33 @@ module _ {S : Type 0} (g : Ghosts S) (conn : Held S) (made : HasCleanDisk (conne
     same = λ clean still. ap (λ (t : stored.Tables). t.place) (first_none clean);
     stored = λ clean still. (map.empty, first_stored clean);
     crash = crash_leaves g law conn.store;
-    keeps = λ clean. (nothing_stored, open_keeps g conn.store nothing_stored law (made clean).is_open (first_kept clean) (first_stored clean) (ap (λ (t : stored.Tables). t.place) (first_none clean)) (omega arith));
+    keeps = λ clean. (
+      nothing_stored,
+      open_keeps g conn.store nothing_stored law (made clean).is_open (first_kept clean) (first_stored clean)
+          (ap (λ (t : stored.Tables). t.place) (first_none clean)) (omega arith),
+    );
   }
 
-  pub first_holds : (group : Group) → HasCleanDisk (connection.state g conn) → Serves g (record { rows = conn.store; position = 0; group = group }) × Holds g (record { rows = conn.store; position = 0; group = group }) nothing_stored
-  first_holds group clean = (record { honest = clean; is_open = (made clean).is_open }, record { stored = first_stored clean; position = refl })
+  pub first_holds : (group : Group) → HasCleanDisk (connection.state g conn)
+      → Serves g (record { rows = conn.store; position = 0; group = group })
+      × Holds g (record { rows = conn.store; position = 0; group = group }) nothing_stored
+  first_holds group clean =
+      (record { honest = clean; is_open = (made clean).is_open }, record { stored = first_stored clean; position = refl })
 
 -- ---- a commit
 
-module _ {S : Type 0} (g : Ghosts S) (old new : S) (position : ℕ) (doubts : doubt (state g old).is_clean ≤ doubt (state g new).is_clean) where
+module _ {S : Type 0} (g : Ghosts S) (old new : S) (position : ℕ)
+    (doubts : doubt (state g old).is_clean ≤ doubt (state g new).is_clean) where
   -- nothing was committed
   module _ (commit : HasCleanDisk (state g new) → KeepsCommit (state g old) (state g new)) where
     same : IfServing g new (IsTrue (state g old).is_open × ((state g new).committed ≡ (state g old).committed))
     same clean still = ((commit clean).was_open still, (commit clean).committed still)
 
-    pub stays_keeps : IsStore g old position → ((v : Stored) → v.position ≡ position → ((group : Group) → Keeps g (record { rows = old; position = position; group = group }) v) → HasCleanDisk (state g new) → (db : Trees) → (state g new).may_leave db → IsAtLeast v db)
-        → HasCleanDisk (state g new) → (v : Stored) × ((group : Group) → Keeps g (record { rows = new; position = position; group = group }) v)
+    pub stays_keeps : IsStore g old position
+        → ((v : Stored) → v.position ≡ position → ((group : Group) → Keeps g (record { rows = old; position = position; group = group }) v)
+        → HasCleanDisk (state g new) → (db : Trees) → (state g new).may_leave db → IsAtLeast v db)
+        → HasCleanDisk (state g new)
+        → (v : Stored) × ((group : Group) → Keeps g (record { rows = new; position = position; group = group }) v)
     stays_keeps was left clean =
         let k = was.keeps (omega arith) in (
           k.0,
@@ -161,16 +187,22 @@ module _ {S : Type 0} (g : Ghosts S) (old new : S) (position : ℕ) (doubts : do
             holds = λ still.
                 let it = same clean still in
                 let h = (k.1 group).holds it.0 in
-                record { stored = subst (λ (d : Database). IsStored k.0.tables (tables_in d.trees)) (sym it.1) h.stored; position = h.position };
+                record {
+                  stored = subst (λ (d : Database). IsStored k.0.tables (tables_in d.trees)) (sym it.1) h.stored;
+                  position = h.position;
+                };
             left = left k.0 (k.1 group).position k.1 clean;
           },
         )
 
-    pub stays_store : IsStore g old position → ((v : Stored) → v.position ≡ position → ((group : Group) → Keeps g (record { rows = old; position = position; group = group }) v) → HasCleanDisk (state g new) → (db : Trees) → (state g new).may_leave db → IsAtLeast v db) → IsSettled g → IsStore g new position
+    pub stays_store : IsStore g old position
+        → ((v : Stored) → v.position ≡ position → ((group : Group) → Keeps g (record { rows = old; position = position; group = group }) v)
+        → HasCleanDisk (state g new) → (db : Trees) → (state g new).may_leave db → IsAtLeast v db) → IsSettled g → IsStore g new position
     stays_store was left law = record {
       kept = λ clean still. let it = same clean still in subst stored.IsKept (sym it.1) (was.kept (omega arith) it.0);
       range = was.range;
-      same = λ clean still. let it = same clean still in ap (λ (d : Database). (tables_in d.trees).place) it.1 ∙ was.same (omega arith) it.0;
+      same = λ clean still. let it = same clean still in
+          ap (λ (d : Database). (tables_in d.trees).place) it.1 ∙ was.same (omega arith) it.0;
       stored = λ clean still.
           let it = same clean still in
           let v = was.stored (omega arith) it.0 in
@@ -179,16 +211,21 @@ module _ {S : Type 0} (g : Ghosts S) (old new : S) (position : ℕ) (doubts : do
       keeps = stays_keeps was left;
     }
 
-    pub stays : (before behind : Group) → Serves g (record { rows = new; position = position; group = behind }) → Stays g (record { rows = old; position = position; group = before }) (record { rows = new; position = position; group = behind })
+    pub stays : (before behind : Group) → Serves g (record { rows = new; position = position; group = behind })
+        → Stays g (record { rows = old; position = position; group = before }) (record { rows = new; position = position; group = behind })
     stays before behind now =
         let it = same now.honest now.is_open in
         record {
           served = record { honest = (let clean = now.honest in omega arith); is_open = it.0 };
-          same = λ v h. record { stored = subst (λ (d : Database). IsStored v.tables (tables_in d.trees)) (sym it.1) h.stored; position = h.position };
+          same = λ v h. record {
+            stored = subst (λ (d : Database). IsStored v.tables (tables_in d.trees)) (sym it.1) h.stored;
+            position = h.position;
+          };
         }
 
   -- the changes were folded
-  module _ (definitions : List RelationDef) (entries : List (ℕ × Op)) (end : ℕ) (bytes : List ℕ) (spells : bytes ≡ to_be_bytes w64 end) (range : end < 2 ^ 64) (taken : HasCleanDisk (state g new) → HasTaken g old new definitions entries bytes) where
+  module _ (definitions : List RelationDef) (entries : List (ℕ × Op)) (end : ℕ) (bytes : List ℕ) (spells : bytes ≡ to_be_bytes w64 end)
+      (range : end < 2 ^ 64) (taken : HasCleanDisk (state g new) → HasTaken g old new definitions entries bytes) where
     pub taken_store : IsStore g old position → IsSettled g → IsStore g new end
     taken_store was law = record {
       kept = λ clean still. (taken clean).kept;
@@ -203,11 +240,15 @@ module _ {S : Type 0} (g : Ghosts S) (old new : S) (position : ℕ) (doubts : do
       keeps = λ clean.
           let it = taken clean in
           let v = was.stored (omega arith) it.was_open in
-          let f = it.folds v.0 v.1 in
-          (record { tables = f.0; position = end }, open_keeps g new (record { tables = f.0; position = end }) law it.is_open it.kept f.2 (it.position_is ∙ spells) range);
+          let f = it.folds v.0 v.1 in (
+            record { tables = f.0; position = end },
+            open_keeps g new (record { tables = f.0; position = end }) law it.is_open it.kept f.2 (it.position_is ∙ spells) range,
+          );
     }
 
-    pub takes : (before behind : Group) (changes : List Change) → change_values definitions entries ≡ changes → HasCleanDisk (state g new) → Takes g (record { rows = old; position = position; group = before }) (record { rows = new; position = end; group = behind }) changes end
+    pub takes : (before behind : Group) (changes : List Change) → change_values definitions entries ≡ changes → HasCleanDisk (state g new)
+        → Takes g (record { rows = old; position = position; group = before }) (record { rows = new; position = end; group = behind })
+        changes end
     takes before behind changes is clean =
         let it = taken clean in
         record {
@@ -219,41 +260,60 @@ module _ {S : Type 0} (g : Ghosts S) (old new : S) (position : ℕ) (doubts : do
         }
 
 -- the fault of a work
-pub refuses_work : {S : Type 0} (g : Ghosts S) (old : S) (position : ℕ) (group : Group) (definitions : List RelationDef) (entries : List (ℕ × Op)) (changes : List Change) (e : StoreFault) → change_values definitions entries ≡ changes
-    → RefusesToFold (committed_of g old) definitions entries e → RefusesWork g (record { rows = old; position = position; group = group }) changes e
-refuses_work g old position group definitions entries changes e is h v s = subst (λ cs. IsFault e (fold_changes v.tables cs)) is (h v.tables s.stored)
+pub refuses_work : {S : Type 0} (g : Ghosts S) (old : S) (position : ℕ) (group : Group) (definitions : List RelationDef)
+    (entries : List (ℕ × Op)) (changes : List Change) (e : StoreFault) → change_values definitions entries ≡ changes
+    → RefusesToFold (committed_of g old) definitions entries e
+    → RefusesWork g (record { rows = old; position = position; group = group }) changes e
+refuses_work g old position group definitions entries changes e is h v s =
+    subst (λ cs. IsFault e (fold_changes v.tables cs)) is (h v.tables s.stored)
 
 -- what a crash inside a commit may leave
-module _ {S : Type 0} (g : Ghosts S) (old new : S) (position : ℕ) (definitions : List RelationDef) (entries : List (ℕ × Op)) (end : ℕ) (bytes : List ℕ) (spells : bytes ≡ to_be_bytes w64 end) (range : end < 2 ^ 64)
+module _ {S : Type 0} (g : Ghosts S) (old new : S) (position : ℕ) (definitions : List RelationDef) (entries : List (ℕ × Op)) (end : ℕ)
+    (bytes : List ℕ) (spells : bytes ≡ to_be_bytes w64 end) (range : end < 2 ^ 64)
     (changes : List Change) (is : change_values definitions entries ≡ changes) where
-  leaves_work : (group : Group) (db : Trees) → LeavesTaken g old definitions entries bytes db → LeavesWork g (record { rows = old; position = position; group = group }) changes end db
+  leaves_work : (group : Group) (db : Trees) → LeavesTaken g old definitions entries bytes db
+      → LeavesWork g (record { rows = old; position = position; group = group }) changes end db
   leaves_work group db h = (
     h.was_open,
     λ v s.
-        let f = h.folds v.tables s.stored in
-        (f.0, subst (λ cs. fold_changes v.tables cs ≡ Ok f.0) is f.1, record { kept = h.kept; stored = f.2; position = h.position_is ∙ spells; range = range }),
+        let f = h.folds v.tables s.stored in (
+          f.0,
+          subst (λ cs. fold_changes v.tables cs ≡ Ok f.0) is f.1,
+          record { kept = h.kept; stored = f.2; position = h.position_is ∙ spells; range = range },
+        ),
   )
 
   -- what a commit leaves that wasn't answered Ok is at least as far
-  pub refused_left : position < end → Survives (state g old) (state g new) (LeavesTaken g old definitions entries bytes) → (v : Stored) → v.position ≡ position → ((group : Group) → Keeps g (record { rows = old; position = position; group = group }) v)
+  pub refused_left : position < end → Survives (state g old) (state g new) (LeavesTaken g old definitions entries bytes) → (v : Stored)
+      → v.position ≡ position → ((group : Group) → Keeps g (record { rows = old; position = position; group = group }) v)
       → HasCleanDisk (state g new) → (db : Trees) → (state g new).may_leave db → IsAtLeast v db
   refused_left later s v at keeps clean db may = elim (s.crash clean db may) [
     | inl before ↦ (keeps at_rest).left db before
     | inr taken ↦
-        let f = taken.folds v.tables ((keeps at_rest).holds taken.was_open).stored in
-        (record { tables = f.0; position = end }, record { kept = taken.kept; stored = f.2; position = taken.position_is ∙ spells; range = range }, omega (arith, later, at), λ e. absurd (let no : ⊥ = omega (arith, later, at, e) in no))
+        let f = taken.folds v.tables ((keeps at_rest).holds taken.was_open).stored in (
+          record { tables = f.0; position = end },
+          record { kept = taken.kept; stored = f.2; position = taken.position_is ∙ spells; range = range },
+          omega (arith, later, at),
+          λ e. absurd (let no : ⊥ = omega (arith, later, at, e) in no),
+        )
   ]
 
-  pub survives_work : (group : Group) → Survives (state g old) (state g new) (LeavesTaken g old definitions entries bytes) → Survives (state g old) (state g new) (LeavesWork g (record { rows = old; position = position; group = group }) changes end)
+  pub survives_work : (group : Group) → Survives (state g old) (state g new) (LeavesTaken g old definitions entries bytes)
+      → Survives (state g old) (state g new) (LeavesWork g (record { rows = old; position = position; group = group }) changes end)
   survives_work group s = survives_weaker (state g old) (state g new) _ _ (λ _ db h. leaves_work group db h) s
 
 -- a call that commits nothing leaves what could be left before
-pub read_left : {S : Type 0} (g : Ghosts S) (old new : S) (position : ℕ) → Survives (state g old) (state g new) (λ _. ⊥) → (v : Stored) → v.position ≡ position → ((group : Group) → Keeps g (record { rows = old; position = position; group = group }) v)
+pub read_left : {S : Type 0} (g : Ghosts S) (old new : S) (position : ℕ) → Survives (state g old) (state g new) (λ _. ⊥) → (v : Stored)
+    → v.position ≡ position → ((group : Group) → Keeps g (record { rows = old; position = position; group = group }) v)
     → HasCleanDisk (state g new) → (db : Trees) → (state g new).may_leave db → IsAtLeast v db
-read_left g old new position s v at keeps clean db may = elim (s.crash clean db may) [ inl before ↦ (keeps at_rest).left db before | inr none ↦ absurd none ]
+read_left g old new position s v at keeps clean db may =
+    elim (s.crash clean db may) [ inl before ↦ (keeps at_rest).left db before | inr none ↦ absurd none ]
 
 -- whatever a store may leave is a database
-pub left_databases : {S : Type 0} (g : Ghosts S) (old new : S) (position : ℕ) → (HasCleanDisk (state g old) → (v : Stored) × ((group : Group) → Keeps g (record { rows = old; position = position; group = group }) v)) → Survives (state g old) (state g new) (λ _. ⊥)
+pub left_databases : {S : Type 0} (g : Ghosts S) (old new : S) (position : ℕ)
+    → (HasCleanDisk (state g old)
+    → (v : Stored) × ((group : Group) → Keeps g (record { rows = old; position = position; group = group }) v))
+    → Survives (state g old) (state g new) (λ _. ⊥)
     → HasCleanDisk (state g new) → AreDatabases (state g new).may_leave
 left_databases g old new position keeps survives clean db may = elim (survives.crash clean db may) [
   | inl before ↦

@@ -1,5 +1,6 @@
 -- The images of changes, one after the other.
-use Rattle.std.proofs.Common.{◌≡◌, ℕ, Bool, true, false, List, [], ◌∷◌, ◌++◌, append-nil, Option, Some, None, Result, Ok, Err, refl, sym, ap, subst, ◌∙◌}
+use Rattle.std.proofs.Common.{◌≡◌, ℕ, Bool, true, false, List, [], ◌∷◌, ◌++◌, append-nil, Option}
+use Rattle.std.proofs.Common.{Some, None, Result, Ok, Err, refl, sym, ap, subst, ◌∙◌}
 use Rattle.std.specs.Prelude.{IfSome}
 use Rattle.std.specs.FinMap as map
 use Rattle.pglogical.specs.declared.message.RelationDef.{RelationDef}
@@ -24,10 +25,12 @@ image_one : (v : Tables) (change : Change) → images v (change ∷ []) ≡ chan
 unfolding images
 image_one v change = ap (λ l. change_image v change ∷ l) (none_after (apply v change))
 
-pub told_one : (v : Tables) (def : RelationDef) (op : Op) (rows : Rows) → found_rows (map.get v def.oid) def op ≡ Ok rows → (before after : Option (List Image)) → after ≡ told_more before (image_of def op rows ∷ [])
+pub told_one : (v : Tables) (def : RelationDef) (op : Op) (rows : Rows) → found_rows (map.get v def.oid) def op ≡ Ok rows
+    → (before after : Option (List Image)) → after ≡ told_more before (image_of def op rows ∷ [])
     → after ≡ told_more before (images v (record { definition = def; op = op } ∷ []))
 told_one v def op rows found before after tells =
-    tells ∙ sym (ap (told_more before) (image_one v (record { definition = def; op = op }) ∙ ap (λ r. image_of def op (rows_or_none r) ∷ []) found))
+    tells ∙ sym (ap (told_more before)
+    (image_one v (record { definition = def; op = op }) ∙ ap (λ r. image_of def op (rows_or_none r) ∷ []) found))
 
 -- ---- several changes
 
@@ -39,7 +42,8 @@ more_twice : (before : Option (List Image)) (a b : List Image) → told_more (to
 more_twice None a b = refl
 more_twice (Some told) a b = ap Some (append_twice told a b)
 
-after_then : (r : Result Tables StoreFault) (first : Tables → List Image) (folds : Tables → Result Tables StoreFault) (more whole : Tables → List Image) → ((t : Tables) → whole t ≡ first t ++ images_after (folds t) more)
+after_then : (r : Result Tables StoreFault) (first : Tables → List Image) (folds : Tables → Result Tables StoreFault)
+    (more whole : Tables → List Image) → ((t : Tables) → whole t ≡ first t ++ images_after (folds t) more)
     → images_after r whole ≡ images_after r first ++ images_after (r >>= folds) more
 after_then (Ok t) first folds more whole is = is t
 after_then (Err e) first folds more whole is = refl
@@ -48,11 +52,15 @@ images_append : (a b : List Change) (v : Tables) → images v (a ++ b) ≡ image
 unfolding images fold_changes
 images_append [] b v = refl
 images_append (c ∷ a) b v =
-    ap (λ l. change_image v c ∷ l) (after_then (apply v c) (λ next. images next a) (λ next. fold_changes next a) (λ next. images next b) (λ next. images next (a ++ b)) (images_append a b))
+    ap (λ l. change_image v c ∷ l)
+    (after_then (apply v c) (λ next. images next a) (λ next. fold_changes next a) (λ next. images next b) (λ next. images next (a ++ b))
+    (images_append a b))
 
-pub told_then : (v next : Tables) (a b : List Change) (before : Option (List Image)) → fold_changes v a ≡ Ok next → told_more (told_more before (images v a)) (images next b) ≡ told_more before (images v (a ++ b))
+pub told_then : (v next : Tables) (a b : List Change) (before : Option (List Image)) → fold_changes v a ≡ Ok next
+    → told_more (told_more before (images v a)) (images next b) ≡ told_more before (images v (a ++ b))
 told_then v next a b before made =
-    more_twice before (images v a) (images next b) ∙ sym (ap (told_more before) (images_append a b v ∙ ap (λ r. images v a ++ images_after r (λ next. images next b)) made))
+    more_twice before (images v a) (images next b)
+    ∙ sym (ap (told_more before) (images_append a b v ∙ ap (λ r. images v a ++ images_after r (λ next. images next b)) made))
 
 pub told_none : (v : Tables) (before : Option (List Image)) → before ≡ told_more before (images v [])
 unfolding images
@@ -61,10 +69,13 @@ told_none v (Some told) = ap Some (sym (append-nil told))
 
 -- ---- a ledger that is told
 
-module _ {L : Type 0} (keeps : L → List Entry → Type 0) (is_wanting : L → Bool) (unasked : UnaskedKeeps keeps is_wanting) (old new : L) (still : is_wanting new ≡ is_wanting old) (end : ℕ) (about : Option About) (changes : List Change) where
+module _ {L : Type 0} (keeps : L → List Entry → Type 0) (is_wanting : L → Bool) (unasked : UnaskedKeeps keeps is_wanting) (old new : L)
+    (still : is_wanting new ≡ is_wanting old) (end : ℕ) (about : Option About) (changes : List Change) where
   -- it has the images of the changes, or wants none
-  pub told_appends : (wants : Bool) → wants ≡ is_wanting old → (telling : Option (List Image)) (shown more : List Image) → telling ≡ told_more (begun_telling wants) more → IfSome telling (λ told. shown ≡ told)
+  pub told_appends : (wants : Bool) → wants ≡ is_wanting old → (telling : Option (List Image)) (shown more : List Image)
+      → telling ≡ told_more (begun_telling wants) more → IfSome telling (λ told. shown ≡ told)
       → Appends keeps (entry_of end about changes shown) old new → Appends keeps (entry_of end about changes more) old new
   told_appends true asks telling shown more is shows appends es kept =
-      subst (λ told. keeps new (es ++ entry_of end about changes told ∷ [])) (subst (λ o. IfSome o (λ told. shown ≡ told)) is shows) (appends es kept)
+      subst (λ told. keeps new (es ++ entry_of end about changes told ∷ [])) (subst (λ o. IfSome o (λ told. shown ≡ told)) is shows)
+      (appends es kept)
   told_appends false asks telling shown more is shows appends es kept = unasked new (still ∙ sym asks) _

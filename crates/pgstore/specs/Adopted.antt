@@ -1,5 +1,6 @@
 -- What stands in an opened connection, where a store may have written it.
-use Rattle.std.specs.Prelude.{◌≡◌, ◌<◌, ◌^◌, ◌⊎◌, ◌&&◌, Bool, ℕ, List, [], ◌∷◌, Option, None, Some, IsTrue, option_map}
+use Rattle.std.specs.Prelude.{◌≡◌, ◌<◌, ◌^◌, ◌⊎◌, ◌&&◌, Bool, ℕ, List, [], ◌∷◌, Option, None, Some}
+use Rattle.std.specs.Prelude.{IsTrue, option_map}
 use Rattle.std.specs.Int.{w64, to_be_bytes}
 use Rattle.std.specs.Ordering.{nat_cmp}
 use Rattle.std.specs.FinMap as map
@@ -14,7 +15,8 @@ use Rattle.pglogical.specs.declared.message.RelationDef.{RelationDef}
 use Rattle.pglogical.specs.Spelling.{IsDefinition}
 use Rattle.pgtables.specs.Schema.{no_schema, store_schema}
 use Rattle.pgtables.specs.Kept as stored
-use Rattle.pgtables.specs.Kept.{AreDefined, AreHeld, IsKept, IsUnderWay, no_tables, pos_row, tables_in, tables_of, with_definition, with_place}
+use Rattle.pgtables.specs.Kept.{AreDefined, AreHeld, IsKept, IsUnderWay, no_tables, pos_row}
+use Rattle.pgtables.specs.Kept.{tables_in, tables_of, with_definition, with_place}
 use Rattle.pgtables.specs.Opened.{AreAccepted, ListsDefinitions}
 use Rattle.pgtables.specs.declared.remains.Remains.{Remains}
 use Rattle.pgtables.specs.Remains.{remaining}
@@ -64,7 +66,8 @@ abbrev pub IsPlaceRead : Option ℕ → List order.Row → Type 0
 IsPlaceRead None rows = rows ≡ []
 IsPlaceRead (Some position) rows = (rows ≡ pos_row (to_be_bytes w64 position) ∷ []) × (position < 2 ^ 64)
 
--- what was read of those of a store's tables that a database has: the definitions, by which each row is in its place, and the position
+-- what was read of those of a store's tables that a database has: the definitions, by which each
+-- row is in its place, and the position
 pub record AreRead (left : Remains) (db : Trees) (definitions : List (ℕ × stored.Definition)) (position : Option ℕ) : Type 0 where
   pub known : Definitions
   pub are : AreDefinitionsOf definitions known
@@ -118,5 +121,6 @@ module _ {S : Type 0} (g : Ghosts S) where
     pub is_open : IsTrue (state g new).is_open
     pub stands : Stands new position
     pub stood : (v : Stored) → AreOf v (state g old).now.trees → IsStored v.tables (tables_of g new) × (v.position ≡ position)
-    pub bare : (state g old).now.schema ≡ no_schema → IsStored nothing_stored.tables (tables_of g new) × (nothing_stored.position ≡ position)
+    pub bare : (state g old).now.schema ≡ no_schema
+        → IsStored nothing_stored.tables (tables_of g new) × (nothing_stored.position ≡ position)
     pub value : (v : Stored) → IsValueOf v (state g old).now → IsStored v.tables (tables_of g new) × (v.position ≡ position)

@@ -1,5 +1,6 @@
 -- What is done to the rows of a relation that comes with another shape, inside a transaction.
-use Rattle.std.specs.Prelude.{◌≡◌, ◌⊎◌, ◌<◌, ◌≤◌, ◌+◌, ℕ, Bool, List, length, map, true, false, IsTrue, Some, Ok}
+use Rattle.std.specs.Prelude.{◌≡◌, ◌⊎◌, ◌<◌, ◌≤◌, ◌+◌, ℕ, Bool, List, length, map, true, false}
+use Rattle.std.specs.Prelude.{IsTrue, Some, Ok}
 use Rattle.std.specs.List.{AllZip}
 use Rattle.std.specs.FinMap as finite
 use Rattle.sqlite.specs.Store.{Ghosts}
@@ -36,20 +37,23 @@ pub record IsCarriedRow (def : RelationDef) (row : Row) (place body : List ℕ) 
   pub few : row.copies ≤ most_copies
 
 -- copies join those of a row of a bag
-pub record JoinsCopies {S : Type 0} (g : Ghosts S) (def : RelationDef) (place body : List ℕ) (copies : ℕ) (there : stored.Copies) (old new : S) : Type 0 where
+pub record JoinsCopies {S : Type 0} (g : Ghosts S) (def : RelationDef) (place body : List ℕ) (copies : ℕ) (there : stored.Copies)
+    (old new : S) : Type 0 where
   pub bag : keyed def ≡ false
   pub few : there.copies + copies ≤ most_copies
   pub made : Makes g (stored.with_row def.oid place (record { body = body; copies = there.copies + copies })) old new
 
 abbrev pub RefusesCopies : RelationDef → ℕ → stored.Copies → StoreFault → Type 0
 RefusesCopies def copies there fault =
-    IsOwnFault fault ⊎ (((fault ≡ Clash) × (keyed def ≡ true)) ⊎ ((fault ≡ TooManyCopies) × (keyed def ≡ false) × (most_copies < there.copies + copies)))
+    IsOwnFault fault ⊎ (((fault ≡ Clash) × (keyed def ≡ true))
+    ⊎ ((fault ≡ TooManyCopies) × (keyed def ≡ false) × (most_copies < there.copies + copies)))
 
 module _ {S : Type 0} (g : Ghosts S) (old new : S) where
   -- a row joins those that are there
   abbrev pub Joins : RelationDef → List ℕ → List ℕ → ℕ → Type 0
   Joins def place body copies =
-      GoesOpen g old new × ((row : Row) → IsCarriedRow def row place body copies → (v : Tables) (rows : Rows) → IsChanging v def rows (tables_of g old)
+      GoesOpen g old new × ((row : Row) → IsCarriedRow def row place body copies → (v : Tables) (rows : Rows)
+      → IsChanging v def rows (tables_of g old)
       → MakesOf v def (joined def row rows (finite.get rows (identity_key def row.cells))) (tables_of g new))
 
 abbrev pub RefusesToJoin : {S : Type 0} → Ghosts S → S → RelationDef → List ℕ → List ℕ → ℕ → StoreFault → Type 0
@@ -76,7 +80,8 @@ module _ {S : Type 0} (g : Ghosts S) (old new : S) (before def : RelationDef) wh
   -- one row is carried
   abbrev pub CarriesOne : stored.Copies → Type 0
   CarriesOne kept =
-      GoesOpen g old new × ((row : Row) → IsKeptRow before row kept → (v : Tables) (rows : Rows) → IsChanging v def rows (tables_of g old) → MakesOf v def (carry_row before def row rows) (tables_of g new))
+      GoesOpen g old new × ((row : Row) → IsKeptRow before row kept → (v : Tables) (rows : Rows) → IsChanging v def rows (tables_of g old)
+      → MakesOf v def (carry_row before def row rows) (tables_of g new))
 
   -- rows have been carried, and these are left
   pub record Carried (v : Tables) (entries : List (List ℕ × Row)) (start : Rows) (rest : List stored.Copies) : Type 0 where
@@ -90,21 +95,25 @@ module _ {S : Type 0} (g : Ghosts S) (old new : S) (before def : RelationDef) wh
   pub record CarriesOn (all rest : List stored.Copies) : Type 0 where
     pub goes : Goes g old new
     pub made : HasCleanDisk (state g new) → IsTrue (state g old).is_open
-        → GoesOpen g old new × ((v : Tables) (entries : List (List ℕ × Row)) (start : Rows) → IsChanging v def start (tables_of g old) → AreKeptRows before entries all → Carried v entries start rest)
+        → GoesOpen g old new × ((v : Tables) (entries : List (List ℕ × Row)) (start : Rows) → IsChanging v def start (tables_of g old)
+        → AreKeptRows before entries all → Carried v entries start rest)
 
   -- all rows are carried
   abbrev pub CarriesAll : List stored.Copies → Type 0
   CarriesAll all =
-      GoesOpen g old new × ((v : Tables) (entries : List (List ℕ × Row)) (start : Rows) → IsChanging v def start (tables_of g old) → AreKeptRows before entries all
+      GoesOpen g old new × ((v : Tables) (entries : List (List ℕ × Row)) (start : Rows) → IsChanging v def start (tables_of g old)
+      → AreKeptRows before entries all
       → MakesOf v def (carry_rows before def entries start) (tables_of g new))
 
 abbrev pub RefusesToCarryOne : {S : Type 0} → Ghosts S → S → RelationDef → RelationDef → stored.Copies → StoreFault → Type 0
 RefusesToCarryOne g old before def kept e =
-    (row : Row) → IsKeptRow before row kept → (v : Tables) (rows : Rows) → IsChanging v def rows (tables_of g old) → IsFault e (carry_row before def row rows)
+    (row : Row) → IsKeptRow before row kept → (v : Tables) (rows : Rows) → IsChanging v def rows (tables_of g old)
+    → IsFault e (carry_row before def row rows)
 
 abbrev pub RefusesToCarry : {S : Type 0} → Ghosts S → S → RelationDef → RelationDef → List stored.Copies → StoreFault → Type 0
 RefusesToCarry g old before def all e =
-    (v : Tables) (entries : List (List ℕ × Row)) (start : Rows) → IsChanging v def start (tables_of g old) → AreKeptRows before entries all → IsFault e (carry_rows before def entries start)
+    (v : Tables) (entries : List (List ℕ × Row)) (start : Rows) → IsChanging v def start (tables_of g old) → AreKeptRows before entries all
+    → IsFault e (carry_rows before def entries start)
 
 -- ---- a definition in another's place
 
@@ -114,11 +123,13 @@ flags_and_names columns = map (λ (c : Column). (c.key, c.name)) columns
 -- the columns that were read are the stored ones, by key flag and name
 pub record IsReadAs (there : stored.Definition) (def before : RelationDef) : Type 0 where
   pub letter : before.letter ≡ def.letter
-  pub columns : (old : RelationDef) → IsDefinition old → there ≡ spelled_definition old → flags_and_names before.columns ≡ flags_and_names old.columns
+  pub columns : (old : RelationDef) → IsDefinition old → there ≡ spelled_definition old
+      → flags_and_names before.columns ≡ flags_and_names old.columns
 
 -- the relation has the definition and no rows
 abbrev pub emptied : RelationDef → List ℕ → stored.Tables → stored.Tables
-emptied def columns t = stored.without_rows def.oid (stored.with_definition def.oid (record { namespace = def.namespace; name = def.name; letter = def.letter; columns = columns }) t)
+emptied def columns t = stored.without_rows def.oid
+    (stored.with_definition def.oid (record { namespace = def.namespace; name = def.name; letter = def.letter; columns = columns }) t)
 
 abbrev pub Empties : {S : Type 0} → Ghosts S → RelationDef → List ℕ → S → S → Type 0
 Empties g def columns = Makes g (emptied def columns)
@@ -130,15 +141,18 @@ AreKept before def entries t = (kept : List stored.Copies) → ListsRows def.oid
 -- the relation has the definition, and its rows are carried over to it
 abbrev pub CarriesTable : {S : Type 0} → Ghosts S → S → S → RelationDef → RelationDef → List ℕ → Type 0
 CarriesTable g old new before def columns =
-    GoesOpen g old new × ((v : Tables) (entries : List (List ℕ × Row)) → IsChanging v def finite.empty (emptied def columns (tables_of g old)) → AreKept before def entries (tables_of g old)
+    GoesOpen g old new × ((v : Tables) (entries : List (List ℕ × Row))
+    → IsChanging v def finite.empty (emptied def columns (tables_of g old)) → AreKept before def entries (tables_of g old)
     → MakesOf v def (carry_rows before def entries finite.empty) (tables_of g new))
 
 abbrev pub RefusesTable : {S : Type 0} → Ghosts S → S → RelationDef → RelationDef → List ℕ → StoreFault → Type 0
 RefusesTable g old before def columns e =
-    (v : Tables) (entries : List (List ℕ × Row)) → IsChanging v def finite.empty (emptied def columns (tables_of g old)) → AreKept before def entries (tables_of g old)
+    (v : Tables) (entries : List (List ℕ × Row)) → IsChanging v def finite.empty (emptied def columns (tables_of g old))
+    → AreKept before def entries (tables_of g old)
     → IsFault e (carry_rows before def entries finite.empty)
 
--- the definition takes the place of the stored one, and the relation has the rows that the change finds
+-- the definition takes the place of the stored one, and the relation has the rows that the change
+-- finds
 abbrev pub GivesAnew : {S : Type 0} → Ghosts S → S → S → stored.Definition → RelationDef → Op → Type 0
 GivesAnew g old new there def op =
     GoesOpen g old new × ((v : Tables) → IsStored v (tables_of g old) → finite.get (tables_of g old).defined def.oid ≡ Some there
@@ -146,4 +160,5 @@ GivesAnew g old new there def op =
 
 abbrev pub RefusesAnew : {S : Type 0} → Ghosts S → S → stored.Definition → RelationDef → Op → StoreFault → Type 0
 RefusesAnew g old there def op e =
-    (v : Tables) → IsStored v (tables_of g old) → finite.get (tables_of g old).defined def.oid ≡ Some there → IsFault e (found_rows (finite.get v def.oid) def op)
+    (v : Tables) → IsStored v (tables_of g old) → finite.get (tables_of g old).defined def.oid ≡ Some there
+    → IsFault e (found_rows (finite.get v def.oid) def op)

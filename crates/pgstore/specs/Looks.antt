@@ -1,5 +1,6 @@
 -- What changes do to single rows, as it is found before each change is made.
-use Rattle.std.specs.Prelude.{◌≡◌, ◌++◌, ℕ, Bool, List, [], ◌∷◌, Option, Some, None, Ok, if◌then◌else◌}
+use Rattle.std.specs.Prelude.{◌≡◌, ◌++◌, ℕ, Bool, List, [], ◌∷◌, Option, Some, None, Ok}
+use Rattle.std.specs.Prelude.{if◌then◌else◌}
 use Rattle.sqlite.specs.Store.{Ghosts}
 use Rattle.pgtuple.specs.declared.cell.Cell.{Cell}
 use Rattle.pgtuple.specs.Cells.{tuple_spelling}
@@ -43,10 +44,12 @@ module _ {S : Type 0} (g : Ghosts S) where
   module _ (old : S) (def : RelationDef) where
     abbrev pub FindsRow : Option (OldKind × List Cell) → Option (List Cell) → Option stored.Copies → Type 0
     FindsRow prior row there =
-        (searched : List Cell) × (searched_identity def prior row ≡ Ok searched) × ((v : Tables) (rows : Rows) → IsChanging v def rows (tables_of g old) → IsRowAt rows searched there)
+        (searched : List Cell) × (searched_identity def prior row ≡ Ok searched)
+        × ((v : Tables) (rows : Rows) → IsChanging v def rows (tables_of g old) → IsRowAt rows searched there)
 
     abbrev pub RefusesToFind : Option (OldKind × List Cell) → Option (List Cell) → StoreFault → Type 0
-    RefusesToFind prior row fault = (v : Tables) (rows : Rows) → IsChanging v def rows (tables_of g old) → IsFault fault (in_store (searched_identity def prior row))
+    RefusesToFind prior row fault = (v : Tables) (rows : Rows) → IsChanging v def rows (tables_of g old)
+        → IsFault fault (in_store (searched_identity def prior row))
 
     -- whatever the rows are, this is the image of the change to them
     abbrev pub IsImage : Op → Image → Type 0
@@ -54,17 +57,22 @@ module _ {S : Type 0} (g : Ghosts S) where
 
     -- it is told
     abbrev pub Tells : Op → Option (List Image) → Option (List Image) → Type 0
-    Tells op before after = (v : Tables) (rows : Rows) → IsChanging v def rows (tables_of g old) → after ≡ told_more before (image_of def op rows ∷ [])
+    Tells op before after = (v : Tables) (rows : Rows) → IsChanging v def rows (tables_of g old)
+        → after ≡ told_more before (image_of def op rows ∷ [])
 
 -- the images of several changes are told, from what was given on
-abbrev pub TellsAll : {S : Type 0} → Ghosts S → S → List RelationDef → (ℕ → Option ℕ) → List (ℕ × Op) → Option (List Image) → Option (List Image) → Type 0
+abbrev pub TellsAll : {S : Type 0} → Ghosts S → S → List RelationDef → (ℕ → Option ℕ) → List (ℕ × Op) → Option (List Image)
+    → Option (List Image) → Type 0
 TellsAll g old definitions given entries before after =
-    (v : Tables) → IsStored v (tables_of g old) → AreGiven definitions given v → after ≡ told_more before (images v (change_values definitions entries))
+    (v : Tables) → IsStored v (tables_of g old) → AreGiven definitions given v
+    → after ≡ told_more before (images v (change_values definitions entries))
 
 -- those of the changes of a commit
 abbrev pub TellsFrom : stored.Tables → List RelationDef → List (ℕ × Op) → Option (List Image) → Option (List Image) → Type 0
-TellsFrom t definitions changes before after = (v : Tables) → IsStored v t → after ≡ told_more before (images v (change_values definitions changes))
+TellsFrom t definitions changes before after = (v : Tables) → IsStored v t
+    → after ≡ told_more before (images v (change_values definitions changes))
 
 -- the ledger has the commit, with its images over these tables
 abbrev pub AppendsFrom : {L : Type 0} → (L → List Entry → Type 0) → stored.Tables → ℕ → Option About → List Change → L → L → Type 0
-AppendsFrom keeps t end about changes old new = (v : Tables) → IsStored v t → Appends keeps (entry_of end about changes (images v changes)) old new
+AppendsFrom keeps t end about changes old new = (v : Tables) → IsStored v t
+    → Appends keeps (entry_of end about changes (images v changes)) old new

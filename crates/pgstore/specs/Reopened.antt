@@ -1,6 +1,7 @@
--- What a crash leaves of a store in two files, and what the store holds that is opened on them next.
--- SQLite documentation, Write-Ahead Logging, and WAL-mode File Format, Recovery: after a crash the next open finds the last transaction
--- whose commit is whole in the log, and nothing of a later one.
+-- What a crash leaves of a store in two files, and what the store holds that is opened on them
+-- next. SQLite documentation, Write-Ahead Logging, and WAL-mode File Format, Recovery: after a
+-- crash the next open finds the last transaction whose commit is whole in the log, and nothing of a
+-- later one.
 use Rattle.std.specs.Prelude.{◌≡◌, ◌≤◌, ◌⊎◌}
 use Rattle.sqlite_disk.specs.declared.Disk as disk
 use Rattle.sqlite_disk.specs.declared.Files.{Files}
@@ -20,9 +21,11 @@ use Rattle.pgmemory.specs.Stopped.{Leaves}
 use Rattle.pgtables.specs.Kept as connected
 use Rattle.pgrows.specs.Rows.{state}
 use Rattle.pgapply.specs.Stored.{Stored}
-use Rattle.pgstore.specs.StoreValue.{StoreValue, Adopts, AreOf, Contains, Holds, IsValueOf, Keeps, nothing_stored}
+use Rattle.pgstore.specs.StoreValue.{StoreValue, Adopts, AreOf, Contains, Holds, IsValueOf, Keeps}
+use Rattle.pgstore.specs.StoreValue.{nothing_stored}
 
--- There is no database in files with this content, or one without any table: none was made yet, or an empty one.
+-- There is no database in files with this content, or one without any table: none was made yet, or
+-- an empty one.
 abbrev pub IsEmptyContent : Image → Type 0
 IsEmptyContent content = IsNothing content ⊎ ((db : Trees) × HoldsDatabase content db × IsEmpty db)
 
@@ -37,41 +40,51 @@ module _ {S : Type 0} (g : Ghosts S) where
   -- So does one that adopted a connection which an open of such files gave.
   abbrev pub AdoptedHoldsContent : Type 0
   AdoptedHoldsContent =
-      (content : Image) (conn : Held S) (s : StoreValue S) → FindsIn content (connection.state g conn) → Opens (connection.state g conn) → IsLive (connection.state g conn) → Adopts g conn s
+      (content : Image) (conn : Held S) (s : StoreValue S) → FindsIn content (connection.state g conn) → Opens (connection.state g conn)
+      → IsLive (connection.state g conn) → Adopts g conn s
       → HoldsContent content s
 
-  -- A connection to files with this content, of which no store was made: it sees the database that was found in them, and whatever a
-  -- crash leaves of it is that one, or has the tables of a store with the same value.
+  -- A connection to files with this content, of which no store was made: it sees the database that
+  -- was found in them, and whatever a crash leaves of it is that one, or has the tables of a store
+  -- with the same value.
   pub record StaysAsFound (content : Image) (conn : Held S) : Type 0 where
     pub seen : connected.IfServing g conn ((db : Trees) → HoldsDatabase content db → (connection.state g conn).now.trees ≡ db)
-    pub left : HasCleanDisk (connection.state g conn) → (db : Trees) → HoldsDatabase content db → (other : Trees) → (connection.state g conn).may_leave other
+    pub left : HasCleanDisk (connection.state g conn) → (db : Trees) → HoldsDatabase content db → (other : Trees)
+        → (connection.state g conn).may_leave other
         → (other ≡ db) ⊎ ((found : Database) × (found.trees ≡ db) × (v : Stored) × IsValueOf v found × AreOf v other)
 
   -- So it is where a connection isn't adopted that an open of such files gave.
   abbrev pub RefusedStaysAsFound : Held S → Held S → Type 0
-  RefusedStaysAsFound opened conn = (content : Image) → FindsIn content (connection.state g opened) → Opens (connection.state g opened) → StaysAsFound content conn
+  RefusedStaysAsFound opened conn = (content : Image) → FindsIn content (connection.state g opened) → Opens (connection.state g opened)
+      → StaysAsFound content conn
 
 module _ {S T : Type 0} (g : Ghosts S) (h : Ghosts T) where
-  -- The new one was opened on what a crash at this moment may leave of the old one. It may be in files of another kind.
+  -- The new one was opened on what a crash at this moment may leave of the old one. It may be in
+  -- files of another kind.
   pub record Reopens (old : StoreValue S) (new : StoreValue T) : Type 0 where
     pub db : Trees
     pub left : (state g old.rows).may_leave db
     pub opened : (v : Stored) → AreOf v db → Holds h new v
 
-  -- So where the old one serves, of which a crash leaves what it contains, the new one holds the same.
+  -- So where the old one serves, of which a crash leaves what it contains, the new one holds the
+  -- same.
   abbrev pub ReopensTheSame : Type 0
   ReopensTheSame =
-      (old : StoreValue S) (new : StoreValue T) (v : Stored) → Contains g old v → Reopens old new → (w : Stored) → Holds g old w → Holds h new w
+      (old : StoreValue S) (new : StoreValue T) (v : Stored) → Contains g old v → Reopens old new → (w : Stored) → Holds g old w
+      → Holds h new w
 
-  -- And where it has shut, the new one holds nothing older: its position is no lower, and at the same position it has the same tables.
+  -- And where it has shut, the new one holds nothing older: its position is no lower, and at the
+  -- same position it has the same tables.
   abbrev pub ReopensNothingOlder : Type 0
   ReopensNothingOlder =
       (old : StoreValue S) (new : StoreValue T) (v : Stored) → Keeps g old v → Reopens old new
       → (w : Stored) × Holds h new w × (v.position ≤ w.position) × (w.position ≡ v.position → Holds h new v)
 
--- A crash of the store at this moment may leave this content of its two files, or they have it once it is closed.
+-- A crash of the store at this moment may leave this content of its two files, or they have it once
+-- it is closed.
 pub record CrashLeaves {D : Type 0} {g : disk.Ghosts D} (old : StoreValue (FileStore D g)) (content : Image) : Type 0 where
-  -- the files as the crash finds them, of which `Store::stop` says this, or as they are closed: so says `Store::close_files`
+  -- the files as the crash finds them, of which `Store::stop` says this, or as they are closed: so
+  -- says `Store::close_files`
   pub files : Files D
   pub stopped : Leaves g (state over_files old.rows).may_leave files
   -- their disks have given back what was written
@@ -83,7 +96,8 @@ pub record CrashLeaves {D : Type 0} {g : disk.Ghosts D} (old : StoreValue (FileS
 abbrev pub ReopensLeft : {D : Type 0} {g : disk.Ghosts D} → Image → StoreValue (FileStore D g) → Type 0
 ReopensLeft {D} {g} content new = (old : StoreValue (FileStore D g)) → CrashLeaves old content → ∥ Reopens over_files over_files old new ∥₁
 
--- Files with what a crash left hold a database, and the store that holds what is stored in them reopens the one before the crash.
+-- Files with what a crash left hold a database, and the store that holds what is stored in them
+-- reopens the one before the crash.
 abbrev pub LeftIsReopened : {D S : Type 0} → disk.Ghosts D → Ghosts S → Type 0
 LeftIsReopened {D} {S} g h =
     (old : StoreValue (FileStore D g)) (new : StoreValue S) (content : Image) → CrashLeaves old content → HoldsContent h content new

@@ -13,12 +13,15 @@ abbrev pub rows_in : {S : Type 0} → Source S → S
 rows_in (Adopted conn) = conn.store
 rows_in (Trees rows) = rows
 
--- a connection that was adopted has the tables of a store, outside a transaction, and trees are numbered as they are listed
+-- a connection that was adopted has the tables of a store, outside a transaction, and trees are
+-- numbered as they are listed
 abbrev pub IsSource : {S : Type 0} → Ghosts S → Source S → Type 0
-IsSource g (Adopted conn) = ((connection.state g conn).in_transaction ≡ false) × connected.IfServing g conn (IsKept (connection.state g conn).now)
+IsSource g (Adopted conn) =
+    ((connection.state g conn).in_transaction ≡ false) × connected.IfServing g conn (IsKept (connection.state g conn).now)
 IsSource g (Trees rows) = IsNumbered g rows
 
 -- what is seen behind a call is what was committed before it, and there is no savepoint
 abbrev pub Begins : {S : Type 0} → Ghosts S → S → S → Type 0
 Begins g old new =
-    IfServing g new (IsTrue (state g old).is_open × ((state g new).now ≡ (state g old).committed) × ((state g new).committed ≡ (state g old).committed) × ((state g new).marks ≡ []))
+    IfServing g new (IsTrue (state g old).is_open × ((state g new).now ≡ (state g old).committed)
+    × ((state g new).committed ≡ (state g old).committed) × ((state g new).marks ≡ []))

@@ -1,4 +1,5 @@
--- Commits that share a transaction: each is put behind those before it, wholly or not at all, and one commit stores them all.
+-- Commits that share a transaction: each is put behind those before it, wholly or not at all, and
+-- one commit stores them all.
 use Rattle.std.specs.Prelude.{◌≡◌, ◌++◌, Bool, false, if◌then◌else◌, List, [], ◌∷◌, ℕ, IsTrue, Ok}
 use Rattle.sqlite.specs.Tree.{Trees}
 use Rattle.sqlite.specs.Store.{Ghosts}
@@ -16,17 +17,20 @@ use Rattle.pgstore.specs.Spelled.{IsStored}
 
 -- the transaction is as it was at the newest savepoint, which is dropped
 abbrev pub Returns : State → State → Type 0
-Returns old new = IsTrue old.is_open × ((older : List Savepoint) (mark : Savepoint) → old.marks ≡ older ++ mark ∷ [] → GoesOn old new mark.db older)
+Returns old new = IsTrue old.is_open
+    × ((older : List Savepoint) (mark : Savepoint) → old.marks ≡ older ++ mark ∷ [] → GoesOn old new mark.db older)
 
 module _ {S : Type 0} (g : Ghosts S) where
-  -- what a commit is staged behind: the first of a group is behind what is committed, the others behind what the transaction has
+  -- what a commit is staged behind: the first of a group is behind what is committed, the others
+  -- behind what the transaction has
   abbrev pub before_of : Bool → S → stored.Tables
   before_of is_first s = if is_first then committed_of g s else tables_of g s
 
 module _ {S : Type 0} (g : Ghosts S) (old new : S) where
   -- the transaction has that
   abbrev pub Prepares : Bool → Type 0
-  Prepares is_first = IfServing g new (IsTrue (state g old).is_open × (tables_of g new ≡ before_of g is_first old) × ((state g new).committed ≡ (state g old).committed))
+  Prepares is_first = IfServing g new
+      (IsTrue (state g old).is_open × (tables_of g new ≡ before_of g is_first old) × ((state g new).committed ≡ (state g old).committed))
 
   -- the transaction goes on over the same commit, with the same savepoints
   pub record IsOver : Type 0 where
@@ -35,7 +39,8 @@ module _ {S : Type 0} (g : Ghosts S) (old new : S) where
     pub committed_is : (state g new).committed ≡ (state g old).committed
     pub marks_are : (state g new).marks ≡ (state g old).marks
 
-  -- calls of which some may mark and go back: nothing was committed, and a crash leaves nothing else
+  -- calls of which some may mark and go back: nothing was committed, and a crash leaves nothing
+  -- else
   pub record CommitsNothing : Type 0 where
     pub commit : HasCleanDisk (state g new) → KeepsCommit (state g old) (state g new)
     pub numbered : IsNumbered g old → IsNumbered g new
@@ -44,7 +49,8 @@ module _ {S : Type 0} (g : Ghosts S) (old new : S) where
   -- the changes were folded behind what the transaction had
   pub record Stages (definitions : List RelationDef) (changes : List (ℕ × Op)) : Type 0 where
     pub over : IsOver
-    pub folds : (v : Tables) → IsStored v (tables_of g old) → (next : Tables) × (fold_changes v (change_values definitions changes) ≡ Ok next) × IsStored next (tables_of g new)
+    pub folds : (v : Tables) → IsStored v (tables_of g old)
+        → (next : Tables) × (fold_changes v (change_values definitions changes) ≡ Ok next) × IsStored next (tables_of g new)
 
   -- the transaction has what it had
   pub record Unstages : Type 0 where
@@ -72,7 +78,8 @@ module _ {S : Type 0} (g : Ghosts S) (is_first : Bool) (old new : S) where
   pub record HasStaged (definitions : List RelationDef) (changes : List (ℕ × Op)) : Type 0 where
     pub was_open : IsTrue (state g old).is_open
     pub is_open : IsTrue (state g new).is_open
-    pub folds : (v : Tables) → IsStored v (before_of g is_first old) → (next : Tables) × (fold_changes v (change_values definitions changes) ≡ Ok next) × IsStored next (tables_of g new)
+    pub folds : (v : Tables) → IsStored v (before_of g is_first old)
+        → (next : Tables) × (fold_changes v (change_values definitions changes) ≡ Ok next) × IsStored next (tables_of g new)
 
   -- what was staged before them stands
   abbrev pub KeepsStaged : Type 0

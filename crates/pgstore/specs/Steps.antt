@@ -18,11 +18,14 @@ use Rattle.pgstore.specs.Acts.{GoesOpen, AreGiven}
 abbrev pub StepsAll : {S : Type 0} → Ghosts S → S → S → List RelationDef → (ℕ → Option ℕ) → List (ℕ × Op) → (ℕ → Option ℕ) → Type 0
 StepsAll g old new definitions given entries next_given =
     GoesOpen g old new × ((v : Tables) → IsStored v (tables_of g old) → AreGiven definitions given v
-    → (next : Tables) × (fold_changes v (change_values definitions entries) ≡ Ok next) × IsStored next (tables_of g new) × AreGiven definitions next_given next)
+    → (next : Tables) × (fold_changes v (change_values definitions entries) ≡ Ok next) × IsStored next (tables_of g new)
+    × AreGiven definitions next_given next)
 
 abbrev pub RefusesAll : {S : Type 0} → Ghosts S → S → List RelationDef → (ℕ → Option ℕ) → List (ℕ × Op) → StoreFault → Type 0
-RefusesAll g old definitions given entries e = (v : Tables) → IsStored v (tables_of g old) → AreGiven definitions given v → IsFault e (fold_changes v (change_values definitions entries))
+RefusesAll g old definitions given entries e = (v : Tables) → IsStored v (tables_of g old) → AreGiven definitions given v
+    → IsFault e (fold_changes v (change_values definitions entries))
 
 -- those of them that find no row are counted
 abbrev pub CountsAll : {S : Type 0} → Ghosts S → S → List RelationDef → (ℕ → Option ℕ) → List (ℕ × Op) → ℕ → Misses → Misses → Type 0
-CountsAll g old definitions given entries end before behind = (v : Tables) → IsStored v (tables_of g old) → AreGiven definitions given v → behind ≡ with_misses before end (all_missing v (change_values definitions entries))
+CountsAll g old definitions given entries end before behind = (v : Tables) → IsStored v (tables_of g old) → AreGiven definitions given v
+    → behind ≡ with_misses before end (all_missing v (change_values definitions entries))

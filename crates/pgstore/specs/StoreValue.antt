@@ -1,5 +1,7 @@
 -- What a caller sees of a store, and what holds of each.
-use Rattle.std.specs.Prelude.{◌≡◌, ◌<◌, ◌≤◌, ◌^◌, ◌⊎◌, ℕ, Bool, true, false, not, ◌&&◌, if◌then◌else◌, ◌==◌, List, [], ◌∷◌, Option, Some, None, IsTrue, Ok, refl}
+use Rattle.std.specs.Prelude.{◌≡◌, ◌<◌, ◌≤◌, ◌^◌, ◌⊎◌, ℕ, Bool, true, false, not, ◌&&◌}
+use Rattle.std.specs.Prelude.{if◌then◌else◌, ◌==◌, List, [], ◌∷◌, Option, Some, None, IsTrue, Ok}
+use Rattle.std.specs.Prelude.{refl}
 use Rattle.std.specs.Coded.{Coded, code_by, coded×, coded_bool, coded_option, coded_ℕ}
 use Rattle.std.specs.Int.{w64, to_be_bytes}
 use Rattle.std.specs.FinMap as map
@@ -36,7 +38,8 @@ pub record Group : Type 0 where
   pub missed : Misses
   pub stages_missed : Misses
 
--- what becomes of a group: nothing was staged or missed yet, it is forgotten, has one commit more, is lost, is taken, or a commit by itself was
+-- what becomes of a group: nothing was staged or missed yet, it is forgotten, has one commit more,
+-- is lost, is taken, or a commit by itself was
 abbrev pub begun_at : ℕ → Group
 begun_at position = record { reach = position; is_lost = false; missed = nothing_missed; stages_missed = nothing_missed }
 
@@ -80,17 +83,20 @@ pair_back (Some m) = refl
 
 abbrev pub misses_code : Coded Misses
 misses_code =
-    code_by (ℕ × Option (ℕ × ℕ)) (coded× coded_ℕ (coded_option (coded× coded_ℕ coded_ℕ))) (λ m. (m.count, first_pair m.first)) (λ p. record { count = p.0; first = pair_first p.1 })
+    code_by (ℕ × Option (ℕ × ℕ)) (coded× coded_ℕ (coded_option (coded× coded_ℕ coded_ℕ))) (λ m. (m.count, first_pair m.first))
+    (λ p. record { count = p.0; first = pair_first p.1 })
     (λ m i. record { count = m.count; first = pair_back m.first i })
 
 abbrev pub group_code : Coded Group
 group_code =
-    code_by (ℕ × (Bool × (Misses × Misses))) (coded× coded_ℕ (coded× coded_bool (coded× misses_code misses_code))) (λ a. (a.reach, (a.is_lost, (a.missed, a.stages_missed))))
+    code_by (ℕ × (Bool × (Misses × Misses))) (coded× coded_ℕ (coded× coded_bool (coded× misses_code misses_code)))
+    (λ a. (a.reach, (a.is_lost, (a.missed, a.stages_missed))))
     (λ p. record { reach = p.0; is_lost = p.1.0; missed = p.1.1.0; stages_missed = p.1.1.1 }) (λ _. refl)
 
 abbrev pub store_code : {S : Type 0} → Coded S → Coded (StoreValue S)
 store_code {S} store =
-    code_by (S × (ℕ × Group)) (coded× store (coded× coded_ℕ group_code)) (λ s. (s.rows, (s.position, s.group))) (λ p. record { rows = p.0; position = p.1.0; group = p.1.1 }) (λ _. refl)
+    code_by (S × (ℕ × Group)) (coded× store (coded× coded_ℕ group_code)) (λ s. (s.rows, (s.position, s.group)))
+    (λ p. record { rows = p.0; position = p.1.0; group = p.1.1 }) (λ _. refl)
 
 -- trees that have these tables and this position
 pub record AreOf (v : Stored) (db : Trees) : Type 0 where
@@ -99,7 +105,8 @@ pub record AreOf (v : Stored) (db : Trees) : Type 0 where
   pub position : (tables_in db).place ≡ to_be_bytes w64 v.position
   pub range : v.position < 2 ^ 64
 
--- trees at least as far as these tables: at a position that is no smaller, and with these very tables where it is the same
+-- trees at least as far as these tables: at a position that is no smaller, and with these very
+-- tables where it is the same
 abbrev pub IsAtLeast : Stored → Trees → Type 0
 IsAtLeast v db = (w : Stored) × AreOf w db × (v.position ≤ w.position) × (w.position ≡ v.position → AreOf v db)
 
@@ -107,11 +114,13 @@ IsAtLeast v db = (w : Stored) × AreOf w db × (v.position ≤ w.position) × (w
 abbrev pub nothing_stored : Stored
 nothing_stored = record { tables = map.empty; position = 0 }
 
--- the row of `pos` has this position, and without a row it is 0/0 where there is no definition either
+-- the row of `pos` has this position, and without a row it is 0/0 where there is no definition
+-- either
 abbrev pub IsPlaceOf : ℕ → Trees → Type 0
 IsPlaceOf position db = (db 3 ≡ pos_row (to_be_bytes w64 position) ∷ []) ⊎ ((db 3 ≡ []) × (db 0 ≡ []) × (position ≡ 0))
 
--- a database that has the tables of a store, or some of them, holds these tables at this position: a table that was dropped counts as empty
+-- a database that has the tables of a store, or some of them, holds these tables at this position:
+-- a table that was dropped counts as empty
 pub record IsValueOf (v : Stored) (db : Database) : Type 0 where
   pub left : Remains
   pub schema : db.schema ≡ schema_of left
@@ -141,8 +150,8 @@ module _ {S : Type 0} (g : Ghosts S) where
     pub holds : Holds s v
     pub left : (db : Trees) → (state g s.rows).may_leave db → AreOf v db
 
-  -- The tables that the store has, or had when a failure of its disk shut it. While it is open it holds them, and whatever a
-  -- crash may leave is at least as far, shut or not.
+  -- The tables that the store has, or had when a failure of its disk shut it. While it is open it
+  -- holds them, and whatever a crash may leave is at least as far, shut or not.
   pub record Keeps (s : StoreValue S) (v : Stored) : Type 0 where
     pub position : v.position ≡ s.position
     pub holds : IsTrue (state g s.rows).is_open → Holds s v
@@ -158,7 +167,8 @@ module _ {S : Type 0} (g : Ghosts S) where
     -- between calls a crash leaves what is stored
     pub crash : IfServing g rows ((db : Trees) → (state g rows).may_leave db → db ≡ (state g rows).committed.trees)
     -- and of a store that has shut nothing older
-    pub keeps : HasCleanDisk (state g rows) → (v : Stored) × ((group : Group) → Keeps (record { rows = rows; position = position; group = group }) v)
+    pub keeps : HasCleanDisk (state g rows)
+        → (v : Stored) × ((group : Group) → Keeps (record { rows = rows; position = position; group = group }) v)
 
   -- what holds of the commits that are staged, whether the calls that staged them stand or not
   pub record IsGroup (rows : S) (position : ℕ) (group : Group) : Type 0 where
@@ -188,7 +198,8 @@ module _ {S : Type 0} (g : Ghosts S) where
   pub record Takes (old new : StoreValue S) (changes : List Change) (end : ℕ) : Type 0 where
     pub served : Serves old
     pub serves : Serves new
-    pub folds : (v : Stored) → Holds old v → (next : Tables) × (fold_changes v.tables changes ≡ Ok next) × Holds new (record { tables = next; position = end })
+    pub folds : (v : Stored) → Holds old v
+        → (next : Tables) × (fold_changes v.tables changes ≡ Ok next) × Holds new (record { tables = next; position = end })
 
   -- nothing changed
   pub record Stays (old new : StoreValue S) : Type 0 where
@@ -201,17 +212,23 @@ module _ {S : Type 0} (g : Ghosts S) where
 
   -- what a crash may leave of a commit: the changes folded, with this position
   abbrev pub LeavesWork : StoreValue S → List Change → ℕ → Trees → Type 0
-  LeavesWork old changes end db = IsTrue (state g old.rows).is_open × ((v : Stored) → Holds old v → (next : Tables) × (fold_changes v.tables changes ≡ Ok next) × AreOf (record { tables = next; position = end }) db)
+  LeavesWork old changes end db =
+      IsTrue (state g old.rows).is_open
+      × ((v : Stored) → Holds old v
+      → (next : Tables) × (fold_changes v.tables changes ≡ Ok next) × AreOf (record { tables = next; position = end }) db)
 
   -- what a crash may leave of settling: all that was staged, with its end as the position
   abbrev pub LeavesGroup : StoreValue S → Trees → Type 0
-  LeavesGroup old db = IsTrue (state g old.rows).is_open × ((v : Tables) → Plans old v → AreOf (record { tables = v; position = old.group.reach }) db)
+  LeavesGroup old db = IsTrue (state g old.rows).is_open
+      × ((v : Tables) → Plans old v → AreOf (record { tables = v; position = old.group.reach }) db)
 
-  -- what it may leave of settling with a ledger: that, and the ledger wasn't stuck, and was synced before
+  -- what it may leave of settling with a ledger: that, and the ledger wasn't stuck, and was synced
+  -- before
   abbrev pub LeavesSynced : Bool → Type 0 → StoreValue S → Trees → Type 0
   LeavesSynced was_stuck Synced old db = LeavesGroup old db × (was_stuck ≡ false) × Synced
 
-  -- the store holds what is stored in the tables of a connection, also where some of them are missing, and nothing at 0/0 where it has no tables
+  -- the store holds what is stored in the tables of a connection, also where some of them are
+  -- missing, and nothing at 0/0 where it has no tables
   pub record Adopts (conn : Held S) (store : StoreValue S) : Type 0 where
     pub stood : (v : Stored) → AreOf v (connection.state g conn).now.trees → Holds store v
     pub bare : (connection.state g conn).now.schema ≡ no_schema → Holds store nothing_stored

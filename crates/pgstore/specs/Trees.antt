@@ -31,11 +31,14 @@ module _ {S : Type 0} (g : Ghosts S) where
   abbrev pub IsJustOpened : S → Type 0
   IsJustOpened s = IsClean (g.view s) → IsFresh (g.view s)
 
-  -- The store holds what is stored in the files, whatever their content is, of which these trees were opened.
+  -- The store holds what is stored in the files, whatever their content is, of which these trees
+  -- were opened.
   abbrev pub HoldsOpened : S → StoreValue S → Type 0
-  HoldsOpened opened s = IsHonest g s → IsClean (g.view opened) × ((content : Image) → AreOpened content (g.view opened) → HoldsContent g content s)
+  HoldsOpened opened s = IsHonest g s
+      → IsClean (g.view opened) × ((content : Image) → AreOpened content (g.view opened) → HoldsContent g content s)
 
   -- The database in those files stays as it was found.
   abbrev pub StaysOpened : S → Held S → Type 0
   StaysOpened opened conn =
-      HasCleanDisk (connection.state g conn) → IsClean (g.view opened) × ((content : Image) → AreOpened content (g.view opened) → StaysAsFound g content conn)
+      HasCleanDisk (connection.state g conn)
+      → IsClean (g.view opened) × ((content : Image) → AreOpened content (g.view opened) → StaysAsFound g content conn)

@@ -1,8 +1,10 @@
 //! What is stored in an opened connection's database, taken over where a store may have written it.
 //!
-//! PostgreSQL documentation, Logical Replication Message Formats, Relation and TupleData; ALTER TABLE, REPLICA IDENTITY.
+//! PostgreSQL documentation, Logical Replication Message Formats, Relation and TupleData; ALTER
+//! TABLE, REPLICA IDENTITY.
 
-ghost use Rattle.std.specs.Prelude.{◌≡◌, ◌≤◌, true, false, IsTrue, IsUtf8, OnOk, OnErr, IfOk, IfErr, T};
+ghost use Rattle.std.specs.Prelude.{◌≡◌, ◌≤◌, true, false, IsTrue, IsUtf8, OnOk, OnErr, IfOk};
+ghost use Rattle.std.specs.Prelude.{IfErr, T};
 ghost use Rattle.std.specs.Ordering.{nat_cmp};
 ghost use Rattle.std.specs.FinMap.{is_sorted};
 ghost use Rattle.sqlite.specs.Held.{state};
@@ -11,7 +13,8 @@ ghost use Rattle.sqlite.specs.View.{doubt};
 ghost use Rattle.pglogical.specs.Spelling.{IsLetter, IsText};
 ghost use Rattle.pgtables.specs.Kept.{IfServing};
 ghost use Rattle.pgtables.specs.Remains.{schema_of};
-ghost use Rattle.pgstore.specs.Adopted.{AreDefinitionsOf, AreRead, Founds, IsDefinitionOf, IsRefusal, IsRowOf, is_whole};
+ghost use Rattle.pgstore.specs.Adopted.{AreDefinitionsOf, AreRead, Founds, IsDefinitionOf};
+ghost use Rattle.pgstore.specs.Adopted.{IsRefusal, IsRowOf, is_whole};
 ghost use Rattle.pgstore.specs.StoreValue.{LeavesAdopted};
 
 use crate::changing::MOST_COPIES;
@@ -131,8 +134,8 @@ impl RowCheck for KnownRows<'_> {
     }
 }
 
-/// The definitions of those of a store's tables that are there, and the position, or `None` where nothing is stored yet. Each
-/// row is read once and checked. Nothing changes.
+/// The definitions of those of a store's tables that are there, and the position, or `None` where
+/// nothing is stored yet. Each row is read once and checked. Nothing changes.
 fn read_tables<S: Alter>(
     conn: &mut Connection<S>,
     left: Remains,
@@ -179,8 +182,8 @@ fn is_whole(left: Remains) -> bool
     left.has_definitions && (left.has_rows && left.has_position)
 }
 
-/// The position of the tables of a connection. Tables that aren't there are made, and tables in which nothing is stored yet get
-/// position 0/0.
+/// The position of the tables of a connection. Tables that aren't there are made, and tables in
+/// which nothing is stored yet get position 0/0.
 pub(crate) fn adopt_tables<S: Alter>(
     conn: &mut Connection<S>,
     alloc: Global,

@@ -1,6 +1,7 @@
 //! Rows that are carried over where their relation comes with another shape.
 //!
-//! PostgreSQL documentation, Logical Replication Message Formats, Relation; Logical Replication, Restrictions.
+//! PostgreSQL documentation, Logical Replication Message Formats, Relation; Logical Replication,
+//! Restrictions.
 
 ghost use Rattle.std.specs.Prelude.{◌≡◌, ◌&&◌, [], nat_lt, IsTrue, OnOk, IfErr};
 ghost use Rattle.sqlite.specs.State.{HasCleanDisk};
@@ -9,7 +10,8 @@ ghost use Rattle.pgrel.specs.Carried.{places};
 ghost use Rattle.pgrel.specs.Identity.{keyed};
 ghost use Rattle.pgrows.specs.Rows.{state};
 ghost use Rattle.pgstore.specs.Acts.{Goes};
-ghost use Rattle.pgstore.specs.Carries.{JoinsCopies, RefusesCopies, Joins, RefusesToJoin, CarriesOne, RefusesToCarryOne, CarriesOn, RefusesToCarry};
+ghost use Rattle.pgstore.specs.Carries.{JoinsCopies, RefusesCopies, Joins, RefusesToJoin};
+ghost use Rattle.pgstore.specs.Carries.{CarriesOne, RefusesToCarryOne, CarriesOn, RefusesToCarry};
 
 use crate::changing::MOST_COPIES;
 use crate::encoded::{encode, encode_identity, read_tuple};
@@ -82,7 +84,8 @@ fn add_carried<S: Alter>(
     }
 }
 
-/// One row as it is under the new definition, under its new identity. One that no store writes is `NotAStore`.
+/// One row as it is under the new definition, under its new identity. One that no store writes is
+/// `NotAStore`.
 fn carry_row<S: Alter>(
     rows: &mut Rows<S>,
     alloc: Global,

@@ -13,7 +13,9 @@ ghost use Rattle.pgrows.specs.Rows.{Makes, state, tables_of, with_row_if_there};
 ghost use Rattle.pgapply.specs.declared.op.Op.TheVariants as op;
 ghost use Rattle.pgapply.specs.Apply.{with_row, rows_after};
 ghost use Rattle.pgapply.specs.Stored.{IsOwnFault};
-ghost use Rattle.pgstore.specs.Acts.{IsNewRow, Adds, Changes, Goes, Refuses, Moves, RefusesToMove, Replaces, RefusesToReplace, AddsCopy, RefusesCopy, StaysWhole, TellsMissing, taken_row};
+ghost use Rattle.pgstore.specs.Acts.{IsNewRow, Adds, Changes, Goes, Refuses, Moves, RefusesToMove};
+ghost use Rattle.pgstore.specs.Acts.{Replaces, RefusesToReplace, AddsCopy, RefusesCopy, StaysWhole};
+ghost use Rattle.pgstore.specs.Acts.{TellsMissing, taken_row};
 
 use crate::encoded::{encode, encode_identity, encode_searched, lend_prior, read_tuple};
 use crate::fault::Refusal;

@@ -8,13 +8,15 @@ use sqlite_std_file::OpenError;
 use std::hash::{BuildHasher, RandomState};
 use std::io::ErrorKind;
 
-/// How many pages stay in memory where nobody says it. Those of a new store have 1,024 bytes, so these are 20 MB.
+/// How many pages stay in memory where nobody says it. Those of a new store have 1,024 bytes, so
+/// these are 20 MB.
 pub const CACHE_PAGES: usize = 20_000;
 
 /// How long the log grows, in pages, before it is copied into the file.
 const CHECKPOINT_FRAMES: usize = 10_000;
 
-/// As many pages that were read stay in memory, and as many that were written before they go to the log.
+/// As many pages that were read stay in memory, and as many that were written before they go to the
+/// log.
 fn options(rt: &HostRuntime, cache: usize) -> Result<Options, Error> {
     let Ok(state) = RandomState::new(rt) else {
         return Err(Error::SqliteFailure(ErrorCode::CannotOpen));

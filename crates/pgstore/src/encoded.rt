@@ -40,7 +40,8 @@ impl<'a> Encoded<'a> {
     }
 }
 
-/// The bytes of a tuple, which is within a tuple's limits. A tuple over received bytes takes no memory.
+/// The bytes of a tuple, which is within a tuple's limits. A tuple over received bytes takes no
+/// memory.
 pub(crate) fn encode<'a>(alloc: Global, tuple: &TupleRef<'a>) -> Result<Encoded<'a>, Refusal>
     ensures ok { IfOk result (λ bytes. encoded_bytes bytes ≡ tuple_spelling tuple.now) }
     ensures limits { IsWireTuple tuple.now }

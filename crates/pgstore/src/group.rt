@@ -2,7 +2,8 @@
 
 ghost use Rattle.std.specs.Prelude.{◌≡◌, ◌==◌, true, is_some, IfSome};
 ghost use Rattle.pgapply.specs.Stored.{IsOwnFault};
-ghost use Rattle.pgstore.specs.StoreValue.{begun_at, refused_of, settled_of, staged_of, taken_of, unstaged_of};
+ghost use Rattle.pgstore.specs.StoreValue.{begun_at, refused_of, settled_of, staged_of, taken_of};
+ghost use Rattle.pgstore.specs.StoreValue.{unstaged_of};
 
 use crate::staging::Unstaged;
 use pgapply::{Misses, StoreFault};

@@ -15,7 +15,8 @@ ghost use Rattle.pgapply.specs.declared.op.Op.TheVariants as op;
 ghost use Rattle.pgledger.specs.declared.image.Image.TheVariants as image;
 ghost use Rattle.pgrows.specs.Rows.{state};
 ghost use Rattle.pgstore.specs.Acts.{Goes, IfOpened, Refuses};
-ghost use Rattle.pgstore.specs.Looks.{FindsRow, IsImage, RefusesToFind, StaysOpen, Tells, begun_telling};
+ghost use Rattle.pgstore.specs.Looks.{FindsRow, IsImage, RefusesToFind, StaysOpen, Tells};
+ghost use Rattle.pgstore.specs.Looks.{begun_telling};
 
 use crate::encoded::{encode_searched, lend_prior, read_tuple};
 use crate::fault::Refusal;

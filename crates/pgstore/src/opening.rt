@@ -33,7 +33,8 @@ pub(crate) fn make_tables<S: Alter>(conn: &mut Connection<S>) -> Result<(), Refu
     Ok(())
 }
 
-/// Whatever value the trees that a connection sees have, its schema is that of a store: a catalog lists one schema.
+/// Whatever value the trees that a connection sees have, its schema is that of a store: a catalog
+/// lists one schema.
 pub(crate) fn sees_schema<S: Alter>(conn: &Connection<S>)
     ensures { (v : Stored) → AreOf v (state S.Store conn.now).now.trees →
         IsTrue (state S.Store conn.now).is_open →

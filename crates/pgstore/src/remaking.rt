@@ -39,7 +39,8 @@ fn put_definitions<S: Alter>(
     Ok(())
 }
 
-/// Makes the three tables in place of those that are there, with these definitions, without rows, and with this position.
+/// Makes the three tables in place of those that are there, with these definitions, without rows,
+/// and with this position.
 fn make_again<S: Alter>(
     tx: &mut Transaction<'_, S>,
     definitions: &[(u32, StoredDefinition)],
@@ -59,8 +60,8 @@ fn make_again<S: Alter>(
     put_position(tx, &position.0.to_be_bytes())
 }
 
-/// Makes the three tables in place of those of a store that are there, with these definitions, without rows, and with this
-/// position, in one SQL transaction.
+/// Makes the three tables in place of those of a store that are there, with these definitions,
+/// without rows, and with this position, in one SQL transaction.
 pub(crate) fn remake_tables<S: Alter>(
     conn: &mut Connection<S>,
     definitions: &[(u32, StoredDefinition)],

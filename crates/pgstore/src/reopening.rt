@@ -81,20 +81,22 @@ impl<D: Disk + Drop> Store<FileStore<D>> {
         }
     }
 
-    /// The two files as they are, without a word to the disks: what a crash at this moment leaves. While the disks are honest, each
-    /// content that the files may have after the crash holds a database that the store may leave.
+    /// The two files as they are, without a word to the disks: what a crash at this moment leaves.
+    /// While the disks are honest, each content that the files may have after the crash holds a
+    /// database that the store may leave.
     pub fn stop(self) -> Files<D>
         ensures left { Leaves D.Disk (state over_files self.rows).may_leave result }
     {
         pgmemory::stop(self.into_store())
     }
 
-    /// Closes the store: its log goes into the file of the database, and the two files come back. Nothing of what is committed is
-    /// lost, also where that fails.
+    /// Closes the store: its log goes into the file of the database, and the two files come back.
+    /// Nothing of what is committed is lost, also where that fails.
     ///
     /// # Errors
     ///
-    /// `Memory` or `Refused` where the log can't be copied. The store of the trees comes back beside the fault.
+    /// `Memory` or `Refused` where the log can't be copied. The store of the trees comes back
+    /// beside the fault.
     pub fn close_files(self) -> Result<Files<D>, (StoreFault, FileStore<D>)>
         ensures left { IfOk result (Leaves D.Disk (state over_files self.rows).may_leave) }
         ensures honest { IfOk result (λ files. AreClean D.Disk files.log files.db →
@@ -113,15 +115,17 @@ impl<D: Disk + Drop> Store<FileStore<D>> {
         }
     }
 
-    /// The store in two files, as `adopt` takes it. Files without bytes get a store without tables at position 0/0.
+    /// The store in two files, as `adopt` takes it. Files without bytes get a store without tables
+    /// at position 0/0.
     ///
-    /// It holds what is stored in the files (`stood`). So if they have the content that a crash left of a store, it holds what that
-    /// store could leave (`reopens`): the same tables and position where that one served, and never an older position (law
-    /// `left_is_reopened`).
+    /// It holds what is stored in the files (`stood`). So if they have the content that a crash
+    /// left of a store, it holds what that store could leave (`reopens`): the same tables and
+    /// position where that one served, and never an older position (law `left_is_reopened`).
     ///
     /// # Errors
     ///
-    /// `Refused` where the files can't be opened, and `Memory`; else those of `adopt`. The files are dropped then.
+    /// `Refused` where the files can't be opened, and `Memory`; else those of `adopt`. The files
+    /// are dropped then.
     pub fn open_files(
         alloc: Global,
         files: Files<D>,

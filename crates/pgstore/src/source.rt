@@ -10,8 +10,8 @@ use pgtables::see_committed;
 use sqlite::{Alter, Connection};
 use std::alloc::Global;
 
-/// Where the rows of a store are: until they are first read or changed in the connection that was adopted, and in its trees from
-/// then on.
+/// Where the rows of a store are: until they are first read or changed in the connection that was
+/// adopted, and in its trees from then on.
 #[derive(Drop)]
 pub(crate) enum Source<S: Alter> {
     /// The connection that was adopted, outside a transaction.

@@ -13,7 +13,8 @@ ghost use Rattle.pgstore.specs.Acts.{CountsFrom, IfOpened, RefusesToFold};
 ghost use Rattle.pgstore.specs.Sources.{IsSource, rows_in};
 ghost use Rattle.pgledger.specs.Ledgers.{AppendsAtMost, Keeps, Rests, StaysOrSticks, Syncs};
 ghost use Rattle.pgstore.specs.Looks.{AppendsFrom, TellsFrom};
-ghost use Rattle.pgstore.specs.Staged.{before_of, CommitsNothing, HasStaged, KeepsStaged, LeavesSettled, Prepares, Returns, Settles, Stages, Unstages};
+ghost use Rattle.pgstore.specs.Staged.{before_of, CommitsNothing, HasStaged, KeepsStaged};
+ghost use Rattle.pgstore.specs.Staged.{LeavesSettled, Prepares, Returns, Settles, Stages, Unstages};
 
 use crate::fault::Refusal;
 use crate::looking::Telling;
@@ -75,7 +76,8 @@ fn go_back<S: Alter>(rows: &mut Rows<S>) -> Result<(), StoreError>
     Ok(())
 }
 
-/// Drops what came since the newest mark, and the mark. Where that fails, all that was staged is lost.
+/// Drops what came since the newest mark, and the mark. Where that fails, all that was staged is
+/// lost.
 fn undo_one<S: Alter>(rows: &mut Rows<S>, refusal: Refusal) -> Unstaged
     requires { IfServing S.Store rows.old ((state S.Store rows.old).marks ≢ []) }
     ensures back { HasCleanDisk (state S.Store rows.new) → result.is_lost ≡ false →
@@ -138,7 +140,8 @@ pub(crate) fn stage_changes<'a, S: Alter>(
     Ok(())
 }
 
-/// Commits what the transaction has, with the position after its last commit. Where that fails, nothing of it is kept.
+/// Commits what the transaction has, with the position after its last commit. Where that fails,
+/// nothing of it is kept.
 pub(crate) fn settle_rows<S: Alter>(rows: &mut Rows<S>, end: Lsn) -> Result<(), Refusal>
     ensures settled { HasCleanDisk (state S.Store rows.new) → OnOk result
         (Settles S.Store rows.old rows.new (to_be_bytes w64 end)) }

@@ -1,4 +1,5 @@
-//! The program: follows a server, shows, applies and compares recorded sessions of one, and keeps in a file what they lead to.
+//! The program: follows a server, shows, applies and compares recorded sessions of one, and keeps
+//! in a file what they lead to.
 #![tactic(auto)]
 
 ghost use Rattle.std.specs.Prelude.{◌≡◌, ◌≢◌, ◌⊎◌};
@@ -48,8 +49,8 @@ fn words(rt: &HostRuntime) -> Result<Option<Vec<String>>, AllocError> {
     }
 }
 
-/// Prints help or the version, or tells on standard error why the words ask for no task. Where standard error can't be written, the
-/// status alone tells.
+/// Prints help or the version, or tells on standard error why the words ask for no task. Where
+/// standard error can't be written, the status alone tells.
 fn tell_usage(rt: &HostRuntime, error: &clap::Error) -> u8
     ensures usage { kind_of error.now ≢ kind.DisplayHelp → kind_of error.now ≢ kind.DisplayVersion →
         result ≡ 2 }
@@ -126,7 +127,8 @@ fn length_of(rt: &HostRuntime, path: &str) -> Option<u64> {
     }
 }
 
-/// What tells standard error how far a task is. None where it isn't to be told, or where the clock can't be read.
+/// What tells standard error how far a task is. None where it isn't to be told, or where the clock
+/// can't be read.
 fn reporter_of<'r>(
     rt: &'r HostRuntime,
     task: &Task,
@@ -151,8 +153,8 @@ fn reporter_of<'r>(
     Some(RefCell::new(reporter))
 }
 
-/// The exit status of a run. What it leaves of the files ends here: it is of any type, since a proof
-/// over the store's own asks for what holds of each of its parts.
+/// The exit status of a run. What it leaves of the files ends here: it is of any type, since a
+/// proof over the store's own asks for what holds of each of its parts.
 fn status_of<T: Drop>(run: (u8, T)) -> u8 {
     run.0
 }
@@ -195,8 +197,8 @@ fn feed_plan<'a>(rt: &'a HostRuntime, options: &'a FeedOptions) -> FeedPlan<'a, 
     }
 }
 
-/// Applies to the store in the file at a path what comes, and keeps a feed of its commits, in a folder
-/// of any kind: a proof over the folder's own asks for what holds of each of its parts.
+/// Applies to the store in the file at a path what comes, and keeps a feed of its commits, in a
+/// folder of any kind: a proof over the folder's own asks for what holds of each of its parts.
 fn apply_fed<D: Folder + Drop>(
     rt: &HostRuntime,
     task: &Task,

@@ -17,7 +17,9 @@ if_ok (Ok x) P Q h go = go x h
 if_ok (Err e) P Q h go = tt
 
 -- more is said of it
-pub for_sessions : {R : Type 0} (gives begins : R → List ℕ → Type 0) (failed : R → Type 0) (incoming : Incoming R) (stopped : Option Fault) (P Q : List (List ℕ) → Option Fault → Type 0)
-    → ((sessions : List (List ℕ)) (f : Option Fault) → P sessions f → Q sessions f) → ForSessions gives begins failed incoming stopped P → ForSessions gives begins failed incoming stopped Q
+pub for_sessions : {R : Type 0} (gives begins : R → List ℕ → Type 0) (failed : R → Type 0) (incoming : Incoming R) (stopped : Option Fault)
+    (P Q : List (List ℕ) → Option Fault → Type 0)
+    → ((sessions : List (List ℕ)) (f : Option Fault) → P sessions f → Q sessions f) → ForSessions gives begins failed incoming stopped P
+    → ForSessions gives begins failed incoming stopped Q
 for_sessions gives begins failed (Sessions sessions) stopped P Q more h = more (bytes_of sessions.items) stopped h
 for_sessions gives begins failed (Raw file) stopped P Q more h = (h.0, h.1, more (h.0 ∷ []) (fault_of_feeding stopped) h.2)

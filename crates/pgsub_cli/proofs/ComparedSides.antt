@@ -1,5 +1,6 @@
 -- How the comparison of two subscribers ends, first over any stores and then over two new ones.
-use Rattle.std.proofs.Common.{◌≡◌, ◌⊎◌, inl, inr, List, ℕ, Option, Some, None, Result, Ok, Err, IfOk, IfErr, IsErrAnd, sym, subst}
+use Rattle.std.proofs.Common.{◌≡◌, ◌⊎◌, inl, inr, List, ℕ, Option, Some, None, Result, Ok, Err}
+use Rattle.std.proofs.Common.{IfOk, IfErr, IsErrAnd, sym, subst}
 use Rattle.pgapply.specs.Value.{Tables}
 use Rattle.pgorder.specs.declared.Version.{Version}
 use Rattle.pgsub_core.specs.declared.converging.ConvergeFault.{ConvergeFault}
@@ -8,7 +9,8 @@ use Rattle.pgsub_core.specs.declared.converging.Side.TheVariants.{Left, Right}
 use Rattle.pgsub_core.specs.declared.converging.Verdict.{Verdict}
 use Rattle.pgsub_core.specs.declared.fault.Fault.{Fault}
 use Rattle.pgsub_core.specs.declared.session.Session.{Session}
-use Rattle.pgsub_core.specs.Subscriber.Converging.{Converges, FollowsLeft, FollowsRight, OnceLeftIsRead}
+use Rattle.pgsub_core.specs.Subscriber.Converging.{Converges, FollowsLeft, FollowsRight}
+use Rattle.pgsub_core.specs.Subscriber.Converging.{OnceLeftIsRead}
 use Rattle.pgsub_core.specs.Machine.Faults.{IsReadFault}
 use Rattle.pgsub_core.specs.Subscriber.Subscribed.{Subscribed, bytes_of}
 use Rattle.pgsub_core.specs.Subscriber.SubscriberValue.{SubscriberValue, seen}
@@ -18,18 +20,23 @@ use Rattle.pgsub_cli.specs.Followed.{Leaves, new_subscriber}
 use Rattle.pgsub_cli.specs.Limits.{clock, default_limits}
 use Rattle.pgsub_cli.specs.Runs.{AreComparedAs, SideStops, Uncompared, IsUncompared}
 
-stops_by : (sessions : List (List ℕ)) (old new : Subscribed) (f told : Fault) → told ≡ f → SideFails clock sessions old new f → Stops old sessions told
-stops_by sessions old new f told is (inl followed) = inr (new, subst (λ (g : Fault). SideIsFollowed clock sessions old new (Some g)) (sym is) followed)
+stops_by : (sessions : List (List ℕ)) (old new : Subscribed) (f told : Fault) → told ≡ f → SideFails clock sessions old new f
+    → Stops old sessions told
+stops_by sessions old new f told is (inl followed) =
+    inr (new, subst (λ (g : Fault). SideIsFollowed clock sessions old new (Some g)) (sym is) followed)
 stops_by sessions old new f told is (inr read) = inl (subst IsReadFault (sym is) read.0)
 
-module _ {C D : Type 0} (holds : C → Tables → Type 0) (place : C → ℕ) (holds' : D → Tables → Type 0) (place' : D → ℕ) (serves serves' : Type 0) where
+module _ {C D : Type 0} (holds : C → Tables → Type 0) (place : C → ℕ) (holds' : D → Tables → Type 0) (place' : D → ℕ)
+    (serves serves' : Type 0) where
   pub compared_ends : (left left' : SubscriberValue C) (right right' : SubscriberValue D) (sessions others : List (List ℕ)) (v : Verdict)
-      → Converges holds place holds' place' clock left sessions left' right others right' (Ok v) → EndsOver holds place holds' place' left sessions right others (Ok v)
+      → Converges holds place holds' place' clock left sessions left' right others right' (Ok v)
+      → EndsOver holds place holds' place' left sessions right others (Ok v)
   compared_ends left left' right right' sessions others v converges tables h tables' k =
       let c = converges tables h tables' k in
       (seen place left' c.0, seen place' right' c.2, c.4, c.5, c.6)
 
-  pub left_ends : (side : Side) (left left' : SubscriberValue C) (right : SubscriberValue D) (sessions others : List (List ℕ)) (f told : Fault) → side ≡ Left
+  pub left_ends : (side : Side) (left left' : SubscriberValue C) (right : SubscriberValue D) (sessions others : List (List ℕ))
+      (f told : Fault) → side ≡ Left
       → IsReadFault told ⊎ ((told ≡ f) × serves) → (serves → FollowsLeft holds place clock left sessions left' (Some (side, f)))
       → EndsOver holds place holds' place' left sessions right others (Err (record { side = side; fault = told }))
   left_ends Left left left' right sessions others f told is (inl read) followed tables h tables' k = inl read
@@ -38,7 +45,8 @@ module _ {C D : Type 0} (holds : C → Tables → Type 0) (place : C → ℕ) (h
       stops_by sessions (seen place left tables) (seen place left' a.0) f told own.0 a.2
   left_ends Right left left' right sessions others f told is confirmed followed tables h tables' k = absurd cc
 
-  pub right_ends : (side : Side) (left left' : SubscriberValue C) (right right' : SubscriberValue D) (sessions others : List (List ℕ)) (f told : Fault) → side ≡ Right
+  pub right_ends : (side : Side) (left left' : SubscriberValue C) (right right' : SubscriberValue D) (sessions others : List (List ℕ))
+      (f told : Fault) → side ≡ Right
       → OnceLeftIsRead serves (Some (side, f)) → (serves → FollowsLeft holds place clock left sessions left' (Some (side, f)))
       → IsReadFault told ⊎ ((told ≡ f) × serves') → (serves' → FollowsRight holds' place' clock right others right' (Some (side, f)))
       → EndsOver holds place holds' place' left sessions right others (Err (record { side = side; fault = told }))
@@ -51,39 +59,50 @@ module _ {C D : Type 0} (holds : C → Tables → Type 0) (place : C → ℕ) (h
   right_ends Left left left' right right' sessions others f told is served read confirmed followed tables h tables' k = absurd cc
 
 module _ (version : Version) where
-  leaves : (sessions : List (List ℕ)) (state : Subscribed) (stopped : Option Fault) → SideIsFollowed clock sessions (new_subscriber default_limits version) state stopped → Leaves default_limits version sessions stopped state
+  leaves : (sessions : List (List ℕ)) (state : Subscribed) (stopped : Option Fault)
+      → SideIsFollowed clock sessions (new_subscriber default_limits version) state stopped
+      → Leaves default_limits version sessions stopped state
   leaves sessions state stopped s = record { fed = s.fed; followed = s.followed }
 
-  side_stops : (sessions : List Session) (f : Fault) → Stops (new_subscriber default_limits version) (bytes_of sessions) f → SideStops version sessions f
+  side_stops : (sessions : List Session) (f : Fault) → Stops (new_subscriber default_limits version) (bytes_of sessions) f
+      → SideStops version sessions f
   side_stops sessions f (inl read) = inl read
   side_stops sessions f (inr led) = inr (led.0, leaves (bytes_of sessions) led.0 (Some f) led.1)
 
-  stops_at : (left right : List Session) (side : Side) (f : Fault) → StopsAt side (new_subscriber default_limits version) (bytes_of left) (new_subscriber default_limits version) (bytes_of right) f
+  stops_at : (left right : List Session) (side : Side) (f : Fault)
+      → StopsAt side (new_subscriber default_limits version) (bytes_of left) (new_subscriber default_limits version) (bytes_of right) f
       → Uncompared version left right side f
   stops_at left right Left f stops = side_stops left f stops
   stops_at left right Right f stops = ((stops.0.0, leaves (bytes_of left) stops.0.0 None stops.0.1), side_stops right f stops.1)
 
-  pub compared_as : (left right : List Session) (r : Result Verdict ConvergeFault) → EndsWith (new_subscriber default_limits version) (bytes_of left) (new_subscriber default_limits version) (bytes_of right) r
+  pub compared_as : (left right : List Session) (r : Result Verdict ConvergeFault)
+      → EndsWith (new_subscriber default_limits version) (bytes_of left) (new_subscriber default_limits version) (bytes_of right) r
       → IfOk r (AreComparedAs version left right)
   compared_as left right (Ok v) e = (e.0, e.1, leaves (bytes_of left) e.0 None e.2, leaves (bytes_of right) e.1 None e.3, e.4)
   compared_as left right (Err f) e = tt
 
-  pub uncompared : (left right : List Session) (r : Result Verdict ConvergeFault) → EndsWith (new_subscriber default_limits version) (bytes_of left) (new_subscriber default_limits version) (bytes_of right) r
+  pub uncompared : (left right : List Session) (r : Result Verdict ConvergeFault)
+      → EndsWith (new_subscriber default_limits version) (bytes_of left) (new_subscriber default_limits version) (bytes_of right) r
       → IfErr r (IsUncompared version left right)
   uncompared left right (Ok v) e = tt
   uncompared left right (Err f) e = stops_at left right f.side f.fault e
 
   -- where the right one can't be made, neither was followed
-  pub unmade : (left right : Subscribed) (sessions others : List (List ℕ)) (r : Result Verdict ConvergeFault) (f : ConvergeFault) → IsErrAnd r (λ y. y ≡ f)
+  pub unmade : (left right : Subscribed) (sessions others : List (List ℕ)) (r : Result Verdict ConvergeFault) (f : ConvergeFault)
+      → IsErrAnd r (λ y. y ≡ f)
       → (f.side ≡ Left) × IsReadFault f.fault → EndsWith left sessions right others r
   unmade left right sessions others (Ok v) f h is = absurd h
   unmade left right sessions others (Err g) f h is =
-      subst (λ (e : ConvergeFault). StopsAt e.side left sessions right others e.fault) (sym h) (subst (λ (s : Side). StopsAt s left sessions right others f.fault) (sym is.0) (inl is.1))
+      subst (λ (e : ConvergeFault). StopsAt e.side left sessions right others e.fault) (sym h)
+      (subst (λ (s : Side). StopsAt s left sessions right others f.fault) (sym is.0) (inl is.1))
 
-  pub ends_as_new : (left right : Subscribed) (sessions others : List (List ℕ)) (r : Result Verdict ConvergeFault) → right ≡ new_subscriber default_limits version → EndsWith left sessions right others r
+  pub ends_as_new : (left right : Subscribed) (sessions others : List (List ℕ)) (r : Result Verdict ConvergeFault)
+      → right ≡ new_subscriber default_limits version → EndsWith left sessions right others r
       → EndsWith left sessions (new_subscriber default_limits version) others r
   ends_as_new left right sessions others r is e = subst (λ (s : Subscribed). EndsWith left sessions s others r) is e
 
-  pub ends_of_new : (left : Subscribed) (sessions others : List (List ℕ)) (r : Result Verdict ConvergeFault) → left ≡ new_subscriber default_limits version → EndsWith left sessions (new_subscriber default_limits version) others r
+  pub ends_of_new : (left : Subscribed) (sessions others : List (List ℕ)) (r : Result Verdict ConvergeFault)
+      → left ≡ new_subscriber default_limits version → EndsWith left sessions (new_subscriber default_limits version) others r
       → EndsWith (new_subscriber default_limits version) sessions (new_subscriber default_limits version) others r
-  ends_of_new left sessions others r is e = subst (λ (s : Subscribed). EndsWith s sessions (new_subscriber default_limits version) others r) is e
+  ends_of_new left sessions others r is e =
+      subst (λ (s : Subscribed). EndsWith s sessions (new_subscriber default_limits version) others r) is e

@@ -1,5 +1,6 @@
 -- A row in JSON.
-use Rattle.std.proofs.Common.{◌≡◌, List, [], ◌∷◌, map, false, Result, Ok, Err, IfOk, refl, ap, ◌∙◌, String, string_bytes}
+use Rattle.std.proofs.Common.{◌≡◌, List, [], ◌∷◌, map, false, Result, Ok, Err, IfOk, refl, ap, ◌∙◌}
+use Rattle.std.proofs.Common.{String, string_bytes}
 use Rattle.std.specs.declared.alloc.AllocError.{AllocError}
 use Rattle.std.specs.declared.alloc.Global.{Global}
 use Rattle.serde_json.specs.declared.value.Value.{Value}
@@ -26,6 +27,7 @@ row_plain row = rw (cells_plain row.cells)
 
 -- the text of a value that stands for a row
 pub text-of_row : (text : Result (String Global) AllocError) (row : DumpRow) (value : Value) → view value ≡ row_data row
-    → IfOk text (λ s. has_float (view value) ≡ false → string_bytes s ≡ compact_text (view value)) → IfOk text (λ s. string_bytes s ≡ compact_text (row_data row))
+    → IfOk text (λ s. has_float (view value) ≡ false → string_bytes s ≡ compact_text (view value))
+    → IfOk text (λ s. string_bytes s ≡ compact_text (row_data row))
 text-of_row (Ok s) row value is h = rw is at (h (ap has_float is ∙ row_plain row))
 text-of_row (Err e) row value is h = tt

@@ -1,6 +1,8 @@
 -- Lines on their way to an output, from one step to the next.
 use Rattle.std.specs.Prelude.{IsErrAnd}
-use Rattle.std.proofs.Common.{◌≡◌, ◌≢◌, ◌++◌, ℕ, List, [], ◌∷◌, Bool, true, false, Option, None, Some, Result, Ok, Err, IfOk, IfErr, refl, sym, ap, subst, ◌∙◌, inl, inr}
+use Rattle.std.proofs.Common.{◌≡◌, ◌≢◌, ◌++◌, ℕ, List, [], ◌∷◌, Bool, true, false, Option, None}
+use Rattle.std.proofs.Common.{Some, Result, Ok, Err, IfOk, IfErr, refl, sym, ap, subst, ◌∙◌, inl}
+use Rattle.std.proofs.Common.{inr}
 use Rattle.std.specs.List.{flat_map}
 use Rattle.std.proofs.lemmas.Grind.{flat_map-append}
 use Rattle.std.proofs.lemmas.List.{append_assoc, append-nil}
@@ -32,7 +34,8 @@ module _ {W : Type 0} (takes : W → List ℕ → W → Type 0) (failed : W → 
   begins old bytes lines is = record { pieces = []; rest = lines; mid = old; written = refl; is = is; stands = (refl, refl) }
 
   module _ {old : W} {bytes : List ℕ} {out : W} {lines : List ℕ} where
-    pub flushed : Writing old bytes out lines None → (new : W) (next : List ℕ) → takes out lines new → next ≡ [] → Writing old bytes new next None
+    pub flushed : Writing old bytes out lines None → (new : W) (next : List ℕ) → takes out lines new → next ≡ []
+        → Writing old bytes new next None
     flushed w new next took empty = record {
       pieces = lines ∷ w.pieces;
       rest = [];
@@ -52,11 +55,14 @@ module _ {W : Type 0} (takes : W → List ℕ → W → Type 0) (failed : W → 
       stands = (w.stands.0, ap (λ l. l ++ text) w.stands.1 ∙ sym is);
     }
 
-    unwritten : Writing old bytes out lines None → (new : W) (next : List ℕ) → failed out → Writing old bytes new next (Some run.CannotWrite)
-    unwritten w new next h = record { pieces = w.pieces; rest = w.rest; mid = w.mid; written = w.written; is = w.is; stands = subst failed w.stands.0 h }
+    unwritten : Writing old bytes out lines None → (new : W) (next : List ℕ) → failed out
+        → Writing old bytes new next (Some run.CannotWrite)
+    unwritten w new next h =
+        record { pieces = w.pieces; rest = w.rest; mid = w.mid; written = w.written; is = w.is; stands = subst failed w.stands.0 h }
 
     -- writing stopped with this fault
-    pub stuck : Writing old bytes out lines None → (new : W) (next : List ℕ) (f : RunFault) → (f ≡ run.CannotWrite) × failed out → Writing old bytes new next (Some f)
+    pub stuck : Writing old bytes out lines None → (new : W) (next : List ℕ) (f : RunFault) → (f ≡ run.CannotWrite) × failed out
+        → Writing old bytes new next (Some f)
     stuck w new next f is = subst (λ g. Writing old bytes new next (Some g)) (sym is.0) (unwritten w new next is.1)
 
     pub starved : Writing old bytes out lines None → (next : List ℕ) → Writing old bytes out next (Some (run.Stream Memory))
@@ -72,10 +78,16 @@ module _ {W : Type 0} (takes : W → List ℕ → W → Type 0) (failed : W → 
     )
 
     -- nothing more is written
-    pub stops : (f : RunFault) → Writing old bytes out lines (Some f) → (more : List ℕ) → PrintsLines takes failed (bytes ++ more) old out (Err f)
+    pub stops : (f : RunFault) → Writing old bytes out lines (Some f) → (more : List ℕ)
+        → PrintsLines takes failed (bytes ++ more) old out (Err f)
     stops (run.Stream f) w more = (
       inl w.stands.0,
-      (joined w.pieces, w.rest ++ more, ap (λ l. l ++ more) w.is ∙ append_assoc (joined w.pieces) w.rest more, (w.pieces, refl, subst (λ s. AreWritten takes old w.pieces s) (sym w.stands.1) w.written)),
+      (
+        joined w.pieces,
+        w.rest ++ more,
+        ap (λ l. l ++ more) w.is ∙ append_assoc (joined w.pieces) w.rest more,
+        (w.pieces, refl, subst (λ s. AreWritten takes old w.pieces s) (sym w.stands.1) w.written),
+      ),
     )
     stops run.CannotWrite w more = (
       w.mid,
@@ -88,12 +100,14 @@ module _ {W : Type 0} (takes : W → List ℕ → W → Type 0) (failed : W → 
     stops (run.CannotRead side) w more = absurd w.stands
     stops run.NotAnLsn w more = absurd w.stands
 
-    pub stops_as : (r : Result Ending RunFault) (f : RunFault) → IsErrAnd r (λ y. y ≡ f) → Writing old bytes out lines (Some f) → (more : List ℕ) → PrintsLines takes failed (bytes ++ more) old out r
+    pub stops_as : (r : Result Ending RunFault) (f : RunFault) → IsErrAnd r (λ y. y ≡ f) → Writing old bytes out lines (Some f)
+        → (more : List ℕ) → PrintsLines takes failed (bytes ++ more) old out r
     stops_as (Ok e) f is w more = absurd is
     stops_as (Err y) f is w more = stops y (subst (λ g. Writing old bytes out lines (Some g)) (sym is) w) more
 
     -- they stop for this fault of reading
-    pub unread : Writing old bytes out lines None → (more : List ℕ) (f : Fault) → IsReadFault f → PrintsLines takes failed (bytes ++ more) old out (Err (run.Stream f))
+    pub unread : Writing old bytes out lines None → (more : List ℕ) (f : Fault) → IsReadFault f
+        → PrintsLines takes failed (bytes ++ more) old out (Err (run.Stream f))
     unread w more f read = (read, front w more)
 
     -- all is written
@@ -105,19 +119,23 @@ module _ {W : Type 0} (takes : W → List ℕ → W → Type 0) (failed : W → 
     )
 
   -- writing the last lines stopped with this fault
-  pub unfinished : (old : W) (bytes : List ℕ) (out : W) (lines : List ℕ) → Writing old bytes out lines None → (new : W) (r : Result Ending RunFault) (f : RunFault) → IsErrAnd r (λ y. y ≡ f) → (f ≡ run.CannotWrite) × failed out
+  pub unfinished : (old : W) (bytes : List ℕ) (out : W) (lines : List ℕ) → Writing old bytes out lines None
+      → (new : W) (r : Result Ending RunFault) (f : RunFault) → IsErrAnd r (λ y. y ≡ f) → (f ≡ run.CannotWrite) × failed out
       → PrintsLines takes failed bytes old new r
   unfinished old bytes out lines w new r f err is =
       subst (λ bs. PrintsLines takes failed bs old new r) (append-nil bytes) (stops_as r f err (stuck w new [] f is) [])
 
   -- an empty text in front of the bytes
-  pub unbegun : {old : W} {bytes : List ℕ} {out : W} {lines : List ℕ} {fault : Option RunFault} (text : List ℕ) → text ≡ [] → Writing old (text ++ bytes) out lines fault → Writing old bytes out lines fault
+  pub unbegun : {old : W} {bytes : List ℕ} {out : W} {lines : List ℕ} {fault : Option RunFault} (text : List ℕ) → text ≡ []
+      → Writing old (text ++ bytes) out lines fault → Writing old bytes out lines fault
   unbegun {old} {bytes} {out} {lines} {fault} text is = subst (λ t. Writing old (t ++ bytes) out lines fault) is
 
-  module _ (rows : List DumpRow) (position : ℕ) (read : Result Bool StoreFault) (out mid : W) (lines : List ℕ) (fault : Option RunFault) (new : W) (ended : Result Ending RunFault) where
+  module _ (rows : List DumpRow) (position : ℕ) (read : Result Bool StoreFault) (out mid : W) (lines : List ℕ) (fault : Option RunFault)
+      (new : W) (ended : Result Ending RunFault) where
     -- how these rows end that were read so
     abbrev Ends : Type 0
-    Ends = (old : W) (bytes more : List ℕ) → Writing old bytes mid lines fault → IfErr read IsOwnFault → (read ≡ Ok true → more ≡ position_line position) → PrintsLines takes failed (bytes ++ more) old new ended
+    Ends = (old : W) (bytes more : List ℕ) → Writing old bytes mid lines fault → IfErr read IsOwnFault
+        → (read ≡ Ok true → more ≡ position_line position) → PrintsLines takes failed (bytes ++ more) old new ended
 
     abbrev Front : Type 0
     Front = (done : List DumpRow) × (left : List DumpRow) × (rows ≡ done ++ left) × Writing out (flat_map row_line done) mid lines fault
@@ -125,12 +143,19 @@ module _ {W : Type 0} (takes : W → List ℕ → W → Type 0) (failed : W → 
     front_dumped : read ≢ Ok true → Front → IfErr read IsOwnFault → Ends → PrintsLines takes failed (dump_of rows position) out new ended
     front_dumped other (done, left, is, writing) own ends =
         let are : dump_of rows position ≡ flat_map row_line done ++ (flat_map row_line left ++ position_line position) =
-        ap (λ (rs : List DumpRow). flat_map row_line rs ++ position_line position) is ∙ ap (λ (l : List ℕ). l ++ position_line position) (flat_map-append row_line done left)
+        ap (λ (rs : List DumpRow). flat_map row_line rs ++ position_line position) is
+        ∙ ap (λ (l : List ℕ). l ++ position_line position) (flat_map-append row_line done left)
         ∙ append_assoc (flat_map row_line done) (flat_map row_line left) (position_line position) in
-        subst (λ (bytes : List ℕ). PrintsLines takes failed bytes out new ended) (sym are) (ends out (flat_map row_line done) (flat_map row_line left ++ position_line position) writing own (λ e. absurd (other e)))
+        subst (λ (bytes : List ℕ). PrintsLines takes failed bytes out new ended) (sym are)
+        (ends out (flat_map row_line done) (flat_map row_line left ++ position_line position) writing own (λ e. absurd (other e)))
 
-  pub dumped : (rows : List DumpRow) (position : ℕ) (read : Result Bool StoreFault) (out mid : W) (lines : List ℕ) (fault : Option RunFault) (new : W) (ended : Result Ending RunFault) → Front rows position read out mid lines fault new ended
-      → IfOk read (λ all. all ≡ true → Writing out (flat_map row_line rows) mid lines fault) → IfErr read IsOwnFault → Ends rows position read out mid lines fault new ended → PrintsLines takes failed (dump_of rows position) out new ended
-  dumped rows position (Ok true) out mid lines fault new ended front all own ends = ends out (flat_map row_line rows) (position_line position) (all refl) own (λ _. refl)
-  dumped rows position (Ok false) out mid lines fault new ended front all own ends = front_dumped rows position (Ok false) out mid lines fault new ended (λ e. absurd (cc)) front own ends
-  dumped rows position (Err f) out mid lines fault new ended front all own ends = front_dumped rows position (Err f) out mid lines fault new ended (λ e. absurd (cc)) front own ends
+  pub dumped : (rows : List DumpRow) (position : ℕ) (read : Result Bool StoreFault) (out mid : W) (lines : List ℕ) (fault : Option RunFault)
+      (new : W) (ended : Result Ending RunFault) → Front rows position read out mid lines fault new ended
+      → IfOk read (λ all. all ≡ true → Writing out (flat_map row_line rows) mid lines fault) → IfErr read IsOwnFault
+      → Ends rows position read out mid lines fault new ended → PrintsLines takes failed (dump_of rows position) out new ended
+  dumped rows position (Ok true) out mid lines fault new ended front all own ends =
+      ends out (flat_map row_line rows) (position_line position) (all refl) own (λ _. refl)
+  dumped rows position (Ok false) out mid lines fault new ended front all own ends =
+      front_dumped rows position (Ok false) out mid lines fault new ended (λ e. absurd (cc)) front own ends
+  dumped rows position (Err f) out mid lines fault new ended front all own ends =
+      front_dumped rows position (Err f) out mid lines fault new ended (λ e. absurd (cc)) front own ends

@@ -1,10 +1,13 @@
 -- What is read where the bytes are known, and what is printed of it.
-use Rattle.std.proofs.Common.{◌≡◌, ◌<◌, ℕ, List, [], ◌++◌, Option, Some, None, IfSome, Result, Ok, Err, OnOk, OnErr, ◌⊎◌, inl, inr, true, refl, ap, subst, ◌∙◌, arith, length, take, take_all}
+use Rattle.std.proofs.Common.{◌≡◌, ◌<◌, ℕ, List, [], ◌++◌, Option, Some, None, IfSome, Result, Ok}
+use Rattle.std.proofs.Common.{Err, OnOk, OnErr, ◌⊎◌, inl, inr, true, refl, ap, subst, ◌∙◌, arith}
+use Rattle.std.proofs.Common.{length, take, take_all}
 use Rattle.std.specs.Prelude.{option_map, is_ok}
 use Rattle.std.proofs.lemmas.List.{length-take}
 
 -- what comes before the limit is all
-pub all_read : (remaining : Option (List ℕ)) (limit : ℕ) (start text : List ℕ) → start ≡ [] → IfSome (option_map (take limit) remaining) (λ xs. text ≡ start ++ xs) → length text < limit
+pub all_read : (remaining : Option (List ℕ)) (limit : ℕ) (start text : List ℕ) → start ≡ []
+    → IfSome (option_map (take limit) remaining) (λ xs. text ≡ start ++ xs) → length text < limit
     → IfSome remaining (λ known. text ≡ known)
 all_read None limit start text none h short = tt
 all_read (Some known) limit start text none h short =
@@ -12,7 +15,8 @@ all_read (Some known) limit start text none h short =
     front ∙ take_all limit known (omega (arith, short, ap length front, length-take limit known))
 
 -- what comes up to the limit is no longer than all
-pub longer_read : (remaining : Option (List ℕ)) (limit longest : ℕ) (start text : List ℕ) → start ≡ [] → IfSome (option_map (take limit) remaining) (λ xs. text ≡ start ++ xs) → longest < length text
+pub longer_read : (remaining : Option (List ℕ)) (limit longest : ℕ) (start text : List ℕ) → start ≡ []
+    → IfSome (option_map (take limit) remaining) (λ xs. text ≡ start ++ xs) → longest < length text
     → (bytes : List ℕ) × IfSome remaining (λ known. bytes ≡ known) × (longest < length bytes)
 longer_read None limit longest start text none h long = (text, tt, long)
 longer_read (Some known) limit longest start text none h long =

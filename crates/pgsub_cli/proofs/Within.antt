@@ -1,5 +1,6 @@
 -- What a run over a store that is told of comes to, said of the store and the reader within.
-use Rattle.std.proofs.Common.{◌≡◌, ◌≤◌, ◌∙◌, inl, inr, ℕ, List, Option, Some, None, Result, Ok, Err, ap, sym, subst}
+use Rattle.std.proofs.Common.{◌≡◌, ◌≤◌, ◌∙◌, inl, inr, ℕ, List, Option, Some, None, Result, Ok, Err}
+use Rattle.std.proofs.Common.{ap, sym, subst}
 use Rattle.pgcommand.specs.declared.limits.Limits.{Limits}
 use Rattle.pgorder.specs.declared.Version.{Version}
 use Rattle.pgapply.specs.Value.{Tables}
@@ -18,12 +19,15 @@ use Rattle.pgsub_cli.specs.declared.storing.Incoming.TheVariants.{Sessions, Raw}
 use Rattle.pgsub_cli.specs.Limits.{clock}
 use Rattle.pgsub_cli.specs.Reports.{incoming_within, input_within}
 use Rattle.pgsub_cli.specs.Runs.{AreRead, ForSessions, Writes}
-use Rattle.pgsub_cli.specs.StoreAfter.{FeedsIncoming, HoldsAfter, HoldsFed, LeavesFronts, LeavesIncomingHistory, LosesNothing, MayBeLeft}
+use Rattle.pgsub_cli.specs.StoreAfter.{FeedsIncoming, HoldsAfter, HoldsFed, LeavesFronts}
+use Rattle.pgsub_cli.specs.StoreAfter.{LeavesIncomingHistory, LosesNothing, MayBeLeft}
 use Rattle.pgsub_cli.specs.Storing.{PrintsKept, PrintsOver}
 
 -- other lines are written, where these are such lines
-pub writes_weaker : {W : Type 0} (takes : W → List ℕ → W → Type 0) (failed : W → Type 0) (lost more : Fault → Type 0) (P Q : Option Fault → List ℕ → Type 0) (old new : W) (ended : Result Ending RunFault)
-    → ((fault : Fault) → lost fault → more fault) → ((stopped : Option Fault) (lines : List ℕ) → P stopped lines → Q stopped lines) → Writes takes failed lost P old new ended → Writes takes failed more Q old new ended
+pub writes_weaker : {W : Type 0} (takes : W → List ℕ → W → Type 0) (failed : W → Type 0) (lost more : Fault → Type 0)
+    (P Q : Option Fault → List ℕ → Type 0) (old new : W) (ended : Result Ending RunFault)
+    → ((fault : Fault) → lost fault → more fault) → ((stopped : Option Fault) (lines : List ℕ) → P stopped lines → Q stopped lines)
+    → Writes takes failed lost P old new ended → Writes takes failed more Q old new ended
 writes_weaker takes failed lost more P Q old new (Ok Done) means f (lines, p, t) = (lines, f None lines p, t)
 writes_weaker takes failed lost more P Q old new (Ok Differs) means f none = none
 writes_weaker takes failed lost more P Q old new (Err (run.Stream x)) means f (inl (l, same)) = inl (means x l, same)
@@ -32,17 +36,21 @@ writes_weaker takes failed lost more P Q old new (Err run.CannotWrite) means f h
 writes_weaker takes failed lost more P Q old new (Err f) means more_lines none = none
 
 module _ {R Q : Type 0} (reader : Q → R) (gives begins : R → List ℕ → Type 0) (failed : R → Type 0) where
-  read_within : (file : Q) (bytes : List ℕ) (stopped : Option Fault) → AreRead (λ q. gives (reader q)) (λ q. begins (reader q)) (λ q. failed (reader q)) file bytes stopped → AreRead gives begins failed (reader file) bytes stopped
+  read_within : (file : Q) (bytes : List ℕ) (stopped : Option Fault)
+      → AreRead (λ q. gives (reader q)) (λ q. begins (reader q)) (λ q. failed (reader q)) file bytes stopped
+      → AreRead gives begins failed (reader file) bytes stopped
   read_within file bytes None h = h
   read_within file bytes (Some fault.Read) h = h
   read_within file bytes (Some f) h = h
 
-  came_within : (b : Incoming Q) (stopped : Option Fault) (P : List (List ℕ) → Option Fault → Type 0) → ForSessions (λ q. gives (reader q)) (λ q. begins (reader q)) (λ q. failed (reader q)) b stopped P
+  came_within : (b : Incoming Q) (stopped : Option Fault) (P : List (List ℕ) → Option Fault → Type 0)
+      → ForSessions (λ q. gives (reader q)) (λ q. begins (reader q)) (λ q. failed (reader q)) b stopped P
       → ForSessions gives begins failed (incoming_within reader b) stopped P
   came_within (Sessions sessions) stopped P h = h
   came_within (Raw q) stopped P h = (h.0, read_within q h.0 stopped h.1, h.2)
 
-module _ {R Q C D : Type 0} (reader : Q → R) (inner : D → C) (gives begins : R → List ℕ → Type 0) (failed : R → Type 0) (holds : C → Tables → Type 0) (place : C → ℕ) where
+module _ {R Q C D : Type 0} (reader : Q → R) (inner : D → C) (gives begins : R → List ℕ → Type 0) (failed : R → Type 0)
+    (holds : C → Tables → Type 0) (place : C → ℕ) where
   -- the subscriber over the store within
   abbrev within : SubscriberValue D → SubscriberValue C
   within s = record {
@@ -60,32 +68,51 @@ module _ {R Q C D : Type 0} (reader : Q → R) (inner : D → C) (gives begins :
     framing = s.framing;
   }
 
-  kept_within : (s new : SubscriberValue D) → IsKept (λ d. place (inner d)) s.applied new.applied → IsKept place (within s).applied (within new).applied
-  kept_within s new k = record { position = k.position; confirmed = k.confirmed; received = k.received; version = k.version; limit = k.limit; replies = k.replies }
+  kept_within : (s new : SubscriberValue D) → IsKept (λ d. place (inner d)) s.applied new.applied
+      → IsKept place (within s).applied (within new).applied
+  kept_within s new k = record
+      { position = k.position; confirmed = k.confirmed; received = k.received; version = k.version; limit = k.limit; replies = k.replies }
 
-  feeds_within : (b : Incoming Q) (old new : SubscriberValue D) (stopped : Option Fault) → FeedsIncoming (λ q. gives (reader q)) (λ q. begins (reader q)) (λ q. failed (reader q)) (λ d. holds (inner d)) (λ d. place (inner d)) b old new stopped
+  feeds_within : (b : Incoming Q) (old new : SubscriberValue D) (stopped : Option Fault)
+      → FeedsIncoming (λ q. gives (reader q)) (λ q. begins (reader q)) (λ q. failed (reader q)) (λ d. holds (inner d))
+      (λ d. place (inner d)) b old new stopped
       → FeedsIncoming gives begins failed holds place (incoming_within reader b) (within old) (within new) stopped
-  feeds_within b old new stopped h = came_within reader gives begins failed b stopped (λ sessions f. FeedsSessions holds place clock (within old) sessions (within new) f) h
+  feeds_within b old new stopped h =
+      came_within reader gives begins failed b stopped (λ sessions f. FeedsSessions holds place clock (within old) sessions (within new) f)
+      h
 
-  pub prints_within : (limits : Limits) (b : Option (Version × Incoming Q)) (old new : D) (stopped : Option Fault) (lines : List ℕ) → PrintsOver (λ q. gives (reader q)) (λ q. begins (reader q)) (λ q. failed (reader q)) (λ d. holds (inner d)) (λ d. place (inner d)) limits b old new stopped lines
+  pub prints_within : (limits : Limits) (b : Option (Version × Incoming Q)) (old new : D) (stopped : Option Fault) (lines : List ℕ)
+      → PrintsOver (λ q. gives (reader q)) (λ q. begins (reader q)) (λ q. failed (reader q)) (λ d. holds (inner d)) (λ d. place (inner d))
+      limits b old new stopped lines
       → PrintsOver gives begins failed holds place limits (input_within reader b) (inner old) (inner new) stopped lines
   prints_within limits None old new stopped lines h = h
-  prints_within limits (Some (version, b)) old new stopped lines h = came_within reader gives begins failed b stopped (λ sessions f. PrintsKept holds place limits version (inner old) sessions (inner new) f lines) h
+  prints_within limits (Some (version, b)) old new stopped lines h =
+      came_within reader gives begins failed b stopped
+      (λ sessions f. PrintsKept holds place limits version (inner old) sessions (inner new) f lines) h
 
-  pub holds_within : (limits : Limits) (b : Option (Version × Incoming Q)) (old new : D) → HoldsAfter (λ q. gives (reader q)) (λ q. begins (reader q)) (λ q. failed (reader q)) (λ d. holds (inner d)) (λ d. place (inner d)) limits b old new
+  pub holds_within : (limits : Limits) (b : Option (Version × Incoming Q)) (old new : D)
+      → HoldsAfter (λ q. gives (reader q)) (λ q. begins (reader q)) (λ q. failed (reader q)) (λ d. holds (inner d)) (λ d. place (inner d))
+      limits b old new
       → HoldsAfter gives begins failed holds place limits (input_within reader b) (inner old) (inner new)
   holds_within limits None old new h = h
-  holds_within limits (Some (version, b)) old new h = (h.0, came_within reader gives begins failed b h.0 (λ sessions f. HoldsFed holds place limits version (inner old) sessions (inner new) f) h.1)
+  holds_within limits (Some (version, b)) old new h = (
+    h.0,
+    came_within reader gives begins failed b h.0
+        (λ sessions f. HoldsFed holds place limits version (inner old) sessions (inner new) f) h.1,
+  )
 
   -- any store may be the one within
   module _ (outer : C → D) (back : (c : C) → inner (outer c) ≡ c) (reopens : C → C → Type 0) where
     reopened : (new : D) (other : C) → reopens (inner new) other → reopens (inner new) (inner (outer other))
     reopened new other r = subst (reopens (inner new)) (sym (back other)) r
 
-    nothing_new : (old new : D) → ((other : D) → reopens (inner new) (inner other) → reopens (inner old) (inner other)) → (other : C) → reopens (inner new) other → reopens (inner old) other
+    nothing_new : (old new : D) → ((other : D) → reopens (inner new) (inner other) → reopens (inner old) (inner other)) → (other : C)
+        → reopens (inner new) other → reopens (inner old) other
     nothing_new old new h other r = subst (reopens (inner old)) (back other) (h (outer other) (reopened new other r))
 
-    fronts_within : (serves : C → Type 0) (b : Incoming Q) (begun : SubscriberValue D) (old new : D) → LeavesFronts (λ q. gives (reader q)) (λ q. begins (reader q)) (λ q. failed (reader q)) (λ d. holds (inner d)) (λ d. place (inner d)) (λ d e. reopens (inner d) (inner e)) (λ d. serves (inner d)) b begun old new
+    fronts_within : (serves : C → Type 0) (b : Incoming Q) (begun : SubscriberValue D) (old new : D)
+        → LeavesFronts (λ q. gives (reader q)) (λ q. begins (reader q)) (λ q. failed (reader q)) (λ d. holds (inner d))
+        (λ d. place (inner d)) (λ d e. reopens (inner d) (inner e)) (λ d. serves (inner d)) b begun old new
         → LeavesFronts gives begins failed holds place reopens serves (incoming_within reader b) (within begun) (inner old) (inner new)
     fronts_within serves b begun old new leaves other r =
         elim (leaves (outer other) (reopened new other r)) [
@@ -97,23 +124,35 @@ module _ {R Q C D : Type 0} (reader : Q → R) (inner : D → C) (gives begins :
           )
         ]
 
-    pub left_within : (serves : C → Type 0) (limits : Limits) (b : Option (Version × Incoming Q)) (old new : D) → MayBeLeft (λ q. gives (reader q)) (λ q. begins (reader q)) (λ q. failed (reader q)) (λ d. holds (inner d)) (λ d. place (inner d)) (λ d e. reopens (inner d) (inner e)) (λ d. serves (inner d)) limits b old new
+    pub left_within : (serves : C → Type 0) (limits : Limits) (b : Option (Version × Incoming Q)) (old new : D)
+        → MayBeLeft (λ q. gives (reader q)) (λ q. begins (reader q)) (λ q. failed (reader q)) (λ d. holds (inner d)) (λ d. place (inner d))
+        (λ d e. reopens (inner d) (inner e)) (λ d. serves (inner d)) limits b old new
         → MayBeLeft gives begins failed holds place reopens serves limits (input_within reader b) (inner old) (inner new)
     left_within serves limits None old new h = nothing_new old new h
     left_within serves limits (Some (version, b)) old new h = (within h.0, (ap inner h.1.0, h.1.1), fronts_within serves b h.0 old new h.2)
 
-    safely_within : (new : SubscriberValue D) (history : _) (other : C) → IsLeftSafely (λ d. holds (inner d)) (λ d. place (inner d)) history new (outer other) → IsLeftSafely holds place history (within new) other
+    safely_within : (new : SubscriberValue D) (history : _) (other : C)
+        → IsLeftSafely (λ d. holds (inner d)) (λ d. place (inner d)) history new (outer other)
+        → IsLeftSafely holds place history (within new) other
     safely_within new history other left =
         subst (IsLeftSafely holds place history (within new)) (back other)
         (record { tables = left.tables; held = left.held; same = left.same; position = left.position; stored = left.stored })
 
-    history_within : (b : Incoming Q) (old new : SubscriberValue D) → LeavesIncomingHistory (λ q. gives (reader q)) (λ q. begins (reader q)) (λ q. failed (reader q)) (λ d. holds (inner d)) (λ d. place (inner d)) (λ d e. reopens (inner d) (inner e)) b old new
+    history_within : (b : Incoming Q) (old new : SubscriberValue D)
+        → LeavesIncomingHistory (λ q. gives (reader q)) (λ q. begins (reader q)) (λ q. failed (reader q)) (λ d. holds (inner d))
+        (λ d. place (inner d)) (λ d e. reopens (inner d) (inner e)) b old new
         → LeavesIncomingHistory gives begins failed holds place reopens (incoming_within reader b) (within old) (within new)
-    history_within (Sessions xs) old new h = λ history all_complete tables is sent other r. safely_within new history other (h history all_complete tables is sent (outer other) (reopened new.applied.store other r))
+    history_within (Sessions xs) old new h =
+        λ history all_complete tables is sent other r.
+        safely_within new history other (h history all_complete tables is sent (outer other) (reopened new.applied.store other r))
     history_within (Raw q) old new h = λ history bytes all_complete tables from is sent other again.
-        safely_within new history other (h history bytes all_complete tables (record { all = from.all; first = from.first }) is sent (outer other) (reopened new.applied.store other again))
+        safely_within new history other
+        (h history bytes all_complete tables (record { all = from.all; first = from.first }) is sent (outer other)
+        (reopened new.applied.store other again))
 
-    pub loses_within : (limits : Limits) (b : Option (Version × Incoming Q)) (old new : D) → LosesNothing (λ q. gives (reader q)) (λ q. begins (reader q)) (λ q. failed (reader q)) (λ d. holds (inner d)) (λ d. place (inner d)) (λ d e. reopens (inner d) (inner e)) limits b old new
+    pub loses_within : (limits : Limits) (b : Option (Version × Incoming Q)) (old new : D)
+        → LosesNothing (λ q. gives (reader q)) (λ q. begins (reader q)) (λ q. failed (reader q)) (λ d. holds (inner d))
+        (λ d. place (inner d)) (λ d e. reopens (inner d) (inner e)) limits b old new
         → LosesNothing gives begins failed holds place reopens limits (input_within reader b) (inner old) (inner new)
     loses_within limits None old new h = nothing_new old new h
     loses_within limits (Some (version, b)) old new (begun, ended, over, is, stands, leaves) = (

@@ -12,10 +12,12 @@ abbrev pub cause_line : List ℕ → List ℕ
 cause_line cause = codes "pgsub: " ++ (cause ++ 10 ∷ [])
 
 module _ {E : Type 0} (takes : E → List ℕ → E → Type 0) (failed : E → Type 0) where
-  -- Where a store refused, one line of why. It is left out where that isn't known, or memory runs out.
+  -- Where a store refused, one line of why. It is left out where that isn't known, or memory runs
+  -- out.
   abbrev pub TellsCause : Result Ending RunFault → E → E → Type 0
   TellsCause ended old new =
-      (new ≡ old) ⊎ ((ended ≡ Err (run.Stream (fault.Store store.Refused))) × (((cause : List ℕ) × AllByRecursion (λ b. b ≢ 10) cause × takes old (cause_line cause) new) ⊎ failed old))
+      (new ≡ old) ⊎ ((ended ≡ Err (run.Stream (fault.Store store.Refused)))
+      × (((cause : List ℕ) × AllByRecursion (λ b. b ≢ 10) cause × takes old (cause_line cause) new) ⊎ failed old))
 
   -- that line, and behind it the one of the fault
   abbrev pub TellsCaused : Result Ending RunFault → E → E → Type 0

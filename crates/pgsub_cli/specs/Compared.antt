@@ -1,4 +1,5 @@
--- How two subscribers compare once the sessions of both were followed, or which fault stopped one of them.
+-- How two subscribers compare once the sessions of both were followed, or which fault stopped one
+-- of them.
 use Rattle.std.specs.Prelude.{◌⊎◌, ℕ, List, Option, None, Some, Result, Ok, Err}
 use Rattle.pgapply.specs.Value.{Tables}
 use Rattle.pgsub_core.specs.declared.converging.ConvergeFault.{ConvergeFault}
@@ -42,7 +43,8 @@ module _ {C : Type 0} (holds : C → Tables → Type 0) (place : C → ℕ) wher
   -- so it ends beside a new subscriber, whatever tables the left one's store held
   abbrev pub EndsBesideNew : Version → SubscriberValue C → List (List ℕ) → List (List ℕ) → Result Verdict ConvergeFault → Type 0
   EndsBesideNew version left sessions others answered =
-      (tables : Tables) → holds left.applied.store tables → EndsWith (seen place left tables) sessions (new_subscriber default_limits version) others answered
+      (tables : Tables) → holds left.applied.store tables
+      → EndsWith (seen place left tables) sessions (new_subscriber default_limits version) others answered
 
 module _ {C D : Type 0} (holds : C → Tables → Type 0) (place : C → ℕ) (holds' : D → Tables → Type 0) (place' : D → ℕ) where
   -- so it ends whatever tables both stores held

@@ -9,7 +9,8 @@ use Rattle.pgjson.specs.Cells.{cells_data}
 
 -- namespace, name, cells and copies
 abbrev pub row_data : DumpRow → Data
-row_data row = array (item (string row.namespace) (item (string row.name) (item (cells_data row.cells) (item (number (unsigned row.copies)) no_items))))
+row_data row = array (item (string row.namespace)
+    (item (string row.name) (item (cells_data row.cells) (item (number (unsigned row.copies)) no_items))))
 
 abbrev pub row_line : DumpRow → List ℕ
 row_line row = compact_text (row_data row) ++ 10 ∷ []

@@ -1,4 +1,5 @@
--- The line of a fault on standard error: the kind of the fault, its number and its name, and what belongs to it.
+-- The line of a fault on standard error: the kind of the fault, its number and its name, and what
+-- belongs to it.
 use Rattle.std.specs.Prelude.{ℕ, List, [], ◌∷◌, ◌++◌, codes, decimal}
 use Rattle.pgwire.specs.declared.fault.WireFault.{WireFault}
 use Rattle.pgwire.specs.declared.fault.WireFault.TheVariants as wire
@@ -109,7 +110,8 @@ fault_text fault.Read = codes "read"
 fault_text fault.Closed = codes "closed"
 fault_text fault.Memory = memory_text
 
--- what a run that stopped says behind the program's name: lines are counted from 1, and a file is named by its path
+-- what a run that stopped says behind the program's name: lines are counted from 1, and a file is
+-- named by its path
 abbrev pub stop_text : RunFault → List ℕ → List ℕ → List ℕ
 stop_text (run.Stream f) left right = fault_text f
 stop_text (run.OfSide Left f) left right = codes "left: " ++ fault_text f

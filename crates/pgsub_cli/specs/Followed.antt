@@ -23,8 +23,8 @@ new_subscriber limits version = newly map.empty 0 version (longest_within limits
 abbrev pub subscriber_over : Limits → Tables → ℕ → Version → Subscribed
 subscriber_over limits tables position version = newly tables position version (longest_within limits) limits.max_buffered
 
--- The bytes of these sessions lead from one state to another, and this fault stopped them, if one did. Of whatever history they are
--- the sessions, they were followed.
+-- The bytes of these sessions lead from one state to another, and this fault stopped them, if one
+-- did. Of whatever history they are the sessions, they were followed.
 pub record LeadsTo (old : Subscribed) (sessions : List (List ℕ)) (stopped : Option Fault) (state : Subscribed) : Type 0 where
   pub fed : AreFed clock old sessions state stopped
   pub followed :

@@ -22,8 +22,10 @@ ending_of (Some follow.Read) = Err (run.Stream fault.Read)
 ending_of (Some follow.Write) = Err run.CannotWrite
 ending_of (Some (follow.Stream f)) = Err (run.Stream f)
 
--- A subscriber over the one store, within these limits, followed a server; its store is then the other.
-abbrev pub FollowsOver : {C : Type 0} → (C → Tables → Type 0) → (C → ℕ) → (C → C → Type 0) → (C → Type 0) → (C → Misses) → Option (List ℕ) → Option (List ℕ) → ℕ → Option (List ℕ) → Option (List ℕ) → Limits → Version → C → C → Option FollowFault → Type 0
+-- A subscriber over the one store, within these limits, followed a server; its store is then the
+-- other.
+abbrev pub FollowsOver : {C : Type 0} → (C → Tables → Type 0) → (C → ℕ) → (C → C → Type 0) → (C → Type 0) → (C → Misses) → Option (List ℕ)
+    → Option (List ℕ) → ℕ → Option (List ℕ) → Option (List ℕ) → Limits → Version → C → C → Option FollowFault → Type 0
 FollowsOver {C} holds place reopens serves count unread rest reads wrote wrote' limits version store store' ended =
     (old : SubscriberValue C) × (new : SubscriberValue C) × (old.applied.store ≡ store) × (new.applied.store ≡ store')
     × ((tables : Tables) → seen place old tables ≡ subscriber_over limits tables (place store) version)

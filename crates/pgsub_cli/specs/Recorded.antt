@@ -1,5 +1,6 @@
 -- The sessions of a recording, and what comes of a file.
-use Rattle.std.specs.Prelude.{◌≡◌, ◌≤◌, ◌<◌, ℕ, Bool, true, false, List, length, Ok, Err, Option, None, Some, IfSome, IsSome}
+use Rattle.std.specs.Prelude.{◌≡◌, ◌≤◌, ◌<◌, ℕ, Bool, true, false, List, length, Ok, Err, Option}
+use Rattle.std.specs.Prelude.{None, Some, IfSome, IsSome}
 use Rattle.pgsub_core.specs.declared.fault.Fault.TheVariants as fault
 use Rattle.pgsub_core.specs.declared.session.Session.{Session}
 use Rattle.pgsub_core.specs.declared.converging.Side.{Side}
@@ -24,8 +25,8 @@ module _ {R : Type 0} (gives : R → List ℕ → Type 0) where
   abbrev pub Records : Option R → List Session → Type 0
   Records file sessions = (text : List ℕ) × ReadsRecording file text × (sessions_of text ≡ Ok sessions)
 
-  -- Why the sessions on a side aren't read: memory ran out, a line isn't hexadecimal, the text is longer than the limit, or the file
-  -- can't be opened or read.
+  -- Why the sessions on a side aren't read: memory ran out, a line isn't hexadecimal, the text is
+  -- longer than the limit, or the file can't be opened or read.
   abbrev pub IsUnread : (R → Type 0) → Side → Option R → RunFault → Type 0
   IsUnread failed side file (run.Stream f) = (f ≡ fault.Memory) × IsSome file
   IsUnread failed side file (run.OfSide s f) = ⊥

@@ -1,5 +1,6 @@
 -- The line that tells how far a long run is.
-use Rattle.std.specs.Prelude.{◌≡◌, ◌≤◌, ◌+◌, ◌-◌, ◌^◌, ◌⊎◌, min, ℕ, List, ◌++◌, Option, Some, None, codes, decimal}
+use Rattle.std.specs.Prelude.{◌≡◌, ◌≤◌, ◌+◌, ◌-◌, ◌^◌, ◌⊎◌, min, ℕ, List, ◌++◌, Option, Some, None}
+use Rattle.std.specs.Prelude.{codes, decimal}
 use Rattle.std.specs.Time.{instant_nanos}
 use Rattle.std.specs.declared.time.Instant.{Instant}
 use Rattle.pglsn.specs.Texts.{lsn_text}
@@ -15,7 +16,8 @@ bytes_text read (Some total) = decimal read ++ (codes " of " ++ decimal total)
 bytes_text read None = decimal read
 
 abbrev pub progress_line : Progress → List ℕ
-progress_line p = codes "pgsub: " ++ (bytes_text p.read p.total ++ (codes " bytes read, " ++ (decimal p.commits ++ (codes " commits, " ++ (decimal p.changes
+progress_line p = codes "pgsub: "
+    ++ (bytes_text p.read p.total ++ (codes " bytes read, " ++ (decimal p.commits ++ (codes " commits, " ++ (decimal p.changes
     ++ (codes " changes, position " ++ (lsn_text p.position ++ (codes ", " ++ (decimal p.rate ++ codes " changes/s\n")))))))))
 
 -- of nothing yet, of so many bytes where that is known
@@ -40,7 +42,8 @@ IsCounted p q = p ≡ record q { rate = p.rate }
 -- Nothing is told, or a second after the last line the line is, as far as it can be written.
 module _ {E : Type 0} (takes : E → List ℕ → E → Type 0) (failed : E → Type 0) where
   abbrev pub TellsProgress : Instant → Instant → Progress → E → E → Type 0
-  TellsProgress last last' p old new = (new ≡ old) ⊎ ((instant_nanos last + 1000000000 ≤ instant_nanos last') × (takes old (progress_line p) new ⊎ failed old))
+  TellsProgress last last' p old new =
+      (new ≡ old) ⊎ ((instant_nanos last + 1000000000 ≤ instant_nanos last') × (takes old (progress_line p) new ⊎ failed old))
 
 -- what comes, of the file within another one
 abbrev pub incoming_within : {R Q : Type 0} → (Q → R) → Incoming Q → Incoming R

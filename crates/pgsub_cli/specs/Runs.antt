@@ -1,5 +1,7 @@
 -- How a run ends, and what was printed then.
-use Rattle.std.specs.Prelude.{◌≡◌, ◌⊎◌, ◌++◌, ◌≤◌, ◌-◌, ◌^◌, ℕ, List, [], ◌∷◌, Bool, Option, None, Some, Result, Ok, Err, codes, decimal, length, String, option_map, string_bytes}
+use Rattle.std.specs.Prelude.{◌≡◌, ◌⊎◌, ◌++◌, ◌≤◌, ◌-◌, ◌^◌, ℕ, List, [], ◌∷◌, Bool, Option, None}
+use Rattle.std.specs.Prelude.{Some, Result, Ok, Err, codes, decimal, length, String, option_map}
+use Rattle.std.specs.Prelude.{string_bytes}
 use Rattle.std.specs.declared.alloc.AllocError.{AllocError}
 use Rattle.std.specs.declared.alloc.Global.{Global}
 use Rattle.std.specs.FinMap as map
@@ -35,7 +37,8 @@ use Rattle.pgsub_cli.specs.Limits.{default_limits}
 use Rattle.pgsub_cli.specs.Recorded.{ComesOf, ComesNot, Records, IsUnread}
 use Rattle.pgsub_cli.specs.Shown.{AreShown}
 
--- ---- the exit status: 0 done, 1 a stream that is rejected or memory that ran out, 2 usage, 3 a fault of a file, 4 a difference
+-- ---- the exit status: 0 done, 1 a stream that is rejected or memory that ran out, 2 usage, 3 a
+-- fault of a file, 4 a difference
 
 abbrev pub status_of_stream : Fault → ℕ
 status_of_stream (fault.Wire f) = 1
@@ -87,8 +90,8 @@ store_path (task.Dump store cache) = Some (string_bytes store)
 store_path (task.Follow version limits store cache feed) = Some (string_bytes store)
 store_path _ = None
 
--- Standard error gets the line of the fault, and nothing where there is none. Where there is no memory for that line, it gets the one
--- that says so.
+-- Standard error gets the line of the fault, and nothing where there is none. Where there is no
+-- memory for that line, it gets the one that says so.
 abbrev pub Tells : {E : Type 0} → (E → List ℕ → E → Type 0) → (E → Type 0) → List ℕ → List ℕ → Result Ending RunFault → E → E → Type 0
 Tells takes failed left right (Ok ending) old new = new ≡ old
 Tells takes failed left right (Err f) old new = takes old (stop_line f left right) new ⊎ (takes old memory_line new ⊎ failed old)
@@ -117,7 +120,8 @@ fault_of_feeding (Some fault.Closed) = Some fault.Closed
 fault_of_feeding (Some fault.Memory) = Some fault.Memory
 
 module _ {R : Type 0} (gives begins : R → List ℕ → Type 0) (failed : R → Type 0) where
-  -- Which bytes of a file were read where this stopped: all of them, or its first ones. Nothing stops it after 2^64 - 1 bytes either.
+  -- Which bytes of a file were read where this stopped: all of them, or its first ones. Nothing
+  -- stops it after 2^64 - 1 bytes either.
   abbrev pub AreRead : R → List ℕ → Option Fault → Type 0
   AreRead file bytes None = gives file bytes ⊎ (begins file bytes × (2 ^ 64 - 1 ≤ length bytes))
   AreRead file bytes (Some fault.Read) = begins file bytes × failed file
@@ -193,7 +197,8 @@ module _ {W : Type 0} (takes : W → List ℕ → W → Type 0) (failed : W → 
 -- what both sides' sessions leave has this verdict
 abbrev pub AreComparedAs : Version → List Session → List Session → Verdict → Type 0
 AreComparedAs version left right v =
-    (state : Subscribed) × (other : Subscribed) × Leaves default_limits version (bytes_of left) None state × Leaves default_limits version (bytes_of right) None other × IsVerdict state other v
+    (state : Subscribed) × (other : Subscribed) × Leaves default_limits version (bytes_of left) None state
+    × Leaves default_limits version (bytes_of right) None other × IsVerdict state other v
 
 -- the sessions of a side were stopped by this, or what they leave can't be read
 abbrev pub SideStops : Version → List Session → Fault → Type 0
@@ -202,7 +207,8 @@ SideStops version sessions f = IsReadFault f ⊎ ((state : Subscribed) × Leaves
 -- The left one's sessions are followed and its rows read, and then the right one's.
 abbrev pub Uncompared : Version → List Session → List Session → Side → Fault → Type 0
 Uncompared version left right Left f = SideStops version left f
-Uncompared version left right Right f = ((state : Subscribed) × Leaves default_limits version (bytes_of left) None state) × SideStops version right f
+Uncompared version left right Right f =
+    ((state : Subscribed) × Leaves default_limits version (bytes_of left) None state) × SideStops version right f
 
 abbrev pub IsUncompared : Version → List Session → List Session → ConvergeFault → Type 0
 IsUncompared version left right f = Uncompared version left right f.side f.fault
@@ -215,15 +221,19 @@ module _ {W : Type 0} (takes : W → List ℕ → W → Type 0) (failed : W → 
   WritesVerdict v old new (Err run.CannotWrite) = failed old
   WritesVerdict v old new (Err _) = ⊥
 
-  -- The sessions of both sides are compared: the left one's are followed first, and its fault comes first.
+  -- The sessions of both sides are compared: the left one's are followed first, and its fault comes
+  -- first.
   abbrev pub ComparesSessions : Version → List Session → List Session → W → W → Result Ending RunFault → Type 0
   ComparesSessions version left right old new ended =
       ((v : Verdict) × AreComparedAs version left right v × WritesVerdict v old new ended)
       ⊎ ((side : Side) × (f : Fault) × (ended ≡ Err (run.OfSide side f)) × Uncompared version left right side f × (new ≡ old))
 
-module _ {R W : Type 0} (gives begins : R → List ℕ → Type 0) (read_failed : R → Type 0) (takes : W → List ℕ → W → Type 0) (write_failed : W → Type 0) where
-  -- A recording is read, and then lines are written that its sessions give. Where it can't be read, nothing is.
-  abbrev pub Prints : (Fault → Type 0) → (List Session → Option Fault → List ℕ → Type 0) → Option R → W → W → Result Ending RunFault → Type 0
+module _ {R W : Type 0} (gives begins : R → List ℕ → Type 0) (read_failed : R → Type 0) (takes : W → List ℕ → W → Type 0)
+    (write_failed : W → Type 0) where
+  -- A recording is read, and then lines are written that its sessions give. Where it can't be read,
+  -- nothing is.
+  abbrev pub Prints : (Fault → Type 0) → (List Session → Option Fault → List ℕ → Type 0) → Option R → W → W → Result Ending RunFault
+      → Type 0
   Prints lost prints file old new ended =
       ((f : RunFault) × (ended ≡ Err f) × IsUnread gives read_failed Left file f × (new ≡ old))
       ⊎ ((sessions : List Session) × Records gives file sessions × Writes takes write_failed lost (prints sessions) old new ended)
@@ -236,12 +246,14 @@ module _ {R W : Type 0} (gives begins : R → List ℕ → Type 0) (read_failed 
       ⊎ ((incoming : Incoming R) × ComesOf gives read_failed raw file incoming
       × Writes takes write_failed IsReadFault (PrintsApplied gives begins read_failed limits version incoming) old new ended)
 
-  -- Why two recordings aren't read: both are opened first, and then the left one is read before the right one.
+  -- Why two recordings aren't read: both are opened first, and then the left one is read before the
+  -- right one.
   abbrev pub AreUnread : Option R → Option R → RunFault → Type 0
   AreUnread None right f = f ≡ run.CannotRead Left
   AreUnread (Some left) None f = f ≡ run.CannotRead Right
   AreUnread (Some left) (Some right) f =
-      IsUnread gives read_failed Left (Some left) f ⊎ ((sessions : List Session) × Records gives (Some left) sessions × IsUnread gives read_failed Right (Some right) f)
+      IsUnread gives read_failed Left (Some left) f
+      ⊎ ((sessions : List Session) × Records gives (Some left) sessions × IsUnread gives read_failed Right (Some right) f)
 
   abbrev pub Compares : Version → Option R → Option R → W → W → Result Ending RunFault → Type 0
   Compares version left right old new ended =
@@ -249,10 +261,12 @@ module _ {R W : Type 0} (gives begins : R → List ℕ → Type 0) (read_failed 
       ⊎ ((sessions : List Session) × (others : List Session) × Records gives left sessions × Records gives right others
       × ComparesSessions takes write_failed version sessions others old new ended)
 
-  -- How each task ends that names no store. Of `show` no line is lost; the others lose theirs where the store can't be read or memory runs out.
+  -- How each task ends that names no store. Of `show` no line is lost; the others lose theirs where
+  -- the store can't be read or memory runs out.
   abbrev pub Ends : Task → Option R → Option R → W → W → Result Ending RunFault → Type 0
   Ends (task.Show version file) left right old new ended = Prints (λ f. ⊥) (PrintsShown version) left old new ended
-  Ends (task.Apply version limits raw progress store cache feed file) left right old new ended = Applies limits version raw left old new ended
+  Ends (task.Apply version limits raw progress store cache feed file) left right old new ended =
+      Applies limits version raw left old new ended
   Ends (task.Dump store cache) left right old new ended = ⊥
   Ends (task.Follow version limits store cache feed) left right old new ended = ⊥
   Ends (task.Same version file other) left right old new ended = Compares version left right old new ended

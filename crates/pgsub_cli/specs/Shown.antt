@@ -1,5 +1,6 @@
 -- The lines of a recording: those of each session, and `--` for each disconnection.
-use Rattle.std.specs.Prelude.{◌≡◌, ◌⊎◌, ◌++◌, ℕ, List, [], ◌∷◌, Option, None, Some, Result, String, codes, string_bytes}
+use Rattle.std.specs.Prelude.{◌≡◌, ◌⊎◌, ◌++◌, ℕ, List, [], ◌∷◌, Option, None, Some, Result, String}
+use Rattle.std.specs.Prelude.{codes, string_bytes}
 use Rattle.std.specs.Result.{result_err}
 use Rattle.std.specs.declared.alloc.Global.{Global}
 use Rattle.pgorder.specs.declared.Version.{Version}
@@ -27,22 +28,27 @@ StopsIn version bytes head rest stopped =
 
 -- a session is shown by these lines, up to the fault that stopped it, if one did
 abbrev pub IsShown : Version → List ℕ → List ℕ → Option Fault → Type 0
-IsShown version bytes lines stopped = (IsShownAs version longest_payload bytes lines None × (stopped ≡ None)) ⊎ StopsIn version bytes lines [] stopped
+IsShown version bytes lines stopped =
+    (IsShownAs version longest_payload bytes lines None × (stopped ≡ None)) ⊎ StopsIn version bytes lines [] stopped
 
--- What follows the first session: each later one has a line for the disconnection before it, unless there is no memory for that.
+-- What follows the first session: each later one has a line for the disconnection before it, unless
+-- there is no memory for that.
 abbrev pub AreShownLater : Version → List (List ℕ) → List ℕ → Option Fault → Type 0
 AreShownLater version [] lines stopped = (lines ≡ []) × (stopped ≡ None)
 AreShownLater version (bytes ∷ sessions) lines stopped =
     ((lines ≡ []) × (stopped ≡ Some fault.Memory))
     ⊎ ((head : List ℕ) × (rest : List ℕ) × (lines ≡ disconnection_line ++ (head ++ rest))
-    × ((IsShownAs version longest_payload bytes head None × AreShownLater version sessions rest stopped) ⊎ StopsIn version bytes head rest stopped))
+    × ((IsShownAs version longest_payload bytes head None × AreShownLater version sessions rest stopped)
+    ⊎ StopsIn version bytes head rest stopped))
 
--- Sessions are shown by these lines, up to the first fault. Where memory runs out, they are the lines of some sessions and frames.
+-- Sessions are shown by these lines, up to the first fault. Where memory runs out, they are the
+-- lines of some sessions and frames.
 abbrev pub AreShown : Version → List (List ℕ) → List ℕ → Option Fault → Type 0
 AreShown version [] lines stopped = (lines ≡ []) × (stopped ≡ None)
 AreShown version (bytes ∷ sessions) lines stopped =
     (head : List ℕ) × (rest : List ℕ) × (lines ≡ head ++ rest)
-    × ((IsShownAs version longest_payload bytes head None × AreShownLater version sessions rest stopped) ⊎ StopsIn version bytes head rest stopped)
+    × ((IsShownAs version longest_payload bytes head None × AreShownLater version sessions rest stopped)
+    ⊎ StopsIn version bytes head rest stopped)
 
 -- Lines of which this holds were put behind the old ones, up to the fault.
 abbrev pub AddsLines : (List ℕ → Option Fault → Type 0) → String Global → String Global → Result (Unit {0}) Fault → Type 0

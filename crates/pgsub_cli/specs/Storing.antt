@@ -21,14 +21,16 @@ status_of_unopened _ = 3
 module _ {C : Type 0} (holds : C → Tables → Type 0) (place : C → ℕ) where
   -- the lines of the rows and the position of a store, of which nothing changes
   abbrev pub ShowsHeld : C → C → List ℕ → Type 0
-  ShowsHeld old new lines = (tables : Tables) → holds old tables → holds new tables × (place new ≡ place old) × (lines ≡ dump_of (dump tables) (place old))
+  ShowsHeld old new lines = (tables : Tables) → holds old tables
+      → holds new tables × (place new ≡ place old) × (lines ≡ dump_of (dump tables) (place old))
 
-  -- The bytes of these sessions lead on from what the store held and its position, and the store holds where they lead, also where
-  -- this stopped them. The lines are those of that.
+  -- The bytes of these sessions lead on from what the store held and its position, and the store
+  -- holds where they lead, also where this stopped them. The lines are those of that.
   abbrev pub PrintsKept : Limits → Version → C → List (List ℕ) → C → Option Fault → List ℕ → Type 0
   PrintsKept limits version old sessions new stopped lines =
       (tables : Tables) → holds old tables
-      → (state : Subscribed) × LeadsTo (subscriber_over limits tables (place old) version) sessions stopped state × holds new state.tables × (place new ≡ state.position) × (lines ≡ lines_of state)
+      → (state : Subscribed) × LeadsTo (subscriber_over limits tables (place old) version) sessions stopped state × holds new state.tables
+      × (place new ≡ state.position) × (lines ≡ lines_of state)
 
 module _ {R C : Type 0} (gives begins : R → List ℕ → Type 0) (failed : R → Type 0) (holds : C → Tables → Type 0) (place : C → ℕ) where
   -- by what comes, if anything does

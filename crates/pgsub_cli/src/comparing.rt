@@ -20,8 +20,8 @@ use pgsub_core::{ConvergeFault, Fault, Session, Side, Subscriber, Verdict, conve
 use sqlite::Alter;
 use std::alloc::Global;
 
-/// The fault of a side, or, where its rows can't be read any more, the one of reading them. So what is told as the fault of a stream
-/// isn't that of a store that has shut meanwhile.
+/// The fault of a side, or, where its rows can't be read any more, the one of reading them. So what
+/// is told as the fault of a stream isn't that of a store that has shut meanwhile.
 fn confirmed_fault<P: Spools + Drop, C: ReplicaStore + Drop>(
     subscriber: &mut Subscriber<P, C>,
     fault: Fault,
@@ -63,7 +63,8 @@ fn compare_subscribers<
     Err(ConvergeFault { side, fault })
 }
 
-/// The same, over stores of any kind, since the proof that one over given disks is a store gets too large.
+/// The same, over stores of any kind, since the proof that one over given disks is a store gets too
+/// large.
 fn compare_stores<P: Spools + Drop, S: Alter + Drop, Q: Spools + Drop, T: Alter + Drop>(
     left: Subscriber<P, Store<S>>,
     left_sessions: &[Session],
@@ -78,7 +79,8 @@ fn compare_stores<P: Spools + Drop, S: Alter + Drop, Q: Spools + Drop, T: Alter 
     compare_subscribers(left, left_sessions, right, right_sessions)
 }
 
-/// The subscriber of a side. Where there is no memory for it, nothing was followed yet, so the fault is the left one's.
+/// The subscriber of a side. Where there is no memory for it, nothing was followed yet, so the
+/// fault is the left one's.
 fn new_side(
     alloc: Global,
     version: Version,
@@ -114,7 +116,8 @@ fn compare_with_new<P: Spools + Drop, S: Alter + Drop>(
 
 /// How the rows and positions compare that the sessions of two recordings leave of empty stores.
 ///
-/// It fails with the first fault of a side, of its sessions or of reading its rows, or where there is no memory for a store.
+/// It fails with the first fault of a side, of its sessions or of reading its rows, or where there
+/// is no memory for a store.
 pub fn compare(
     alloc: Global,
     version: Version,

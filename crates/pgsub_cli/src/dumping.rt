@@ -1,6 +1,7 @@
 //! Prints what a store holds, row by row as it is read.
 
-ghost use Rattle.std.specs.Prelude.{◌≡◌, ◌≤◌, ◌++◌, [], ℕ, List, Result, Ok, Some, None, true, OnOk, IfOk, IfErr, string_bytes};
+ghost use Rattle.std.specs.Prelude.{◌≡◌, ◌≤◌, ◌++◌, [], ℕ, List, Result, Ok, Some, None, true};
+ghost use Rattle.std.specs.Prelude.{OnOk, IfOk, IfErr, string_bytes};
 ghost use Rattle.pgapply.specs.Dump.{dump};
 ghost use Rattle.pgapply.specs.Stored.{IsOwnFault};
 ghost use Rattle.pgapply.specs.Taken.{Stays};
@@ -168,7 +169,8 @@ impl<W: Output + Drop> DumpSink for LineSink<W> {
     }
 }
 
-/// Prints the rows of a store, as they are read, and its position. Where that stops, some front of the lines is printed.
+/// Prints the rows of a store, as they are read, and its position. Where that stops, some front of
+/// the lines is printed.
 fn write_rows<C: ReplicaStore + Drop, W: Output + Drop>(
     alloc: Global,
     store: &mut C,
@@ -191,10 +193,11 @@ fn write_rows<C: ReplicaStore + Drop, W: Output + Drop>(
     (ended, sink.lines.out)
 }
 
-/// Prints the rows of a store and its position, row by row, with the memory of one row and some lines. Returns the exit status, the
-/// store and the output.
+/// Prints the rows of a store and its position, row by row, with the memory of one row and some
+/// lines. Returns the exit status, the store and the output.
 ///
-/// Nothing changes. Where reading or writing stops, some front of the lines is printed, and standard error gets the line of the fault.
+/// Nothing changes. Where reading or writing stops, some front of the lines is printed, and
+/// standard error gets the line of the fault.
 pub fn run_dump<C: ReplicaStore + Drop, W: Output + Drop, E: Output>(
     alloc: Global,
     mut store: C,

@@ -2,7 +2,9 @@
 
 ghost use Rattle.std.specs.Prelude.{Some};
 ghost use Rattle.std.specs.Fmt.{DisplaysOnOk};
-ghost use Rattle.pgsub_cli.specs.FaultTexts.{fault_text, stop_line, stop_text, wire_text, reason_text, tuple_text, order_text, relation_text, spool_text, store_text};
+ghost use Rattle.pgsub_cli.specs.FaultTexts.{fault_text, stop_line, stop_text, wire_text};
+ghost use Rattle.pgsub_cli.specs.FaultTexts.{reason_text, tuple_text, order_text, relation_text};
+ghost use Rattle.pgsub_cli.specs.FaultTexts.{spool_text, store_text};
 
 use crate::fault::RunFault;
 use pgapply::StoreFault;
@@ -37,7 +39,8 @@ impl fmt::Display for FaultText {
     }
 }
 
-/// The line on standard error of a run that stopped. A file that can't be read is named by its path.
+/// The line on standard error of a run that stopped. A file that can't be read is named by its
+/// path.
 #[derive(Drop)]
 pub struct StopLine<'t> {
     /// Why the run stopped.

@@ -1,8 +1,9 @@
 //! What a run reads its recordings from, and what it writes its lines to.
 //!
-//! That a read or a write failed is a fact that only a failure gives. So a function over any input and output is proved to
-//! return a fault of theirs only where it met one.
-ghost use Rattle.std.specs.Prelude.{◌≡◌, ◌≤◌, ◌<◌, ◌++◌, ℕ, List, None, Some, Ok, length, IfSome, IfOk, OnOk, OnErr, ⊤};
+//! That a read or a write failed is a fact that only a failure gives. So a function over any input
+//! and output is proved to return a fault of theirs only where it met one.
+ghost use Rattle.std.specs.Prelude.{◌≡◌, ◌≤◌, ◌<◌, ◌++◌, ℕ, List, None, Some, Ok, length, IfSome};
+ghost use Rattle.std.specs.Prelude.{IfOk, OnOk, OnErr, ⊤};
 ghost use Rattle.std.specs.Io.KnownBytes.{Appends};
 ghost use Rattle.pgsub_core.specs.Subscriber.Crashing.{LeavesOldOr, FedOver};
 ghost use Rattle.pgsub_core.specs.Subscriber.Handled.{fault_in};
@@ -58,7 +59,8 @@ pub trait Input {
     /// What holds of it where reading it failed.
     ghost failed: { Self → Type 0 };
 
-    /// All its bytes, or None where they are more than `longest`. Not more than one byte after that is read.
+    /// All its bytes, or None where they are more than `longest`. Not more than one byte after that
+    /// is read.
     fn read_whole(self, alloc: Global, longest: u32) -> io::Result<Option<Vec<u8>>>
         ensures whole { IfOk result (λ read. IfSome read
             (λ text. gives self text.items × (length text.items ≤ longest))) }
@@ -66,9 +68,10 @@ pub trait Input {
             × (longest < length bytes) }
         ensures failed { OnErr result (failed self) };
 
-    /// Feeds all its bytes as they are read to a subscriber, as one session from a disconnection on, and a listener hears of each read.
-    /// What comes before a read that fails is fed, and so is what comes before the first fault. Whatever a crash at the end may leave
-    /// of the store could be left before, or has what some front of the bytes leads to.
+    /// Feeds all its bytes as they are read to a subscriber, as one session from a disconnection
+    /// on, and a listener hears of each read. What comes before a read that fails is fed, and so is
+    /// what comes before the first fault. Whatever a crash at the end may leave of the store could
+    /// be left before, or has what some front of the bytes leads to.
     fn feed_to<P: Spools + Drop, C: ReplicaStore + Drop, L: ReadListener + Drop>(
         self,
         subscriber: &mut Subscriber<P, C>,

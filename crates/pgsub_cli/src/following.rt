@@ -6,7 +6,8 @@ ghost use Rattle.pgfollow.specs.declared.fault.FollowFault.TheVariants as follow
 ghost use Rattle.pgfollow.specs.Live.{IsOfFollowing, ended_by};
 ghost use Rattle.pgsub_core.specs.declared.fault.Fault.TheVariants.{Store};
 ghost use Rattle.pgsub_cli.specs.declared.fault.RunFault.TheVariants.{Stream};
-ghost use Rattle.pgsub_cli.specs.FollowStatus.{status_of_fault, status_of_follow, status_of_store, status_of_unfollowed};
+ghost use Rattle.pgsub_cli.specs.FollowStatus.{status_of_fault, status_of_follow, status_of_store};
+ghost use Rattle.pgsub_cli.specs.FollowStatus.{status_of_unfollowed};
 ghost use Rattle.pgsub_cli.specs.FollowedLive.{FollowsOver, ending_of};
 ghost use Rattle.pgsub_cli.specs.Caused.{TellsCause, TellsCaused};
 
@@ -73,8 +74,9 @@ fn follow_status(followed: Result<(), FollowFault>, missed: u64) -> u8
     }
 }
 
-/// Tells why a server can't be followed over a store that couldn't be opened, as `tell_unopened` does, and before it the cause, where it
-/// is known. Returns the exit status: 3 where the file is no store, 14 where memory ran out and else 12.
+/// Tells why a server can't be followed over a store that couldn't be opened, as `tell_unopened`
+/// does, and before it the cause, where it is known. Returns the exit status: 3 where the file is
+/// no store, 14 where memory ran out and else 12.
 pub fn tell_unfollowed<E: Output>(
     alloc: Global,
     fault: StoreFault,
@@ -126,7 +128,8 @@ fn tell_cause<E: Output>(
 /// and knows why, a line of that: `pgsub: the disk is full`. No other run writes one: what `apply`
 /// and `dump` write to standard error are lines of a fixed list.
 ///
-/// What was read, fed and written, that all that is confirmed is stored, and which changes find no row, is as `follow_live` says.
+/// What was read, fed and written, that all that is confirmed is stored, and which changes find no
+/// row, is as `follow_live` says.
 pub fn run_follow<R: Read + Drop, W: Write + Drop, K: Clock, C: ReplicaStore + Drop, E: Output>(
     alloc: Global,
     store: C,

@@ -1,5 +1,5 @@
-//! The program's commands, over any readers and writers: a recording is read, its sessions are followed, and what is stored then
-//! is printed.
+//! The program's commands, over any readers and writers: a recording is read, its sessions are
+//! followed, and what is stored then is printed.
 //!
 //! ```text
 //! let task = command_of(alloc, words)?;

@@ -28,8 +28,8 @@ impl fmt::Display for MissedLine {
     }
 }
 
-/// Writes a line whenever more changes found no row: how many did since the store was opened, and the relation and the end LSN of
-/// the first one's commit.
+/// Writes a line whenever more changes found no row: how many did since the store was opened, and
+/// the relation and the end LSN of the first one's commit.
 #[derive(Drop)]
 pub struct MissedLines<E: Output + Drop> {
     alloc: Global,
@@ -50,7 +50,8 @@ impl<E: Output + Drop> MissedLines<E> {
         }
     }
 
-    /// Writes the line of so many. Where there is no memory for it, or it can't be written, the next settling tells.
+    /// Writes the line of so many. Where there is no memory for it, or it can't be written, the
+    /// next settling tells.
     fn tell(&mut self, count: u64, first: Miss)
         ensures { TellsMissed E.takes E.failed count first self.old.told self.new.told self.old.err
             self.new.err }

@@ -6,7 +6,8 @@ ghost use Rattle.pgstore.specs.StoreValue.{HasTables, IsHonest, StoreValue};
 ghost use Rattle.pgsub_core.specs.Machine.Faults.{IsReadFault};
 ghost use Rattle.pgsub_cli.specs.declared.fault.Ending.{Ending};
 ghost use Rattle.pgsub_cli.specs.declared.fault.RunFault.{RunFault};
-ghost use Rattle.pgsub_cli.specs.Reports.{IsCounted, TellsProgress, bytes_text, input_within, nothing_of, progress_line, with_bytes, with_commits};
+ghost use Rattle.pgsub_cli.specs.Reports.{IsCounted, TellsProgress, bytes_text, input_within};
+ghost use Rattle.pgsub_cli.specs.Reports.{nothing_of, progress_line, with_bytes, with_commits};
 ghost use Rattle.pgsub_cli.specs.Runs.{PrintsNew, Tells, Writes, status_of};
 ghost use Rattle.pgsub_cli.specs.StoreAfter.{HoldsAfter, MayBeLeft, LosesNothing};
 ghost use Rattle.pgsub_cli.specs.Stores.{position_of};
@@ -107,7 +108,8 @@ fn rate(changes: u64, time: Duration) -> u64 {
 }
 
 impl<K: Clock + Drop, E: Output + Drop> Reporter<K, E> {
-    /// One that has told nothing yet. `total` is how many bytes there are to be read, None where that isn't known.
+    /// One that has told nothing yet. `total` is how many bytes there are to be read, None where
+    /// that isn't known.
     ///
     /// # Errors
     ///
@@ -134,8 +136,8 @@ impl<K: Clock + Drop, E: Output + Drop> Reporter<K, E> {
         })
     }
 
-    /// Tells how far it is, if the last line, or the start, was a second ago. Where there is no memory for the line, or it can't be
-    /// written, the next one may follow.
+    /// Tells how far it is, if the last line, or the start, was a second ago. Where there is no
+    /// memory for the line, or it can't be written, the next one may follow.
     fn tell(&mut self)
         ensures told { TellsProgress E.takes E.failed self.old.last self.new.last self.new.progress
             self.old.err self.new.err }

@@ -5,7 +5,9 @@ ghost use Rattle.pgsub_core.specs.Machine.Faults.{IsReadFault};
 ghost use Rattle.pgsub_cli.specs.declared.fault.Ending.{Ending};
 ghost use Rattle.pgsub_cli.specs.declared.fault.RunFault.{RunFault};
 ghost use Rattle.pgsub_cli.specs.FaultTexts.{stop_line};
-ghost use Rattle.pgsub_cli.specs.Runs.{Applies, Compares, ComparesSessions, Ends, Prints, PrintsResumed, PrintsShown, Tells, WritesVerdict, left_path, right_path, store_path, status_of, status_of_stream};
+ghost use Rattle.pgsub_cli.specs.Runs.{Applies, Compares, ComparesSessions, Ends, Prints};
+ghost use Rattle.pgsub_cli.specs.Runs.{PrintsResumed, PrintsShown, Tells, WritesVerdict, left_path};
+ghost use Rattle.pgsub_cli.specs.Runs.{right_path, store_path, status_of, status_of_stream};
 
 use crate::comparing::compare;
 use crate::fault::{Ending, RunFault};
@@ -33,7 +35,8 @@ fn stream_status(fault: Fault) -> u8
     }
 }
 
-/// The exit status: 0 done, 1 a stream that is rejected or memory that ran out, 2 usage, 3 a fault of a file, 4 a difference.
+/// The exit status: 0 done, 1 a stream that is rejected or memory that ran out, 2 usage, 3 a fault
+/// of a file, 4 a difference.
 pub(crate) fn status(ended: Result<Ending, RunFault>) -> u8
     ensures range { result ≤ 4 }
     ensures status { result ≡ status_of ended }
@@ -48,7 +51,8 @@ pub(crate) fn status(ended: Result<Ending, RunFault>) -> u8
     }
 }
 
-/// The path of the store's file that a task names, if it names one. `run_opened` or `run_follow` runs such a task.
+/// The path of the store's file that a task names, if it names one. `run_opened` or `run_follow`
+/// runs such a task.
 pub fn store_path(task: &Task) -> Option<&str>
     ensures { option_map (λ path. path.now) result ≡ store_path task.now }
 {
@@ -88,7 +92,8 @@ fn fault_line(alloc: Global, fault: RunFault, left: &str, right: &str) -> Result
     format!(in alloc; "{}", StopLine { fault, left, right })
 }
 
-/// Writes the line of a fault, of files with these paths. Where standard error can't be written, the status alone tells.
+/// Writes the line of a fault, of files with these paths. Where standard error can't be written,
+/// the status alone tells.
 pub(crate) fn tell<E: Output>(
     alloc: Global,
     ended: Result<Ending, RunFault>,
@@ -239,14 +244,14 @@ fn run_task<R: Input + Drop, W: Output>(
     }
 }
 
-/// Runs a task that names no store. `left` is the first file that it names and `right` the second one, None where it can't be opened or
-/// none is named.
-/// Returns the exit status: 0 done, 1 a stream that is rejected or memory that ran out, 2 a text that isn't an LSN, 3 a fault of a file,
-/// 4 two recordings that differ.
+/// Runs a task that names no store. `left` is the first file that it names and `right` the second
+/// one, None where it can't be opened or none is named. Returns the exit status: 0 done, 1 a stream
+/// that is rejected or memory that ran out, 2 a text that isn't an LSN, 3 a fault of a file, 4 two
+/// recordings that differ.
 ///
-/// There is a way in which the task ends, with this status: what is printed are the lines that the files' bytes lead to, also where a
-/// fault stopped them, which is then the task's. A recording that can't be read leaves standard output as it was. Standard error
-/// gets the line of the fault.
+/// There is a way in which the task ends, with this status: what is printed are the lines that the
+/// files' bytes lead to, also where a fault stopped them, which is then the task's. A recording
+/// that can't be read leaves standard output as it was. Standard error gets the line of the fault.
 pub fn run<R: Input + Drop, W: Output, E: Output>(
     alloc: Global,
     task: &Task,

@@ -1,6 +1,7 @@
 //! Runs a task over a store that outlasts it, wherever that keeps what it holds.
 
-ghost use Rattle.std.specs.Prelude.{◌≡◌, ◌≤◌, [], Option, Result, Err, IfOk, IfErr, OnOk, string_bytes};
+ghost use Rattle.std.specs.Prelude.{◌≡◌, ◌≤◌, [], Option, Result, Err, IfOk, IfErr, OnOk};
+ghost use Rattle.std.specs.Prelude.{string_bytes};
 ghost use Rattle.pgapply.specs.Taken.{Stays};
 ghost use Rattle.pgapply.specs.Value.{Tables};
 ghost use Rattle.pgsub_core.specs.Machine.Faults.{IsReadFault};
@@ -12,7 +13,9 @@ ghost use Rattle.pgsub_cli.specs.declared.fault.RunFault.TheVariants.{Stream};
 ghost use Rattle.pgsub_cli.specs.Followed.{subscriber_over};
 ghost use Rattle.pgsub_cli.specs.Recorded.{ComesOf, ComesNot};
 ghost use Rattle.pgsub_cli.specs.Runs.{Tells, Writes, left_path, right_path, status_of};
-ghost use Rattle.pgsub_cli.specs.StoreAfter.{FeedsIncoming, StandsFed, LeavesFronts, LeavesIncomingHistory, HoldsAfter, HoldsOver, MayBeLeft, LosesNothing};
+ghost use Rattle.pgsub_cli.specs.StoreAfter.{FeedsIncoming, StandsFed, LeavesFronts};
+ghost use Rattle.pgsub_cli.specs.StoreAfter.{LeavesIncomingHistory, HoldsAfter, HoldsOver};
+ghost use Rattle.pgsub_cli.specs.StoreAfter.{MayBeLeft, LosesNothing};
 ghost use Rattle.pgsub_cli.specs.Storing.{PrintsOver, ShowsHeld, status_of_unopened};
 ghost use Rattle.pgsub_core.specs.declared.fault.Fault.TheVariants.{Store};
 
@@ -39,7 +42,8 @@ pub enum Incoming<R: Drop> {
     Raw(R),
 }
 
-/// What comes of a file: with `raw` its bytes, and else the sessions of the recording in it, of which all is read.
+/// What comes of a file: with `raw` its bytes, and else the sessions of the recording in it, of
+/// which all is read.
 pub fn read_input<R: Input + Drop>(
     alloc: Global,
     raw: bool,
@@ -194,8 +198,8 @@ pub fn tell_stopped<E: Output>(alloc: Global, task: &Task, fault: RunFault, err:
     status(ended)
 }
 
-/// Tells why a store couldn't be opened: `pgsub: store 8 Refused`, `pgsub: store 10 NotAStore` or `pgsub: memory`. Returns the exit
-/// status, 1 where memory ran out and else 3.
+/// Tells why a store couldn't be opened: `pgsub: store 8 Refused`, `pgsub: store 10 NotAStore` or
+/// `pgsub: memory`. Returns the exit status, 1 where memory ran out and else 3.
 pub fn tell_unopened<E: Output>(alloc: Global, fault: StoreFault, err: &mut E) -> u8
     ensures status { result ≡ status_of_unopened fault }
     ensures tells { Tells E.takes E.failed [] [] (Err (Stream (Store fault))) err.old err.new }
@@ -208,17 +212,19 @@ pub fn tell_unopened<E: Output>(alloc: Global, fault: StoreFault, err: &mut E) -
     }
 }
 
-/// Runs a task over an opened store: applies to it what comes of a recording or a file, where that is given, and prints the rows and
-/// the position that it holds then. What is applied is within these limits. Returns the exit status, as `run` does, and the store.
+/// Runs a task over an opened store: applies to it what comes of a recording or a file, where that
+/// is given, and prints the rows and the position that it holds then. What is applied is within
+/// these limits. Returns the exit status, as `run` does, and the store.
 ///
 /// There is a way in which it ends, with this status: what is printed are the lines of where the
 /// bytes lead from what the store had, also where a fault stopped them, and that is what the store
 /// has then. With nothing to apply nothing changes. Standard error gets the line of the fault.
 ///
-/// Where memory runs out or the lines can't be written, too, the store holds what some front of the bytes leads to, while it serves
-/// (`kept`). Whatever a crash at the end may leave of it could be left before, or has what some front of the bytes leads to (`left`).
-/// Where they are sessions of a history, that is exactly the history's rows up to a position no lower than the store's, with every
-/// transaction that is confirmed (`crash`). That holds where the store has shut, too.
+/// Where memory runs out or the lines can't be written, too, the store holds what some front of the
+/// bytes leads to, while it serves (`kept`). Whatever a crash at the end may leave of it could be
+/// left before, or has what some front of the bytes leads to (`left`). Where they are sessions of a
+/// history, that is exactly the history's rows up to a position no lower than the store's, with
+/// every transaction that is confirmed (`crash`). That holds where the store has shut, too.
 pub fn run_within<R: Input + Drop, C: ReplicaStore + Drop, W: Output, E: Output>(
     alloc: Global,
     store: C,

@@ -28,7 +28,8 @@ one_row a b h =
 
 row_itself : (a : DumpRow) → same_row a a ≡ true
 row_itself a =
-    both _ _ (itself a.oid) (both _ _ ((bytes_eq-Decides a.namespace a.namespace).1 refl) (both _ _ ((bytes_eq-Decides a.name a.name).1 refl) (both _ _ ((cells_eq-Decides a.cells a.cells).1 refl) (itself a.copies))))
+    both _ _ (itself a.oid) (both _ _ ((bytes_eq-Decides a.namespace a.namespace).1 refl)
+    (both _ _ ((bytes_eq-Decides a.name a.name).1 refl) (both _ _ ((cells_eq-Decides a.cells a.cells).1 refl) (itself a.copies))))
 
 pub same_row-Decides : (a b : DumpRow) → Decides (same_row a b) (a ≡ b)
 same_row-Decides a b = (one_row a b, λ e. ap (λ (x : DumpRow). same_row a x) (sym e) ∙ row_itself a)

@@ -3,8 +3,10 @@ use Rattle.std.proofs.Common.{List, [], ◌∷◌}
 use Rattle.pgorder.specs.declared.Version.{Version}
 use Rattle.pgorder.specs.Steps.{order_step}
 use Rattle.pgapply.specs.declared.misses.Misses.{Misses}
-use Rattle.pgsub_core.specs.Server.Stream.{Sent, Data, Keepalive, CommitOrKeepalive, Committed, KeepaliveEnd, end_of}
-use Rattle.pgsub_core.specs.Machine.Replica.{Replica, Outcome, Running, Stopped, surviving_items, apply_one}
+use Rattle.pgsub_core.specs.Server.Stream.{Sent, Data, Keepalive, CommitOrKeepalive, Committed}
+use Rattle.pgsub_core.specs.Server.Stream.{KeepaliveEnd, end_of}
+use Rattle.pgsub_core.specs.Machine.Replica.{Replica, Outcome, Running, Stopped, surviving_items}
+use Rattle.pgsub_core.specs.Machine.Replica.{apply_one}
 use Rattle.pgsub_core.specs.Machine.ApplyState.{ApplyState, step}
 use Rattle.pgsub_core.specs.Machine.Counted.{commit_counted, step_counted}
 

@@ -1,5 +1,7 @@
--- Something foreign behind the frames of a session: CommandComplete of a server that is shut down, and CopyData behind CopyDone.
-use Rattle.std.proofs.Common.{◌≡◌, ◌∷◌, ◌++◌, [], List, ℕ, Bool, true, false, inl, inr, refl, sym, ◌∙◌, arith, append-nil}
+-- Something foreign behind the frames of a session: CommandComplete of a server that is shut down,
+-- and CopyData behind CopyDone.
+use Rattle.std.proofs.Common.{◌≡◌, ◌∷◌, ◌++◌, [], List, ℕ, Bool, true, false, inl, inr, refl, sym}
+use Rattle.std.proofs.Common.{◌∙◌, arith, append-nil}
 use Rattle.pglogical.specs.Spelling.{message_spelling, item_spelling}
 use Rattle.pgtuple.specs.Cells.{tuple_spelling}
 use Rattle.pgorder.specs.declared.Version.TheVariants.{Two}
@@ -47,17 +49,25 @@ whole_session false = record {
 }
 
 abbrev shut_down : EndsForeign behind_it (whole_frames behind_it false ++ command_complete)
-shut_down = record { done = false; foreign = command_complete; whole = refl; is = (λ same. absurd (omega arith), λ same. absurd (omega arith)) }
+shut_down = record {
+  done = false;
+  foreign = command_complete;
+  whole = refl;
+  is = (λ same. absurd (omega arith), λ same. absurd (omega arith));
+}
 
 shut_down_comes : IsIncoming Two skipped_history 304 (whole_frames behind_it false ++ command_complete) behind_it
 shut_down_comes = inr (shut_down, whole_session false)
 
 -- an unknown frame, once all messages before it were handled
-its_fault : IsForeignBehind (behind_it ∷ []) (behind_it ∷ []) ((whole_frames behind_it false ++ command_complete) ∷ []) (fault.Wire (wire_fault.UnknownFrame 67))
+its_fault : IsForeignBehind (behind_it ∷ []) (behind_it ∷ []) ((whole_frames behind_it false ++ command_complete) ∷ [])
+    (fault.Wire (wire_fault.UnknownFrame 67))
 its_fault = (refl, shut_down, refl)
 
 -- and no earlier
-not_before : (front : List Sent) → front ≡ [] → IsForeignBehind (front ∷ []) (behind_it ∷ []) ((whole_frames behind_it false ++ command_complete) ∷ []) (fault.Wire (wire_fault.UnknownFrame 67)) → ⊥
+not_before : (front : List Sent) → front ≡ []
+    → IsForeignBehind (front ∷ []) (behind_it ∷ []) ((whole_frames behind_it false ++ command_complete) ∷ [])
+    (fault.Wire (wire_fault.UnknownFrame 67)) → ⊥
 not_before front none is = let same : [] ≡ behind_it = sym none ∙ is.0 in absurd (cc)
 
 abbrev after_done : EndsForeign behind_it (whole_frames behind_it true ++ 100 ∷ [])
@@ -66,5 +76,6 @@ after_done = record { done = true; foreign = 100 ∷ []; whole = refl; is = tt }
 after_done_comes : IsIncoming Two skipped_history 304 (whole_frames behind_it true ++ 100 ∷ []) behind_it
 after_done_comes = inr (after_done, whole_session true)
 
-its_other_fault : IsForeignBehind (behind_it ∷ []) (behind_it ∷ []) ((whole_frames behind_it true ++ 100 ∷ []) ∷ []) (fault.Wire wire_fault.AfterDone)
+its_other_fault : IsForeignBehind (behind_it ∷ []) (behind_it ∷ []) ((whole_frames behind_it true ++ 100 ∷ []) ∷ [])
+    (fault.Wire wire_fault.AfterDone)
 its_other_fault = (refl, after_done, refl)

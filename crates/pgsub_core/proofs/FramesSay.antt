@@ -1,5 +1,6 @@
 -- The frames that are taken, of any stream, are messages that are taken.
-use Rattle.std.proofs.Common.{◌≡◌, ◌≤◌, ℕ, ℤ, List, [], ◌∷◌, Bool, true, false, cond, Result, Ok, Err, refl, sym, ap, subst, ◌∙◌}
+use Rattle.std.proofs.Common.{◌≡◌, ◌≤◌, ℕ, ℤ, List, [], ◌∷◌, Bool, true, false, cond, Result, Ok}
+use Rattle.std.proofs.Common.{Err, refl, sym, ap, subst, ◌∙◌}
 use Rattle.pglogical.specs.Reading.{message_at}
 use Rattle.pglogical.specs.declared.message.Message.{Message}
 use Rattle.pglogical.specs.declared.fault.DecodeFault.{DecodeFault}
@@ -12,13 +13,19 @@ use Rattle.pgwire.specs.Payloads.{ServerMessage, payload_at}
 use Rattle.pgwire.specs.declared.fault.WireFault.{WireFault}
 use Rattle.pgsub_core.specs.declared.fault.Fault.{Fault}
 use Rattle.pgsub_core.specs.declared.fault.Fault.TheVariants as fault
-use Rattle.pgsub_core.specs.Server.Stream.{Sent, Data, Keepalive, Kind, BeginsPair, CommitsPair, Holds, StartsBlock, StopsBlock, CommitsStream, AbortsStream, ChangesNothing, kind, commits_and_keepalives}
+use Rattle.pgsub_core.specs.Server.Stream.{Sent, Data, Keepalive, Kind, BeginsPair, CommitsPair}
+use Rattle.pgsub_core.specs.Server.Stream.{Holds, StartsBlock, StopsBlock, CommitsStream}
+use Rattle.pgsub_core.specs.Server.Stream.{AbortsStream, ChangesNothing, kind}
+use Rattle.pgsub_core.specs.Server.Stream.{commits_and_keepalives}
 use Rattle.pgsub_core.specs.Machine.Replica.{Outcome, Running, Stopped, then_run, apply_all}
 use Rattle.pgsub_core.specs.Machine.ApplyState.{ApplyState, ApplyResult, step}
 use Rattle.pgsub_core.specs.Server.Reached.{reached, disconnected}
 use Rattle.pgsub_core.specs.Server.Readings.{SaysMessage, SayMessages, block_after}
-use Rattle.pgsub_core.specs.Subscriber.Subscribed.{Subscribed, apply_state_of, disconnect, progress_of, replica_of}
-use Rattle.pgsub_core.specs.Machine.Taking.{take, taken_with, take_all, take_message, take_payload, take_frames, handled, passes_limit, message_passes_limit}
+use Rattle.pgsub_core.specs.Subscriber.Subscribed.{Subscribed, apply_state_of, disconnect}
+use Rattle.pgsub_core.specs.Subscriber.Subscribed.{progress_of, replica_of}
+use Rattle.pgsub_core.specs.Machine.Taking.{take, taken_with, take_all, take_message, take_payload}
+use Rattle.pgsub_core.specs.Machine.Taking.{take_frames, handled, passes_limit}
+use Rattle.pgsub_core.specs.Machine.Taking.{message_passes_limit}
 use Rattle.pgsub_core.proofs.FrameMessages.{in_block_behind, same_block}
 use Rattle.pgsub_core.proofs.Steps.{running, goes_through}
 use Rattle.pgsub_core.proofs.Taken.{taken_reaches, taken_applies}
@@ -45,15 +52,18 @@ limit_over : (d : Bool) (s : Subscribed) (m : Sent) → message_passes_limit (wi
 limit_over d s (Data start end clock m) = passes_over d s (kind m)
 limit_over d s (Keepalive end clock asks) = refl
 
-handled_over : (now : ℤ) (d : Bool) (s : Subscribed) (m : Sent) (state : ApplyState) → handled now m state (with_done d s) ≡ with_done d (handled now m state s)
+handled_over : (now : ℤ) (d : Bool) (s : Subscribed) (m : Sent) (state : ApplyState)
+    → handled now m state (with_done d s) ≡ with_done d (handled now m state s)
 handled_over now d s (Data start end clock m) state = refl
 handled_over now d s (Keepalive end clock true) state = refl
 handled_over now d s (Keepalive end clock false) state = refl
 
-taken_over : (now : ℤ) (d : Bool) (s : Subscribed) (m : Sent) (res : ApplyResult) → taken_with now (with_done d s) m res ≡ over d (taken_with now s m res)
+taken_over : (now : ℤ) (d : Bool) (s : Subscribed) (m : Sent) (res : ApplyResult)
+    → taken_with now (with_done d s) m res ≡ over d (taken_with now s m res)
 taken_over now d s m (Stopped state why) = refl
 taken_over now d s m (Running state) =
-    ap (λ b. cond b (Stopped (with_done d s) (fault.Spool spool.SpoolFull)) (Running (handled now m state (with_done d s)))) (limit_over d s m) ∙ by_limit (message_passes_limit s m)
+    ap (λ b. cond b (Stopped (with_done d s) (fault.Spool spool.SpoolFull)) (Running (handled now m state (with_done d s))))
+    (limit_over d s m) ∙ by_limit (message_passes_limit s m)
   where
     by_limit : (b : Bool) → cond b (Stopped (with_done d s) (fault.Spool spool.SpoolFull)) (Running (handled now m state (with_done d s)))
         ≡ over d (cond b (Stopped s (fault.Spool spool.SpoolFull)) (Running (handled now m state s)))
@@ -69,19 +79,27 @@ record IsOfMessage (now : ℤ) (bytes : List ℕ) (old new : Subscribed) : Type 
   says : SaysMessage (is_in_block old.order.context) bytes message
   takes : take now old message ≡ Running new
 
-body_says : (now : ℤ) (bytes : List ℕ) (start end : ℕ) (clock : ℤ) (body : List ℕ) (old new : Subscribed) → payload_at bytes ≡ Ok (wire.XLogData start end clock body) → (r : Result Message DecodeFault)
-    → message_at (is_in_block old.order.context) body ≡ r → take_message now old start end clock r ≡ Running new → IsOfMessage now bytes old new
-body_says now bytes start end clock body old new at (Ok m) reads h = record { message = Data start end clock m; says = (body, at, reads); takes = h }
+body_says : (now : ℤ) (bytes : List ℕ) (start end : ℕ) (clock : ℤ) (body : List ℕ) (old new : Subscribed)
+    → payload_at bytes ≡ Ok (wire.XLogData start end clock body) → (r : Result Message DecodeFault)
+    → message_at (is_in_block old.order.context) body ≡ r → take_message now old start end clock r ≡ Running new
+    → IsOfMessage now bytes old new
+body_says now bytes start end clock body old new at (Ok m) reads h =
+    record { message = Data start end clock m; says = (body, at, reads); takes = h }
 body_says now bytes start end clock body old new at (Err k) reads h = absurd (cc)
 
-payload_says : (now : ℤ) (bytes : List ℕ) (old new : Subscribed) (r : Result ServerMessage WireFault) → payload_at bytes ≡ r → take_payload now old r ≡ Running new → IsOfMessage now bytes old new
-payload_says now bytes old new (Ok (wire.XLogData start end clock body)) at h = body_says now bytes start end clock body old new at (message_at (is_in_block old.order.context) body) refl h
-payload_says now bytes old new (Ok (wire.Keepalive end clock asks)) at h = record { message = Keepalive end clock asks; says = at; takes = h }
+payload_says : (now : ℤ) (bytes : List ℕ) (old new : Subscribed) (r : Result ServerMessage WireFault) → payload_at bytes ≡ r
+    → take_payload now old r ≡ Running new → IsOfMessage now bytes old new
+payload_says now bytes old new (Ok (wire.XLogData start end clock body)) at h =
+    body_says now bytes start end clock body old new at (message_at (is_in_block old.order.context) body) refl h
+payload_says now bytes old new (Ok (wire.Keepalive end clock asks)) at h =
+    record { message = Keepalive end clock asks; says = at; takes = h }
 payload_says now bytes old new (Err k) at h = absurd (cc)
 
-block_behind : (now : ℤ) (old new : Subscribed) (m : Sent) → take now old m ≡ Running new → is_in_block new.order.context ≡ block_after (is_in_block old.order.context) m
+block_behind : (now : ℤ) (old new : Subscribed) (m : Sent) → take now old m ≡ Running new
+    → is_in_block new.order.context ≡ block_after (is_in_block old.order.context) m
 block_behind now old new (Data start end clock m) h = in_block_behind now old new start end clock m h
-block_behind now old new (Keepalive end clock asks) h = ap (λ (o : OrderState). is_in_block o.context) (sym (same_block now old new end clock asks h))
+block_behind now old new (Keepalive end clock asks) h =
+    ap (λ (o : OrderState). is_in_block o.context) (sym (same_block now old new end clock asks h))
 
 record AreOfMessages (now : ℤ) (fs : List Frame) (old new : Subscribed) : Type 0 where
   sent : List Sent
@@ -101,14 +119,20 @@ frames_say now (CopyData bytes ∷ fs) old new h =
     record {
       sent = one.message ∷ behind.sent;
       say = (one.says, subst (λ b. SayMessages b fs behind.sent) (block_behind now old mid one.message one.takes) behind.say);
-      takes = λ d. ap (λ o. then_run o (λ next. take_all now next behind.sent)) (take_over now d old one.message ∙ ap (over d) one.takes) ∙ behind.takes d;
+      takes = λ d. ap (λ o. then_run o (λ next. take_all now next behind.sent)) (take_over now d old one.message ∙ ap (over d) one.takes)
+          ∙ behind.takes d;
     }
 
 -- from a disconnection on
-pub frames_reach : (now : ℤ) (old new : Subscribed) (fs : List Frame) → old.position ≤ old.confirmed → take_frames now (disconnect old) fs ≡ Running new
+pub frames_reach : (now : ℤ) (old new : Subscribed) (fs : List Frame) → old.position ≤ old.confirmed
+    → take_frames now (disconnect old) fs ≡ Running new
     → (sent : List Sent) × SayMessages false fs sent × (progress_of new ≡ reached (disconnected (progress_of old)) [] sent)
     × (apply_all (replica_of (disconnect old)) (commits_and_keepalives [] sent) ≡ Running (replica_of new))
 frames_reach now old new fs below h =
     let are = frames_say now fs (disconnect old) new h in
-    let takes : take_all now (disconnect old) are.sent ≡ Running (with_done false new) = are.takes false in
-    (are.sent, are.say, taken_reaches now old (with_done false new) are.sent below takes, taken_applies now old (with_done false new) are.sent takes)
+    let takes : take_all now (disconnect old) are.sent ≡ Running (with_done false new) = are.takes false in (
+      are.sent,
+      are.say,
+      taken_reaches now old (with_done false new) are.sent below takes,
+      taken_applies now old (with_done false new) are.sent takes,
+    )

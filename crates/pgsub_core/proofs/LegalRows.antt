@@ -1,6 +1,8 @@
--- A session of what is rare and legal: repeated Relation messages, aborts of what nobody knows, equal xids, commits right behind one another,
--- a pair while a stream is open, keepalives inside a pair and a block, Truncate, Origin, Type and Message.
-use Rattle.std.proofs.Common.{◌≡◌, ◌∷◌, ◌++◌, [], List, ℕ, true, false, Option, None, Some, refl, ap, ◌∙◌, pos, arith}
+-- A session of what is rare and legal: repeated Relation messages, aborts of what nobody knows,
+-- equal xids, commits right behind one another, a pair while a stream is open, keepalives inside a
+-- pair and a block, Truncate, Origin, Type and Message.
+use Rattle.std.proofs.Common.{◌≡◌, ◌∷◌, ◌++◌, [], List, ℕ, true, false, Option, None, Some, refl}
+use Rattle.std.proofs.Common.{ap, ◌∙◌, pos, arith}
 use Rattle.std.specs.FinMap as map
 use Rattle.pgtuple.specs.Cells.{tuple_spelling}
 use Rattle.pglogical.specs.declared.message.Item.{Item}
@@ -20,7 +22,8 @@ use Rattle.pgsub_core.specs.Machine.ApplyState.{follow_all}
 use Rattle.pgsub_core.specs.Machine.Replica.{Replica, Halt, Outcome, Running, then_run}
 use Rattle.pgapply.specs.Value.{Tables}
 use Rattle.pgsub_core.proofs.OneSession.{session_agrees}
-use Rattle.pgsub_core.proofs.Samples.{t, w, insert_t, put_t, first_tables, sent, alone, under, empty_replica, stands, lookups}
+use Rattle.pgsub_core.proofs.Samples.{t, w, insert_t, put_t, first_tables, sent, alone, under}
+use Rattle.pgsub_core.proofs.Samples.{empty_replica, stands, lookups}
 
 abbrev truncate : Item
 truncate = item.Truncate 3 (16384 ∷ 16385 ∷ [])
@@ -36,7 +39,19 @@ legal_history =
     ∷ record { xid = 0; work = streamed_work; lsn = 160; end = 200 } ∷ []
 
 legal_is_history : IsHistory legal_history
-legal_is_history = (omega arith, omega arith, tt, (refl, tt), (omega arith, omega arith, (tt, refl, tt), (refl, tt), (omega arith, omega arith, ((tt, refl, tt), tt), (refl, (refl, (refl, (refl, tt)))), tt)))
+legal_is_history = (
+  omega arith,
+  omega arith,
+  tt,
+  (refl, tt),
+  (
+    omega arith,
+    omega arith,
+    (tt, refl, tt),
+    (refl, tt),
+    (omega arith, omega arith, ((tt, refl, tt), tt), (refl, (refl, (refl, (refl, tt)))), tt),
+  ),
+)
 
 abbrev origin : Message
 origin = message.Origin 7 (111 ∷ [])
@@ -48,23 +63,28 @@ abbrev logical_in_block : Message
 logical_in_block = message.Logical (Some 5) true 90 (112 ∷ []) (104 ∷ [])
 
 abbrev inner : List Message
-inner = origin ∷ type_in_block ∷ logical_in_block ∷ under 5 (item.Relation t) ∷ under 5 (item.Relation t) ∷ under 5 (item.Relation w) ∷ under 5 truncate ∷ under 6 (insert_t 50 98) ∷ []
+inner = origin ∷ type_in_block ∷ logical_in_block ∷ under 5 (item.Relation t) ∷ under 5 (item.Relation t) ∷ under 5 (item.Relation w)
+    ∷ under 5 truncate ∷ under 6 (insert_t 50 98) ∷ []
 
 abbrev pair_inner : List Message
 pair_inner = message.Origin 8 [] ∷ alone (item.Relation t) ∷ alone (insert_t 49 97) ∷ []
 
 abbrev legal_parts : List StreamPart
 legal_parts =
-    Abort 77 78 ∷ LogicalMessage false 50 [] [] ∷ Block 0 true inner ∷ Abort 0 6 ∷ Abort 0 6 ∷ Abort 0 9 ∷ Pair 120 (pos 0) 10 pair_inner 160 (pos 0) ∷ StreamEnd 0 160 200 (pos 0) ∷ Abort 0 0 ∷ []
+    Abort 77 78 ∷ LogicalMessage false 50 [] [] ∷ Block 0 true inner ∷ Abort 0 6 ∷ Abort 0 6 ∷ Abort 0 9
+    ∷ Pair 120 (pos 0) 10 pair_inner 160 (pos 0) ∷ StreamEnd 0 160 200 (pos 0) ∷ Abort 0 0 ∷ []
 
 abbrev legal : List Sent
 legal =
     sent (message.StreamAbort 77 78) ∷ sent (message.Logical None false 50 [] []) ∷ sent (message.StreamStart 0 true)
-    ∷ sent origin ∷ sent type_in_block ∷ sent logical_in_block ∷ sent (under 5 (item.Relation t)) ∷ sent (under 5 (item.Relation t)) ∷ Keepalive 119 (pos 0) true
+    ∷ sent origin ∷ sent type_in_block ∷ sent logical_in_block ∷ sent (under 5 (item.Relation t)) ∷ sent (under 5 (item.Relation t))
+    ∷ Keepalive 119 (pos 0) true
     ∷ sent (under 5 (item.Relation w)) ∷ sent (under 5 truncate) ∷ sent (under 6 (insert_t 50 98)) ∷ sent message.StreamStop
     ∷ sent (message.StreamAbort 0 6) ∷ sent (message.StreamAbort 0 6) ∷ sent (message.StreamAbort 0 9)
-    ∷ sent (message.Begin 120 (pos 0) 10) ∷ sent (message.Origin 8 []) ∷ sent (alone (item.Relation t)) ∷ Keepalive 159 (pos 0) false ∷ sent (alone (insert_t 49 97)) ∷ sent (message.Commit 120 160 (pos 0))
-    ∷ Keepalive 199 (pos 0) true ∷ sent (message.StreamCommit 0 160 200 (pos 0)) ∷ sent (message.StreamAbort 0 0) ∷ Keepalive 5000 (pos 0) false ∷ []
+    ∷ sent (message.Begin 120 (pos 0) 10) ∷ sent (message.Origin 8 []) ∷ sent (alone (item.Relation t)) ∷ Keepalive 159 (pos 0) false
+    ∷ sent (alone (insert_t 49 97)) ∷ sent (message.Commit 120 160 (pos 0))
+    ∷ Keepalive 199 (pos 0) true ∷ sent (message.StreamCommit 0 160 200 (pos 0)) ∷ sent (message.StreamAbort 0 0)
+    ∷ Keepalive 5000 (pos 0) false ∷ []
 
 abbrev of_sub : List StreamedItem
 of_sub = Change 5 (item.Relation t) ∷ Change 5 (item.Relation t) ∷ Change 5 (item.Relation w) ∷ Change 5 truncate ∷ []
@@ -93,7 +113,16 @@ legal_delivered = record {
   shaped = record {
     pieces = legal_parts;
     rest = [];
-    follow = (tt, (tt, (((tt, (tt, (tt, (tt, (tt, (tt, (tt, (tt, tt)))))))), simp open_rows), (tt, (tt, (tt, (((tt, (tt, (tt, tt))), simp open_rows), (simp open_rows, (tt, tt)))))))));
+    follow = (
+      tt,
+      (
+        tt,
+        (
+          ((tt, (tt, (tt, (tt, (tt, (tt, (tt, (tt, tt)))))))), simp open_rows),
+          (tt, (tt, (tt, (((tt, (tt, (tt, tt))), simp open_rows), (simp open_rows, (tt, tt)))))),
+        ),
+      ),
+    );
     front = refl;
   };
   commits = (
@@ -118,6 +147,7 @@ legal_delivered = record {
 abbrev left : Outcome Replica Halt → Tables × (ℕ × Option Halt)
 left o = stands (then_run o (λ new. Running new))
 
-legal_followed : stands (follow_all Two empty_replica (legal ∷ [])) ≡ (map.insert (put_t first_tables map.empty) 16385 (record { definition = w; rows = map.empty }), (200, None))
+legal_followed : stands (follow_all Two empty_replica (legal ∷ []))
+    ≡ (map.insert (put_t first_tables map.empty) 16385 (record { definition = w; rows = map.empty }), (200, None))
 unfolding fold_changes apply rows_after tuple_spelling
 legal_followed = ap left (session_agrees Two legal_history empty_replica 0 legal legal_delivered) ∙ simp lookups

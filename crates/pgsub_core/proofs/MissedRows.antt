@@ -19,7 +19,12 @@ delete_t key = item.Delete 16384 Key (text key ∷ Null ∷ [])
 -- row 49 comes; it is deleted twice, with a part between that is rolled back; row 51 is updated
 abbrev history : List Transaction
 history = record { xid = 9; work = Changed (insert_t 49 97) (t ∷ []) Nothing; lsn = 256; end = 304 }
-    ∷ record { xid = 10; work = Changed (delete_t 49) (t ∷ []) (RolledBack 11 [] (Changed (delete_t 49) (t ∷ []) Nothing)); lsn = 512; end = 560 }
+    ∷ record {
+      xid = 10;
+      work = Changed (delete_t 49) (t ∷ []) (RolledBack 11 [] (Changed (delete_t 49) (t ∷ []) Nothing));
+      lsn = 512;
+      end = 560;
+    }
     ∷ record { xid = 12; work = Changed (update_t 51 99) (t ∷ []) Nothing; lsn = 768; end = 816 } ∷ []
 
 abbrev one : ℕ → Misses

@@ -1,9 +1,13 @@
 -- Whatever is fed, one outcome comes of it, but for what memory and the store's own refusals allow.
-use Rattle.std.proofs.Common.{◌≡◌, ◌≢◌, ◌++◌, ◌⊎◌, inl, inr, ℕ, ℤ, List, [], ◌∷◌, Bool, true, false, Option, Some, None, refl, sym, ap, subst, ◌∙◌, append_assoc, append-nil}
-use Rattle.pgwire.specs.Frames.{Frame, CopyData, CopyDone, frame, frames, IsAllowed, AreFrames, IsPartial, IsFramingFault, has_copy_done}
+use Rattle.std.proofs.Common.{◌≡◌, ◌≢◌, ◌++◌, ◌⊎◌, inl, inr, ℕ, ℤ, List, [], ◌∷◌, Bool, true, false}
+use Rattle.std.proofs.Common.{Option, Some, None, refl, sym, ap, subst, ◌∙◌, append_assoc}
+use Rattle.std.proofs.Common.{append-nil}
+use Rattle.pgwire.specs.Frames.{Frame, CopyData, CopyDone, frame, frames, IsAllowed, AreFrames}
+use Rattle.pgwire.specs.Frames.{IsPartial, IsFramingFault, has_copy_done}
 use Rattle.pgwire.specs.declared.fault.WireFault.{WireFault}
 use Rattle.pgwire.specs.declared.fault.WireFault.TheVariants as wire_fault
-use Rattle.pgwire.proofs.Readings.{one_frame, first_frame, one_deframing, one_break, partial_has_no_fault, frame_has_no_fault}
+use Rattle.pgwire.proofs.Readings.{one_frame, first_frame, one_deframing, one_break}
+use Rattle.pgwire.proofs.Readings.{partial_has_no_fault, frame_has_no_fault}
 use Rattle.pgorder.specs.declared.fault.OrderFault.{OrderFault}
 use Rattle.pgorder.specs.declared.fault.OrderFault.TheVariants as order
 use Rattle.pgrel.specs.declared.fault.RelFault.{RelFault}
@@ -18,8 +22,12 @@ use Rattle.pgsub_core.specs.Machine.Replica.{Outcome, Running, Stopped, then_run
 use Rattle.pgsub_core.specs.Subscriber.Subscribed.{Subscribed, disconnect}
 use Rattle.pgsub_core.specs.Machine.Taking.{take_frame, take_frames}
 use Rattle.pgsub_core.specs.Subscriber.Handled.{IsLeft}
-use Rattle.pgsub_core.specs.Subscriber.Causes.{Cause, OutOfMemory, StatementRefused, HeaderTooLarge, ForeignBytes, NextMessage, NeverAnswered, cause, wire_cause, order_cause, relation_cause, spool_cause, store_cause}
-use Rattle.pgsub_core.specs.Machine.Feeding.{IsFed, IsFedWhole, IsFedUntil, BeginsWith, StopsIn, IsSettled, IsSettledFault, EndsSame}
+use Rattle.pgsub_core.specs.Subscriber.Causes.{Cause, OutOfMemory, StatementRefused, HeaderTooLarge}
+use Rattle.pgsub_core.specs.Subscriber.Causes.{ForeignBytes, NextMessage, NeverAnswered, cause}
+use Rattle.pgsub_core.specs.Subscriber.Causes.{wire_cause, order_cause, relation_cause, spool_cause}
+use Rattle.pgsub_core.specs.Subscriber.Causes.{store_cause}
+use Rattle.pgsub_core.specs.Machine.Feeding.{IsFed, IsFedWhole, IsFedUntil, BeginsWith, StopsIn}
+use Rattle.pgsub_core.specs.Machine.Feeding.{IsSettled, IsSettledFault, EndsSame}
 use Rattle.pgsub_core.specs.Subscriber.Following.{AreFed, AreFedWhole, AreFedUntil}
 use Rattle.pgsub_core.proofs.FedSessions.{take_frames-append}
 use Rattle.pgsub_core.proofs.Pieces.{front_of, without_done}
@@ -95,7 +103,8 @@ Reason now max done rest s f =
     ((k : WireFault) × (f ≡ fault.Wire k) × IsFramingFault max done rest k)
     ⊎ ((next : Frame) × (stopped : Subscribed) × BeginsWith max done rest next × (take_frame now s next ≡ Stopped stopped f))
 
-reason_by : (now : ℤ) (max : ℕ) (done : Bool) (rest : List ℕ) (s : Subscribed) (f : Fault) (c : Cause) → (c ≡ OutOfMemory → ⊥) × (c ≡ StatementRefused → ⊥) → StopsIn now max done rest s f c → Reason now max done rest s f
+reason_by : (now : ℤ) (max : ℕ) (done : Bool) (rest : List ℕ) (s : Subscribed) (f : Fault) (c : Cause)
+    → (c ≡ OutOfMemory → ⊥) × (c ≡ StatementRefused → ⊥) → StopsIn now max done rest s f c → Reason now max done rest s f
 reason_by now max done rest s f OutOfMemory own why = absurd (own.0 refl)
 reason_by now max done rest s f StatementRefused own why = absurd (own.1 refl)
 reason_by now max done rest s f HeaderTooLarge own why = inl why
@@ -103,12 +112,15 @@ reason_by now max done rest s f ForeignBytes own why = inl why
 reason_by now max done rest s f NextMessage own why = why
 reason_by now max done rest s f NeverAnswered own why = absurd why
 
-reason : (now : ℤ) (max : ℕ) (done : Bool) (rest : List ℕ) (s : Subscribed) (f : Fault) → IsSettledFault f → StopsIn now max done rest s f (cause f) → Reason now max done rest s f
+reason : (now : ℤ) (max : ℕ) (done : Bool) (rest : List ℕ) (s : Subscribed) (f : Fault) → IsSettledFault f
+    → StopsIn now max done rest s f (cause f) → Reason now max done rest s f
 reason now max done rest s f own why = reason_by now max done rest s f (cause f) (settles f own) why
 
-no_fault_at_frame : (max : ℕ) (done : Bool) (rest more : List ℕ) (next : Frame) (k : WireFault) → done ≡ false → IsAllowed max next → rest ≡ frame next ++ more → IsFramingFault max done rest k → ⊥
+no_fault_at_frame : (max : ℕ) (done : Bool) (rest more : List ℕ) (next : Frame) (k : WireFault) → done ≡ false → IsAllowed max next
+    → rest ≡ frame next ++ more → IsFramingFault max done rest k → ⊥
 no_fault_at_frame max done rest more next k going_on allowed whole breaks =
-    frame_has_no_fault max next more k allowed (subst (λ bs. IsFramingFault max false bs k) whole (subst (λ d. IsFramingFault max d rest k) going_on breaks))
+    frame_has_no_fault max next more k allowed
+    (subst (λ bs. IsFramingFault max false bs k) whole (subst (λ d. IsFramingFault max d rest k) going_on breaks))
 
 module _ (now : ℤ) (max : ℕ) (done : Bool) (rest : List ℕ) (s : Subscribed) where
   one_reason : (f g : Fault) → Reason now max done rest s f → Reason now max done rest s g → f ≡ g
@@ -126,8 +138,10 @@ module _ (now : ℤ) (max : ℕ) (done : Bool) (rest : List ℕ) (s : Subscribed
   no_reason_in_part f partial last (inr x) = not_partial max max x.0 rest x.2.more x.2.allowed partial x.2.whole
 
   -- nor does a frame that is taken
-  no_reason_at_taken : (f : Fault) (next : Frame) (more : List ℕ) (after : Subscribed) → done ≡ false → IsAllowed max next → rest ≡ frame next ++ more → take_frame now s next ≡ Running after → Reason now max done rest s f → ⊥
-  no_reason_at_taken f next more after going_on allowed whole takes (inl x) = no_fault_at_frame max done rest more next x.0 going_on allowed whole x.2
+  no_reason_at_taken : (f : Fault) (next : Frame) (more : List ℕ) (after : Subscribed) → done ≡ false → IsAllowed max next
+      → rest ≡ frame next ++ more → take_frame now s next ≡ Running after → Reason now max done rest s f → ⊥
+  no_reason_at_taken f next more after going_on allowed whole takes (inl x) =
+      no_fault_at_frame max done rest more next x.0 going_on allowed whole x.2
   no_reason_at_taken f next more after going_on allowed whole takes (inr x) =
       let same : x.0 ≡ next = (one_frame max max x.0 next x.2.more more x.2.allowed allowed (sym x.2.whole ∙ whole)).0 in
       let both : ◌≡◌ {A = Outcome Subscribed Fault} (Stopped x.1 f) (Running after) = sym x.3 ∙ ap (take_frame now s) same ∙ takes in
@@ -147,20 +161,23 @@ record LongerByOne (fs gs : List Frame) (r q : List ℕ) : Type 0 where
   same : fs ≡ gs ++ next ∷ more
   left : q ≡ frame next ++ (frames more ++ r)
 
-compared : (max : ℕ) (fs gs : List Frame) (r q : List ℕ) → AreFrames max fs → AreFrames max gs → frames fs ++ r ≡ frames gs ++ q → Longer fs gs r q ⊎ LongerByOne gs fs q r
+compared : (max : ℕ) (fs gs : List Frame) (r q : List ℕ) → AreFrames max fs → AreFrames max gs → frames fs ++ r ≡ frames gs ++ q
+    → Longer fs gs r q ⊎ LongerByOne gs fs q r
 compared max fs [] r q af ag e = inl (record { more = fs; same = refl; left = sym e })
 compared max [] (g ∷ gs) r q af ag e = inr (record { next = g; more = gs; same = refl; left = e ∙ append_assoc (frame g) (frames gs) q })
 compared max (f ∷ fs) (g ∷ gs) r q af ag e =
     let ff = first_frame max f fs af in
     let fg = first_frame max g gs ag in
-    let one = one_frame max max f g (frames fs ++ r) (frames gs ++ q) ff.0 fg.0 (sym (append_assoc (frame f) (frames fs) r) ∙ e ∙ append_assoc (frame g) (frames gs) q) in
+    let one = one_frame max max f g (frames fs ++ r) (frames gs ++ q) ff.0 fg.0
+    (sym (append_assoc (frame f) (frames fs) r) ∙ e ∙ append_assoc (frame g) (frames gs) q) in
     elim (compared max fs gs r q ff.1 fg.1 one.1) [
       | inl x ↦ inl (record { more = x.more; same = ap (λ h. h ∷ fs) one.0 ∙ ap (λ hs. g ∷ hs) x.same; left = x.left })
       | inr x ↦ inr (record { next = x.next; more = x.more; same = ap (λ h. h ∷ gs) (sym one.0) ∙ ap (λ hs. f ∷ hs) x.same; left = x.left })
     ]
 
 -- a frame more: behind no CopyDone, and within the limit
-goes_on_before : (max : ℕ) (gs : List Frame) (next : Frame) (more : List Frame) → AreFrames max (gs ++ next ∷ more) → (has_copy_done gs ≡ false) × IsAllowed max next
+goes_on_before : (max : ℕ) (gs : List Frame) (next : Frame) (more : List Frame) → AreFrames max (gs ++ next ∷ more)
+    → (has_copy_done gs ≡ false) × IsAllowed max next
 goes_on_before max [] next more each = (refl, (first_frame max next more each).0)
 goes_on_before max (CopyData bytes ∷ gs) next more each = goes_on_before max gs next more each.1
 goes_on_before max (CopyDone ∷ []) next more each = absurd (cc)
@@ -176,64 +193,83 @@ same_behind false fs gs e = e
 
 -- ---- one piece
 
-rest_taken : (now : ℤ) (s a b : Subscribed) (fs gs : List Frame) → take_frames now s (gs ++ fs) ≡ Running a → take_frames now s gs ≡ Running b → take_frames now b fs ≡ Running a
-rest_taken now s a b fs gs all front = sym (take_frames-append now gs fs s ∙ ap (λ o. then_run o (λ next. take_frames now next fs)) front) ∙ all
+rest_taken : (now : ℤ) (s a b : Subscribed) (fs gs : List Frame) → take_frames now s (gs ++ fs) ≡ Running a
+    → take_frames now s gs ≡ Running b → take_frames now b fs ≡ Running a
+rest_taken now s a b fs gs all front =
+    sym (take_frames-append now gs fs s ∙ ap (λ o. then_run o (λ next. take_frames now next fs)) front) ∙ all
 
 module _ (now : ℤ) (old : Subscribed) (piece : List ℕ) where
   abbrev done : Bool
   done = old.copy_done
 
-  behind : (fs : List Frame) (r : List ℕ) → frames (front_of done) ++ (old.partial ++ piece) ≡ frames (front_of done ++ fs) ++ r → old.partial ++ piece ≡ frames fs ++ r
+  behind : (fs : List Frame) (r : List ℕ) → frames (front_of done) ++ (old.partial ++ piece) ≡ frames (front_of done ++ fs) ++ r
+      → old.partial ++ piece ≡ frames fs ++ r
   behind fs r e = without_done done (old.partial ++ piece) r fs e
 
   whole_whole : (a b : Subscribed) → IsFedWhole now old piece a → IsFedWhole now old piece b → b ≡ a
   whole_whole a b x y =
-      let read = one_deframing old.max_frame old.max_frame (frames (front_of done) ++ (old.partial ++ piece)) (front_of done ++ x.fs) (front_of done ++ y.fs) x.rest y.rest x.deframed y.deframed in
+      let read = one_deframing old.max_frame old.max_frame (frames (front_of done) ++ (old.partial ++ piece)) (front_of done ++ x.fs)
+      (front_of done ++ y.fs) x.rest y.rest x.deframed y.deframed in
       let fs : x.fs ≡ y.fs = same_behind done x.fs y.fs read.0 in
       let state : y.state ≡ x.state = running (sym y.takes ∙ ap (take_frames now old) (sym fs) ∙ x.takes) in
-      y.left ∙ ap (λ (s : Subscribed). record s { partial = y.rest }) state ∙ ap (λ r. record x.state { partial = r }) (sym read.1) ∙ sym x.left
+      y.left ∙ ap (λ (s : Subscribed). record s { partial = y.rest }) state ∙ ap (λ r. record x.state { partial = r }) (sym read.1)
+      ∙ sym x.left
 
   -- a fault isn't due where the frames can be taken on
-  not_yet : (f : Fault) (fs : List Frame) (r : List ℕ) (a : Subscribed) (y : (b : Subscribed) × IsFedUntil now old piece b f) → IsSettledFault f → AreFrames old.max_frame (front_of done ++ fs) → take_frames now old fs ≡ Running a
+  not_yet : (f : Fault) (fs : List Frame) (r : List ℕ) (a : Subscribed) (y : (b : Subscribed) × IsFedUntil now old piece b f)
+      → IsSettledFault f → AreFrames old.max_frame (front_of done ++ fs) → take_frames now old fs ≡ Running a
       → LongerByOne fs y.1.fs r y.1.rest → ⊥
   not_yet f fs r a y own each takes x =
       let until = y.1 in
-      let before = goes_on_before old.max_frame (front_of done ++ until.fs) x.next x.more (subst (AreFrames old.max_frame) (ap (λ gs. front_of done ++ gs) x.same ∙ sym (append_assoc (front_of done) until.fs (x.next ∷ x.more))) each) in
+      let before = goes_on_before old.max_frame (front_of done ++ until.fs) x.next x.more
+      (subst (AreFrames old.max_frame)
+      (ap (λ gs. front_of done ++ gs) x.same ∙ sym (append_assoc (front_of done) until.fs (x.next ∷ x.more))) each) in
       let more = rest_taken now old a until.state (x.next ∷ x.more) until.fs (ap (take_frames now old) (sym x.same) ∙ takes) until.takes in
       let one = goes_through (take_frame now until.state x.next) (λ next. take_frames now next x.more) a more in
-      no_reason_at_taken now old.max_frame (has_copy_done (front_of done ++ until.fs)) until.rest until.state f x.next (frames x.more ++ r) one.0 before.0 before.1 x.left one.1
+      no_reason_at_taken now old.max_frame (has_copy_done (front_of done ++ until.fs)) until.rest until.state f x.next (frames x.more ++ r)
+      one.0 before.0 before.1 x.left one.1
       (reason now old.max_frame (has_copy_done (front_of done ++ until.fs)) until.rest until.state f own until.why)
 
   whole_until : (a b : Subscribed) (f : Fault) → IsSettledFault f → IsFedWhole now old piece a → IsFedUntil now old piece b f → ⊥
   whole_until a b f own x y =
-      elim (compared old.max_frame x.fs y.fs x.rest y.rest (frames_behind old.max_frame done x.fs x.deframed.each) (frames_behind old.max_frame done y.fs y.each)
+      elim (compared old.max_frame x.fs y.fs x.rest y.rest (frames_behind old.max_frame done x.fs x.deframed.each)
+      (frames_behind old.max_frame done y.fs y.each)
       (sym (behind x.fs x.rest x.deframed.whole) ∙ behind y.fs y.rest y.whole)) [
         | inl longer ↦ by_more longer.more longer.same longer.left
         | inr longer ↦
-            let allowed = (goes_on_before old.max_frame x.fs longer.next longer.more (subst (AreFrames old.max_frame) longer.same (frames_behind old.max_frame done y.fs y.each))).1 in
+            let allowed = (goes_on_before old.max_frame x.fs longer.next longer.more
+            (subst (AreFrames old.max_frame) longer.same (frames_behind old.max_frame done y.fs y.each))).1 in
             not_partial old.max_frame old.max_frame longer.next x.rest (frames longer.more ++ y.rest) allowed x.deframed.partial longer.left
       ]
     where
       by_more : (more : List Frame) → x.fs ≡ y.fs ++ more → y.rest ≡ frames more ++ x.rest → ⊥
       by_more [] same left =
           let fs : x.fs ≡ y.fs = same ∙ append-nil y.fs in
-          no_reason_in_part now old.max_frame (has_copy_done (front_of done ++ y.fs)) y.rest y.state f (subst (IsPartial old.max_frame) (sym left) x.deframed.partial)
+          no_reason_in_part now old.max_frame (has_copy_done (front_of done ++ y.fs)) y.rest y.state f
+          (subst (IsPartial old.max_frame) (sym left) x.deframed.partial)
           (λ e. left ∙ x.deframed.last (ap (λ gs. has_copy_done (front_of done ++ gs)) fs ∙ e))
           (reason now old.max_frame (has_copy_done (front_of done ++ y.fs)) y.rest y.state f own y.why)
       by_more (next ∷ more) same left =
-          not_yet f x.fs x.rest x.state (b, y) own x.deframed.each x.takes (record { next = next; more = more; same = same; left = left ∙ append_assoc (frame next) (frames more) x.rest })
+          not_yet f x.fs x.rest x.state (b, y) own x.deframed.each x.takes
+          (record { next = next; more = more; same = same; left = left ∙ append_assoc (frame next) (frames more) x.rest })
 
   left_same : (s a b : Subscribed) → IsLeft s a → IsLeft s b → IsLeft a b
   left_same s a b x y = record {
     tables = y.tables ∙ sym x.tables;
     progress = y.progress ∙ sym x.progress;
-    settings = record { version = y.settings.version ∙ sym x.settings.version; max_frame = y.settings.max_frame ∙ sym x.settings.max_frame; limit = y.settings.limit ∙ sym x.settings.limit };
+    settings = record {
+      version = y.settings.version ∙ sym x.settings.version;
+      max_frame = y.settings.max_frame ∙ sym x.settings.max_frame;
+      limit = y.settings.limit ∙ sym x.settings.limit;
+    };
     replies = y.replies ∙ sym x.replies;
   }
 
-  until_until : (a b : Subscribed) (f g : Fault) → IsSettledFault f → IsSettledFault g → IsFedUntil now old piece a f → IsFedUntil now old piece b g → (f ≡ g) × IsLeft a b × (b.closed ≡ a.closed)
+  until_until : (a b : Subscribed) (f g : Fault) → IsSettledFault f → IsSettledFault g → IsFedUntil now old piece a f
+      → IsFedUntil now old piece b g → (f ≡ g) × IsLeft a b × (b.closed ≡ a.closed)
   until_until a b f g own own' x y =
-      elim (compared old.max_frame x.fs y.fs x.rest y.rest (frames_behind old.max_frame done x.fs x.each) (frames_behind old.max_frame done y.fs y.each)
+      elim (compared old.max_frame x.fs y.fs x.rest y.rest (frames_behind old.max_frame done x.fs x.each)
+      (frames_behind old.max_frame done y.fs y.each)
       (sym (behind x.fs x.rest x.whole) ∙ behind y.fs y.rest y.whole)) [
         | inl longer ↦ by_more longer.more longer.same longer.left
         | inr longer ↦ absurd (not_yet f y.fs y.rest y.state (a, x) own y.each y.takes longer)
@@ -241,21 +277,28 @@ module _ (now : ℤ) (old : Subscribed) (piece : List ℕ) where
     where
       by_more : (more : List Frame) → x.fs ≡ y.fs ++ more → y.rest ≡ frames more ++ x.rest → (f ≡ g) × IsLeft a b × (b.closed ≡ a.closed)
       by_more (next ∷ more) same left =
-          absurd (not_yet g x.fs x.rest x.state (b, y) own' x.each x.takes (record { next = next; more = more; same = same; left = left ∙ append_assoc (frame next) (frames more) x.rest }))
+          absurd (not_yet g x.fs x.rest x.state (b, y) own' x.each x.takes
+          (record { next = next; more = more; same = same; left = left ∙ append_assoc (frame next) (frames more) x.rest }))
       by_more [] same left =
           let fs : x.fs ≡ y.fs = same ∙ append-nil y.fs in
           let state : y.state ≡ x.state = running (sym y.takes ∙ ap (take_frames now old) (sym fs) ∙ x.takes) in
           let max = old.max_frame in
-          let first : Reason now max (has_copy_done (front_of done ++ x.fs)) x.rest x.state f = reason now max (has_copy_done (front_of done ++ x.fs)) x.rest x.state f own x.why in
+          let first : Reason now max (has_copy_done (front_of done ++ x.fs)) x.rest x.state f =
+          reason now max (has_copy_done (front_of done ++ x.fs)) x.rest x.state f own x.why in
           let other : Reason now max (has_copy_done (front_of done ++ x.fs)) x.rest x.state g =
           subst (λ (s : Subscribed). Reason now max (has_copy_done (front_of done ++ x.fs)) x.rest s g) state
           (subst (λ r. Reason now max (has_copy_done (front_of done ++ x.fs)) r y.state g) left
-          (subst (λ gs. Reason now max (has_copy_done (front_of done ++ gs)) y.rest y.state g) (sym fs) (reason now max (has_copy_done (front_of done ++ y.fs)) y.rest y.state g own' y.why))) in
-          (one_reason now max (has_copy_done (front_of done ++ x.fs)) x.rest x.state f g first other, left_same x.state a b x.left (subst (λ (s : Subscribed). IsLeft s b) state y.left), y.closed ∙ sym x.closed)
+          (subst (λ gs. Reason now max (has_copy_done (front_of done ++ gs)) y.rest y.state g) (sym fs)
+          (reason now max (has_copy_done (front_of done ++ y.fs)) y.rest y.state g own' y.why))) in (
+            one_reason now max (has_copy_done (front_of done ++ x.fs)) x.rest x.state f g first other,
+            left_same x.state a b x.left (subst (λ (s : Subscribed). IsLeft s b) state y.left),
+            y.closed ∙ sym x.closed,
+          )
 
 -- ---- by what is answered
 
-is_closed : (now : ℤ) (old new : Subscribed) (piece : List ℕ) (f : Fault) → IsFed now old piece new (Some f) → ((f ≡ fault.Closed) × (old.closed ≡ true) × (new ≡ old)) ⊎ ((old.closed ≡ false) × IsFedUntil now old piece new f)
+is_closed : (now : ℤ) (old new : Subscribed) (piece : List ℕ) (f : Fault) → IsFed now old piece new (Some f)
+    → ((f ≡ fault.Closed) × (old.closed ≡ true) × (new ≡ old)) ⊎ ((old.closed ≡ false) × IsFedUntil now old piece new f)
 is_closed now old new piece (fault.Wire k) fed = inr fed
 is_closed now old new piece (fault.Decode k) fed = inr fed
 is_closed now old new piece (fault.Order k) fed = inr fed
@@ -270,9 +313,11 @@ not_both : (b : Bool) → b ≡ true → b ≡ false → ⊥
 not_both b t f = let e : true ≡ false = sym t ∙ f in cc
 
 ends_same : (a b : Subscribed) → b ≡ a → IsLeft a b × (b.closed ≡ a.closed)
-ends_same a b e = subst (λ (x : Subscribed). IsLeft a x × (x.closed ≡ a.closed)) (sym e) (record { tables = refl; progress = refl; settings = record { version = refl; max_frame = refl; limit = refl }; replies = refl }, refl)
+ends_same a b e = subst (λ (x : Subscribed). IsLeft a x × (x.closed ≡ a.closed)) (sym e)
+    (record { tables = refl; progress = refl; settings = record { version = refl; max_frame = refl; limit = refl }; replies = refl }, refl)
 
-pub piece_one : (now : ℤ) (old a b : Subscribed) (piece : List ℕ) (x y : Option Fault) → IsSettled x → IsSettled y → IsFed now old piece a x → IsFed now old piece b y → (x ≡ y) × EndsSame x a b
+pub piece_one : (now : ℤ) (old a b : Subscribed) (piece : List ℕ) (x y : Option Fault) → IsSettled x → IsSettled y → IsFed now old piece a x
+    → IsFed now old piece b y → (x ≡ y) × EndsSame x a b
 piece_one now old a b piece None None own own' x y = (refl, whole_whole now old piece a b x.1 y.1)
 piece_one now old a b piece None (Some g) own own' x y = elim (is_closed now old b piece g y) [
   | inl closed ↦ absurd (not_both old.closed closed.1 x.0)
@@ -295,20 +340,23 @@ piece_one now old a b piece (Some f) (Some g) own own' x y = elim (is_closed now
 
 -- ---- sessions
 
-all_whole : (now : ℤ) (sessions : List (List ℕ)) (old a b : Subscribed) → AreFedWhole now old sessions a → AreFedWhole now old sessions b → b ≡ a
+all_whole : (now : ℤ) (sessions : List (List ℕ)) (old a b : Subscribed) → AreFedWhole now old sessions a → AreFedWhole now old sessions b
+    → b ≡ a
 all_whole now [] old a b x y = y ∙ sym x
 all_whole now (bytes ∷ sessions) old a b x y =
     let mid : y.0 ≡ x.0 = whole_whole now (disconnect old) bytes x.0 y.0 x.1 y.1 in
     all_whole now sessions x.0 a b x.2 (subst (λ (s : Subscribed). AreFedWhole now s sessions b) mid y.2)
 
-whole_or_until : (now : ℤ) (sessions : List (List ℕ)) (old a b : Subscribed) (f : Fault) → IsSettledFault f → AreFedWhole now old sessions a → AreFedUntil now old sessions b f → ⊥
+whole_or_until : (now : ℤ) (sessions : List (List ℕ)) (old a b : Subscribed) (f : Fault) → IsSettledFault f → AreFedWhole now old sessions a
+    → AreFedUntil now old sessions b f → ⊥
 whole_or_until now [] old a b f own x y = y
 whole_or_until now (bytes ∷ sessions) old a b f own x (inl stops) = whole_until now (disconnect old) bytes x.0 b f own x.1 stops
 whole_or_until now (bytes ∷ sessions) old a b f own x (inr y) =
     let mid : y.0 ≡ x.0 = whole_whole now (disconnect old) bytes x.0 y.0 x.1 y.1 in
     whole_or_until now sessions x.0 a b f own x.2 (subst (λ (s : Subscribed). AreFedUntil now s sessions b f) mid y.2)
 
-all_until : (now : ℤ) (sessions : List (List ℕ)) (old a b : Subscribed) (f g : Fault) → IsSettledFault f → IsSettledFault g → AreFedUntil now old sessions a f → AreFedUntil now old sessions b g
+all_until : (now : ℤ) (sessions : List (List ℕ)) (old a b : Subscribed) (f g : Fault) → IsSettledFault f → IsSettledFault g
+    → AreFedUntil now old sessions a f → AreFedUntil now old sessions b g
     → (f ≡ g) × IsLeft a b × (b.closed ≡ a.closed)
 all_until now [] old a b f g own own' x y = absurd x
 all_until now (bytes ∷ sessions) old a b f g own own' (inl x) (inl y) = until_until now (disconnect old) bytes a b f g own own' x y
@@ -318,8 +366,10 @@ all_until now (bytes ∷ sessions) old a b f g own own' (inr x) (inr y) =
     let mid : y.0 ≡ x.0 = whole_whole now (disconnect old) bytes x.0 y.0 x.1 y.1 in
     all_until now sessions x.0 a b f g own own' x.2 (subst (λ (s : Subscribed). AreFedUntil now s sessions b g) mid y.2)
 
-pub sessions_one : (now : ℤ) (old a b : Subscribed) (sessions : List (List ℕ)) (x y : Option Fault) → IsSettled x → IsSettled y → AreFed now old sessions a x → AreFed now old sessions b y → (x ≡ y) × EndsSame x a b
+pub sessions_one : (now : ℤ) (old a b : Subscribed) (sessions : List (List ℕ)) (x y : Option Fault) → IsSettled x → IsSettled y
+    → AreFed now old sessions a x → AreFed now old sessions b y → (x ≡ y) × EndsSame x a b
 sessions_one now old a b sessions None None own own' x y = (refl, all_whole now sessions old a b x y)
 sessions_one now old a b sessions None (Some g) own own' x y = absurd (whole_or_until now sessions old a b g own' x y)
 sessions_one now old a b sessions (Some f) None own own' x y = absurd (whole_or_until now sessions old b a f own y x)
-sessions_one now old a b sessions (Some f) (Some g) own own' x y = let both = all_until now sessions old a b f g own own' x y in (ap Some both.0, (both.1, both.2))
+sessions_one now old a b sessions (Some f) (Some g) own own' x y = let both = all_until now sessions old a b f g own own' x y in
+    (ap Some both.0, (both.1, both.2))

@@ -1,5 +1,6 @@
 -- What is fed, followed and compared, at the edges.
-use Rattle.std.proofs.Common.{◌≡◌, ◌∷◌, ◌++◌, [], List, true, false, Some, None, Err, inl, inr, pos, refl, sym, ap, subst, ◌∙◌, arith}
+use Rattle.std.proofs.Common.{◌≡◌, ◌∷◌, ◌++◌, [], List, true, false, Some, None, Err, inl, inr, pos}
+use Rattle.std.proofs.Common.{refl, sym, ap, subst, ◌∙◌, arith}
 use Rattle.pgorder.specs.declared.Version.TheVariants.{Two}
 use Rattle.pgspool.specs.declared.fault.SpoolFault.TheVariants as spool
 use Rattle.pgapply.specs.declared.rows.DumpRow.{DumpRow}
@@ -16,7 +17,8 @@ use Rattle.pgsub_core.specs.Server.Stream.{Sent}
 use Rattle.pgsub_core.specs.Machine.Taking.{take_sessions}
 use Rattle.pgsub_core.specs.Subscriber.Handled.{IsFollowed}
 use Rattle.pgsub_core.specs.Machine.Feeding.{IsFed, IsFedWhole, IsFedUntil}
-use Rattle.pgsub_core.specs.Subscriber.Verdicts.{IsVerdictOf, SideIsFollowed, LeftIsFollowed, RightIsFollowed}
+use Rattle.pgsub_core.specs.Subscriber.Verdicts.{IsVerdictOf, SideIsFollowed, LeftIsFollowed}
+use Rattle.pgsub_core.specs.Subscriber.Verdicts.{RightIsFollowed}
 use Rattle.pgsub_core.specs.Subscriber.Converging.{failed_side}
 use Rattle.pgsub_core.proofs.Followed.{fed_followed}
 use Rattle.pgsub_core.proofs.Samples.{text, empty_one, first_tables}
@@ -68,7 +70,9 @@ not_waiting : (new : Subscribed) → IsFedWhole (pos 0) done_one (100 ∷ []) ne
 not_waiting new fed =
     let rest : fed.rest ≡ [] = fed.deframed.last refl in
     let fs : fed.fs ≡ [] = fed.deframed.each in
-    let whole : 99 ∷ 0 ∷ 0 ∷ 0 ∷ 4 ∷ 100 ∷ [] ≡ 99 ∷ 0 ∷ 0 ∷ 0 ∷ 4 ∷ [] = fed.deframed.whole ∙ ap (λ gs. wire.frames (wire.CopyDone ∷ gs) ++ fed.rest) fs ∙ ap (λ r. wire.frames (wire.CopyDone ∷ []) ++ r) rest in
+    let whole : 99 ∷ 0 ∷ 0 ∷ 0 ∷ 4 ∷ 100 ∷ [] ≡ 99 ∷ 0 ∷ 0 ∷ 0 ∷ 4 ∷ [] =
+    fed.deframed.whole ∙ ap (λ gs. wire.frames (wire.CopyDone ∷ gs) ++ fed.rest) fs
+    ∙ ap (λ r. wire.frames (wire.CopyDone ∷ []) ++ r) rest in
     absurd (cc)
 
 -- ---- a fault closes
@@ -91,7 +95,8 @@ never_of_a_reader new fed = fed.1.why
 appends_nothing : IsFollowed (pos 0) [] [] [] open_one (record open_one { replies = 1 ∷ [] }) None → ⊥
 appends_nothing f =
     let none = f.why.0 in
-    let state : open_one ≡ f.state = running (subst (λ (handled : List (List Sent)). take_sessions (pos 0) open_one handled ≡ Running f.state) none f.takes) in
+    let state : open_one ≡ f.state =
+    running (subst (λ (handled : List (List Sent)). take_sessions (pos 0) open_one handled ≡ Running f.state) none f.takes) in
     let replies : 1 ∷ [] ≡ [] = ap (λ (s : Subscribed). s.replies) (f.left_by) ∙ ap (λ (s : Subscribed). s.replies) (sym state) in
     cc
 
@@ -132,12 +137,14 @@ right_touched is = let same : 5 ≡ 0 = ap (λ (s : Subscribed). s.position) is 
 
 -- a fault of the right side: the left one was followed to its end
 nothing_followed : SideIsFollowed (pos 0) [] open_one open_one None
-nothing_followed = record { fed = refl; followed = λ history all_complete is. fed_followed (pos 0) history [] all_complete open_one open_one None is refl }
+nothing_followed = record
+    { fed = refl; followed = λ history all_complete is. fed_followed (pos 0) history [] all_complete open_one open_one None is refl }
 
 left_followed : LeftIsFollowed (pos 0) [] open_one open_one (Some (Right, fault.Store store.Clash))
 left_followed = nothing_followed
 
--- reading the rows of a side can be refused behind all that was followed, and not with a fault of its sessions
+-- reading the rows of a side can be refused behind all that was followed, and not with a fault of
+-- its sessions
 left_unread : LeftIsFollowed (pos 0) [] open_one open_one (Some (Left, fault.Store store.Refused))
 left_unread = inr (inr refl, nothing_followed)
 

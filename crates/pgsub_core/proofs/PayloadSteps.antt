@@ -1,5 +1,6 @@
 -- The payload of a frame.
-use Rattle.std.proofs.Common.{◌≡◌, ℕ, ℤ, List, [], ◌∷◌, ◌++◌, Bool, true, false, cond, max, Ok, refl, ap, subst}
+use Rattle.std.proofs.Common.{◌≡◌, ℕ, ℤ, List, [], ◌∷◌, ◌++◌, Bool, true, false, cond, max, Ok}
+use Rattle.std.proofs.Common.{refl, ap, subst}
 use Rattle.pglogical.specs.Reading.{message_at}
 use Rattle.pglogical.specs.declared.message.Message.{Message}
 use Rattle.pgorder.specs.States.{is_in_block, is_outside}
@@ -18,7 +19,8 @@ use Rattle.pgsub_core.specs.Subscriber.Applied.{Applied, Framing, subscribed, Go
 use Rattle.pgsub_core.specs.Calls.Framing.{FramesGo}
 
 module _ {C : Type 0} (holds : C → Tables → Type 0) (place : C → ℕ) (now : ℤ) (payload : List ℕ) where
-  pub data_goes : (start end : ℕ) (clock : ℤ) (body : List ℕ) (a b : Applied C) → payload_at payload ≡ Ok (XLogData start end clock body) → (m : Message) → message_at (is_in_block a.order.context) body ≡ Ok m
+  pub data_goes : (start end : ℕ) (clock : ℤ) (body : List ℕ) (a b : Applied C) → payload_at payload ≡ Ok (XLogData start end clock body)
+      → (m : Message) → message_at (is_in_block a.order.context) body ≡ Ok m
       → Goes holds place (λ s. take now s (sent.Data start end clock m)) a b → FramesGo holds place now (CopyData payload ∷ []) a b
   data_goes start end clock body a b is m reads goes framing tables h =
       let done = goes framing tables h in
@@ -36,21 +38,36 @@ module _ {C : Type 0} (holds : C → Tables → Type 0) (place : C → ℕ) (end
   abbrev end_status : ℤ → ℕ → ℕ → Status
   end_status now confirmed received = record { written = received; flushed = confirmed; applied = confirmed; clock = now; ask = false }
 
-  step : (now : ℤ) (framing : Framing) (tables : Tables) (outside asks : Bool) (confirmed received : ℕ) (replies : List ℕ) → confirmed ≡ cond outside (max v.confirmed end) v.confirmed → received ≡ max confirmed (max v.received end)
+  step : (now : ℤ) (framing : Framing) (tables : Tables) (outside asks : Bool) (confirmed received : ℕ) (replies : List ℕ)
+      → confirmed ≡ cond outside (max v.confirmed end) v.confirmed → received ≡ max confirmed (max v.received end)
       → replies ≡ cond asks (v.replies ++ status_frame (end_status now confirmed received)) v.replies
-      → reply now asks (receive end (with_state (record { order = v.order; held = v.held; replica = on_keepalive (replica_with tables (place v.store) v.confirmed v.relations) end outside }) (subscribed place framing v tables)))
+      → reply now asks (receive end
+      (with_state (record {
+        order = v.order;
+        held = v.held;
+        replica = on_keepalive (replica_with tables (place v.store) v.confirmed v.relations) end outside;
+      })
+      (subscribed place framing v tables)))
       ≡ subscribed place framing (record v { confirmed = confirmed; received = received; replies = replies }) tables
   step now framing tables true true confirmed received replies c r p = rw (p, r, c) refl
   step now framing tables true false confirmed received replies c r p = rw (p, r, c) refl
   step now framing tables false true confirmed received replies c r p = rw (p, r, c) refl
   step now framing tables false false confirmed received replies c r p = rw (p, r, c) refl
 
-  pub keepalive_takes : (now clock : ℤ) (asks : Bool) (confirmed received : ℕ) (replies : List ℕ) → confirmed ≡ cond (is_outside v.order.context) (max v.confirmed end) v.confirmed → received ≡ max confirmed (max v.received end)
+  pub keepalive_takes : (now clock : ℤ) (asks : Bool) (confirmed received : ℕ) (replies : List ℕ)
+      → confirmed ≡ cond (is_outside v.order.context) (max v.confirmed end) v.confirmed → received ≡ max confirmed (max v.received end)
       → replies ≡ cond asks (v.replies ++ status_frame (end_status now confirmed received)) v.replies
-      → Goes holds place (λ s. take now s (sent.Keepalive end clock asks)) a (record v { confirmed = confirmed; received = received; replies = replies })
+      → Goes holds place (λ s. take now s (sent.Keepalive end clock asks)) a
+      (record v { confirmed = confirmed; received = received; replies = replies })
   keepalive_takes now clock asks confirmed received replies c r p =
-      subst (λ (x : Applied C). Goes holds place (λ s. take now s (sent.Keepalive end clock asks)) x (record v { confirmed = confirmed; received = received; replies = replies })) same
-      (λ framing tables h. (tables, h, ap (λ (s : Subscribed). running s) (step now framing tables (is_outside v.order.context) asks confirmed received replies c r p)))
+      subst (λ (x : Applied C).
+      Goes holds place (λ s. take now s (sent.Keepalive end clock asks)) x
+      (record v { confirmed = confirmed; received = received; replies = replies })) same
+      (λ framing tables h. (
+        tables,
+        h,
+        ap (λ (s : Subscribed). running s) (step now framing tables (is_outside v.order.context) asks confirmed received replies c r p),
+      ))
     where
       running : Subscribed → Outcome Subscribed Fault
       running s = Running s

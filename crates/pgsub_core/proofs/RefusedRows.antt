@@ -1,5 +1,5 @@
--- A store that refuses a statement stands in for no other fault: of a Commit outside a pair, of one whose LSN isn't that of its Begin,
--- and of one whose change no Relation message has described.
+-- A store that refuses a statement stands in for no other fault: of a Commit outside a pair, of one
+-- whose LSN isn't that of its Begin, and of one whose change no Relation message has described.
 use Rattle.std.proofs.Common.{◌≡◌, ◌∷◌, [], ℤ, pos, sym, subst}
 use Rattle.std.specs.FinMap as map
 use Rattle.pgrel.specs.declared.fault.RelFault.TheVariants as rel
@@ -23,7 +23,8 @@ outside_pair now refused = next_reaches now (sent (commit 256 304)) (empty_one 1
 
 -- inside the pair of xid 10 that began at LSN 256, with one Insert
 abbrev in_pair : Subscribed
-in_pair = record (empty_one 1000) { order = record initial_order { context = InPair 256 10 }; held = map.insert map.empty 10 ((10, insert_t 49 97) ∷ []) }
+in_pair = record (empty_one 1000)
+    { order = record initial_order { context = InPair 256 10 }; held = map.insert map.empty 10 ((10, insert_t 49 97) ∷ []) }
 
 other_lsn : (now : ℤ) → IsRefusedBehind now ([] ∷ []) ((sent (commit 257 304) ∷ []) ∷ []) in_pair → ⊥
 other_lsn now refused = next_reaches now (sent (commit 257 304)) in_pair refused

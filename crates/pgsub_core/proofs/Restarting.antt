@@ -24,10 +24,13 @@ nothing_up_to (t ∷ history) p c nothing = ((λ changes by. below t.end (nothin
     below : (e : ℕ) → (e ≤ c → e ≤ p) → e ≤ max p c → e ≤ p
     below e stored by = elim (cases_lt c e) [ inl late ↦ omega (arith, late, by) | inr early ↦ stored early ]
 
-pub left_starts : (history : List Transaction) (tables : Tables) (position confirmed : ℕ) (v : Version) (max_frame limit : ℕ) (sessions : List (List ℕ)) (all_complete : List (List Sent))
+pub left_starts : (history : List Transaction) (tables : Tables) (position confirmed : ℕ) (v : Version) (max_frame limit : ℕ)
+    (sessions : List (List ℕ)) (all_complete : List (List Sent))
     → IsHistory history → tables_as_of history position ≡ Ok tables → NothingBetween history position confirmed
-    → AreIncoming v history (starting_by (max position confirmed) (progress_of (newly tables position v max_frame limit))) sessions all_complete
-    → IsSent history (newly tables position v max_frame limit) sessions all_complete × AreSafeReplies history (newly tables position v max_frame limit)
+    → AreIncoming v history (starting_by (max position confirmed) (progress_of (newly tables position v max_frame limit))) sessions
+    all_complete
+    → IsSent history (newly tables position v max_frame limit) sessions all_complete
+    × AreSafeReplies history (newly tables position v max_frame limit)
 left_starts history tables position confirmed v max_frame limit sessions all_complete is same nothing sent = (
   record {
     is_history = is;

@@ -1,5 +1,7 @@
 -- Behind CopyDone nothing is taken.
-use Rattle.std.proofs.Common.{◌≡◌, ◌<◌, ◌++◌, inl, inr, ℕ, ℤ, List, [], Bool, true, length, take, drop, refl, sym, ap, subst, arith, append-nil, length-append, length-drop}
+use Rattle.std.proofs.Common.{◌≡◌, ◌<◌, ◌++◌, inl, inr, ℕ, ℤ, List, [], Bool, true, length, take}
+use Rattle.std.proofs.Common.{drop, refl, sym, ap, subst, arith, append-nil, length-append}
+use Rattle.std.proofs.Common.{length-drop}
 use Rattle.std.proofs.lemmas.List.{take-append-drop}
 use Rattle.pgwire.specs.Frames.{AreFrames, frames, has_copy_done}
 use Rattle.pgwire.specs.declared.fault.WireFault.TheVariants as wire_fault
@@ -28,7 +30,8 @@ stops_behind now old new piece f done left closed why = record {
   takes = refl;
   left = left;
   closed = closed;
-  why = subst (λ (d : Bool). StopsIn now old.max_frame (has_copy_done (front_of d ++ [])) (old.partial ++ piece) old f (cause f)) (sym done) why;
+  why = subst (λ (d : Bool). StopsIn now old.max_frame (has_copy_done (front_of d ++ [])) (old.partial ++ piece) old f (cause f)) (sym done)
+      why;
 }
 
 -- a cut that isn't at the end of a piece is at the end of its session
@@ -41,43 +44,53 @@ shut s = record s { framing = record s.framing { closed = true } }
 
 module _ {C : Type 0} (holds : C → Tables → Type 0) (place : C → ℕ) (now : ℤ) (old mid : SubscriberValue C) (piece : List ℕ) (n : ℕ) where
   until_end : (f : Fault) → mid.framing.copy_done ≡ true → Feeds holds place now old (take n piece) mid
-      → ((s : Subscribed) → StopsIn now s.max_frame true (s.partial ++ drop n piece) s f (cause f)) → FeedsUntil holds place now old piece (shut mid) f
+      → ((s : Subscribed) → StopsIn now s.max_frame true (s.partial ++ drop n piece) s f (cause f))
+      → FeedsUntil holds place now old piece (shut mid) f
   until_end f done feeds why tables h =
       let one = feeds tables h in
       let s = seen place mid one.0 in
       let new = seen place (shut mid) one.0 in
-      let left : IsLeft s new = record { tables = refl; progress = refl; settings = record { version = refl; max_frame = refl; limit = refl }; replies = refl } in (
+      let left : IsLeft s new =
+      record { tables = refl; progress = refl; settings = record { version = refl; max_frame = refl; limit = refl }; replies = refl } in (
         one.0,
         one.1,
         fed_until now (seen place old tables) new piece f one.2.0
             (subst (λ (p : List ℕ). IsFedUntil now (seen place old tables) p new f) (take-append-drop n piece)
-            (piece_then_stop now (seen place old tables) s new (take n piece) (drop n piece) f one.2.1 (stops_behind now s new (drop n piece) f done left refl (why s)))),
+            (piece_then_stop now (seen place old tables) s new (take n piece) (drop n piece) f one.2.1
+            (stops_behind now s new (drop n piece) f done left refl (why s)))),
       )
 
   -- what follows CopyDone is rejected,
-  pub until_after_done : n < length piece → mid.framing.copy_done ≡ true → Feeds holds place now old (take n piece) mid → FeedsUntil holds place now old piece (shut mid) (fault.Wire wire_fault.AfterDone)
+  pub until_after_done : n < length piece → mid.framing.copy_done ≡ true → Feeds holds place now old (take n piece) mid
+      → FeedsUntil holds place now old piece (shut mid) (fault.Wire wire_fault.AfterDone)
   until_after_done more done feeds = until_end (fault.Wire wire_fault.AfterDone) done feeds (λ s.
       let count = length-append s.partial (drop n piece) in
       let rest = length-drop n piece in
       (wire_fault.AfterDone, refl, (refl, omega (arith, more, count, rest))))
 
   -- or there is no memory for it
-  pub until_memory : mid.framing.copy_done ≡ true → Feeds holds place now old (take n piece) mid → FeedsUntil holds place now old piece (shut mid) fault.Memory
+  pub until_memory : mid.framing.copy_done ≡ true → Feeds holds place now old (take n piece) mid
+      → FeedsUntil holds place now old piece (shut mid) fault.Memory
   until_memory done feeds = until_end fault.Memory done feeds (λ s. tt)
 
 -- what stops a front of a piece stops the piece
 module _ {C : Type 0} (holds : C → Tables → Type 0) (place : C → ℕ) (now : ℤ) (old : SubscriberValue C) (piece : List ℕ) (n : ℕ) where
-  until_front : (s : SubscriberValue C) → FeedsUntil holds place now old (take n piece) s fault.Memory → FeedsUntil holds place now old piece s fault.Memory
+  until_front : (s : SubscriberValue C) → FeedsUntil holds place now old (take n piece) s fault.Memory
+      → FeedsUntil holds place now old piece s fault.Memory
   until_front s until tables h =
       let one = until tables h in (
         one.0,
         one.1,
         (
           one.2.0,
-          subst (λ (p : List ℕ). IsFedUntil now (seen place old tables) p (seen place s one.0) fault.Memory) (take-append-drop n piece) (stop_stands now _ _ (take n piece) (drop n piece) fault.Memory one.2.1),
+          subst (λ (p : List ℕ). IsFedUntil now (seen place old tables) p (seen place s one.0) fault.Memory) (take-append-drop n piece)
+              (stop_stands now _ _ (take n piece) (drop n piece) fault.Memory one.2.1),
         ),
       )
 
-  pub leaves_front : (reopens : C → C → Type 0) (serves : C → Type 0) (store : C) → LeavesOldOr place reopens serves (FedOver (λ s. FeedsUntil holds place now old (take n piece) s fault.Memory)) old.applied.store store
+  pub leaves_front : (reopens : C → C → Type 0) (serves : C → Type 0) (store : C)
+      → LeavesOldOr place reopens serves (FedOver (λ s. FeedsUntil holds place now old (take n piece) s fault.Memory)) old.applied.store
+      store
       → LeavesOldOr place reopens serves (FedOver (λ s. FeedsUntil holds place now old piece s fault.Memory)) old.applied.store store
-  leaves_front reopens serves store before = leaves_as place reopens serves _ _ old.applied.store store before (λ other has. (has.0, has.1, until_front has.0 has.2))
+  leaves_front reopens serves store before =
+      leaves_as place reopens serves _ _ old.applied.store store before (λ other has. (has.0, has.1, until_front has.0 has.2))

@@ -1,9 +1,12 @@
-//! Applies the messages of a session in the order in which they come. It keeps the order of messages, the buffered items of open
-//! transactions, the relation cache, the store, and the confirmed and received positions.
+//! Applies the messages of a session in the order in which they come. It keeps the order of
+//! messages, the buffered items of open transactions, the relation cache, the store, and the
+//! confirmed and received positions.
 //!
-//! PostgreSQL documentation, Streaming Replication Protocol; Logical Streaming Replication Protocol.
+//! PostgreSQL documentation, Streaming Replication Protocol; Logical Streaming Replication
+//! Protocol.
 
-ghost use Rattle.std.specs.Prelude.{◌≡◌, ◌<◌, ◌≤◌, ◌⊎◌, ◌∷◌, ◌++◌, [], ℕ, ℤ, max, if◌then◌else◌, false, true, Ok, Err, OnOk, OnErr, IfOk, IfErr};
+ghost use Rattle.std.specs.Prelude.{◌≡◌, ◌<◌, ◌≤◌, ◌⊎◌, ◌∷◌, ◌++◌, [], ℕ, ℤ, max, if◌then◌else◌};
+ghost use Rattle.std.specs.Prelude.{false, true, Ok, Err, OnOk, OnErr, IfOk, IfErr};
 ghost use Rattle.std.specs.FinMap as map;
 ghost use Rattle.pglogical.specs.Lent.{message_value};
 ghost use Rattle.pglogical.specs.Reading.{message_at};
@@ -22,9 +25,11 @@ ghost use Rattle.pgsub_core.specs.Machine.Opened.{AreOpened, Fits, under_way_beh
 ghost use Rattle.pgapply.specs.Taken.{Begins, Leaves, LeavesStaged, Settles, Stays, Shows};
 ghost use Rattle.pgsub_core.specs.Subscriber.Applied.{Goes, Stops, IsKept, StaysBesideStore};
 ghost use Rattle.pgsub_core.specs.Calls.Committing.{Commits, RefusesCommit};
-ghost use Rattle.pgsub_core.specs.Machine.Counted.{message_counted, decoded_counted, frame_counted, CountsCommit, CountsEvent, CountsBy};
+ghost use Rattle.pgsub_core.specs.Machine.Counted.{message_counted, decoded_counted, frame_counted};
+ghost use Rattle.pgsub_core.specs.Machine.Counted.{CountsCommit, CountsEvent, CountsBy};
 ghost use Rattle.pgsub_core.specs.Calls.Staging.{Rests, Grows, KeepsItsSettings, IsMark, GoesBack};
-ghost use Rattle.pgsub_core.specs.Calls.Events.{HasRoom, IsFull, FindsRoom, EventGoes, EventStops, StaysBeside};
+ghost use Rattle.pgsub_core.specs.Calls.Events.{HasRoom, IsFull, FindsRoom, EventGoes, EventStops};
+ghost use Rattle.pgsub_core.specs.Calls.Events.{StaysBeside};
 ghost use Rattle.pgsub_core.specs.Machine.Faults.{IsOfFeeding, IsReadFault};
 
 use crate::committing::{Ending, about_of, commit, later};
@@ -40,7 +45,8 @@ use pgwire::{ServerMsg, Status, decode_server, encode_status};
 use std::alloc::Global;
 use std::marker::Model;
 
-/// What goes back where staged commits can't be settled: what was confirmed, received and replied before the first of them.
+/// What goes back where staged commits can't be settled: what was confirmed, received and replied
+/// before the first of them.
 #[derive(Clone, Copy)]
 pub(crate) struct Mark {
     confirmed: Lsn,
@@ -92,8 +98,8 @@ fn open<P: Spools>(spools: &mut P, xid: u32) -> Result<(), Fault>
     Ok(())
 }
 
-// Buffers the item of a message until its transaction commits, under the transaction or subtransaction that made it. A message
-// without an item changes nothing.
+// Buffers the item of a message until its transaction commits, under the transaction or
+// subtransaction that made it. A message without an item changes nothing.
 fn hold<P: Spools>(
     spools: &mut P,
     message: &MessageRef<'_>,
@@ -171,7 +177,8 @@ impl<P: Spools + Drop, C: ReplicaStore + Drop> Applier<P, C> {
         }
     }
 
-    /// Forgets the session: the order of messages, the relation cache, buffered items and unsent replies.
+    /// Forgets the session: the order of messages, the relation cache, buffered items and unsent
+    /// replies.
     pub fn disconnect(&mut self)
         ensures store { self.new.store ≡ self.old.store }
         ensures confirmed { self.new.confirmed ≡ self.old.confirmed }
@@ -243,7 +250,8 @@ impl<P: Spools + Drop, C: ReplicaStore + Drop> Applier<P, C> {
         self.store.reached() <= self.store.position()
     }
 
-    /// Settles what is staged. Where that fails, what was confirmed, received and replied is as at the mark.
+    /// Settles what is staged. Where that fails, what was confirmed, received and replied is as at
+    /// the mark.
     pub fn settle(&mut self, mark: &Mark) -> Result<(), Fault>
         ensures beside { OnOk result (StaysBesideStore self.old self.new) }
         ensures back { OnErr result (GoesBack mark.now.confirmed mark.now.received
@@ -434,7 +442,8 @@ impl<P: Spools + Drop, C: ReplicaStore + Drop> Applier<P, C> {
         Ok(())
     }
 
-    /// Applies the payload of a CopyData frame: XLogData with a logical message, or a keepalive. `now` is the clock of a reply.
+    /// Applies the payload of a CopyData frame: XLogData with a logical message, or a keepalive.
+    /// `now` is the clock of a reply.
     pub fn take_payload(&mut self, payload: &[u8], now: i64) -> Result<(), Fault>
         requires opened { AreOpened self.old.order self.old.held }
         ensures takes { C.serves self.new.store →

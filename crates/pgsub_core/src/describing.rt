@@ -1,8 +1,10 @@
-//! The changes of a commit, each with the definition that the relation cache has when its turn comes.
+//! The changes of a commit, each with the definition that the relation cache has when its turn
+//! comes.
 //!
 //! PostgreSQL documentation, Logical Replication Message Formats, Relation.
 
-ghost use Rattle.std.specs.Prelude.{◌≡◌, ◌⊎◌, ◌∷◌, ◌++◌, [], List, ℕ, nat_eq, Some, None, Ok, Err, OnOk, OnErr, IfOk, IfErr, slice_get, length};
+ghost use Rattle.std.specs.Prelude.{◌≡◌, ◌⊎◌, ◌∷◌, ◌++◌, [], List, ℕ, nat_eq, Some, None, Ok, Err};
+ghost use Rattle.std.specs.Prelude.{OnOk, OnErr, IfOk, IfErr, slice_get, length};
 ghost use Rattle.std.specs.FinMap as map;
 ghost use Rattle.indexmap.specs.IndexMap.{get};
 ghost use Rattle.pglogical.specs.declared.message.Item.{Item};
@@ -11,7 +13,8 @@ ghost use Rattle.pglogical.specs.Spelling.{IsSpellable, IsDefinition};
 ghost use Rattle.pgspool.specs.Labels.{items_of, held_of};
 ghost use Rattle.pgsub_core.specs.Server.Described.{described_from};
 ghost use Rattle.pgsub_core.specs.Machine.Replica.{cached, all_cached};
-ghost use Rattle.pgsub_core.specs.Calls.Drafts.{known_to, behind_changes, AreNumbered, IsNumbered, Adds, IsUndescribed, truncated, LacksDefinition};
+ghost use Rattle.pgsub_core.specs.Calls.Drafts.{known_to, behind_changes, AreNumbered, IsNumbered};
+ghost use Rattle.pgsub_core.specs.Calls.Drafts.{Adds, IsUndescribed, truncated, LacksDefinition};
 
 use crate::fault::Fault;
 use indexmap::IndexMap;
@@ -21,8 +24,9 @@ use pgrel::Book;
 use pgspool::Spools;
 use std::alloc::Global;
 
-/// The changes of a commit that were described so far. `numbers` gives, by OID, the number in `work` of the definition that the
-/// relation cache has now: so a definition is copied once each time that a relation is described and then used.
+/// The changes of a commit that were described so far. `numbers` gives, by OID, the number in
+/// `work` of the definition that the relation cache has now: so a definition is copied once each
+/// time that a relation is described and then used.
 #[derive(Drop)]
 pub(crate) struct Draft<'a> {
     pub work: Work<'a>,
@@ -49,7 +53,8 @@ fn describe_relation(
     Ok(())
 }
 
-// The number of the definition that the cache has of a relation. It is copied into the work if it isn't there yet.
+// The number of the definition that the cache has of a relation. It is copied into the work if it
+// isn't there yet.
 fn number_of(alloc: Global, book: &Book, draft: &mut Draft<'_>, oid: u32) -> Result<usize, Fault>
     requires { AreNumbered book.now draft.old.work.definitions (get nat_eq draft.old.numbers) }
     ensures number { IfOk result (IsNumbered book.now draft.new.work.definitions oid) }
@@ -111,7 +116,8 @@ fn describe_truncate(
     Ok(())
 }
 
-// Adds one item of a commit: a Relation goes into the cache, a change gets its definition from there.
+// Adds one item of a commit: a Relation goes into the cache, a change gets its definition from
+// there.
 fn describe_item<'a>(
     alloc: Global,
     book: &mut Book,
@@ -147,7 +153,8 @@ fn describe_item<'a>(
     }
 }
 
-/// The changes of a transaction that commits, in the order of its items. The Relation messages among them go into the cache.
+/// The changes of a transaction that commits, in the order of its items. The Relation messages
+/// among them go into the cache.
 ///
 /// # Errors
 ///

@@ -2,10 +2,12 @@
 //!
 //! PostgreSQL documentation, Streaming Replication Protocol.
 
-ghost use Rattle.std.specs.Prelude.{◌≡◌, ◌≢◌, ◌↔◌, ◌<◌, ◌≤◌, None, Err, false, true, length, take, OnOk, IfErr, IfSome};
+ghost use Rattle.std.specs.Prelude.{◌≡◌, ◌≢◌, ◌↔◌, ◌<◌, ◌≤◌, None, Err, false, true, length, take};
+ghost use Rattle.std.specs.Prelude.{OnOk, IfErr, IfSome};
 ghost use Rattle.std.specs.Io.KnownBytes.{Consumes, IsAtEnd, Keeps};
 ghost use Rattle.pgsub_core.specs.Subscriber.Crashing.{LeavesOldOr, FedOver, StandsAsFed};
-ghost use Rattle.pgsub_core.specs.Calls.Pumping.{IsReadOut, Pumps, PumpsUntil, PumpsCounted, PumpsCountedUntil};
+ghost use Rattle.pgsub_core.specs.Calls.Pumping.{IsReadOut, Pumps, PumpsUntil, PumpsCounted};
+ghost use Rattle.pgsub_core.specs.Calls.Pumping.{PumpsCountedUntil};
 
 use crate::fault::Fault;
 use crate::subscriber::Subscriber;
@@ -43,7 +45,8 @@ impl<R: Read + Drop> Source<R> {
         self.failed
     }
 
-    // Reads once, at most as many bytes as `room` holds. 0 bytes are the end, and None is a read that failed.
+    // Reads once, at most as many bytes as `room` holds. 0 bytes are the end, and None is a read
+    // that failed.
     fn read_piece(&mut self, room: &mut [u8]) -> Option<usize>
         requires room { 0 < length room.old }
         requires sound { self.old.failed ≡ false }
@@ -65,8 +68,8 @@ impl<R: Read + Drop> Source<R> {
     }
 }
 
-/// Reads the source to its end, or 2^64 - 1 times, and feeds each piece of at most 4096 bytes as it comes. `now` is the clock of the
-/// replies, in microseconds since 2000-01-01 00:00 UTC.
+/// Reads the source to its end, or 2^64 - 1 times, and feeds each piece of at most 4096 bytes as it
+/// comes. `now` is the clock of the replies, in microseconds since 2000-01-01 00:00 UTC.
 ///
 /// Whatever a crash after the call may leave of the store could be left before it, and the position
 /// is as it was; or it is as after some front of the frames that were read, and at no lower
@@ -78,8 +81,9 @@ impl<R: Read + Drop> Source<R> {
 ///
 /// # Errors
 ///
-/// `Fault::Read` exactly if a read failed: the subscriber is then as after the pieces before, and goes on with the bytes that come
-/// next. Any other fault is that of feeding the piece that was read last, and closes the subscriber.
+/// `Fault::Read` exactly if a read failed: the subscriber is then as after the pieces before, and
+/// goes on with the bytes that come next. Any other fault is that of feeding the piece that was
+/// read last, and closes the subscriber.
 ///
 /// PostgreSQL documentation, Streaming Replication Protocol, START_REPLICATION.
 pub fn pump<R: Read + Drop, P: Spools + Drop, C: ReplicaStore + Drop>(

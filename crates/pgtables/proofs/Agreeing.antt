@@ -1,5 +1,6 @@
 -- Rows of held that agree on the key, and rowids that differ.
-use Rattle.std.proofs.Common.{◌≡◌, ◌≢◌, inl, inr, ℕ, ℤ, pos, Bool, true, false, List, [], ◌∷◌, Some, refl, ap, ◌∙◌, true≢false}
+use Rattle.std.proofs.Common.{◌≡◌, ◌≢◌, inl, inr, ℕ, ℤ, pos, Bool, true, false, List, [], ◌∷◌, Some}
+use Rattle.std.proofs.Common.{refl, ap, ◌∙◌, true≢false}
 use Rattle.std.specs.Ordering.{is_eq, is_ne, int_cmp}
 use Rattle.std.proofs.lemmas.Bool.{cases_Bool}
 use Rattle.sqlite.specs.declared.types.Value.{Value}
@@ -31,6 +32,7 @@ ints_differ m n apart =
     truth_back _ ∙ ap is_ne (value_cmp-Int m n) ∙ untied _ other
 
 module _ (id id' : Value) (o o' : ℕ) (i i' : List ℕ) (k k' : Copies) where
-  pub agree_same : ◌≡◌ {A = List ℕ} (o ∷ i) (o' ∷ i') → agree plain (1 ∷ 2 ∷ []) (held_row id o i k) (1 ∷ 2 ∷ []) (held_row id' o' i' k') ≡ true
+  pub agree_same : ◌≡◌ {A = List ℕ} (o ∷ i) (o' ∷ i')
+      → agree plain (1 ∷ 2 ∷ []) (held_row id o i k) (1 ∷ 2 ∷ []) (held_row id' o' i' k') ≡ true
   unfolding first_key
   agree_same e = let oid : o ≡ o' = cc in let ident : i ≡ i' = cc in rw (oid, ident, int_equal (pos o'), blob_equal i')

@@ -1,5 +1,7 @@
 -- The definitions that were read are those of `rel`.
-use Rattle.std.proofs.Common.{◌≡◌, inl, inr, ℕ, ◌<◌, ◌≤◌, ◌<ℤ◌, pos, Bool, true, false, List, [], ◌∷◌, ◌++◌, map, drop, Option, Some, None, refl, sym, ap, subst, subst₂, ◌∙◌, arith, true≢false, nat_cmp, Less, lt-ltb}
+use Rattle.std.proofs.Common.{◌≡◌, inl, inr, ℕ, ◌<◌, ◌≤◌, ◌<ℤ◌, pos, Bool, true, false, List, []}
+use Rattle.std.proofs.Common.{◌∷◌, ◌++◌, map, drop, Option, Some, None, refl, sym, ap, subst}
+use Rattle.std.proofs.Common.{subst₂, ◌∙◌, arith, true≢false, nat_cmp, Less, lt-ltb}
 use Rattle.std.specs.Prelude.{T, ◌&&◌, MatchOption, IfSome}
 use Rattle.std.specs.List.{AllByRecursion, AllZip}
 use Rattle.std.specs.Cmp.{nat_cmp_is}
@@ -28,24 +30,35 @@ use Rattle.pgtables.specs.Schema.{rel}
 use Rattle.pgtables.specs.declared.remains.Remains.{Remains}
 use Rattle.pgtables.specs.Remains.{Stands, remaining}
 use Rattle.pgtables.proofs.Standing.{over}
-use Rattle.pgtables.specs.Kept.{AreDefined, AreKeyed, Definition, definition_in, oid_in, rel_row, tables_in}
+use Rattle.pgtables.specs.Kept.{AreDefined, AreKeyed, Definition, definition_in, oid_in, rel_row}
+use Rattle.pgtables.specs.Kept.{tables_in}
 use Rattle.pgtables.specs.Opened.{AreDefinitionsRead, IsDefinitionRead, ListsDefinitions}
 use Rattle.pgtables.proofs.Maps.{alike, got_row, row_got, row_missing}
 use Rattle.pgtables.proofs.Sorted.{entry_some, entry_has}
 use Rattle.pgtables.proofs.Steps.{bare}
-use Rattle.pgtables.proofs.FoundTexts.{by_rowid, definitions_text, definitions_shown, definitions_command, definitions_read_only, definitions_read}
-use Rattle.pgtables.proofs.FoundRows.{number, IsRising, ascends_on, has_on, in_answer, from_tree, tree_apart, never, after, some, null_is}
+use Rattle.pgtables.proofs.FoundTexts.{by_rowid, definitions_text, definitions_shown}
+use Rattle.pgtables.proofs.FoundTexts.{definitions_command, definitions_read_only, definitions_read}
+use Rattle.pgtables.proofs.FoundRows.{number, IsRising, ascends_on, has_on, in_answer, from_tree}
+use Rattle.pgtables.proofs.FoundRows.{tree_apart, never, after, some, null_is}
 use Rattle.pgtables.proofs.ReadSteps.{answers, zip_on}
 
 -- the OIDs so far are up to the last
 abbrev pub AreUpTo : Option ℕ → List (ℕ × Definition) → Type 0
 AreUpTo last all = (e : ℕ × Definition) → Has all e → MatchOption last ⊥ (λ m. e.0 ≤ m)
 
-pub definition_on : (rows : List Row) (all : List (ℕ × Definition)) (last : Option ℕ) (r : Row) (oid : ℕ) (d : Definition) → AreDefinitionsRead rows all → AreUpTo last all → IsDefinitionRead r oid d → IfSome last (λ m. m < oid)
+pub definition_on : (rows : List Row) (all : List (ℕ × Definition)) (last : Option ℕ) (r : Row) (oid : ℕ) (d : Definition)
+    → AreDefinitionsRead rows all → AreUpTo last all → IsDefinitionRead r oid d → IfSome last (λ m. m < oid)
     → AreDefinitionsRead (rows ++ r ∷ []) (all ++ (oid, d) ∷ []) × AreUpTo (Some oid) (all ++ (oid, d) ∷ [])
 definition_on rows all last r oid d so_far low one behind = (
-  record { each = zip_on _ rows all r (oid, d) so_far.each one; rises = ascends_on _ all (oid, d) so_far.rises (λ e h. below last (low e h) behind) },
-  λ e h. elim (has_on all (oid, d) e h) [ inl was ↦ (let less : e.0 < oid = below last (low e was) behind in omega arith) | inr is ↦ omega (arith, ap (λ (x : ℕ × Definition). x.0) is) ],
+  record {
+    each = zip_on _ rows all r (oid, d) so_far.each one;
+    rises = ascends_on _ all (oid, d) so_far.rises (λ e h. below last (low e h) behind);
+  },
+  λ e h. elim (has_on all (oid, d) e h) [
+    | inl was ↦ (let less : e.0 < oid = below last (low e was) behind in omega arith)
+    | inr is ↦ omega
+        (arith, ap (λ (x : ℕ × Definition). x.0) is)
+  ],
 )
   where
     below : {n : ℕ} (last : Option ℕ) → MatchOption last ⊥ (λ m. n ≤ m) → IfSome last (λ m. m < oid) → n < oid
@@ -106,7 +119,8 @@ rows_rise (r ∷ rows) (e ∷ all) each up = (higher rows all each.1 up.0, rows_
     numbers : (m n : ℕ) → m < n → pos m <ℤ pos n
     numbers m n h = lt_z_yes (subst T (sym (lt-ltb m n h)) tt)
 
-    higher : (rows : List Row) (all : List Entry) → AllZip (λ r e. IsDefinitionRead r e.0 e.1) rows all → AllByRecursion (λ f. e.0 < f.0) all → AllByRecursion (λ s. number r <ℤ number s) rows
+    higher : (rows : List Row) (all : List Entry) → AllZip (λ r e. IsDefinitionRead r e.0 e.1) rows all
+        → AllByRecursion (λ f. e.0 < f.0) all → AllByRecursion (λ s. number r <ℤ number s) rows
     higher [] [] zipped above = tt
     higher [] (f ∷ all) zipped above = absurd zipped
     higher (s ∷ rows) [] zipped above = absurd zipped
@@ -117,10 +131,13 @@ rows_rise (r ∷ rows) (e ∷ all) each up = (higher rows all each.1 up.0, rows_
 
 -- ---- a row of `rel` has six columns
 
-typed_rel : (schema : Schema) (db : Trees) → Has schema.tables rel → IsSound schema db → (r : Row) → Has (db 0) r → are_typed (Some 0) 0 rel.columns (drop 1 r) ≡ true
-typed_rel schema db listed sound r h = (and_parts _ _ (all_has _ (db 0) r (all_has _ schema.tables rel (sound.obeys.rules Datatype) listed) h)).0
+typed_rel : (schema : Schema) (db : Trees) → Has schema.tables rel → IsSound schema db → (r : Row) → Has (db 0) r
+    → are_typed (Some 0) 0 rel.columns (drop 1 r) ≡ true
+typed_rel schema db listed sound r h =
+    (and_parts _ _ (all_has _ (db 0) r (all_has _ schema.tables rel (sound.obeys.rules Datatype) listed) h)).0
 
-present_rel : (schema : Schema) (db : Trees) → Has schema.tables rel → IsSound schema db → (r : Row) → Has (db 0) r → are_present (Some 0) 0 rel.columns r ≡ true
+present_rel : (schema : Schema) (db : Trees) → Has schema.tables rel → IsSound schema db → (r : Row) → Has (db 0) r
+    → are_present (Some 0) 0 rel.columns r ≡ true
 present_rel schema db listed sound r h = all_has _ (db 0) r (all_has _ schema.tables rel (sound.obeys.rules NotNull) listed) h
 
 -- the row of which a query shows these columns
@@ -130,7 +147,8 @@ row_of x = column x 0 ∷ Null ∷ column x 1 ∷ column x 2 ∷ column x 3 ∷ 
 abbrev shown_of : Row → Row
 shown_of r = column r 0 ∷ column r 2 ∷ column r 3 ∷ column r 4 ∷ column r 5 ∷ []
 
-is_six : (r : Row) → are_typed (Some 0) 0 rel.columns (drop 1 r) ≡ true → are_present (Some 0) 0 rel.columns r ≡ true → r ≡ row_of (shown_of r)
+is_six : (r : Row) → are_typed (Some 0) 0 rel.columns (drop 1 r) ≡ true → are_present (Some 0) 0 rel.columns r ≡ true
+    → r ≡ row_of (shown_of r)
 is_six [] typed present = absurd (never present)
 is_six (a ∷ []) typed present = absurd (never present)
 is_six (a ∷ b ∷ []) typed present = absurd (never present)
@@ -138,11 +156,14 @@ is_six (a ∷ b ∷ c ∷ []) typed present = absurd (after (some c) never prese
 is_six (a ∷ b ∷ c ∷ d ∷ []) typed present = absurd (after (some c) (after (some d) never) present)
 is_six (a ∷ b ∷ c ∷ d ∷ e ∷ []) typed present = absurd (after (some c) (after (some d) (after (some e) never)) present)
 is_six (a ∷ b ∷ c ∷ d ∷ e ∷ f ∷ []) typed present = ap (λ v. a ∷ v ∷ c ∷ d ∷ e ∷ f ∷ []) (null_is b (and_parts _ _ typed).0)
-is_six (a ∷ b ∷ c ∷ d ∷ e ∷ f ∷ g ∷ r) typed present = absurd (after (is_null b) (after (is_of kind.Text c) (after (is_of kind.Text d) (after (is_of kind.Integer e) (after (is_of kind.Blob f) never)))) typed)
+is_six (a ∷ b ∷ c ∷ d ∷ e ∷ f ∷ g ∷ r) typed present =
+    absurd (after (is_null b)
+    (after (is_of kind.Text c) (after (is_of kind.Text d) (after (is_of kind.Integer e) (after (is_of kind.Blob f) never)))) typed)
 
 -- ---- all definitions
 
-module _ (schema : Schema) (db : Trees) (listed : Has schema.tables rel) (sound : IsSound schema db) (rows : List Row) (a : IsAnswer (by_rowid 0 definitions_shown) db [] rows) (all : List Entry) (read : AreDefinitionsRead rows all) where
+module _ (schema : Schema) (db : Trees) (listed : Has schema.tables rel) (sound : IsSound schema db) (rows : List Row)
+    (a : IsAnswer (by_rowid 0 definitions_shown) db [] rows) (all : List Entry) (read : AreDefinitionsRead rows all) where
   up : IsRising rows
   up = rows_rise rows all read.each read.rises
 
@@ -159,8 +180,12 @@ module _ (schema : Schema) (db : Trees) (listed : Has schema.tables rel) (sound 
   row_at e h =
       let x = zip_into _ rows all e read.each h in
       let r = from_tree db 0 _ rows a x.0 x.1 in
-      let one : IsDefinitionRead (shown_of r.0) e.0 e.1 = subst (λ s. IsDefinitionRead s e.0 e.1) r.2 x.2 in
-      (r.0, r.1, six_is r.0 r.1 ∙ (λ i. one.oid_is i ∷ Null ∷ one.namespace_is i ∷ one.name_is i ∷ one.letter_is i ∷ one.columns_are i ∷ []))
+      let one : IsDefinitionRead (shown_of r.0) e.0 e.1 = subst (λ s. IsDefinitionRead s e.0 e.1) r.2 x.2 in (
+        r.0,
+        r.1,
+        six_is r.0 r.1
+            ∙ (λ i. one.oid_is i ∷ Null ∷ one.namespace_is i ∷ one.name_is i ∷ one.letter_is i ∷ one.columns_are i ∷ []),
+      )
 
   keyed : AreKeyed oid_in (db 0)
   keyed r s hr hs e =
@@ -184,13 +209,15 @@ module _ (schema : Schema) (db : Trees) (listed : Has schema.tables rel) (sound 
           let r = row_at e.0 e.1 in
           let at : oid_in r.0 ≡ q = ap oid_in r.2 ∙ e.2 in
           let is : definition_in r.0 ≡ v = ap definition_in r.2 ∙ e.3 in
-          ap (get (tables_in db).defined) (sym at) ∙ row_got nat_cmp_total nat_cmp-IsAntisymmetric oid_in definition_in (db 0) r.0 keyed r.1 ∙ ap Some is)
+          ap (get (tables_in db).defined) (sym at) ∙ row_got nat_cmp_total nat_cmp-IsAntisymmetric oid_in definition_in (db 0) r.0 keyed r.1
+          ∙ ap Some is)
           (λ v h.
           let r = got_row nat_cmp_total nat_cmp-IsAntisymmetric oid_in definition_in (db 0) q v h in
           let e = entry_of r.0 r.1 in
           let at : e.0.0 ≡ q = sym (ap oid_in e.2) ∙ r.2 in
           let is : e.0.1 ≡ v = sym (ap definition_in e.2) ∙ r.3 in
-          let one = entry_has nat_cmp_total nat_cmp-IsAntisymmetric (λ (x : Entry). x.0) (λ x. x.1) all e.0 (λ y hy same. entries_once all read.rises y e.0 hy e.1 same) e.1 in
+          let one = entry_has nat_cmp_total nat_cmp-IsAntisymmetric (λ (x : Entry). x.0) (λ x. x.1) all e.0
+          (λ y hy same. entries_once all read.rises y e.0 hy e.1 same) e.1 in
           ap (λ k. find nat_cmp k (map (λ x. (x.0, x.1)) all)) (sym at) ∙ one ∙ ap Some is);
     },
   )
@@ -201,27 +228,39 @@ module _ (schema : Schema) (db : Trees) (listed : Has schema.tables rel) (sound 
 
 -- ---- the query, where the table stands
 
-shown_found : (d h p : Bool) → d ≡ true → (old new : State) (rows : List Row) (all : List Entry) → old.now.schema ≡ over d h p → IsDatabase old.now → Shown definitions_text [] old new rows → AreDefinitionsRead rows all
+shown_found : (d h p : Bool) → d ≡ true → (old new : State) (rows : List Row) (all : List Entry) → old.now.schema ≡ over d h p
+    → IsDatabase old.now → Shown definitions_text [] old new rows → AreDefinitionsRead rows all
     → AreDefined (old.now.trees 0) × ListsDefinitions (tables_in old.now.trees) all
 shown_found false h p stands old new rows all ours sound shown read = absurd (true≢false (sym stands))
 shown_found true h p stands old new rows all ours sound shown read =
     let plan = definitions_read h p in
-    let answered = answers definitions_text definitions_read_only (over true h p) definitions_command plan.0 plan.1.0 plan.1.1 old new rows ours shown in
+    let answered = answers definitions_text definitions_read_only (over true h p) definitions_command plan.0 plan.1.0 plan.1.1 old new rows
+    ours shown in
     let answer = subst (λ t. IsAnswer (by_rowid 0 definitions_shown) t [] rows) (bare old.now.trees) (answered.answer Null) in
     definitions_found (over true h p) old.now.trees (inl refl) (subst (λ s. IsSound s old.now.trees) ours sound) rows answer all read
 
-pub all_found : (old new : State) (rows : List Row) (all : List Entry) → Stands (λ left. left.has_definitions) old.now.schema → IsDatabase old.now → Shown definitions_text [] old new rows → AreDefinitionsRead rows all
+pub all_found : (old new : State) (rows : List Row) (all : List Entry) → Stands (λ left. left.has_definitions) old.now.schema
+    → IsDatabase old.now → Shown definitions_text [] old new rows → AreDefinitionsRead rows all
     → AreDefined (old.now.trees 0) × ListsDefinitions (tables_in old.now.trees) all
-all_found old new rows all stood sound shown read = shown_found stood.left.has_definitions stood.left.has_rows stood.left.has_position stood.stands old new rows all stood.is sound shown read
+all_found old new rows all stood sound shown read =
+    shown_found stood.left.has_definitions stood.left.has_rows stood.left.has_position stood.stands old new rows all stood.is sound shown
+    read
 
 -- where `rel` doesn't stand, there are none
-none_at : (d h p : Bool) → d ≡ false → (db : Trees) → let t = remaining (record { has_definitions = d; has_rows = h; has_position = p }) db in AreDefined (t 0) × ListsDefinitions (tables_in t) []
+none_at : (d h p : Bool) → d ≡ false → (db : Trees) → let t =
+    remaining (record { has_definitions = d; has_rows = h; has_position = p }) db in AreDefined (t 0) × ListsDefinitions (tables_in t) []
 none_at true h p gone db = absurd (true≢false gone)
 none_at false h p gone db = (
   record { formed = λ r none. absurd none; keyed = λ r s none. absurd none; table = tt },
-  record { rises = tt; each = λ q. sym (row_missing nat_cmp_total nat_cmp-IsAntisymmetric oid_in definition_in [] q (λ r none. absurd none)) },
+  record {
+    rises = tt;
+    each = λ q.
+        sym (row_missing nat_cmp_total nat_cmp-IsAntisymmetric oid_in definition_in [] q (λ r none. absurd none));
+  },
 )
 
-pub none_found : (left : Remains) (db : Trees) (all : List Entry) → left.has_definitions ≡ false → all ≡ [] → AreDefined (remaining left db 0) × ListsDefinitions (tables_in (remaining left db)) all
+pub none_found : (left : Remains) (db : Trees) (all : List Entry) → left.has_definitions ≡ false → all ≡ []
+    → AreDefined (remaining left db 0) × ListsDefinitions (tables_in (remaining left db)) all
 none_found left db all gone empty =
-    subst (λ es. AreDefined (remaining left db 0) × ListsDefinitions (tables_in (remaining left db)) es) (sym empty) (none_at left.has_definitions left.has_rows left.has_position gone db)
+    subst (λ es. AreDefined (remaining left db 0) × ListsDefinitions (tables_in (remaining left db)) es) (sym empty)
+    (none_at left.has_definitions left.has_rows left.has_position gone db)

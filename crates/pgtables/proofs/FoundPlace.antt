@@ -1,5 +1,6 @@
 -- The position that was read is that of `pos`.
-use Rattle.std.proofs.Common.{◌≡◌, inl, inr, pos, Bool, true, false, true≢false, List, [], ◌∷◌, map, length, drop, Some, refl, sym, ap, subst, ◌∙◌, arith}
+use Rattle.std.proofs.Common.{◌≡◌, inl, inr, pos, Bool, true, false, true≢false, List, [], ◌∷◌, map}
+use Rattle.std.proofs.Common.{length, drop, Some, refl, sym, ap, subst, ◌∙◌, arith}
 use Rattle.std.specs.Int.{w64, to_be_bytes}
 use Rattle.std.proofs.lemmas.Bool.{and_parts}
 use Rattle.std.proofs.lemmas.List.Sorted.{length_permutation}
@@ -24,19 +25,24 @@ use Rattle.pgtables.specs.declared.opened.FoundPosition.{FoundPosition}
 use Rattle.pgtables.specs.declared.opened.FoundPosition.TheVariants.{Missing, At, Malformed}
 use Rattle.pgtables.specs.Opened.{ArePlacesRead, IsFoundPosition}
 use Rattle.pgtables.proofs.Steps.{bare}
-use Rattle.pgtables.proofs.FoundTexts.{by_rowid, place_text, place_shown, place_command, place_read_only, place_read}
+use Rattle.pgtables.proofs.FoundTexts.{by_rowid, place_text, place_shown, place_command}
+use Rattle.pgtables.proofs.FoundTexts.{place_read_only, place_read}
 use Rattle.pgtables.proofs.FoundRows.{in_answer, all_shown, never, after, null_is}
 use Rattle.pgtables.proofs.ReadSteps.{answers}
 
 -- ---- a row of `pos` has three columns
 
-typed_pos : (schema : Schema) (db : Trees) → Has schema.tables pos_at → IsSound schema db → (r : Row) → Has (db 3) r → are_typed (Some 0) 0 pos_at.columns (drop 1 r) ≡ true
-typed_pos schema db listed sound r h = (and_parts _ _ (all_has _ (db 3) r (all_has _ schema.tables pos_at (sound.obeys.rules Datatype) listed) h)).0
+typed_pos : (schema : Schema) (db : Trees) → Has schema.tables pos_at → IsSound schema db → (r : Row) → Has (db 3) r
+    → are_typed (Some 0) 0 pos_at.columns (drop 1 r) ≡ true
+typed_pos schema db listed sound r h =
+    (and_parts _ _ (all_has _ (db 3) r (all_has _ schema.tables pos_at (sound.obeys.rules Datatype) listed) h)).0
 
-present_pos : (schema : Schema) (db : Trees) → Has schema.tables pos_at → IsSound schema db → (r : Row) → Has (db 3) r → are_present (Some 0) 0 pos_at.columns r ≡ true
+present_pos : (schema : Schema) (db : Trees) → Has schema.tables pos_at → IsSound schema db → (r : Row) → Has (db 3) r
+    → are_present (Some 0) 0 pos_at.columns r ≡ true
 present_pos schema db listed sound r h = all_has _ (db 3) r (all_has _ schema.tables pos_at (sound.obeys.rules NotNull) listed) h
 
-is_three : (r : Row) → are_typed (Some 0) 0 pos_at.columns (drop 1 r) ≡ true → are_present (Some 0) 0 pos_at.columns r ≡ true → r ≡ column r 0 ∷ Null ∷ column r 2 ∷ []
+is_three : (r : Row) → are_typed (Some 0) 0 pos_at.columns (drop 1 r) ≡ true → are_present (Some 0) 0 pos_at.columns r ≡ true
+    → r ≡ column r 0 ∷ Null ∷ column r 2 ∷ []
 is_three [] typed present = absurd (never present)
 is_three (a ∷ []) typed present = absurd (never present)
 is_three (a ∷ b ∷ []) typed present = absurd (never present)
@@ -52,21 +58,29 @@ one_there f [] e = absurd (omega arith)
 one_there f (r ∷ []) e = (r, refl)
 one_there f (r ∷ s ∷ rows) e = absurd (omega arith)
 
-module _ (schema : Schema) (db : Trees) (listed : Has schema.tables pos_at) (sound : IsSound schema db) (rows : List Row) (a : IsAnswer (by_rowid 3 place_shown) db [] rows) where
+module _ (schema : Schema) (db : Trees) (listed : Has schema.tables pos_at) (sound : IsSound schema db) (rows : List Row)
+    (a : IsAnswer (by_rowid 3 place_shown) db [] rows) where
   pub position_found : (found : FoundPosition) → ArePlacesRead rows found → IsFoundPosition (db 3) found
-  position_found Missing none = none_there (db 3) (λ r h. subst (λ l. Has l (column r 0 ∷ column r 2 ∷ [])) none (in_answer db 3 _ rows a r h))
+  position_found Missing none =
+      none_there (db 3) (λ r h. subst (λ l. Has l (column r 0 ∷ column r 2 ∷ [])) none (in_answer db 3 _ rows a r h))
   position_found (At position) (x, one, read) =
       let r = one_there _ (db 3) (ap length (sym one) ∙ length_permutation _ rows (all_shown db 3 _ rows a)) in
       let there : Has (db 3) r.0 = subst (λ l. Has l r.0) (sym r.1) (inl refl) in
-      let shown : column r.0 0 ∷ column r.0 2 ∷ [] ≡ x = elim (subst (λ l. Has l (column r.0 0 ∷ column r.0 2 ∷ [])) one (in_answer db 3 _ rows a r.0 there)) [ inl is ↦ is | inr none ↦ absurd none ] in
+      let shown : column r.0 0 ∷ column r.0 2 ∷ [] ≡ x =
+      elim (subst (λ l. Has l (column r.0 0 ∷ column r.0 2 ∷ [])) one (in_answer db 3 _ rows a r.0 there))
+      [ inl is ↦ is | inr none ↦ absurd none ] in
       let id : column r.0 0 ≡ Int (pos 0) = ap (λ y. column y 0) shown ∙ read.0 in
-      let place : column r.0 2 ≡ Blob (to_be_bytes w64 position) = ap (λ y. column y 1) shown ∙ read.1 in
-      (r.1 ∙ ap (λ y. y ∷ []) (is_three r.0 (typed_pos schema db listed sound r.0 there) (present_pos schema db listed sound r.0 there) ∙ (λ i. id i ∷ Null ∷ place i ∷ [])), read.2)
+      let place : column r.0 2 ≡ Blob (to_be_bytes w64 position) = ap (λ y. column y 1) shown ∙ read.1 in (
+        r.1 ∙ ap (λ y. y ∷ []) (is_three r.0 (typed_pos schema db listed sound r.0 there) (present_pos schema db listed sound r.0 there)
+            ∙ (λ i. id i ∷ Null ∷ place i ∷ [])),
+        read.2,
+      )
   position_found Malformed read = tt
 
 -- ---- the query, where the table stands
 
-shown_found : (d h p : Bool) → p ≡ true → (old new : State) (rows : List Row) → old.now.schema ≡ over d h p → IsDatabase old.now → Shown place_text [] old new rows → (found : FoundPosition) → ArePlacesRead rows found → IsFoundPosition (old.now.trees 3) found
+shown_found : (d h p : Bool) → p ≡ true → (old new : State) (rows : List Row) → old.now.schema ≡ over d h p → IsDatabase old.now
+    → Shown place_text [] old new rows → (found : FoundPosition) → ArePlacesRead rows found → IsFoundPosition (old.now.trees 3) found
 shown_found d h false stands old new rows ours sound shown found read = absurd (true≢false (sym stands))
 shown_found d h true stands old new rows ours sound shown found read =
     let plan = place_read d h in
@@ -74,5 +88,8 @@ shown_found d h true stands old new rows ours sound shown found read =
     let answer = subst (λ t. IsAnswer (by_rowid 3 place_shown) t [] rows) (bare old.now.trees) (answered.answer Null) in
     position_found (over d h true) old.now.trees (pos_listed d h) (subst (λ s. IsSound s old.now.trees) ours sound) rows answer found read
 
-pub place_found : (old new : State) (rows : List Row) → Stands (λ left. left.has_position) old.now.schema → IsDatabase old.now → Shown place_text [] old new rows → (found : FoundPosition) → ArePlacesRead rows found → IsFoundPosition (old.now.trees 3) found
-place_found old new rows stood sound shown found read = shown_found stood.left.has_definitions stood.left.has_rows stood.left.has_position stood.stands old new rows stood.is sound shown found read
+pub place_found : (old new : State) (rows : List Row) → Stands (λ left. left.has_position) old.now.schema → IsDatabase old.now
+    → Shown place_text [] old new rows → (found : FoundPosition) → ArePlacesRead rows found → IsFoundPosition (old.now.trees 3) found
+place_found old new rows stood sound shown found read =
+    shown_found stood.left.has_definitions stood.left.has_rows stood.left.has_position stood.stands old new rows stood.is sound shown found
+    read

@@ -1,5 +1,6 @@
 -- Rows that were read by rising rowids are those of a tree, of which then none stands twice.
-use Rattle.std.proofs.Common.{◌≡◌, ◌⊎◌, inl, inr, ℕ, ℤ, ◌<ℤ◌, Bool, true, false, not, ◌&&◌, List, [], ◌∷◌, ◌++◌, map, filter, refl, sym, ap, subst, ◌∙◌, true≢false}
+use Rattle.std.proofs.Common.{◌≡◌, ◌⊎◌, inl, inr, ℕ, ℤ, ◌<ℤ◌, Bool, true, false, not, ◌&&◌, List}
+use Rattle.std.proofs.Common.{[], ◌∷◌, ◌++◌, map, filter, refl, sym, ap, subst, ◌∙◌, true≢false}
 use Rattle.std.specs.List.{AllByRecursion, IsDistinct}
 use Rattle.std.specs.List.Sorted.{IsPermutation}
 use Rattle.std.specs.Ordering.{is_eq, int_cmp, eq_by_cmp}
@@ -48,7 +49,8 @@ all_on : {X : Type 0} (P : X → Type 0) (xs : List X) (y : X) → AllByRecursio
 all_on P [] y all one = (one, tt)
 all_on P (x ∷ xs) y all one = (all.0, all_on P xs y all.1 one)
 
-pub ascends_on : {X : Type 0} (R : X → X → Type 0) (xs : List X) (y : X) → IsAscending R xs → ((x : X) → Has xs x → R x y) → IsAscending R (xs ++ y ∷ [])
+pub ascends_on : {X : Type 0} (R : X → X → Type 0) (xs : List X) (y : X) → IsAscending R xs → ((x : X) → Has xs x → R x y)
+    → IsAscending R (xs ++ y ∷ [])
 ascends_on R [] y up each = (tt, tt)
 ascends_on R (x ∷ xs) y up each = (all_on (R x) xs y up.0 (each x (inl refl)), ascends_on R xs y up.1 (λ z h. each z (inr h)))
 
@@ -87,7 +89,8 @@ numbers_apart (r ∷ rows) up = (
       let s = has_mapped number rows k h in
       elim (cases_Bool (same_number (number r) k)) [
         | inr other ↦ other
-        | inl tie ↦ absurd (not_below (number r) (number s.0) (int_cmp-IsAntisymmetric (number r) k (equal _ tie) ∙ s.2) (all_has _ rows s.0 up.0 s.1))
+        | inl tie ↦ absurd (not_below (number r) (number s.0) (int_cmp-IsAntisymmetric (number r) k (equal _ tie) ∙ s.2)
+            (all_has _ rows s.0 up.0 s.1))
       ]),
   numbers_apart rows up.1,
 )
@@ -97,7 +100,8 @@ unfolding IsDistinct
 rows_apart [] apart = tt
 rows_apart (r ∷ rows) apart = (
   all_from _ rows (λ s h same.
-      let tie : same_number (number r) (number s) ≡ true = ap (λ v. same_number (number r) (id_in v)) (sym same) ∙ ap is_eq (tied_itself int_cmp_total (number r)) in
+      let tie : same_number (number r) (number s) ≡ true =
+      ap (λ v. same_number (number r) (id_in v)) (sym same) ∙ ap is_eq (tied_itself int_cmp_total (number r)) in
       true≢false (sym tie ∙ all_has _ (map number rows) (number s) apart.0 (mapped_has number rows s h))),
   rows_apart rows apart.1,
 )
@@ -114,7 +118,8 @@ module _ (db : Trees) (tree : ℕ) (more : List Term) (rows : List Row) (a : IsA
 
   pub all_shown : IsPermutation (map show (db tree)) rows
   all_shown =
-      let staged : a.staged ≡ map (λ r. [] ∷ r ∷ []) (db tree) = a.grouped ∙ chosen (λ _. true) (λ r. [] ∷ r ∷ []) (db tree) ∙ ap (map (λ r. [] ∷ r ∷ [])) (filter_all (db tree)) in
+      let staged : a.staged ≡ map (λ r. [] ∷ r ∷ []) (db tree) =
+      a.grouped ∙ chosen (λ _. true) (λ r. [] ∷ r ∷ []) (db tree) ∙ ap (map (λ r. [] ∷ r ∷ [])) (filter_all (db tree)) in
       let kept = a.distinct ∙ ap (map (output (by_rowid tree (col 1 0 ∷ more)))) staged ∙ map_twice _ _ _ in
       let moved = IsPermutation-map (λ (o : Output). o.1) a.kept a.ordered a.same in
       let from = ap (map (λ (o : Output). o.1)) kept ∙ map_twice _ _ _ in
@@ -128,4 +133,5 @@ module _ (db : Trees) (tree : ℕ) (more : List Term) (rows : List Row) (a : IsA
 
   pub tree_apart : IsRising rows → IsApart (db tree)
   tree_apart up = rows_apart (db tree) (subst (IsDistinct same_number) (map_twice show number (db tree))
-      (IsDistinct-IsPermutation same_number (eq_by_cmp_equiv int_cmp_total).symm (map number rows) (map number (map show (db tree))) (IsPermutation-map number rows _ (IsPermutation-sym _ _ all_shown)) (numbers_apart rows up)))
+      (IsDistinct-IsPermutation same_number (eq_by_cmp_equiv int_cmp_total).symm (map number rows) (map number (map show (db tree)))
+      (IsPermutation-map number rows _ (IsPermutation-sym _ _ all_shown)) (numbers_apart rows up)))

@@ -1,5 +1,6 @@
 -- The texts that read a database that was opened, as they are understood.
-use Rattle.std.proofs.Common.{◌≡◌, ℕ, pos, negsuc, Bool, true, false, List, [], ◌∷◌, codes, None, refl}
+use Rattle.std.proofs.Common.{◌≡◌, ℕ, pos, negsuc, Bool, true, false, List, [], ◌∷◌, codes, None}
+use Rattle.std.proofs.Common.{refl}
 use Rattle.sqlite_tied.specs.Compute.{everything}
 use Rattle.sqlite.specs.Listing.{understood, reads_listing}
 use Rattle.sqlite.specs.Collation.TheVariants.{Binary}
@@ -15,13 +16,25 @@ use Rattle.sqlite.specs.Schema.{Schema}
 use Rattle.pgtables.proofs.ReadSteps.{IsReadOnly}
 use Rattle.pgtables.proofs.Standing.{over}
 
--- under this schema the text is understood so, returns nothing of a write, and doesn't read the listing of the tables
+-- under this schema the text is understood so, returns nothing of a write, and doesn't read the
+-- listing of the tables
 abbrev pub IsReadAs : Schema → List ℕ → Command → Type 0
-IsReadAs schema text command = (command_of (understood schema text) ≡ command) × (IsPlain (understood schema text) × (reads_listing schema text ≡ false))
+IsReadAs schema text command =
+    (command_of (understood schema text) ≡ command) × (IsPlain (understood schema text) × (reads_listing schema text ≡ false))
 
 -- all rows of one tree by their rowids
 abbrev pub by_rowid : ℕ → List Term → Query
-by_rowid tree shown = record { from = inner tree end; filter = []; group = None; project = shown; distinct = false; collations = []; order = (col 1 0, ascending Binary) ∷ []; limit = lit (Int (negsuc 0)); offset = lit (Int (pos 0)) }
+by_rowid tree shown = record {
+  from = inner tree end;
+  filter = [];
+  group = None;
+  project = shown;
+  distinct = false;
+  collations = [];
+  order = (col 1 0, ascending Binary) ∷ [];
+  limit = lit (Int (negsuc 0));
+  offset = lit (Int (pos 0));
+}
 
 abbrev pub definitions_text : List ℕ
 definitions_text = codes "SELECT oid, nsp, name, letter, cols FROM rel ORDER BY oid"
@@ -30,7 +43,8 @@ abbrev pub definitions_shown : List Term
 definitions_shown = col 1 0 ∷ col 1 2 ∷ col 1 3 ∷ col 1 4 ∷ col 1 5 ∷ []
 
 abbrev pub definitions_command : Command
-definitions_command = Select (record { lets = []; body = by_rowid 0 definitions_shown }) (codes "oid" ∷ codes "nsp" ∷ codes "name" ∷ codes "letter" ∷ codes "cols" ∷ [])
+definitions_command = Select (record { lets = []; body = by_rowid 0 definitions_shown })
+    (codes "oid" ∷ codes "nsp" ∷ codes "name" ∷ codes "letter" ∷ codes "cols" ∷ [])
 
 pub definitions_read_only : IsReadOnly definitions_text
 unfolding understood everything
@@ -51,7 +65,8 @@ abbrev pub rows_shown : List Term
 rows_shown = col 1 0 ∷ col 1 1 ∷ col 1 2 ∷ col 1 3 ∷ col 1 4 ∷ []
 
 abbrev pub rows_command : Command
-rows_command = Select (record { lets = []; body = by_rowid 1 rows_shown }) (codes "rowid" ∷ codes "oid" ∷ codes "ident" ∷ codes "body" ∷ codes "copies" ∷ [])
+rows_command = Select (record { lets = []; body = by_rowid 1 rows_shown })
+    (codes "rowid" ∷ codes "oid" ∷ codes "ident" ∷ codes "body" ∷ codes "copies" ∷ [])
 
 pub rows_read_only : IsReadOnly rows_text
 unfolding understood everything

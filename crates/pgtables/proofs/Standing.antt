@@ -1,5 +1,6 @@
 -- Tables that are some of a store's by their parts are those whole.
-use Rattle.std.proofs.Common.{◌≡◌, Bool, true, false, List, [], ◌∷◌, inl, inr, refl, sym, ap, subst, ◌∙◌}
+use Rattle.std.proofs.Common.{◌≡◌, Bool, true, false, List, [], ◌∷◌, inl, inr, refl, sym, ap, subst}
+use Rattle.std.proofs.Common.{◌∙◌}
 use Rattle.std.specs.List.{AllByRecursion}
 use Rattle.sqlite.specs.Table.{Table}
 use Rattle.sqlite.specs.Schema.{Schema}
@@ -29,17 +30,22 @@ pos_listed true false = inr (inl refl)
 pos_listed false true = inr (inl refl)
 pos_listed false false = inl refl
 
-parts : (d h p : Bool) (tables : List Table) (indexes : List Index) (views : List View) → tables ≡ tables_over d h p → indexes ≡ listed h held_index [] → views ≡ [] → ◌≡◌ {A = Schema} (record { tables = tables; indexes = indexes; views = views }) (over d h p)
+parts : (d h p : Bool) (tables : List Table) (indexes : List Index) (views : List View) → tables ≡ tables_over d h p
+    → indexes ≡ listed h held_index [] → views ≡ []
+    → ◌≡◌ {A = Schema} (record { tables = tables; indexes = indexes; views = views }) (over d h p)
 parts d h p tables indexes views a b c = λ i. record { tables = a i; indexes = b i; views = c i }
 
-indexed : (d h p : Bool) (schema : Schema) → schema.tables ≡ tables_over d h p → IsIndexOfRows schema.indexes h → AllByRecursion (IsGuarded schema.indexes) schema.tables → schema.indexes ≡ listed h held_index []
+indexed : (d h p : Bool) (schema : Schema) → schema.tables ≡ tables_over d h p → IsIndexOfRows schema.indexes h
+    → AllByRecursion (IsGuarded schema.indexes) schema.tables → schema.indexes ≡ listed h held_index []
 indexed d false p schema tables none guarded = none
 indexed d true p schema tables (index, is, place) guarded =
-    let found = all_has (IsGuarded schema.indexes) schema.tables held_table guarded (subst (λ ts. Has ts held_table) (sym tables) (held_listed d p)) 0 (1 ∷ 2 ∷ []) refl in
+    let found = all_has (IsGuarded schema.indexes) schema.tables held_table guarded
+    (subst (λ ts. Has ts held_table) (sym tables) (held_listed d p)) 0 (1 ∷ 2 ∷ []) refl in
     let there = subst (λ is. Has is (automatic held_table 0 (1 ∷ 2 ∷ []) found.0)) is found.1 in
     is ∙ ap (λ i. i ∷ []) (our_index index found.0 there place)
 
-pub standing : (schema : Schema) (left : Remains) → AreRemains schema left → AllByRecursion (IsGuarded schema.indexes) schema.tables → schema ≡ schema_of left
+pub standing : (schema : Schema) (left : Remains) → AreRemains schema left → AllByRecursion (IsGuarded schema.indexes) schema.tables
+    → schema ≡ schema_of left
 standing schema left is guarded =
     let d = left.has_definitions in
     let h = left.has_rows in

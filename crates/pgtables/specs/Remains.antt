@@ -29,7 +29,8 @@ rows_if false rows = []
 -- the rows of a table that doesn't stand are none
 abbrev pub remaining : Remains → Trees → Trees
 remaining left db tree =
-    if tree == 0 then rows_if left.has_definitions (db 0) else (if tree == 1 then rows_if left.has_rows (db 1) else (if tree == 3 then rows_if left.has_position (db 3) else db tree))
+    if tree == 0 then rows_if left.has_definitions (db 0)
+    else (if tree == 1 then rows_if left.has_rows (db 1) else (if tree == 3 then rows_if left.has_position (db 3) else db tree))
 
 abbrev pub IsIndexOfRows : List Index → Bool → Type 0
 IsIndexOfRows indexes true = (index : Index) × (indexes ≡ index ∷ []) × (index.tree ≡ 2)

@@ -1,4 +1,5 @@
-//! The tables of a store of replicated rows as SQL text makes and finds them, over bytes: one function for each SQL statement.
+//! The tables of a store of replicated rows as SQL text makes and finds them, over bytes: one
+//! function for each SQL statement.
 //!
 //! `rel` has the definition of each relation by its OID, `held` its rows by OID and the encoding of
 //! their identity, and `pos` the position up to which they are complete. A contract sees them as

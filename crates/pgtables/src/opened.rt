@@ -1,14 +1,17 @@
 //! What is stored in a database that was opened, read once and checked: the three tables may hold
 //! anything that their columns allow, also what no store has ever written.
 
-ghost use Rattle.std.specs.Prelude.{◌≡◌, ◌≤◌, ℕ, List, Ok, Some, true, false, IsTrue, OnOk, IfOk, IfSome, ◌<◌, ◌<ℤ◌};
+ghost use Rattle.std.specs.Prelude.{◌≡◌, ◌≤◌, ℕ, List, Ok, Some, true, false, IsTrue, OnOk, IfOk};
+ghost use Rattle.std.specs.Prelude.{IfSome, ◌<◌, ◌<ℤ◌};
 ghost use Rattle.std.specs.Int.{w64, to_be_bytes};
 ghost use Rattle.sqlite.specs.Held.{state};
 ghost use Rattle.sqlite.specs.State.{HasCleanDisk, Survives};
 ghost use Rattle.sqlite.specs.View.{doubt};
 ghost use Rattle.pgtables.specs.Kept.{AreDefined, AreHeld, IfServing, tables_of};
 ghost use Rattle.pgtables.specs.Remains.{Stands};
-ghost use Rattle.pgtables.specs.Opened.{AreAccepted, AreDefinitionsRead, ArePlacesRead, IsDefinitionRead, IsFoundPosition, IsPlaceRead, IsRowAccepted, ListsDefinitions};
+ghost use Rattle.pgtables.specs.Opened.{AreAccepted, AreDefinitionsRead, ArePlacesRead};
+ghost use Rattle.pgtables.specs.Opened.{IsDefinitionRead, IsFoundPosition, IsPlaceRead};
+ghost use Rattle.pgtables.specs.Opened.{IsRowAccepted, ListsDefinitions};
 
 use crate::rows::StoredDefinition;
 use crate::settled::{see_committed, see_sound};
@@ -154,7 +157,8 @@ fn if_readable<T: Drop>(read: Result<T, Error>) -> Result<Option<T>, Error>
     }
 }
 
-/// The definitions that the rows show, or `None` where one shows none or its OID isn't above those before.
+/// The definitions that the rows show, or `None` where one shows none or its OID isn't above those
+/// before.
 fn read_rising(alloc: Global, rows: &[Row]) -> Result<Option<Vec<(u32, StoredDefinition)>>, Error>
     ensures { IfOk result (λ found. IfSome found (λ all. AreDefinitionsRead rows.now all.items)) }
 {
@@ -170,7 +174,8 @@ fn read_rising(alloc: Global, rows: &[Row]) -> Result<Option<Vec<(u32, StoredDef
     Ok(Some(all))
 }
 
-/// The definition with its OID that a row shows, or `None` where it shows none or its OID isn't above the last.
+/// The definition with its OID that a row shows, or `None` where it shows none or its OID isn't
+/// above the last.
 fn read_definition(row: &Row, last: Option<u32>) -> Result<Option<(u32, StoredDefinition)>, Error>
     ensures read { IfOk result (λ found. IfSome found (λ it. IsDefinitionRead row.now it.0 it.1)) }
     ensures behind { IfOk result (λ found. IfSome found

@@ -8,7 +8,8 @@ ghost use Rattle.sqlite.specs.View.{doubt};
 ghost use Rattle.pgtables.specs.Schema.{held_table, pos_at, rel};
 ghost use Rattle.pgtables.specs.Kept.{AreDefined, AreHeld, Goes, IfServing, IsBare, tables_in};
 ghost use Rattle.pgtables.specs.Opened.{AreAccepted, IsFoundPosition, ListsDefinitions};
-ghost use Rattle.pgtables.specs.Remains.{AreRemains, IsIndexOfRows, IsOver, listed, remaining, schema_of};
+ghost use Rattle.pgtables.specs.Remains.{AreRemains, IsIndexOfRows, IsOver, listed, remaining};
+ghost use Rattle.pgtables.specs.Remains.{schema_of};
 
 use crate::found::{is_held, is_pos, is_rel};
 use crate::opened::{

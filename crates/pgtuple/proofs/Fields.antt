@@ -1,9 +1,13 @@
 -- A number that is read is the number that was written, and what was written is read again.
-use Rattle.std.proofs.Common.{◌≡◌, ℕ, suc, ◌+◌, ◌^◌, ◌<◌, ◌≤◌, Bool, true, false, cond, ltb, List, [], ◌∷◌, ◌++◌, length, take, drop, Result, Ok, Err, refl, sym, ap, subst, ◌∙◌, append_assoc, arith, inl, inr}
+use Rattle.std.proofs.Common.{◌≡◌, ℕ, suc, ◌+◌, ◌^◌, ◌<◌, ◌≤◌, Bool, true, false, cond, ltb, List}
+use Rattle.std.proofs.Common.{[], ◌∷◌, ◌++◌, length, take, drop, Result, Ok, Err, refl, sym, ap}
+use Rattle.std.proofs.Common.{subst, ◌∙◌, append_assoc, arith, inl, inr}
 use Rattle.std.specs.Int.{Width, w16, w32, byte_len, from_be_bytes, to_be_bytes}
 use Rattle.std.proofs.lemmas.Bool.{cases_lt, ltb-false, le-ltb}
-use Rattle.std.proofs.lemmas.List.{take_at, drop_at, take-append-drop, length-append, length-take, get_or-drop, get_or-take, get_or_past}
-use Rattle.std.proofs.lemmas.Nat.{be_bytes_2, be_bytes_4, from_be_bytes-to_be_bytes_2, from_be_bytes-to_be_bytes_4}
+use Rattle.std.proofs.lemmas.List.{take_at, drop_at, take-append-drop, length-append, length-take}
+use Rattle.std.proofs.lemmas.List.{get_or-drop, get_or-take, get_or_past}
+use Rattle.std.proofs.lemmas.Nat.{be_bytes_2, be_bytes_4, from_be_bytes-to_be_bytes_2}
+use Rattle.std.proofs.lemmas.Nat.{from_be_bytes-to_be_bytes_4}
 use Rattle.pgtuple.specs.declared.fault.TupleFault.{TupleFault}
 use Rattle.pgtuple.specs.declared.fault.TupleFault.TheVariants as fault
 use Rattle.pgtuple.specs.Limits.{IsBytes}
@@ -82,7 +86,8 @@ wide32 = record {
   below = λ bytes fits. omega (arith, fits 0, fits 1, fits 2, fits 3);
 }
 
-pub number_takes : (w : Width) (limit : ℕ) (wide : IsWide w limit) (at : At) (x : ℕ × At) → IsBytes at.1 → number_at w at ≡ Ok x → Takes at (to_be_bytes w x.0) x.1 × (x.0 < limit)
+pub number_takes : (w : Width) (limit : ℕ) (wide : IsWide w limit) (at : At) (x : ℕ × At) → IsBytes at.1 → number_at w at ≡ Ok x
+    → Takes at (to_be_bytes w x.0) x.1 × (x.0 < limit)
 unfolding number_at
 number_takes w limit wide at x fits e =
     let front : List ℕ = take (byte_len w) at.1 in
@@ -98,9 +103,11 @@ number_takes w limit wide at x fits e =
     } in
     subst (λ (y : ℕ × At). Takes at (to_be_bytes w y.0) y.1 × (y.0 < limit)) g.1 (taken, wide.below front fits_front)
 
-pub number_again : (w : Width) (limit : ℕ) (wide : IsWide w limit) (n place : ℕ) (more : List ℕ) → n < limit → number_at w (place, to_be_bytes w n ++ more) ≡ Ok (n, (place + byte_len w, more))
+pub number_again : (w : Width) (limit : ℕ) (wide : IsWide w limit) (n place : ℕ) (more : List ℕ) → n < limit
+    → number_at w (place, to_be_bytes w n ++ more) ≡ Ok (n, (place + byte_len w, more))
 unfolding number_at
 number_again w limit wide n place more lt =
     let len = wide.len n in
-    let long : ltb (length (to_be_bytes w n ++ more)) (byte_len w) ≡ false = le-ltb _ _ (omega (arith, length-append (to_be_bytes w n) more)) in
+    let long : ltb (length (to_be_bytes w n ++ more)) (byte_len w) ≡ false =
+    le-ltb _ _ (omega (arith, length-append (to_be_bytes w n) more)) in
     rw (long, take_at (to_be_bytes w n) more (byte_len w) len, drop_at (to_be_bytes w n) more (byte_len w) len, wide.again n lt) refl

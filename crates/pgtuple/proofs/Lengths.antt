@@ -14,11 +14,18 @@ cell_bounded Unchanged fits = omega arith
 cell_bounded (Text bytes) fits = omega arith
 cell_bounded (Binary bytes) fits = omega arith
 
-pub cells_bounded : (cells : List Cell) (n : ℕ) → AllByRecursion IsCell cells → length (flat_map cell_spelling (take n cells)) ≤ length cells * 2147483652
+pub cells_bounded : (cells : List Cell) (n : ℕ) → AllByRecursion IsCell cells
+    → length (flat_map cell_spelling (take n cells)) ≤ length cells * 2147483652
 cells_bounded cells zero fits = omega arith
 cells_bounded [] (suc n) fits = omega arith
 cells_bounded (c ∷ cells) (suc n) fits =
-    omega (arith, cell_bounded c fits.0, cells_bounded cells n fits.1, length-append (cell_spelling c) (flat_map cell_spelling (take n cells)), ap length (flat_map-cons cell_spelling c (take n cells)))
+    omega (
+      arith,
+      cell_bounded c fits.0,
+      cells_bounded cells n fits.1,
+      length-append (cell_spelling c) (flat_map cell_spelling (take n cells)),
+      ap length (flat_map-cons cell_spelling c (take n cells)),
+    )
 
 pub tuple_bounded : (cells : List Cell) → IsTuple cells → length (flat_map cell_spelling cells) ≤ 3435973843200
 tuple_bounded cells fits =

@@ -5,7 +5,8 @@ use lib.Utf8.{encode}
 use Rattle.pgtuple.specs.declared.cell.Cell.TheVariants.{Null, Unchanged, Text, Binary}
 use Rattle.pgtuple.specs.declared.fault.TupleFault.TheVariants as fault
 use Rattle.pgtuple.specs.Cells.{tuple_spelling}
-use Rattle.pgtuple.specs.Reading.{number_at, length_at, bytes_at, text_at, text_cell_at, binary_cell_at, cell_at, cells_at, tuple_at}
+use Rattle.pgtuple.specs.Reading.{number_at, length_at, bytes_at, text_at, text_cell_at}
+use Rattle.pgtuple.specs.Reading.{binary_cell_at, cell_at, cells_at, tuple_at}
 
 -- no column
 empty : tuple_at (0 ∷ 0 ∷ []) ≡ Ok ([], (2, []))
@@ -62,7 +63,8 @@ unfolding tuple_at number_at cells_at cell_at binary_cell_at length_at bytes_at
 binary = refl
 
 -- The row '1', 'a' with a byte behind it, and the key '1', null.
-row : tuple_at (0 ∷ 2 ∷ 116 ∷ 0 ∷ 0 ∷ 0 ∷ 1 ∷ 49 ∷ 116 ∷ 0 ∷ 0 ∷ 0 ∷ 1 ∷ 97 ∷ 78 ∷ []) ≡ Ok (Text (49 ∷ []) ∷ Text (97 ∷ []) ∷ [], (14, 78 ∷ []))
+row : tuple_at (0 ∷ 2 ∷ 116 ∷ 0 ∷ 0 ∷ 0 ∷ 1 ∷ 49 ∷ 116 ∷ 0 ∷ 0 ∷ 0 ∷ 1 ∷ 97 ∷ 78 ∷ [])
+    ≡ Ok (Text (49 ∷ []) ∷ Text (97 ∷ []) ∷ [], (14, 78 ∷ []))
 unfolding tuple_at number_at cells_at cell_at text_cell_at length_at text_at bytes_at is_utf8 chars encode
 row = refl
 

@@ -1,5 +1,6 @@
 -- What the bytes of a lent tuple give, cell by cell.
-use Rattle.std.proofs.Common.{◌≡◌, ◌≢◌, ℕ, zero, suc, ◌-◌, ◌≤◌, cond, leb, List, [], ◌∷◌, Result, length, take, drop, Ok, Err, refl, sym, ap, subst, ◌∙◌, arith}
+use Rattle.std.proofs.Common.{◌≡◌, ◌≢◌, ℕ, zero, suc, ◌-◌, ◌≤◌, cond, leb, List, [], ◌∷◌, Result}
+use Rattle.std.proofs.Common.{length, take, drop, Ok, Err, refl, sym, ap, subst, ◌∙◌, arith}
 use Rattle.std.specs.Prelude.{MatchResult}
 use Rattle.std.specs.Int.{w16}
 use Rattle.std.proofs.lemmas.List.{take_at, append-nil, length-append}
@@ -10,7 +11,8 @@ use Rattle.pgtuple.specs.Limits.{IsWireTuple, IsBytes}
 use Rattle.pgtuple.specs.declared.lent.CellRef.{CellRef}
 use Rattle.pgtuple.specs.Lent.{cell_value}
 use Rattle.pgtuple.specs.Cells.{tuple_spelling}
-use Rattle.pgtuple.specs.Reading.{◌>>=◌, Fails, At, Read, number_at, cell_at, cells_at, tuple_from, tuple_at}
+use Rattle.pgtuple.specs.Reading.{◌>>=◌, Fails, At, Read, number_at, cell_at, cells_at, tuple_from}
+use Rattle.pgtuple.specs.Reading.{tuple_at}
 use Rattle.pgtuple.specs.Spelled.{cells_read, IsRead, IsReadTo, spelled_cells, IsSpelledTuple}
 use Rattle.pgtuple.proofs.Fields.{bind_ok, ok_is}
 use Rattle.pgtuple.proofs.Decoded.{IsFront, front_is}
@@ -36,8 +38,17 @@ first_read n at h =
     let whole = read_is (cells_at (suc n) at) h in
     let one = bind_ok (cell_at at) (λ first. cells_at n first.1 >>= λ others. Ok (first.0 ∷ others.0, others.1)) _ whole.1 in
     let others = bind_ok (cells_at n one.0.1) (λ others. Ok (one.0.0 ∷ others.0, others.1)) _ one.2 in
-    let is = is_read (cells_at n one.0.1) others.0.0 others.0.1 others.1 in
-    (one.0, record { here = one.1; there = is.0; all = ap (λ (r : Read (List Cell)). cells_read r) (ap (λ (r : Read Cell). r >>= λ first. cells_at n first.1 >>= λ others. Ok (first.0 ∷ others.0, others.1)) one.1 ∙ ap (λ (r : Read (List Cell)). r >>= λ others. Ok (one.0.0 ∷ others.0, others.1)) others.1) ∙ ap (λ (cells : List Cell). one.0.0 ∷ cells) (sym is.1) })
+    let is = is_read (cells_at n one.0.1) others.0.0 others.0.1 others.1 in (
+      one.0,
+      record {
+        here = one.1;
+        there = is.0;
+        all = ap (λ (r : Read (List Cell)). cells_read r)
+            (ap (λ (r : Read Cell). r >>= λ first. cells_at n first.1 >>= λ others. Ok (first.0 ∷ others.0, others.1)) one.1
+            ∙ ap (λ (r : Read (List Cell)). r >>= λ others. Ok (one.0.0 ∷ others.0, others.1)) others.1)
+            ∙ ap (λ (cells : List Cell). one.0.0 ∷ cells) (sym is.1);
+      },
+    )
 
 pub none_left : (n : ℕ) (at : At) → n ≡ 0 → cells_read (cells_at n at) ≡ []
 unfolding cells_at
@@ -63,7 +74,8 @@ next_read (suc n) at other h =
     )
 
 -- what is called a cell is that cell
-pub known_cell : (r : Result CellRef TupleFault) (at new : At) (first : Cell × At) → MatchResult r (λ c. cell_at at ≡ Ok (cell_value c, new)) (λ f. cell_at at ≡ Err f) → cell_at at ≡ Ok first
+pub known_cell : (r : Result CellRef TupleFault) (at new : At) (first : Cell × At)
+    → MatchResult r (λ c. cell_at at ≡ Ok (cell_value c, new)) (λ f. cell_at at ≡ Err f) → cell_at at ≡ Ok first
     → (c : CellRef) × (r ≡ Ok c) × (cell_value c ≡ first.0) × (new ≡ first.1)
 known_cell (Ok c) at new first e here =
     let same : ◌≡◌ {A = Cell × At} (cell_value c, new) first = ok_is (cell_value c, new) first (sym e ∙ here) in
@@ -86,13 +98,17 @@ pub record HasWidth (bytes : List ℕ) (width : ℕ × At) : Type 0 where
 pub whole_read : (bytes : List ℕ) → IsSpelledTuple bytes → tuple_at bytes ≡ Ok (spelled_cells bytes, (length bytes, []))
 whole_read bytes is =
     let cells = spelled_cells bytes in
-    ap tuple_at (is.spelled ∙ sym (append-nil (tuple_spelling cells))) ∙ tuple_again cells [] is.fits ∙ ap (λ (n : ℕ). Ok (cells, (n, []))) (ap length (sym is.spelled))
+    ap tuple_at (is.spelled ∙ sym (append-nil (tuple_spelling cells))) ∙ tuple_again cells [] is.fits
+    ∙ ap (λ (n : ℕ). Ok (cells, (n, []))) (ap length (sym is.spelled))
 
 pub width_read : (bytes : List ℕ) → IsSpelledTuple bytes → (width : ℕ × At) × HasWidth bytes width
 unfolding tuple_at
 width_read bytes is =
-    let width = bind_ok (number_at w16 (0, bytes)) (λ width. cond (leb width.0 1600) (Ok width) (Err (fault.TooManyColumns 0)) >>= λ _few. cells_at width.0 width.1) _ (whole_read bytes is) in
-    let few = bind_ok (cond (leb width.0.0 1600) (Ok width.0) (Err (fault.TooManyColumns 0))) (λ _few. cells_at width.0.0 width.0.1) _ width.2 in
+    let width = bind_ok (number_at w16 (0, bytes))
+    (λ width. cond (leb width.0 1600) (Ok width) (Err (fault.TooManyColumns 0)) >>= λ _few. cells_at width.0 width.1) _
+    (whole_read bytes is) in
+    let few = bind_ok (cond (leb width.0.0 1600) (Ok width.0) (Err (fault.TooManyColumns 0))) (λ _few. cells_at width.0.0 width.0.1) _
+    width.2 in
     let cells = is_read (cells_at width.0.0 width.0.1) _ _ few.2 in
     (width.0, record { number = width.1; there = cells.0; all = cells.1 })
 
@@ -112,13 +128,17 @@ spelled_front bytes at fits read =
     let front = front_is bytes cells at fits read.1 in
     let spelling = tuple_spelling cells in
     let spelled : take at.0 bytes ≡ spelling = ap (take at.0) front.parts ∙ take_at spelling (drop at.0 bytes) at.0 (sym front.place) in
-    let again : tuple_at (take at.0 bytes) ≡ Ok (cells, (length spelling, [])) = ap tuple_at (spelled ∙ sym (append-nil spelling)) ∙ tuple_again cells [] front.fits in
+    let again : tuple_at (take at.0 bytes) ≡ Ok (cells, (length spelling, [])) =
+    ap tuple_at (spelled ∙ sym (append-nil spelling)) ∙ tuple_again cells [] front.fits in
     let is : spelled_cells (take at.0 bytes) ≡ cells = (is_read (tuple_at (take at.0 bytes)) cells _ again).1 in
     record {
       cells = cells;
       front = front;
       within = omega (arith, ap length front.parts, length-append spelling (drop at.0 bytes), front.place);
-      spelled = record { fits = subst (λ (cells : List Cell). IsWireTuple cells) (sym is) front.fits; spelled = spelled ∙ ap tuple_spelling (sym is) };
+      spelled = record {
+        fits = subst (λ (cells : List Cell). IsWireTuple cells) (sym is) front.fits;
+        spelled = spelled ∙ ap tuple_spelling (sym is);
+      };
       same = is;
       exact = read.1 ∙ ap (λ (rest : List ℕ). Ok (cells, (at.0, rest))) front.rest;
     }

@@ -1,6 +1,8 @@
--- TupleData read from left to right: the cells and the number of bytes they take, or the first field that can't be read.
--- PostgreSQL documentation, Logical Replication Message Formats, TupleData.
-use Rattle.std.specs.Prelude.{◌≡◌, ◌+◌, ⊤, ℕ, zero, suc, List, [], ◌∷◌, length, take, drop, Result, Ok, Err, nat_lt, nat_le, ◌==◌, if◌then◌else◌}
+-- TupleData read from left to right: the cells and the number of bytes they take, or the first
+-- field that can't be read. PostgreSQL documentation, Logical Replication Message Formats,
+-- TupleData.
+use Rattle.std.specs.Prelude.{◌≡◌, ◌+◌, ⊤, ℕ, zero, suc, List, [], ◌∷◌, length, take, drop, Result}
+use Rattle.std.specs.Prelude.{Ok, Err, nat_lt, nat_le, ◌==◌, if◌then◌else◌}
 use Rattle.std.specs.Int.{Width, w16, w32, byte_len, from_be_bytes}
 use Rattle.std.specs.Str.{is_utf8}
 use Rattle.pgtuple.specs.declared.cell.Cell.{Cell}
@@ -35,7 +37,8 @@ abbrev pub further : ℕ → At → At
 further n at = (at.0 + n, drop n at.1)
 
 unfoldable pub number_at : Width → At → Read ℕ
-number_at w at = if nat_lt (length at.1) (byte_len w) then Err (fault.Short at.0) else Ok (from_be_bytes w (take (byte_len w) at.1), further (byte_len w) at)
+number_at w at = if nat_lt (length at.1) (byte_len w) then Err (fault.Short at.0)
+    else Ok (from_be_bytes w (take (byte_len w) at.1), further (byte_len w) at)
 
 unfoldable pub byte_at : At → Read ℕ
 byte_at (place, []) = Err (fault.Short place)

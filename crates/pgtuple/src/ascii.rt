@@ -1,4 +1,5 @@
-//! Short texts in ASCII, as most are: a test that is inlined and takes a few steps, eight bytes in one word.
+//! Short texts in ASCII, as most are: a test that is inlined and takes a few steps, eight bytes in
+//! one word.
 
 ghost use Rattle.std.specs.Prelude.{◌≤◌, length, IsTrue};
 ghost use Rattle.std.specs.Str.{IsAscii};
@@ -6,7 +7,8 @@ ghost use Rattle.std.specs.Str.{IsAscii};
 /// The bits of a word that are set in no ASCII byte.
 const HIGH_BITS: u64 = 0x8080_8080_8080_8080;
 
-/// Whether these bytes are short and all of them ASCII. Of more than 32 bytes it says no, whatever they are.
+/// Whether these bytes are short and all of them ASCII. Of more than 32 bytes it says no, whatever
+/// they are.
 #[inline(always)]
 pub(crate) fn is_short_ascii(bytes: &[u8]) -> bool
     ensures { IsTrue result → IsAscii bytes.now }

@@ -2,7 +2,8 @@
 //!
 //! PostgreSQL documentation, Logical Replication Message Formats, TupleData.
 
-ghost use Rattle.std.specs.Prelude.{◌≡◌, ◌≢◌, ◌++◌, ℕ, List, length, MatchResult, IfOk, IfErr, Ok, Err, drop};
+ghost use Rattle.std.specs.Prelude.{◌≡◌, ◌≢◌, ◌++◌, ℕ, List, length, MatchResult, IfOk, IfErr, Ok};
+ghost use Rattle.std.specs.Prelude.{Err, drop};
 ghost use Rattle.pgtuple.specs.declared.cell.Cell.{Cell};
 ghost use Rattle.pgtuple.specs.Limits.{IsWireTuple};
 ghost use Rattle.pgtuple.specs.Lent.{cell_value};
@@ -68,8 +69,8 @@ fn columns(reader: &mut Reader<'_>) -> Result<(), TupleFault>
     cells(width as usize, reader)
 }
 
-/// The tuple at the front of these bytes, borrowed from them, and how many of them it takes. Text is UTF-8 and tested once. It asks
-/// for no memory.
+/// The tuple at the front of these bytes, borrowed from them, and how many of them it takes. Text
+/// is UTF-8 and tested once. It asks for no memory.
 pub fn decode_ref(bytes: &[u8]) -> Result<(TupleRef<'_>, usize), TupleFault>
     // The bytes begin with the encoding of the tuple, which ends there.
     ensures found { IfOk result (λ x. IsWireTuple x.0
@@ -90,8 +91,8 @@ pub fn decode_ref(bytes: &[u8]) -> Result<(TupleRef<'_>, usize), TupleFault>
     Ok((TupleRef::of_bytes(spelled), len))
 }
 
-/// The tuple at the front of these bytes, with memory of its own, and how many of them it takes. It asks for no memory before all
-/// of the tuple has been read.
+/// The tuple at the front of these bytes, with memory of its own, and how many of them it takes. It
+/// asks for no memory before all of the tuple has been read.
 pub fn decode(alloc: Global, bytes: &[u8]) -> Result<(Tuple, usize), TupleFault>
     // The bytes begin with the encoding of the tuple, which ends there.
     ensures found { IfOk result (λ x. IsWireTuple x.0
@@ -99,8 +100,10 @@ pub fn decode(alloc: Global, bytes: &[u8]) -> Result<(Tuple, usize), TupleFault>
         × (x.1 ≡ length (tuple_spelling x.0))) }
 
     // A tuple that is encoded there is read, unless memory runs out.
-    ensures only { (t : List Cell) (more : List ℕ) → IsWireTuple t → bytes.now ≡ tuple_spelling t ++ more
-        → MatchResult result (λ x. (x.0 ≡ t) × (x.1 ≡ length (tuple_spelling t))) (λ f. f ≡ TupleFault.Memory) }
+    ensures only { (t : List Cell) (more : List ℕ) → IsWireTuple t
+        → bytes.now ≡ tuple_spelling t ++ more
+        → MatchResult result (λ x. (x.0 ≡ t) × (x.1 ≡ length (tuple_spelling t)))
+        (λ f. f ≡ TupleFault.Memory) }
 
     // The fault is that of the first field from the left that can't be read.
     ensures fault { IfErr result (λ f. f ≢ TupleFault.Memory → HasTupleFault bytes.now f) }

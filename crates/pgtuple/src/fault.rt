@@ -7,8 +7,8 @@ ghost use Rattle.pgtuple.specs.declared.fault.TupleFault.TheVariants.{Memory};
 use std::alloc::{AllocError, AllocFailed};
 use thiserror::Error;
 
-/// Why a tuple can't be read. Each but `Memory` carries the offset, in bytes from the tuple's first byte, of the first
-/// field that can't be read.
+/// Why a tuple can't be read. Each but `Memory` carries the offset, in bytes from the tuple's first
+/// byte, of the first field that can't be read.
 ///
 /// PostgreSQL documentation, Logical Replication Message Formats, TupleData.
 #[derive(Clone, Copy, Debug, PartialEq, Eq, Error)]

@@ -1,9 +1,10 @@
 //! What the encoding and the reading of tuples have to do with each other.
 
-ghost use Rattle.pgtuple.specs.Laws.{SpelledTuplesAreRead, ReadTuplesAreSpelled, NoSpellingBeginsAnother, FaultsAreTheFirst};
+ghost use Rattle.pgtuple.specs.Laws.{SpelledTuplesAreRead, ReadTuplesAreSpelled};
+ghost use Rattle.pgtuple.specs.Laws.{NoSpellingBeginsAnother, FaultsAreTheFirst};
 
-/// What is encoded is read again, whatever follows it; what is read was encoded so and is within the limits; and no
-/// encoding begins another one.
+/// What is encoded is read again, whatever follows it; what is read was encoded so and is within
+/// the limits; and no encoding begins another one.
 ///
 /// PostgreSQL documentation, Logical Replication Message Formats, TupleData.
 pub fn tuples_have_one_spelling()

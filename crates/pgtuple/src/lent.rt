@@ -1,8 +1,10 @@
-//! Cells and tuples that are borrowed: by cells that someone owns, or by the bytes that encode them.
+//! Cells and tuples that are borrowed: by cells that someone owns, or by the bytes that encode
+//! them.
 //!
 //! PostgreSQL documentation, Logical Replication Message Formats, TupleData.
 
-ghost use Rattle.std.specs.Prelude.{◌≡◌, ℕ, List, length, IfOk, IfErr, IfSome, option_map, slice_get};
+ghost use Rattle.std.specs.Prelude.{◌≡◌, ℕ, List, length, IfOk, IfErr, IfSome, option_map};
+ghost use Rattle.std.specs.Prelude.{slice_get};
 ghost use Rattle.pgtuple.specs.declared.cell.Cell.{Cell};
 
 use crate::bytes::Bytes;
@@ -187,7 +189,8 @@ impl<'a> TupleRef<'a> {
         }
     }
 
-    /// It is within the limits of the wire, and its texts are UTF-8, as its type has it. It does nothing but show it.
+    /// It is within the limits of the wire, and its texts are UTF-8, as its type has it. It does
+    /// nothing but show it.
     pub fn fits_wire(&self)
         ensures { IsWireTuple self.now }
     {

@@ -1,6 +1,7 @@
 //! The limits of tuples.
 //!
-//! PostgreSQL documentation, Appendix K, PostgreSQL Limits (columns per table); Message Data Types (Int32).
+//! PostgreSQL documentation, Appendix K, PostgreSQL Limits (columns per table); Message Data Types
+//! (Int32).
 
 /// The most columns that a relation, and so a tuple, has.
 pub const MAX_COLUMNS: u16 = 1600;

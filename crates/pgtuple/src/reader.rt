@@ -2,7 +2,8 @@
 //!
 //! PostgreSQL documentation, Logical Replication Message Formats, TupleData.
 
-ghost use Rattle.std.specs.Prelude.{◌≡◌, ◌+◌, ◌<◌, ◌^◌, ℕ, List, length, MatchResult, MatchOption, IfOk, Ok, Err};
+ghost use Rattle.std.specs.Prelude.{◌≡◌, ◌+◌, ◌<◌, ◌^◌, ℕ, List, length, MatchResult, MatchOption};
+ghost use Rattle.std.specs.Prelude.{IfOk, Ok, Err};
 ghost use Rattle.std.specs.Int.{w16, w32};
 ghost use Rattle.std.specs.Str.{IsUtf8};
 ghost use Rattle.pgtuple.specs.Reading.{At, number_at, length_at, bytes_at, text_at, byte_at};

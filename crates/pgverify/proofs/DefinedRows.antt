@@ -1,5 +1,6 @@
 -- The rows of `rel`, as the definitions that were read of them.
-use Rattle.std.proofs.Common.{◌≡◌, ℕ, pos, Bool, true, false, ◌&&◌, List, [], ◌∷◌, ◌++◌, length, map, refl, sym, ap, subst, ◌∙◌, arith, Less, nat_cmp}
+use Rattle.std.proofs.Common.{◌≡◌, ℕ, pos, Bool, true, false, ◌&&◌, List, [], ◌∷◌, ◌++◌, length}
+use Rattle.std.proofs.Common.{map, refl, sym, ap, subst, ◌∙◌, arith, Less, nat_cmp}
 use Rattle.std.specs.Prelude.{T}
 use Rattle.std.specs.List.{AllByRecursion}
 use Rattle.std.specs.Ordering.{is_lt}
@@ -13,7 +14,8 @@ use Rattle.sqlite_value.proofs.OrderLemmas.{value_cmp-Int}
 use Rattle.sqlite_trees.specs.Tree.{Trees, IsTable, rowid}
 use Rattle.sqlite_rules.specs.Lists.{Has}
 use Rattle.sqlite_rules.proofs.ProbeLemmas.{has_mapped}
-use Rattle.pgtables.specs.Kept.{AreDefined, AreKeyed, Definition, definition_in, oid_in, rel_row, tables_in}
+use Rattle.pgtables.specs.Kept.{AreDefined, AreKeyed, Definition, definition_in, oid_in, rel_row}
+use Rattle.pgtables.specs.Kept.{tables_in}
 use Rattle.pgtables.specs.Opened.{ListsDefinitions}
 use Rattle.pgtables.proofs.Queries.{map_twice}
 use Rattle.pgrows.proofs.Seek.{nat_as_int}
@@ -26,9 +28,11 @@ Entry = ℕ × Definition
 abbrev row_of : Entry → Row
 row_of e = rel_row e.0 e.1
 
-pub rows_on : (rows : List Row) (all more : List Entry) (row : Row) (e : Entry) → AreRowsOf rows all → row ≡ row_of e → more ≡ all ++ e ∷ [] → AreRowsOf (rows ++ row ∷ []) more
+pub rows_on : (rows : List Row) (all more : List Entry) (row : Row) (e : Entry) → AreRowsOf rows all → row ≡ row_of e → more ≡ all ++ e ∷ []
+    → AreRowsOf (rows ++ row ∷ []) more
 rows_on rows all more row e are is pushed =
-    ap (λ l. l ++ row ∷ []) are ∙ ap (λ r. map row_of all ++ r ∷ []) is ∙ sym (map-append row_of all (e ∷ [])) ∙ ap (map row_of) (sym pushed)
+    ap (λ l. l ++ row ∷ []) are ∙ ap (λ r. map row_of all ++ r ∷ []) is ∙ sym (map-append row_of all (e ∷ []))
+    ∙ ap (map row_of) (sym pushed)
 
 -- ---- a row by its columns
 
@@ -42,7 +46,9 @@ six (a ∷ b ∷ c ∷ d ∷ e ∷ []) len = absurd (omega (arith, len))
 six (a ∷ b ∷ c ∷ d ∷ e ∷ f ∷ []) len = refl
 six (a ∷ b ∷ c ∷ d ∷ e ∷ f ∷ g ∷ row) len = absurd (omega (arith, len))
 
-pub row_is : (row : Row) (oid : ℕ) (d : Definition) → length row ≡ 6 → column row 0 ≡ Int (pos oid) → column row 1 ≡ Null → column row 2 ≡ Text d.namespace → column row 3 ≡ Text d.name → column row 4 ≡ Int (pos d.letter) → column row 5 ≡ Blob d.columns → row ≡ rel_row oid d
+pub row_is : (row : Row) (oid : ℕ) (d : Definition) → length row ≡ 6 → column row 0 ≡ Int (pos oid) → column row 1 ≡ Null
+    → column row 2 ≡ Text d.namespace → column row 3 ≡ Text d.name → column row 4 ≡ Int (pos d.letter) → column row 5 ≡ Blob d.columns
+    → row ≡ rel_row oid d
 row_is row oid d len a b c e f h = six row len ∙ (λ i. a i ∷ b i ∷ c i ∷ e i ∷ f i ∷ h i ∷ [])
 
 -- ---- OIDs that rise
@@ -54,7 +60,8 @@ both false b p q = p
 lower : (m n : ℕ) → value_cmp (Int (pos m)) (Int (pos n)) ≡ Less → T (is_lt (nat_cmp m n))
 lower m n less = subst T (ap is_lt (sym (sym (nat_as_int m n) ∙ sym (value_cmp-Int (pos m) (pos n)) ∙ less))) tt
 
-below : (e : Entry) (all : List Entry) → AllByRecursion (λ r. value_cmp (rowid (row_of e)) (rowid r) ≡ Less) (map row_of all) → T (below_all nat_cmp e.0 all)
+below : (e : Entry) (all : List Entry) → AllByRecursion (λ r. value_cmp (rowid (row_of e)) (rowid r) ≡ Less) (map row_of all)
+    → T (below_all nat_cmp e.0 all)
 below e [] each = tt
 below e (f ∷ all) each = both _ _ (lower e.0 f.0 each.0) (below e all each.1)
 

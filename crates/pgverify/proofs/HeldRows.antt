@@ -1,5 +1,6 @@
 -- The rows of `held`, of which each was seen, and the index whose neighbors differ.
-use Rattle.std.proofs.Common.{◌≡◌, ◌≢◌, inl, inr, ℕ, List, [], ◌∷◌, ◌++◌, refl, sym, ap, subst, ◌∙◌, Less, Equal}
+use Rattle.std.proofs.Common.{◌≡◌, ◌≢◌, inl, inr, ℕ, List, [], ◌∷◌, ◌++◌, refl, sym, ap, subst, ◌∙◌}
+use Rattle.std.proofs.Common.{Less, Equal}
 use Rattle.std.specs.FinMap.{slice_cmp-IsAntisymmetric, nat_cmp-IsAntisymmetric}
 use Rattle.std.proofs.lemmas.Cmp.{nat_list_cmp_total, tied_itself}
 use Rattle.std.proofs.lemmas.List.Sorted.{Contains-permutation, IsPermutation-sym}
@@ -23,7 +24,8 @@ use Rattle.pgverify.proofs.OwnKeys.{IsEntry, own_keys}
 
 -- ---- one row more
 
-pub rows_on : {C : Type 0} (accepts : C → ℕ → List ℕ → Copies → Type 0) (check : C) (rows : List Row) (row : Row) → AreHeldRows accepts check rows → IsHeldRow accepts check row → AreHeldRows accepts check (rows ++ row ∷ [])
+pub rows_on : {C : Type 0} (accepts : C → ℕ → List ℕ → Copies → Type 0) (check : C) (rows : List Row) (row : Row)
+    → AreHeldRows accepts check rows → IsHeldRow accepts check row → AreHeldRows accepts check (rows ++ row ∷ [])
 rows_on accepts check [] row each one x (inl is) = subst (IsHeldRow accepts check) (sym is) one
 rows_on accepts check [] row each one x (inr none) = absurd none
 rows_on accepts check (r ∷ rows) row each one x (inl is) = each x (inl is)
@@ -49,12 +51,14 @@ rows_apart rows up = ascending_weaker _ (λ a b. rowid a ≢ rowid b) (λ a b le
 
 -- ---- all rows
 
-module _ {C : Type 0} (accepts : C → ℕ → List ℕ → Copies → Type 0) (check : C) (db : Trees) (each : AreHeldRows accepts check (db 1)) (apart : AreApart (db 2)) (indexed : IsIndexOf (1 ∷ 2 ∷ []) (db 1) (db 2)) (table : IsTable (db 1)) (up : IsIndex plain (db 2)) where
+module _ {C : Type 0} (accepts : C → ℕ → List ℕ → Copies → Type 0) (check : C) (db : Trees) (each : AreHeldRows accepts check (db 1))
+    (apart : AreApart (db 2)) (indexed : IsIndexOf (1 ∷ 2 ∷ []) (db 1) (db 2)) (table : IsTable (db 1)) (up : IsIndex plain (db 2)) where
   formed : (r : Row) → Has (db 1) r → Formed r
   formed r h = subst Formed (sym (each r h).is) refl
 
   entry_row : (e : Row) → Has (db 2) e → (r : Row) × Has (db 1) r × (e ≡ entry r)
-  entry_row e h = has_mapped entry (db 1) e (has_contained _ e (Contains-permutation _ _ e (IsPermutation-sym _ _ indexed) (contains_had (db 2) e h)))
+  entry_row e h = has_mapped entry (db 1) e
+      (has_contained _ e (Contains-permutation _ _ e (IsPermutation-sym _ _ indexed) (contains_had (db 2) e h)))
 
   row_entry : (r : Row) → Has (db 1) r → Has (db 2) (entry r)
   row_entry r h = has_contained _ _ (Contains-permutation _ _ _ indexed (contains_had _ _ (mapped_has entry (db 1) r h)))
@@ -73,13 +77,15 @@ module _ {C : Type 0} (accepts : C → ℕ → List ℕ → Copies → Type 0) (
   accepted : AreAccepted accepts check (tables_in db)
   accepted = record {
     each = λ oid ident kept h.
-        let r = got_row nat_list_cmp_total (slice_cmp-IsAntisymmetric nat_cmp-IsAntisymmetric) key_in copies_in (db 1) (oid ∷ ident) kept h in
+        let r = got_row nat_list_cmp_total (slice_cmp-IsAntisymmetric nat_cmp-IsAntisymmetric) key_in copies_in (db 1) (oid ∷ ident) kept
+        h in
         let it = each r.0 r.1 in
         let keys : it.oid ∷ it.ident ≡ oid ∷ ident = sym (ap key_in it.is) ∙ r.2 in
         let copies : it.kept ≡ kept = sym (ap copies_in it.is) ∙ r.3 in
         let at_oid : it.oid ≡ oid = cc in
         let at_ident : it.ident ≡ ident = cc in
-        subst (accepts check oid ident) copies (subst (λ i. accepts check oid i it.kept) at_ident (subst (λ o. accepts check o it.ident it.kept) at_oid it.accepted));
+        subst (accepts check oid ident) copies
+        (subst (λ i. accepts check oid i it.kept) at_ident (subst (λ o. accepts check o it.ident it.kept) at_oid it.accepted));
     keyed = row_missing nat_list_cmp_total (slice_cmp-IsAntisymmetric nat_cmp-IsAntisymmetric) key_in copies_in (db 1) [] (λ r h e. cc);
   }
 

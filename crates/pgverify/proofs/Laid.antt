@@ -16,19 +16,23 @@ use Rattle.pgtables.specs.Remains.{AreRemains, schema_of}
 use Rattle.pgtables.proofs.Standing.{standing}
 use Rattle.pgverify.specs.Verified.{ListsStore}
 
-whole_schema : (d h p : Bool) → (d && (h && p)) ≡ true → schema_of (record { has_definitions = d; has_rows = h; has_position = p }) ≡ store_schema
+whole_schema : (d h p : Bool) → (d && (h && p)) ≡ true
+    → schema_of (record { has_definitions = d; has_rows = h; has_position = p }) ≡ store_schema
 whole_schema true true true is = refl
 whole_schema true true false is = absurd (true≢false (sym is))
 whole_schema true false p is = absurd (true≢false (sym is))
 whole_schema false h p is = absurd (true≢false (sym is))
 
-pub lists_it : (v : View) (schema : Schema) (left : Remains) → v.is_broken ≡ false → Lists (v.trees catalog_tree) schema → AreRemains schema left → (left.has_definitions && (left.has_rows && left.has_position)) ≡ true → ListsStore v
+pub lists_it : (v : View) (schema : Schema) (left : Remains) → v.is_broken ≡ false → Lists (v.trees catalog_tree) schema
+    → AreRemains schema left → (left.has_definitions && (left.has_rows && left.has_position)) ≡ true → ListsStore v
 lists_it v schema left unbroken lists are whole = record {
   unbroken = unbroken;
-  lists = subst (Lists (v.trees catalog_tree)) (standing schema left are lists.guarded ∙ whole_schema left.has_definitions left.has_rows left.has_position whole) lists;
+  lists = subst (Lists (v.trees catalog_tree))
+      (standing schema left are lists.guarded ∙ whole_schema left.has_definitions left.has_rows left.has_position whole) lists;
 }
 
-module _ {v : View} (store : ListsStore v) (listed : IsListed (v.trees catalog_tree) v.shape v.reals) (ordered : IsOrdered v.shape v.trees) where
+module _ {v : View} (store : ListsStore v) (listed : IsListed (v.trees catalog_tree) v.shape v.reals)
+    (ordered : IsOrdered v.shape v.trees) where
   laid : IsLaidOut store_schema v.shape
   laid = laid_out listed (objects_rise v listed ordered) store.lists.listed
 

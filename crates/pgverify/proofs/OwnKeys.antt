@@ -1,5 +1,6 @@
 -- Where no two neighbors of a sorted index have one key, no two of its entries have.
-use Rattle.std.proofs.Common.{◌≡◌, ◌⊎◌, inl, inr, ℕ, ℤ, pos, nat_cmp, List, [], ◌∷◌, ◌++◌, refl, sym, ap, subst, subst₂, ◌∙◌, Less, Equal}
+use Rattle.std.proofs.Common.{◌≡◌, ◌⊎◌, inl, inr, ℕ, ℤ, pos, nat_cmp, List, [], ◌∷◌, ◌++◌, refl}
+use Rattle.std.proofs.Common.{sym, ap, subst, subst₂, ◌∙◌, Less, Equal}
 use Rattle.std.specs.List.{AllByRecursion}
 use Rattle.std.specs.Ordering.{ordering_then}
 use Rattle.std.proofs.lemmas.Cmp.{nat_list_cmp_total, tied_itself}
@@ -20,11 +21,13 @@ use Rattle.pgverify.specs.Seen.{AreApart, HaveOwnKeys, IsFollowed, IsSameKey}
 
 -- ---- one entry more
 
-followed_on : (f : Row) (front : List Row) (last e : Row) → IsFollowed f (front ++ last ∷ []) → IsFollowed f ((front ++ last ∷ []) ++ e ∷ [])
+followed_on : (f : Row) (front : List Row) (last e : Row) → IsFollowed f (front ++ last ∷ [])
+    → IsFollowed f ((front ++ last ∷ []) ++ e ∷ [])
 followed_on f [] last e h = h
 followed_on f (g ∷ front) last e h = h
 
-apart_on : (front : List Row) (last e : Row) → AreApart (front ++ last ∷ []) → ¬ IsSameKey last e → AreApart ((front ++ last ∷ []) ++ e ∷ [])
+apart_on : (front : List Row) (last e : Row) → AreApart (front ++ last ∷ []) → ¬ IsSameKey last e
+    → AreApart ((front ++ last ∷ []) ++ e ∷ [])
 apart_on [] last e apart other = (other, (tt, tt))
 apart_on (f ∷ front) last e apart other = (followed_on f front last e apart.0, apart_on front last e apart.1 other)
 
@@ -50,7 +53,8 @@ pub record IsEntry (e : Row) : Type 0 where
   pub is : e ≡ index_row oid ident id
 
 -- of two entries the lower one has the lower key, or both have the same
-lower_key : (a a' : ℕ) (b b' : List ℕ) (m m' : ℤ) → entry_cmp plain (index_row a b m) (index_row a' b' m') ≡ Less → (R (a ∷ b) (a' ∷ b') ≡ Less) ⊎ (◌≡◌ {A = List ℕ} (a ∷ b) (a' ∷ b'))
+lower_key : (a a' : ℕ) (b b' : List ℕ) (m m' : ℤ) → entry_cmp plain (index_row a b m) (index_row a' b' m') ≡ Less
+    → (R (a ∷ b) (a' ∷ b') ≡ Less) ⊎ (◌≡◌ {A = List ℕ} (a ∷ b) (a' ∷ b'))
 lower_key a a' b b' m m' h =
     let rows = sym (entry_cmp-plain (index_row a b m) (index_row a' b' m')) ∙ h in
     let oids = value_cmp-Int (pos a) (pos a') ∙ nat_as_int a a' in
@@ -82,18 +86,24 @@ higher e f a b less other =
 abbrev IsStrict : List Row → Type 0
 IsStrict = IsAscending (λ a b. R (key_at a) (key_at b) ≡ Less)
 
-all_above : (e : Row) (es : List Row) → IsEntry e → ((f : Row) → Has es f → IsEntry f) → IsIndex plain (e ∷ es) → AreApart (e ∷ es) → AllByRecursion (λ f. R (key_at e) (key_at f) ≡ Less) es
+all_above : (e : Row) (es : List Row) → IsEntry e → ((f : Row) → Has es f → IsEntry f) → IsIndex plain (e ∷ es) → AreApart (e ∷ es)
+    → AllByRecursion (λ f. R (key_at e) (key_at f) ≡ Less) es
 all_above e [] one each up apart = tt
 all_above e (f ∷ es) one each up apart =
-    let first = higher e f one (each f (inl refl)) up.0.0 apart.0 in
-    (first, all_weaker _ _ (λ g h. nat_list_cmp_total.trans (key_at e) (key_at f) (key_at g) first h) es (all_above f es (each f (inl refl)) (λ g h. each g (inr h)) up.1 apart.1))
+    let first = higher e f one (each f (inl refl)) up.0.0 apart.0 in (
+      first,
+      all_weaker _ _ (λ g h. nat_list_cmp_total.trans (key_at e) (key_at f) (key_at g) first h) es
+          (all_above f es (each f (inl refl)) (λ g h. each g (inr h)) up.1 apart.1),
+    )
 
 strict : (es : List Row) → ((f : Row) → Has es f → IsEntry f) → IsIndex plain es → AreApart es → IsStrict es
 strict [] each up apart = tt
-strict (e ∷ es) each up apart = (all_above e es (each e (inl refl)) (λ g h. each g (inr h)) up apart, strict es (λ g h. each g (inr h)) up.1 apart.1)
+strict (e ∷ es) each up apart =
+    (all_above e es (each e (inl refl)) (λ g h. each g (inr h)) up apart, strict es (λ g h. each g (inr h)) up.1 apart.1)
 
 not_below : (e f : Row) → key_at e ≡ key_at f → R (key_at e) (key_at f) ≡ Less → ⊥
-not_below e f same less = let tie : R (key_at f) (key_at f) ≡ Equal = tied_itself nat_list_cmp_total (key_at f) in let below : R (key_at f) (key_at f) ≡ Less = ap (λ k. R k (key_at f)) (sym same) ∙ less in cc
+not_below e f same less = let tie : R (key_at f) (key_at f) ≡ Equal = tied_itself nat_list_cmp_total (key_at f) in
+    let below : R (key_at f) (key_at f) ≡ Less = ap (λ k. R k (key_at f)) (sym same) ∙ less in cc
 
 once : (es : List Row) → IsStrict es → (x y : Row) → Has es x → Has es y → key_at x ≡ key_at y → x ≡ y
 once [] up x y hx hy e = absurd hx
@@ -102,5 +112,6 @@ once (z ∷ zs) up x y (inl p) (inr q) e = absurd (not_below z y (sym (ap key_at
 once (z ∷ zs) up x y (inr p) (inl q) e = absurd (not_below z x (sym (ap key_at q) ∙ sym e) (all_has _ zs x up.0 p))
 once (z ∷ zs) up x y (inr p) (inr q) e = once zs up.1 x y p q e
 
-pub own_keys : (es : List Row) → ((f : Row) → Has es f → IsEntry f) → IsIndex plain es → AreApart es → (x y : Row) → Has es x → Has es y → key_at x ≡ key_at y → x ≡ y
+pub own_keys : (es : List Row) → ((f : Row) → Has es f → IsEntry f) → IsIndex plain es → AreApart es → (x y : Row) → Has es x → Has es y
+    → key_at x ≡ key_at y → x ≡ y
 own_keys es each up apart = once es (strict es each up apart)

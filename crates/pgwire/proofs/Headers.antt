@@ -1,5 +1,6 @@
 -- A header as it is spelled.
-use Rattle.std.proofs.Common.{◌≡◌, ◌<◌, ◌≤◌, ℕ, zero, suc, List, [], ◌∷◌, ◌++◌, length, get_or, take, drop, refl, ap, sym, arith}
+use Rattle.std.proofs.Common.{◌≡◌, ◌<◌, ◌≤◌, ℕ, zero, suc, List, [], ◌∷◌, ◌++◌, length, get_or}
+use Rattle.std.proofs.Common.{take, drop, refl, ap, sym, arith}
 use Rattle.std.proofs.lemmas.Nat.{be_bytes_4}
 use Rattle.std.specs.Int.{w32, to_be_bytes, from_be_bytes}
 use Rattle.pgwire.specs.Frames.{tag_of, length_of}
@@ -30,7 +31,8 @@ four a b c d p q r s (suc (suc zero)) = r
 four a b c d p q r s (suc (suc (suc zero))) = s
 four a b c d p q r s (suc (suc (suc (suc i)))) = omega arith
 
-pub header_spelled : (bytes : List ℕ) → IsBytes bytes → 5 ≤ length bytes → bytes ≡ tag_of bytes ∷ (to_be_bytes w32 (length_of bytes) ++ drop 5 bytes)
+pub header_spelled : (bytes : List ℕ) → IsBytes bytes → 5 ≤ length bytes
+    → bytes ≡ tag_of bytes ∷ (to_be_bytes w32 (length_of bytes) ++ drop 5 bytes)
 header_spelled [] fits long = absurd (omega arith)
 header_spelled (t ∷ []) fits long = absurd (omega arith)
 header_spelled (t ∷ a ∷ []) fits long = absurd (omega arith)

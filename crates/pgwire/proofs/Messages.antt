@@ -1,5 +1,7 @@
 -- A payload is read as a message exactly if it is spelled so; else it has one fault.
-use Rattle.std.proofs.Common.{◌≡◌, ◌<◌, ◌≤◌, ◌^◌, ◌⊎◌, inl, inr, ℕ, ℤ, zero, suc, List, [], ◌∷◌, ◌++◌, true, false, length, take, drop, slice_index, refl, ap, sym, ◌∙◌, subst, arith, length-append, Result, Ok, Err, eqb, ltb}
+use Rattle.std.proofs.Common.{◌≡◌, ◌<◌, ◌≤◌, ◌^◌, ◌⊎◌, inl, inr, ℕ, ℤ, zero, suc, List, [], ◌∷◌}
+use Rattle.std.proofs.Common.{◌++◌, true, false, length, take, drop, slice_index, refl, ap, sym}
+use Rattle.std.proofs.Common.{◌∙◌, subst, arith, length-append, Result, Ok, Err, eqb, ltb}
 use Rattle.std.proofs.Math.Seq.{drop-drop, drop-cons, get_or-append_seam}
 use Rattle.std.proofs.Math.Facts.{Fits-of_z, sfits_to_z}
 use Rattle.std.proofs.lemmas.Bool.{le-ltb, lt-ltb, cases_lt, cases_eq}
@@ -11,15 +13,19 @@ use mir.Val.{SFits}
 use Rattle.byteorder.specs.Endian.{big_number}
 use Rattle.byteorder.specs.Numbers.{big_number-reads_back, big_from-lt}
 use Rattle.pgwire.specs.declared.fault.WireFault.{WireFault}
-use Rattle.pgwire.specs.declared.fault.WireFault.TheVariants.{UnknownFrame, BadLength, TooLarge, AfterDone, UnknownServerMessage, Short, Trailing, BadReplyByte, Memory}
-use Rattle.pgwire.specs.Payloads.{ServerMessage, XLogData, Keepalive, flag_byte, payload, IsServerMessage, HasPayloadFault, payload_at, keepalive_at}
+use Rattle.pgwire.specs.declared.fault.WireFault.TheVariants.{UnknownFrame, BadLength, TooLarge}
+use Rattle.pgwire.specs.declared.fault.WireFault.TheVariants.{AfterDone, UnknownServerMessage}
+use Rattle.pgwire.specs.declared.fault.WireFault.TheVariants.{Short, Trailing, BadReplyByte, Memory}
+use Rattle.pgwire.specs.Payloads.{ServerMessage, XLogData, Keepalive, flag_byte, payload}
+use Rattle.pgwire.specs.Payloads.{IsServerMessage, HasPayloadFault, payload_at, keepalive_at}
 use Rattle.pgwire.specs.declared.message.ServerMsg.{ServerMsg}
 use Rattle.pgwire.specs.Lent.{message_value, Gives}
 use Rattle.std.specs.Prelude.{IfOk, IfErr, IsOkAnd, IsErrOf}
 use Rattle.pgwire.proofs.Headers.{IsBytes, IsBytes-drop}
 use Rattle.pgwire.proofs.Decoding.{empty_at, data_gives, as_data, as_keepalive, as_unknown}
 
-eight : (a b c d e f g h : ℕ) → a < 256 → b < 256 → c < 256 → d < 256 → e < 256 → f < 256 → g < 256 → h < 256 → IsBytes (a ∷ b ∷ c ∷ d ∷ e ∷ f ∷ g ∷ h ∷ [])
+eight : (a b c d e f g h : ℕ) → a < 256 → b < 256 → c < 256 → d < 256 → e < 256 → f < 256 → g < 256 → h < 256
+    → IsBytes (a ∷ b ∷ c ∷ d ∷ e ∷ f ∷ g ∷ h ∷ [])
 eight a b c d e f g h i j k l m n o p zero = i
 eight a b c d e f g h i j k l m n o p (suc zero) = j
 eight a b c d e f g h i j k l m n o p (suc (suc zero)) = k
@@ -35,7 +41,8 @@ pub number_spelled : (bytes : List ℕ) → IsBytes bytes → 8 ≤ length bytes
 number_spelled (a ∷ b ∷ c ∷ d ∷ e ∷ f ∷ g ∷ h ∷ rest) fits long =
     let n = big_number 8 (a ∷ b ∷ c ∷ d ∷ e ∷ f ∷ g ∷ h ∷ rest) in
     let same : n ≡ from_be_bytes w64 (a ∷ b ∷ c ∷ d ∷ e ∷ f ∷ g ∷ h ∷ []) = omega arith in
-    let spelled = be_bytes_8 (a ∷ b ∷ c ∷ d ∷ e ∷ f ∷ g ∷ h ∷ []) n refl (eight a b c d e f g h (fits 0) (fits 1) (fits 2) (fits 3) (fits 4) (fits 5) (fits 6) (fits 7)) same in
+    let spelled = be_bytes_8 (a ∷ b ∷ c ∷ d ∷ e ∷ f ∷ g ∷ h ∷ []) n refl
+    (eight a b c d e f g h (fits 0) (fits 1) (fits 2) (fits 3) (fits 4) (fits 5) (fits 6) (fits 7)) same in
     ap (λ front. front ++ rest) (sym spelled)
 number_spelled _ fits long = absurd (omega arith)
 
@@ -45,7 +52,8 @@ number_fits bytes fits = big_from-lt 0 8 bytes fits
 clock_fits : (z : ℤ) → SFits w64 z → cast_unsigned w64 z < 2 ^ 64
 clock_fits z fits = (Fits-of_z fits).fits
 
-pub keepalive_gives : (fields : List ℕ) (end : ℕ) (clock : ℤ) → length fields ≡ 17 → slice_index fields 16 ≤ 1 → end ≡ big_number 8 fields → clock ≡ cast_signed w64 (big_number 8 (drop 8 fields))
+pub keepalive_gives : (fields : List ℕ) (end : ℕ) (clock : ℤ) → length fields ≡ 17 → slice_index fields 16 ≤ 1 → end ≡ big_number 8 fields
+    → clock ≡ cast_signed w64 (big_number 8 (drop 8 fields))
     → keepalive_at fields ≡ Ok (Keepalive end clock (eqb (slice_index fields 16) 1))
 keepalive_gives fields end clock long flag ends clocks =
     let short : ltb (length fields) 17 ≡ false = le-ltb _ _ (omega arith) in
@@ -63,14 +71,17 @@ payload_again (XLogData start end clock body) is = as_data (payload (XLogData st
 payload_again (Keepalive end clock true) is = as_keepalive (payload (Keepalive end clock true)) (omega arith) refl
     ∙ keepalive_gives (drop 1 (payload (Keepalive end clock true))) end clock refl (omega arith)
     (sym (big_number-reads_back 8 end (to_be_bytes w64 (cast_unsigned w64 clock) ++ 1 ∷ []) is.0))
-    (sym (ap (cast_signed w64) (big_number-reads_back 8 (cast_unsigned w64 clock) (1 ∷ []) (clock_fits clock is.1)) ∙ to_z-of_z w64 clock is.1))
+    (sym (ap (cast_signed w64) (big_number-reads_back 8 (cast_unsigned w64 clock) (1 ∷ []) (clock_fits clock is.1))
+    ∙ to_z-of_z w64 clock is.1))
 payload_again (Keepalive end clock false) is = as_keepalive (payload (Keepalive end clock false)) (omega arith) refl
     ∙ keepalive_gives (drop 1 (payload (Keepalive end clock false))) end clock refl (omega arith)
     (sym (big_number-reads_back 8 end (to_be_bytes w64 (cast_unsigned w64 clock) ++ 0 ∷ []) is.0))
-    (sym (ap (cast_signed w64) (big_number-reads_back 8 (cast_unsigned w64 clock) (0 ∷ []) (clock_fits clock is.1)) ∙ to_z-of_z w64 clock is.1))
+    (sym (ap (cast_signed w64) (big_number-reads_back 8 (cast_unsigned w64 clock) (0 ∷ []) (clock_fits clock is.1))
+    ∙ to_z-of_z w64 clock is.1))
 
 data_spelled : (fields : List ℕ) → IsBytes fields → 24 ≤ length fields
-    → 119 ∷ fields ≡ payload (XLogData (big_number 8 fields) (big_number 8 (drop 8 fields)) (cast_signed w64 (big_number 8 (drop 16 fields))) (drop 24 fields))
+    → 119 ∷ fields ≡ payload
+    (XLogData (big_number 8 fields) (big_number 8 (drop 8 fields)) (cast_signed w64 (big_number 8 (drop 16 fields))) (drop 24 fields))
 data_spelled fields fits long =
     let at_8 = number_spelled (drop 8 fields) (IsBytes-drop 8 fields fits) (omega (arith, length-drop 8 fields)) in
     let at_16 = number_spelled (drop 16 fields) (IsBytes-drop 16 fields fits) (omega (arith, length-drop 16 fields)) in
@@ -81,11 +92,14 @@ data_spelled fields fits long =
     ∙ ap (λ behind. 119 ∷ (start ++ behind)) at_8
     ∙ ap (λ behind. 119 ∷ (start ++ (end ++ behind))) (drop-drop 8 8 fields ∙ at_16)
     ∙ ap (λ n. 119 ∷ (start ++ (end ++ (to_be_bytes w64 n ++ drop 8 (drop 16 fields))))) (sym clock)
-    ∙ ap (λ behind. 119 ∷ (start ++ (end ++ (to_be_bytes w64 (cast_unsigned w64 (cast_signed w64 (big_number 8 (drop 16 fields)))) ++ behind)))) (drop-drop 8 16 fields)
+    ∙ ap (λ behind. 119 ∷ (start
+    ++ (end ++ (to_be_bytes w64 (cast_unsigned w64 (cast_signed w64 (big_number 8 (drop 16 fields)))) ++ behind))))
+    (drop-drop 8 16 fields)
 
 -- the last byte of seventeen
 last_byte : (fields : List ℕ) → length fields ≡ 17 → drop 16 fields ≡ slice_index fields 16 ∷ []
-last_byte fields long = drop-cons fields 16 0 (omega arith) ∙ ap (λ behind. slice_index fields 16 ∷ behind) (drop_all 17 fields (omega arith))
+last_byte fields long = drop-cons fields 16 0 (omega arith)
+    ∙ ap (λ behind. slice_index fields 16 ∷ behind) (drop_all 17 fields (omega arith))
 
 flag_of : (byte : ℕ) → byte ≤ 1 → flag_byte (eqb byte 1) ≡ byte
 flag_of zero small = refl
@@ -93,7 +107,8 @@ flag_of (suc zero) small = refl
 flag_of (suc (suc byte)) small = absurd (omega arith)
 
 keepalive_spelled : (fields : List ℕ) → IsBytes fields → length fields ≡ 17 → slice_index fields 16 ≤ 1
-    → 107 ∷ fields ≡ payload (Keepalive (big_number 8 fields) (cast_signed w64 (big_number 8 (drop 8 fields))) (eqb (slice_index fields 16) 1))
+    → 107 ∷ fields ≡ payload
+    (Keepalive (big_number 8 fields) (cast_signed w64 (big_number 8 (drop 8 fields))) (eqb (slice_index fields 16) 1))
 keepalive_spelled fields fits long small =
     let at_8 = number_spelled (drop 8 fields) (IsBytes-drop 8 fields fits) (omega (arith, length-drop 8 fields)) in
     let clock = of_z-to_z w64 (big_number 8 (drop 8 fields)) (number_fits (drop 8 fields) (IsBytes-drop 8 fields fits)) in
@@ -133,7 +148,11 @@ data_either fields fits =
         XLogData (big_number 8 fields) (big_number 8 (drop 8 fields)) (cast_signed w64 (big_number 8 (drop 16 fields))) (drop 24 fields),
         record {
           gives = at ∙ data_gives fields _ _ _ long refl refl refl;
-          is = (number_fits fields fits, number_fits (drop 8 fields) (IsBytes-drop 8 fields fits), sfits_to_z (record { fits = number_fits (drop 16 fields) (IsBytes-drop 16 fields fits) }));
+          is = (
+            number_fits fields fits,
+            number_fits (drop 8 fields) (IsBytes-drop 8 fields fits),
+            sfits_to_z (record { fits = number_fits (drop 16 fields) (IsBytes-drop 16 fields fits) }),
+          );
           spelled = data_spelled fields fits long;
         },
       )
@@ -163,7 +182,14 @@ keepalive_either fields fits =
             BadReplyByte,
             record {
               gives = at ∙ rw (le-ltb _ _ long, le-ltb _ _ exact, lt-ltb _ _ bad) refl;
-              has = (take 16 fields, slice_index fields 16, ap (λ all. 107 ∷ all) (sym (take-append-drop 16 fields) ∙ ap (λ behind. take 16 fields ++ behind) (last_byte fields (omega arith))), length-take-le 16 fields (omega arith), bad);
+              has = (
+                take 16 fields,
+                slice_index fields 16,
+                ap (λ all. 107 ∷ all) (sym (take-append-drop 16 fields)
+                    ∙ ap (λ behind. take 16 fields ++ behind) (last_byte fields (omega arith))),
+                length-take-le 16 fields (omega arith),
+                bad,
+              );
             },
           )
           | inr good ↦ inl (
@@ -213,9 +239,12 @@ fault_again bytes Short has =
         | inr short ↦ ap payload_at short.1 ∙ as_keepalive (107 ∷ short.0) (omega arith) refl ∙ rw (lt-ltb _ _ short.2) refl
       ]
     ]
-fault_again bytes Trailing has = ap payload_at has.1 ∙ as_keepalive (107 ∷ has.0) (omega arith) refl ∙ rw (le-ltb (length has.0) 17 (omega (arith, has.2)), lt-ltb _ _ has.2) refl
+fault_again bytes Trailing has =
+    ap payload_at has.1 ∙ as_keepalive (107 ∷ has.0) (omega arith) refl
+    ∙ rw (le-ltb (length has.0) 17 (omega (arith, has.2)), lt-ltb _ _ has.2) refl
 fault_again bytes BadReplyByte has = ap payload_at has.2 ∙ as_keepalive (107 ∷ (has.0 ++ has.1 ∷ [])) (omega arith) refl
-    ∙ (let last : slice_index (has.0 ++ has.1 ∷ []) 16 ≡ has.1 = ap (λ n. slice_index (has.0 ++ has.1 ∷ []) n) (sym has.3) ∙ get_or-append_seam has.0 has.1 [] 0 in
+    ∙ (let last : slice_index (has.0 ++ has.1 ∷ []) 16 ≡ has.1 = ap (λ n. slice_index (has.0 ++ has.1 ∷ []) n) (sym has.3)
+    ∙ get_or-append_seam has.0 has.1 [] 0 in
     bad_reply (has.0 ++ has.1 ∷ []) (omega (arith, has.3, length-append has.0 (has.1 ∷ []))) (omega (arith, last, has.4)))
 fault_again bytes (UnknownFrame byte) has = absurd has
 fault_again bytes BadLength has = absurd has
@@ -232,18 +261,22 @@ err_has_fault bytes fault (inl (n, read)) e = cc
 err_has_fault bytes fault (inr (other, refused)) e = let same : other ≡ fault = cc in subst (HasPayloadFault bytes) same refused.has
 
 -- decode_server's clauses, from what reading gives
-pub found : (bytes : List ℕ) (r : Result ServerMsg WireFault) → IsBytes bytes → Gives r bytes → IfOk r (λ m. IsServerMessage (message_value m) × (bytes ≡ payload (message_value m)))
+pub found : (bytes : List ℕ) (r : Result ServerMsg WireFault) → IsBytes bytes → Gives r bytes
+    → IfOk r (λ m. IsServerMessage (message_value m) × (bytes ≡ payload (message_value m)))
 found bytes (Ok m) fits gives = ok_is_spelled bytes (message_value m) (read_or_refused bytes fits) gives
 found bytes (Err fault) fits gives = tt
 
-pub only : (bytes : List ℕ) (r : Result ServerMsg WireFault) → Gives r bytes → (m : ServerMessage) → IsServerMessage m → bytes ≡ payload m → IsOkAnd r (λ x. message_value x ≡ m)
+pub only : (bytes : List ℕ) (r : Result ServerMsg WireFault) → Gives r bytes → (m : ServerMessage) → IsServerMessage m → bytes ≡ payload m
+    → IsOkAnd r (λ x. message_value x ≡ m)
 only bytes (Ok x) gives m is e = let same : payload_at bytes ≡ Ok m = ap payload_at e ∙ payload_again m is in cc
 only bytes (Err fault) gives m is e = let same : payload_at bytes ≡ Ok m = ap payload_at e ∙ payload_again m is in cc
 
-pub first : (bytes : List ℕ) (r : Result ServerMsg WireFault) → IsBytes bytes → Gives r bytes → IfErr r (λ fault. HasPayloadFault bytes fault)
+pub first : (bytes : List ℕ) (r : Result ServerMsg WireFault) → IsBytes bytes → Gives r bytes
+    → IfErr r (λ fault. HasPayloadFault bytes fault)
 first bytes (Ok m) fits gives = tt
 first bytes (Err fault) fits gives = err_has_fault bytes fault (read_or_refused bytes fits) gives
 
-pub refused : (bytes : List ℕ) (r : Result ServerMsg WireFault) → Gives r bytes → (fault : WireFault) → HasPayloadFault bytes fault → IsErrOf r fault
+pub refused : (bytes : List ℕ) (r : Result ServerMsg WireFault) → Gives r bytes → (fault : WireFault) → HasPayloadFault bytes fault
+    → IsErrOf r fault
 refused bytes (Ok x) gives fault has = let same = fault_again bytes fault has in cc
 refused bytes (Err other) gives fault has = let same = fault_again bytes fault has in let e : other ≡ fault = cc in ap Err e

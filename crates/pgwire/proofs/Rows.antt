@@ -1,5 +1,6 @@
 -- Worked rows: what frames, payloads, a status and the faults of a stream are in bytes.
-use Rattle.std.proofs.Common.{◌≡◌, ◌∷◌, ◌++◌, [], ℕ, true, false, Ok, Err, refl, arith, inl, inr, length, take, drop}
+use Rattle.std.proofs.Common.{◌≡◌, ◌∷◌, ◌++◌, [], ℕ, true, false, Ok, Err, refl, arith, inl, inr}
+use Rattle.std.proofs.Common.{length, take, drop}
 use Rattle.std.specs.Prelude.{pos, negsuc, replicate}
 use Rattle.pgwire.specs.declared.fault.WireFault.TheVariants as fault
 use Rattle.pgwire.specs.Frames.{CopyData, CopyDone, frame, IsDeframedAs, HasFramingFault, IsPartial}
@@ -9,7 +10,8 @@ use Rattle.pgwire.specs.Statuses.{status_frame}
 abbrev data_of : ℕ → ServerMessage
 data_of n = XLogData 0 0 (pos 0) (replicate n 7)
 
--- the headers of frames whose bodies have 21, 40, 20 and 26 bytes, as a Begin, a Relation, an Insert and a Commit
+-- the headers of frames whose bodies have 21, 40, 20 and 26 bytes, as a Begin, a Relation, an
+-- Insert and a Commit
 begin_header : take 6 (frame (CopyData (payload (data_of 21)))) ≡ 100 ∷ 0 ∷ 0 ∷ 0 ∷ 0x32 ∷ 0x77 ∷ []
 begin_header = refl
 
@@ -27,7 +29,8 @@ begin_len = refl
 
 -- start, end and clock stand in this order, the data behind them
 data_fields : payload (XLogData 0x150 0x500 (negsuc 1) (1 ∷ 2 ∷ []))
-    ≡ 0x77 ∷ 0 ∷ 0 ∷ 0 ∷ 0 ∷ 0 ∷ 0 ∷ 1 ∷ 0x50 ∷ 0 ∷ 0 ∷ 0 ∷ 0 ∷ 0 ∷ 0 ∷ 5 ∷ 0 ∷ 0xff ∷ 0xff ∷ 0xff ∷ 0xff ∷ 0xff ∷ 0xff ∷ 0xff ∷ 0xfe ∷ 1 ∷ 2 ∷ []
+    ≡ 0x77 ∷ 0 ∷ 0 ∷ 0 ∷ 0 ∷ 0 ∷ 0 ∷ 1 ∷ 0x50 ∷ 0 ∷ 0 ∷ 0 ∷ 0 ∷ 0 ∷ 0 ∷ 5 ∷ 0 ∷ 0xff ∷ 0xff ∷ 0xff ∷ 0xff ∷ 0xff ∷ 0xff ∷ 0xff ∷ 0xfe ∷ 1
+    ∷ 2 ∷ []
 data_fields = refl
 
 -- a keepalive with end 0/180 that asks for a reply, and one with a clock that doesn't
@@ -43,14 +46,16 @@ copy_done = refl
 
 -- a status with written, flushed, applied, clock and ask in this order
 status : status_frame (record { written = 0x280; flushed = 0x130; applied = 0x120; clock = pos 7; ask = false })
-    ≡ 0x64 ∷ 0 ∷ 0 ∷ 0 ∷ 0x26 ∷ 0x72 ∷ 0 ∷ 0 ∷ 0 ∷ 0 ∷ 0 ∷ 0 ∷ 2 ∷ 0x80 ∷ 0 ∷ 0 ∷ 0 ∷ 0 ∷ 0 ∷ 0 ∷ 1 ∷ 0x30 ∷ 0 ∷ 0 ∷ 0 ∷ 0 ∷ 0 ∷ 0 ∷ 1 ∷ 0x20
+    ≡ 0x64 ∷ 0 ∷ 0 ∷ 0 ∷ 0x26 ∷ 0x72 ∷ 0 ∷ 0 ∷ 0 ∷ 0 ∷ 0 ∷ 0 ∷ 2 ∷ 0x80 ∷ 0 ∷ 0 ∷ 0 ∷ 0 ∷ 0 ∷ 0 ∷ 1 ∷ 0x30 ∷ 0 ∷ 0 ∷ 0 ∷ 0 ∷ 0 ∷ 0 ∷ 1
+    ∷ 0x20
     ∷ 0 ∷ 0 ∷ 0 ∷ 0 ∷ 0 ∷ 0 ∷ 0 ∷ 7 ∷ 0 ∷ []
 status = refl
 
 asking_status : drop 38 (status_frame (record { written = 0; flushed = 0; applied = 0; clock = pos 5; ask = true })) ≡ 1 ∷ []
 asking_status = refl
 
--- payloads and their faults: nothing; a keepalive of 17 and of 18 bytes with reply byte 2, and of 19; a short XLogData; another letter
+-- payloads and their faults: nothing; a keepalive of 17 and of 18 bytes with reply byte 2, and of
+-- 19; a short XLogData; another letter
 empty_payload : payload_at [] ≡ Err fault.Short
 unfolding payload_at
 empty_payload = refl
@@ -75,29 +80,61 @@ other_letter : payload_at (120 ∷ []) ≡ Err (fault.UnknownServerMessage 120)
 unfolding payload_at
 other_letter = refl
 
-keepalive_read : payload_at (0x6b ∷ 0 ∷ 0 ∷ 0 ∷ 0 ∷ 0 ∷ 0 ∷ 1 ∷ 0x80 ∷ 0xff ∷ 0xff ∷ 0xff ∷ 0xff ∷ 0xff ∷ 0xff ∷ 0xff ∷ 0xff ∷ 1 ∷ []) ≡ Ok (Keepalive 0x180 (negsuc 0) true)
+keepalive_read : payload_at (0x6b ∷ 0 ∷ 0 ∷ 0 ∷ 0 ∷ 0 ∷ 0 ∷ 1 ∷ 0x80 ∷ 0xff ∷ 0xff ∷ 0xff ∷ 0xff ∷ 0xff ∷ 0xff ∷ 0xff ∷ 0xff ∷ 1 ∷ [])
+    ≡ Ok (Keepalive 0x180 (negsuc 0) true)
 unfolding payload_at
 keepalive_read = refl
 
--- Frames of a stream with payloads of at most 64 bytes: the header of 64 bytes waits, that of 65 doesn't
+-- Frames of a stream with payloads of at most 64 bytes: the header of 64 bytes waits, that of 65
+-- doesn't
 waits : IsPartial 64 (100 ∷ 0 ∷ 0 ∷ 0 ∷ 0x44 ∷ [])
 waits = record { tag = λ _. inl refl; payload = λ _. (refl, omega arith, omega arith, omega arith) }
 
 too_large : HasFramingFault 64 (100 ∷ 0 ∷ 0 ∷ 0 ∷ 0x45 ∷ []) fault.TooLarge
-too_large = record { fs = []; rest = 100 ∷ 0 ∷ 0 ∷ 0 ∷ 0x45 ∷ []; whole = refl; each = tt; breaks = (refl, omega arith, refl, omega arith, omega arith) }
+too_large = record {
+  fs = [];
+  rest = 100 ∷ 0 ∷ 0 ∷ 0 ∷ 0x45 ∷ [];
+  whole = refl;
+  each = tt;
+  breaks = (refl, omega arith, refl, omega arith, omega arith);
+}
 
 below_four : HasFramingFault 64 (100 ∷ 0 ∷ 0 ∷ 0 ∷ 3 ∷ []) fault.BadLength
-below_four = record { fs = []; rest = 100 ∷ 0 ∷ 0 ∷ 0 ∷ 3 ∷ []; whole = refl; each = tt; breaks = (refl, omega arith, inl refl, inl (omega arith)) }
+below_four = record {
+  fs = [];
+  rest = 100 ∷ 0 ∷ 0 ∷ 0 ∷ 3 ∷ [];
+  whole = refl;
+  each = tt;
+  breaks = (refl, omega arith, inl refl, inl (omega arith));
+}
 
 -- the greatest bit of the length is its sign, which comes before the limit
 negative : HasFramingFault 64 (100 ∷ 0x80 ∷ 0 ∷ 0 ∷ 0 ∷ []) fault.BadLength
-negative = record { fs = []; rest = 100 ∷ 0x80 ∷ 0 ∷ 0 ∷ 0 ∷ []; whole = refl; each = tt; breaks = (refl, omega arith, inl refl, inr (inl (omega arith))) }
+negative = record {
+  fs = [];
+  rest = 100 ∷ 0x80 ∷ 0 ∷ 0 ∷ 0 ∷ [];
+  whole = refl;
+  each = tt;
+  breaks = (refl, omega arith, inl refl, inr (inl (omega arith)));
+}
 
 long_copy_done : HasFramingFault 64 (99 ∷ 0 ∷ 0 ∷ 0 ∷ 5 ∷ []) fault.BadLength
-long_copy_done = record { fs = []; rest = 99 ∷ 0 ∷ 0 ∷ 0 ∷ 5 ∷ []; whole = refl; each = tt; breaks = (refl, omega arith, inr refl, inr (inr (refl, λ e. omega arith))) }
+long_copy_done = record {
+  fs = [];
+  rest = 99 ∷ 0 ∷ 0 ∷ 0 ∷ 5 ∷ [];
+  whole = refl;
+  each = tt;
+  breaks = (refl, omega arith, inr refl, inr (inr (refl, λ e. omega arith)));
+}
 
 unknown_letter : HasFramingFault 64 (0x78 ∷ []) (fault.UnknownFrame 120)
-unknown_letter = record { fs = []; rest = 0x78 ∷ []; whole = refl; each = tt; breaks = (refl, omega arith, refl, (λ e. omega arith), λ e. omega arith) }
+unknown_letter = record {
+  fs = [];
+  rest = 0x78 ∷ [];
+  whole = refl;
+  each = tt;
+  breaks = (refl, omega arith, refl, (λ e. omega arith), λ e. omega arith);
+}
 
 after_done : HasFramingFault 64 (99 ∷ 0 ∷ 0 ∷ 0 ∷ 4 ∷ 100 ∷ []) fault.AfterDone
 after_done = record { fs = CopyDone ∷ []; rest = 100 ∷ []; whole = refl; each = refl; breaks = (refl, omega arith) }

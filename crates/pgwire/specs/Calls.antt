@@ -16,7 +16,9 @@ taken_of piece (Err fault) = []
 abbrev pub Leads : ℕ → List Call → List ℕ → List Frame → Deframed → Type 0
 Leads max [] taken released d = (d ≡ fresh max) × (taken ≡ []) × (released ≡ [])
 Leads max (Feed piece result ∷ calls) taken released d =
-    (before : List ℕ) × (old : Deframed) × Leads max calls before released old × IsFed old piece result d × (taken ≡ before ++ taken_of piece result)
+    (before : List ℕ) × (old : Deframed) × Leads max calls before released old × IsFed old piece result d
+    × (taken ≡ before ++ taken_of piece result)
 Leads max (Release ∷ calls) taken released d =
     (before : List Frame) × (old : Deframed) × Leads max calls taken before old
-    × (((f : Frame) × Stands old f × (d ≡ after_release old f) × (released ≡ before ++ f ∷ [])) ⊎ (Waits old × (d ≡ old) × (released ≡ before)))
+    × (((f : Frame) × Stands old f × (d ≡ after_release old f) × (released ≡ before ++ f ∷ []))
+    ⊎ (Waits old × (d ≡ old) × (released ≡ before)))

@@ -1,11 +1,14 @@
 -- What a deframer holds, and what its calls do to it.
-use Rattle.std.specs.Prelude.{◌≡◌, ◌<◌, ◌≤◌, ◌-◌, ◌⊎◌, min, ℕ, List, [], ◌++◌, Bool, true, false, length, take, Option, Some, None, Result, Ok, Err}
+use Rattle.std.specs.Prelude.{◌≡◌, ◌<◌, ◌≤◌, ◌-◌, ◌⊎◌, min, ℕ, List, [], ◌++◌, Bool, true, false}
+use Rattle.std.specs.Prelude.{length, take, Option, Some, None, Result, Ok, Err}
 use Rattle.pgwire.specs.declared.fault.WireFault.{WireFault}
 use Rattle.pgwire.specs.declared.fault.WireFault.TheVariants.{Memory}
-use Rattle.pgwire.specs.Frames.{Frame, CopyData, CopyDone, frame, length_of, IsAllowed, IsPartial, IsFramingFault}
+use Rattle.pgwire.specs.Frames.{Frame, CopyData, CopyDone, frame, length_of, IsAllowed, IsPartial}
+use Rattle.pgwire.specs.Frames.{IsFramingFault}
 
--- The limit of payloads, the bytes after the frames that were released, whether CopyDone was one of these, the fault that is
--- returned from now on, and the bytes of a payload for which there is room.
+-- The limit of payloads, the bytes after the frames that were released, whether CopyDone was one of
+-- these, the fault that is returned from now on, and the bytes of a payload for which there is
+-- room.
 pub record Deframed : Type 0 where
   pub max : ℕ
   pub held : List ℕ
@@ -31,16 +34,19 @@ pub record Waits (d : Deframed) : Type 0 where
 abbrev pub StandsOrWaits : Deframed → Type 0
 StandsOrWaits d = ((f : Frame) × Stands d f) ⊎ Waits d
 
--- A piece was fed. Bytes are taken until a frame is complete or the piece is used up; the room may grow then. A fault comes where
--- what is held and the piece can't begin with a frame, and stays. Out of memory changes nothing, and is never returned in place of
--- a fault or for a header alone.
+-- A piece was fed. Bytes are taken until a frame is complete or the piece is used up; the room may
+-- grow then. A fault comes where what is held and the piece can't begin with a frame, and stays.
+-- Out of memory changes nothing, and is never returned in place of a fault or for a header alone.
 abbrev pub IsFed : Deframed → List ℕ → Result ℕ WireFault → Deframed → Type 0
 IsFed old piece (Ok n) new =
-    (old.fault ≡ None) × (n ≤ length piece) × (new ≡ record old { held = old.held ++ take n piece; room = new.room }) × (((f : Frame) × Stands new f) ⊎ ((n ≡ length piece) × Waits new))
+    (old.fault ≡ None) × (n ≤ length piece) × (new ≡ record old { held = old.held ++ take n piece; room = new.room })
+    × (((f : Frame) × Stands new f) ⊎ ((n ≡ length piece) × Waits new))
 IsFed old piece (Err Memory) new =
-    (old.fault ≡ None) × (new ≡ old) × Waits old × (5 < length (old.held ++ piece)) × ((fault : WireFault) → IsFramingFault old.max old.done (old.held ++ piece) fault → ⊥)
+    (old.fault ≡ None) × (new ≡ old) × Waits old × (5 < length (old.held ++ piece))
+    × ((fault : WireFault) → IsFramingFault old.max old.done (old.held ++ piece) fault → ⊥)
 IsFed old piece (Err fault) new =
-    (new ≡ record old { fault = Some fault }) × Waits old × ((old.fault ≡ Some fault) ⊎ ((old.fault ≡ None) × IsFramingFault old.max old.done (old.held ++ piece) fault))
+    (new ≡ record old { fault = Some fault }) × Waits old
+    × ((old.fault ≡ Some fault) ⊎ ((old.fault ≡ None) × IsFramingFault old.max old.done (old.held ++ piece) fault))
 
 -- how many bytes of the first frame's payload are among these, which begin with its header
 abbrev pub payload_come : List ℕ → ℕ

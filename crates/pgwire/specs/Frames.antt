@@ -1,10 +1,13 @@
--- PostgreSQL documentation, Message Formats: CopyData (B) and CopyDone (B), the frames of a session.
-use Rattle.std.specs.Prelude.{◌≡◌, ◌≢◌, ◌<◌, ◌≤◌, ◌+◌, ◌⊎◌, ℕ, List, [], ◌∷◌, ◌++◌, Bool, true, false, length, drop, slice_index}
+-- PostgreSQL documentation, Message Formats: CopyData (B) and CopyDone (B), the frames of a
+-- session.
+use Rattle.std.specs.Prelude.{◌≡◌, ◌≢◌, ◌<◌, ◌≤◌, ◌+◌, ◌⊎◌, ℕ, List, [], ◌∷◌, ◌++◌, Bool, true}
+use Rattle.std.specs.Prelude.{false, length, drop, slice_index}
 use Rattle.std.specs.List.{flat_map}
 use Rattle.std.specs.Int.{w32, to_be_bytes}
 use Rattle.byteorder.specs.Endian.{big_number}
 use Rattle.pgwire.specs.declared.fault.WireFault.{WireFault}
-use Rattle.pgwire.specs.declared.fault.WireFault.TheVariants.{UnknownFrame, BadLength, TooLarge, AfterDone}
+use Rattle.pgwire.specs.declared.fault.WireFault.TheVariants.{UnknownFrame, BadLength, TooLarge}
+use Rattle.pgwire.specs.declared.fault.WireFault.TheVariants.{AfterDone}
 pub use Rattle.pgwire.specs.Payloads.{ServerMessage, XLogData, Keepalive, payload}
 
 -- the first byte of a frame: `d` of CopyData, `c` of CopyDone
@@ -57,10 +60,12 @@ length_of bytes = big_number 4 (drop 1 bytes)
 abbrev pub IsTag : ℕ → Type 0
 IsTag tag = (tag ≡ copy_data_tag) ⊎ (tag ≡ copy_done_tag)
 
--- less than a whole frame, within the rules: nothing, or a letter, and once the header is complete, a payload that isn't whole
+-- less than a whole frame, within the rules: nothing, or a letter, and once the header is complete,
+-- a payload that isn't whole
 pub record IsPartial (max : ℕ) (bytes : List ℕ) : Type 0 where
   pub tag : 1 ≤ length bytes → IsTag (tag_of bytes)
-  pub payload : 5 ≤ length bytes → (tag_of bytes ≡ copy_data_tag) × (length bytes < length_of bytes + 1) × (length_of bytes ≤ max + 4) × (length_of bytes ≤ max_length)
+  pub payload : 5 ≤ length bytes
+      → (tag_of bytes ≡ copy_data_tag) × (length bytes < length_of bytes + 1) × (length_of bytes ≤ max + 4) × (length_of bytes ≤ max_length)
 
 -- the bytes are these frames, and then less than a whole one; nothing after CopyDone
 pub record IsDeframedAs (max : ℕ) (bytes : List ℕ) (fs : List Frame) (rest : List ℕ) : Type 0 where
@@ -76,9 +81,12 @@ BreaksLength tag n = (n < 4) ⊎ (max_length < n) ⊎ ((tag ≡ copy_done_tag) �
 -- what follows the whole frames, of which CopyDone may be one, can't be the front of a frame
 abbrev pub IsFramingFault : ℕ → Bool → List ℕ → WireFault → Type 0
 IsFramingFault max done bytes AfterDone = (done ≡ true) × (1 ≤ length bytes)
-IsFramingFault max done bytes (UnknownFrame byte) = (done ≡ false) × (1 ≤ length bytes) × (byte ≡ tag_of bytes) × (byte ≢ copy_data_tag) × (byte ≢ copy_done_tag)
-IsFramingFault max done bytes BadLength = (done ≡ false) × (5 ≤ length bytes) × IsTag (tag_of bytes) × BreaksLength (tag_of bytes) (length_of bytes)
-IsFramingFault max done bytes TooLarge = (done ≡ false) × (5 ≤ length bytes) × (tag_of bytes ≡ copy_data_tag) × (max + 4 < length_of bytes) × (length_of bytes ≤ max_length)
+IsFramingFault max done bytes (UnknownFrame byte) =
+    (done ≡ false) × (1 ≤ length bytes) × (byte ≡ tag_of bytes) × (byte ≢ copy_data_tag) × (byte ≢ copy_done_tag)
+IsFramingFault max done bytes BadLength =
+    (done ≡ false) × (5 ≤ length bytes) × IsTag (tag_of bytes) × BreaksLength (tag_of bytes) (length_of bytes)
+IsFramingFault max done bytes TooLarge =
+    (done ≡ false) × (5 ≤ length bytes) × (tag_of bytes ≡ copy_data_tag) × (max + 4 < length_of bytes) × (length_of bytes ≤ max_length)
 IsFramingFault max done bytes _ = ⊥
 
 pub record HasFramingFault (max : ℕ) (bytes : List ℕ) (fault : WireFault) : Type 0 where

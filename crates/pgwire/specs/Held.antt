@@ -1,5 +1,6 @@
 -- How a deframer keeps what it holds.
-use Rattle.std.specs.Prelude.{◌≡◌, ◌≢◌, ◌<◌, ◌≤◌, ◌+◌, ◌-◌, ◌++◌, ℕ, List, Bool, true, length, take, Option, Some, min}
+use Rattle.std.specs.Prelude.{◌≡◌, ◌≢◌, ◌<◌, ◌≤◌, ◌+◌, ◌-◌, ◌++◌, ℕ, List, Bool, true, length, take}
+use Rattle.std.specs.Prelude.{Option, Some, min}
 use Rattle.pgwire.specs.declared.fault.WireFault.{WireFault}
 use Rattle.pgwire.specs.declared.fault.WireFault.TheVariants.{Memory}
 use Rattle.pgwire.specs.declared.header.Header.{Header}
@@ -9,8 +10,8 @@ use Rattle.pgwire.specs.Frames.{HasPayloadLen}
 abbrev pub come : Header → List ℕ
 come h = take h.len h.bytes
 
--- After a whole header is as much of the payload as it says or less. Nothing is held after CopyDone, and no whole frame beside
--- a fault.
+-- After a whole header is as much of the payload as it says or less. Nothing is held after
+-- CopyDone, and no whole frame beside a fault.
 pub record IsSound (max : ℕ) (header : Header) (payload : List ℕ) (done : Bool) (fault : Option WireFault) : Type 0 where
   pub payload_len : ℕ
   pub good : HasPayloadLen max (come header) payload_len

@@ -9,9 +9,12 @@ use Rattle.pgwire.specs.Frames.{CopyData, frame}
 abbrev pub status_tag : ℕ
 status_tag = 114
 
--- `r`, the ends of what was written, flushed and applied, the client's clock, and 1 where a reply is wanted, else 0
+-- `r`, the ends of what was written, flushed and applied, the client's clock, and 1 where a reply
+-- is wanted, else 0
 abbrev pub status_payload : Status → List ℕ
-status_payload s = status_tag ∷ (to_be_bytes w64 s.written ++ to_be_bytes w64 s.flushed ++ to_be_bytes w64 s.applied ++ to_be_bytes w64 (cast_unsigned w64 s.clock) ++ flag_byte s.ask ∷ [])
+status_payload s = status_tag
+    ∷ (to_be_bytes w64 s.written ++ to_be_bytes w64 s.flushed ++ to_be_bytes w64 s.applied ++ to_be_bytes w64 (cast_unsigned w64 s.clock)
+    ++ flag_byte s.ask ∷ [])
 
 abbrev pub status_frame : Status → List ℕ
 status_frame s = frame (CopyData (status_payload s))

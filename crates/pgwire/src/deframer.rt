@@ -1,6 +1,8 @@
 //! A stream in any chunks, as frames.
 
-ghost use Rattle.std.specs.Prelude.{◌≡◌, ◌+◌, ◌*◌, ◌^◌, ◌<◌, ◌≤◌, ◌++◌, max, true, is_ok, length, vec_len, vec_capacity, MatchResult, MatchOption, IfErr, OnOk, OnErr, if◌then◌else◌, [], None};
+ghost use Rattle.std.specs.Prelude.{◌≡◌, ◌+◌, ◌*◌, ◌^◌, ◌<◌, ◌≤◌, ◌++◌, max, true, is_ok, length};
+ghost use Rattle.std.specs.Prelude.{vec_len, vec_capacity, MatchResult, MatchOption, IfErr, OnOk};
+ghost use Rattle.std.specs.Prelude.{OnErr, if◌then◌else◌, [], None};
 ghost use Rattle.pgwire.specs.Frames.{IsFramingFault, HasPayloadLen, max_length};
 ghost use Rattle.pgwire.specs.Lent.{frame_value};
 ghost use Rattle.pgwire.specs.Deframed.{fresh, Stands, Waits, IsFed, IsReleased, payload_come};
@@ -31,7 +33,13 @@ impl Model for Deframer {
 
     ghost use Rattle.pgwire.specs.Held.{come, IsSound};
 
-    ghost view = { λ d. record { max = d.max_frame; held = come d.header ++ d.payload.items; done = d.done; fault = d.fault; room = vec_capacity d.payload } };
+    ghost view = { λ d. record {
+      max = d.max_frame;
+      held = come d.header ++ d.payload.items;
+      done = d.done;
+      fault = d.fault;
+      room = vec_capacity d.payload;
+    } };
 
     ghost invariant = { λ d. IsSound d.max_frame d.header d.payload.items d.done d.fault };
 }
@@ -51,13 +59,15 @@ impl Deframer {
         }
     }
 
-    /// Takes bytes from the front of the piece until one frame is complete or the piece is used up, and returns how many. A fault
-    /// of the frames is returned again until `reset`; out of memory changes nothing.
+    /// Takes bytes from the front of the piece until one frame is complete or the piece is used up,
+    /// and returns how many. A fault of the frames is returned again until `reset`; out of memory
+    /// changes nothing.
     pub fn feed(&mut self, piece: &[u8]) -> Result<usize, WireFault>
         ensures fed { IsFed self.old piece.now result self.new }
         ensures bound { length self.new.held ≤ self.new.max + 5 }
 
-        // Memory is asked for only where there is too little room for the bytes of the payload that have come.
+        // Memory is asked for only where there is too little room for the bytes of the payload that
+        // have come.
         ensures full { IfErr result (λ f. f ≡ WireFault.Memory →
             self.old.room < payload_come (self.old.held ++ piece.now)) }
     {
@@ -140,8 +150,8 @@ impl Deframer {
     }
 }
 
-// Makes room for the next bytes of a payload of `payload_len` bytes. It asks for no more than twice the bytes that have come with
-// them, whatever length the header claims.
+// Makes room for the next bytes of a payload of `payload_len` bytes. It asks for no more than twice
+// the bytes that have come with them, whatever length the header claims.
 fn make_room(payload: &mut Vec<u8>, bytes: &[u8], payload_len: usize) -> Result<(), AllocError>
     requires fits { vec_len payload.old + length bytes.now ≤ payload_len }
     requires small { payload_len ≤ max_length }
@@ -174,7 +184,8 @@ fn append(payload: &mut Vec<u8>, bytes: &[u8], payload_len: usize) -> Result<(),
     payload.extend_from_slice(bytes)
 }
 
-// The header with what the piece's front adds to it, and how many bytes of payload follow it, as far as it tells.
+// The header with what the piece's front adds to it, and how many bytes of payload follow it, as
+// far as it tells.
 fn next(
     done: bool,
     header: Header,
@@ -183,7 +194,8 @@ fn next(
 ) -> Result<(Header, usize), WireFault>
     requires { done ≡ true → header.len ≡ 0 }
     ensures { MatchResult result
-        (λ x. IsHeaderWith header piece.now x.0 × HasPayloadLen max_frame (come x.0) x.1 × (done ≡ true → piece.now ≡ []))
+        (λ x. IsHeaderWith header piece.now x.0 × HasPayloadLen max_frame (come x.0) x.1
+        × (done ≡ true → piece.now ≡ []))
         (λ fault. IsFramingFault max_frame done (come header ++ piece.now) fault) }
 {
     if done && !piece.is_empty() {

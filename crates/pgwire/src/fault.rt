@@ -4,7 +4,8 @@ use thiserror::Error;
 
 /// Why bytes aren't frames of a session, or a payload isn't a message of a server.
 ///
-/// PostgreSQL documentation, Message Formats (CopyData, CopyDone) and Streaming Replication Protocol.
+/// PostgreSQL documentation, Message Formats (CopyData, CopyDone) and Streaming Replication
+/// Protocol.
 #[derive(Clone, Copy, Debug, PartialEq, Eq, Error)]
 pub enum WireFault {
     /// The first byte of a frame is neither `d` nor `c`.

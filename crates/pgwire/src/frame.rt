@@ -1,7 +1,8 @@
 //! The frames of a session, and the lengths of their payloads.
 
 ghost use Rattle.std.specs.Prelude.{◌≡◌, ◌+◌, ◌≤◌, ◌<◌, ◌⊎◌, MatchResult};
-ghost use Rattle.pgwire.specs.Frames.{IsTag, BreaksLength, copy_data_tag, copy_done_tag, max_length};
+ghost use Rattle.pgwire.specs.Frames.{IsTag, BreaksLength, copy_data_tag, copy_done_tag};
+ghost use Rattle.pgwire.specs.Frames.{max_length};
 ghost use Rattle.pgwire.specs.declared.fault.WireFault.TheVariants.{BadLength, TooLarge};
 
 use crate::WireFault;
@@ -31,8 +32,11 @@ const MAX_LENGTH: u32 = 2147483647;
 pub fn payload_len(tag: u8, length: u32, max_frame: u32) -> Result<usize, WireFault>
     requires { IsTag tag }
     ensures { MatchResult result
-        (λ n. (n + 4 ≡ length) × (n ≤ max_frame) × (length ≤ max_length) × (tag ≡ copy_done_tag → n ≡ 0))
-        (λ fault. ((fault ≡ BadLength) × BreaksLength tag length) ⊎ ((fault ≡ TooLarge) × (tag ≡ copy_data_tag) × (max_frame + 4 < length) × (length ≤ max_length))) }
+        (λ n. (n + 4 ≡ length) × (n ≤ max_frame) × (length ≤ max_length)
+        × (tag ≡ copy_done_tag → n ≡ 0))
+        (λ fault. ((fault ≡ BadLength) × BreaksLength tag length)
+        ⊎ ((fault ≡ TooLarge) × (tag ≡ copy_data_tag) × (max_frame + 4 < length)
+        × (length ≤ max_length))) }
 {
     if length < 4 || length > MAX_LENGTH || (tag == COPY_DONE_TAG && length != 4) {
         return Err(WireFault::BadLength);

@@ -1,6 +1,7 @@
 //! Frames of a replication session, and the messages that a server sends in them.
 //!
-//! PostgreSQL documentation, Message Formats (CopyData, CopyDone) and Streaming Replication Protocol.
+//! PostgreSQL documentation, Message Formats (CopyData, CopyDone) and Streaming Replication
+//! Protocol.
 //!
 //! ```text
 //! let mut deframer = Deframer::new(alloc, 16777216);

@@ -1,7 +1,8 @@
 //! The payloads of CopyData that a server sends.
 
 ghost use Rattle.std.specs.Prelude.{◌≡◌, MatchResult, IfOk, IfErr, IsOkAnd, IsErrOf, Ok, Err};
-ghost use Rattle.pgwire.specs.Payloads.{ServerMessage, payload, data_at, keepalive_at, IsServerMessage, HasPayloadFault};
+ghost use Rattle.pgwire.specs.Payloads.{ServerMessage, payload, data_at, keepalive_at};
+ghost use Rattle.pgwire.specs.Payloads.{IsServerMessage, HasPayloadFault};
 ghost use Rattle.pgwire.specs.declared.fault.WireFault.{WireFault};
 ghost use Rattle.pgwire.specs.Lent.{message_value, Gives};
 
@@ -18,14 +19,16 @@ const KEEPALIVE_TAG: u8 = b'k';
 /// A message of a server, as a part of its payload.
 #[derive(Clone, Copy, Debug, PartialEq, Eq)]
 pub enum ServerMsg<'a> {
-    /// XLogData: where the data starts, the current end of WAL, the server's clock in microseconds since 2000-01-01, and the data.
+    /// XLogData: where the data starts, the current end of WAL, the server's clock in microseconds
+    /// since 2000-01-01, and the data.
     Data {
         start: Lsn,
         end: Lsn,
         clock: i64,
         body: &'a [u8],
     },
-    /// A primary keepalive: the end of WAL, the server's clock, and whether it asks for a reply as soon as possible.
+    /// A primary keepalive: the end of WAL, the server's clock, and whether it asks for a reply as
+    /// soon as possible.
     Keepalive {
         end: Lsn,
         clock: i64,
@@ -33,7 +36,8 @@ pub enum ServerMsg<'a> {
     },
 }
 
-/// The message that a payload encodes, or the first fault: a keepalive's length is looked at before its reply byte.
+/// The message that a payload encodes, or the first fault: a keepalive's length is looked at before
+/// its reply byte.
 pub fn decode_server(bytes: &[u8]) -> Result<ServerMsg<'_>, WireFault>
     ensures gives { Gives result bytes.now }
     // What is read is encoded so.

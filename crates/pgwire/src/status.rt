@@ -33,7 +33,8 @@ const STATUS_TAG: u8 = b'r';
 // The frame's header, the first byte and the fields.
 const FRAME_LEN: usize = 39;
 
-/// Appends the CopyData frame of a status. Out of memory, which is the only error, leaves the buffer as it was.
+/// Appends the CopyData frame of a status. Out of memory, which is the only error, leaves the
+/// buffer as it was.
 pub fn encode_status(status: &Status, out: &mut BytesMut) -> Result<(), WireFault>
     ensures appended { MatchResult result
         (λ _. out.new.items ≡ out.old.items ++ status_frame status.now)

@@ -222,7 +222,8 @@ fn has_the_same_bytes_after_a_stop_at_any_call(rt: HostRuntime) -> Result<(), Fa
     try_stops(rt.alloc(), GROUPED[3], Some(0x300))
 }
 
-/// The bases and sizes of the segments once a feed of all commits is opened at a position, if it is.
+/// The bases and sizes of the segments once a feed of all commits is opened at a position, if it
+/// is.
 fn opened_at(alloc: Global, position: u64) -> Result<Option<Vec<(u64, usize)>>, Fail> {
     let whole = whole(alloc, SINGLY);
     let folder = MemoryFolder::of(alloc, whole.clone()?, Stop::Never);

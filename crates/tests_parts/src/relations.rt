@@ -246,7 +246,8 @@ fn keyed_tables_and_bags(rt: HostRuntime) -> Result<(), Fail> {
     Ok(())
 }
 
-/// Whether the table t and one with this letter and these columns have one shape, asked from both sides.
+/// Whether the table t and one with this letter and these columns have one shape, asked from both
+/// sides.
 fn has_shape_of_t(alloc: Global, letter: u8, columns: Columns) -> Result<(bool, bool), AllocError> {
     let table = Table {
         oid: 7,
@@ -548,7 +549,8 @@ fn put_or_clear(
     }
 }
 
-/// A table whose definition is put, or none where all are forgotten, and how many columns of t and of f are then known.
+/// A table whose definition is put, or none where all are forgotten, and how many columns of t and
+/// of f are then known.
 static BOOK: [(Option<Table>, Option<usize>, Option<usize>); 5] = [
     (Some(T), Some(2), None),
     (Some(F), Some(2), Some(1)),

@@ -243,7 +243,8 @@ static ROLLED_BACK: [Row; 12] = [
     (Step::Push(20, 20, W_2RS), 169, 4),
 ];
 
-// The transaction 20 with the subtransactions 21 and 22, which are both rolled back before two more items come.
+// The transaction 20 with the subtransactions 21 and 22, which are both rolled back before two more
+// items come.
 #[test]
 fn bytes_follow_pushes_cuts_and_drops(rt: HostRuntime) -> Result<(), Fail> {
     both_hold(
@@ -323,7 +324,8 @@ static APART: [Row; 10] = [
     (Step::Cut(4294967295, 0), 38, 2),
 ];
 
-// Xids and OIDs up to the largest; the limit is over all transactions, and no transaction touches another one's items.
+// Xids and OIDs up to the largest; the limit is over all transactions, and no transaction touches
+// another one's items.
 #[test]
 fn each_transaction_has_its_own_items(rt: HostRuntime) -> Result<(), Fail> {
     let left: &[Sample] = &[

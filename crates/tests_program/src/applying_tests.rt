@@ -1,4 +1,5 @@
-//! Files whose bytes are fed as they are, and recordings from which a server would be asked to go on.
+//! Files whose bytes are fed as they are, and recordings from which a server would be asked to go
+//! on.
 
 use crate::runs::{Answer, File, check, recording};
 use std::io::ErrorKind;

@@ -1,9 +1,10 @@
 //! Recordings, with what `apply` prints of them.
 //!
-//! A message is in hexadecimal, its fields apart; the frame of an XLogData message is put around it. Digits after `=` are the bytes of
-//! a session as they are.
+//! A message is in hexadecimal, its fields apart; the frame of an XLogData message is put around
+//! it. Digits after `=` are the bytes of a session as they are.
 
-/// What `apply` prints of the sessions of a recording. Its status is 0 where there is no fault, and else 1.
+/// What `apply` prints of the sessions of a recording. Its status is 0 where there is no fault, and
+/// else 1.
 pub(crate) struct Row {
     pub(crate) shows: &'static str,
     pub(crate) lines: &'static [&'static str],

@@ -1,4 +1,5 @@
-//! Pairs of recordings, and what their comparison prints. The line of a frame is an XLogData message with the message that is named.
+//! Pairs of recordings, and what their comparison prints. The line of a frame is an XLogData
+//! message with the message that is named.
 
 use crate::runs::{Answer, File, check, recording};
 use std::io::ErrorKind;

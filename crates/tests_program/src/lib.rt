@@ -1,7 +1,8 @@
 //! Tests of the program's commands and of its command line, and no code.
 //!
-//! A row is a recording, the bytes of a session or a command line. It is run over readers and writers in memory, and what it prints, what it
-//! tells on standard error and its exit status are compared whole.
+//! A row is a recording, the bytes of a session or a command line. It is run over readers and
+//! writers in memory, and what it prints, what it tells on standard error and its exit status are
+//! compared whole.
 #![tactic(auto)]
 
 #[cfg(test)]

@@ -14,7 +14,8 @@ use std::test::Fail;
 
 const APPLY: &str = "pgsub apply --proto 1 in.pgx";
 
-/// Appends hexadecimal digits without the blanks between them, a chunk of a byte a line or all in one chunk.
+/// Appends hexadecimal digits without the blanks between them, a chunk of a byte a line or all in
+/// one chunk.
 fn push_digits(text: &mut String, hex: &str, in_bytes: bool) -> Result<(), AllocError> {
     let mut is_second = false;
     for digit in hex.chars() {
@@ -30,7 +31,8 @@ fn push_digits(text: &mut String, hex: &str, in_bytes: bool) -> Result<(), Alloc
     Ok(())
 }
 
-/// Appends the line of a message, in an XLogData payload of a CopyData frame, or of the bytes that are given.
+/// Appends the line of a message, in an XLogData payload of a CopyData frame, or of the bytes that
+/// are given.
 fn push_line(alloc: Global, text: &mut String, line: &str, in_bytes: bool) -> Result<(), Fail> {
     if line == DISCONNECTION {
         text.push_str("\n--\n")?;
@@ -150,7 +152,8 @@ impl Write for Closing {
     }
 }
 
-/// Runs a command line whose standard output takes so many bytes, with a standard error that takes all, and with one that takes seven.
+/// Runs a command line whose standard output takes so many bytes, with a standard error that takes
+/// all, and with one that takes seven.
 fn check_room(
     rt: &(impl Abort + AllocGlobal),
     line: &str,

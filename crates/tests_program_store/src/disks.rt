@@ -58,7 +58,8 @@ fn run_over<S: Alter + Drop>(
     }
 }
 
-/// Makes a run over the store on these disks, which are given back. All of the recording is read before the store is opened.
+/// Makes a run over the store on these disks, which are given back. All of the recording is read
+/// before the store is opened.
 pub(crate) fn run_on(
     alloc: Global,
     disks: Files<Memory>,

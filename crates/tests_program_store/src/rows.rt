@@ -135,7 +135,8 @@ pub(crate) static LOST_IN_A_STREAM: &[Run] = &[
     },
 ];
 
-/// The connection is lost between the blocks of two transactions, which the next run gets in blocks again.
+/// The connection is lost between the blocks of two transactions, which the next run gets in blocks
+/// again.
 pub(crate) static LOST_BETWEEN_BLOCKS: &[Run] = &[
     Run {
         recording: Some(&[

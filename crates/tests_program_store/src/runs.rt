@@ -71,7 +71,8 @@ pub(crate) fn check_run<C: ReplicaStore + Drop>(
     Ok(store)
 }
 
-/// Prints what a store holds row by row, where the run is one that applies nothing, and compares it with what that prints.
+/// Prints what a store holds row by row, where the run is one that applies nothing, and compares it
+/// with what that prints.
 pub(crate) fn check_dump<C: ReplicaStore + Drop>(
     alloc: Global,
     store: C,

@@ -1,4 +1,5 @@
-//! Messages that a PostgreSQL server sent: each is decoded, and its encoding has the bytes that were sent.
+//! Messages that a PostgreSQL server sent: each is decoded, and its encoding has the bytes that
+//! were sent.
 
 use pglogical::{Message, decode, decode_ref, encode};
 use std::alloc::Global;

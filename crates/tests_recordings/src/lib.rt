@@ -1,5 +1,5 @@
-//! Tests of what reads recordings, and no code: which sessions a recording has (`pgcapture`), the lines that show them (`pgshow`), and
-//! the encoding of messages that a server sent (`pglogical`).
+//! Tests of what reads recordings, and no code: which sessions a recording has (`pgcapture`), the
+//! lines that show them (`pgshow`), and the encoding of messages that a server sent (`pglogical`).
 #![tactic(auto)]
 
 #[cfg(test)]

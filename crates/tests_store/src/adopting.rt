@@ -64,7 +64,8 @@ impl Trial for GoesOn {
 
 /// What no store writes, over a store with the row 1 a in t and x in the bag f.
 const WRONG: &[&str] = &[
-    // Definitions: a letter of no replica identity, names with a zero byte, columns that can't be decoded.
+    // Definitions: a letter of no replica identity, names with a zero byte, columns that can't be
+    // decoded.
     "UPDATE rel SET letter = 120 WHERE oid = 16386",
     "UPDATE rel SET letter = 356 WHERE oid = 16386",
     "UPDATE rel SET name = CAST(x'6600' AS TEXT) WHERE oid = 16386",
@@ -76,7 +77,8 @@ const WRONG: &[&str] = &[
     // Another identity, under a key and in a bag.
     "UPDATE held SET ident = x'0001740000000132' WHERE oid = 16384",
     "UPDATE held SET ident = x'0001740000000179' WHERE oid = 16386",
-    // A byte after the row, a cell too many, a cell that wasn't sent, and a body that can't be decoded.
+    // A byte after the row, a cell too many, a cell that wasn't sent, and a body that can't be
+    // decoded.
     "UPDATE held SET body = x'000274000000013174000000016100' WHERE oid = 16384",
     "UPDATE held SET body = x'00037400000001317400000001616E' WHERE oid = 16384",
     "UPDATE held SET body = x'000274000000013175' WHERE oid = 16384",

@@ -1,4 +1,5 @@
-//! The rows of a store as lines: the OID, namespace and name of the relation, the cells, the copies.
+//! The rows of a store as lines: the OID, namespace and name of the relation, the cells, the
+//! copies.
 
 use crate::stores::Kept;
 use pgapply::{DumpRow, StoreFault};

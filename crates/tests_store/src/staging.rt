@@ -27,7 +27,8 @@ use Change::{Delete, Insert, Truncate, Update, UpdateFrom};
 /// A call, what it returns, and then the position and how far the staged commits reach.
 type Step = (Call, Result<(), StoreFault>, (u64, u64));
 
-/// The calls of a new store, and the rows that it holds then. What is staged still is lost when the store is closed.
+/// The calls of a new store, and the rows that it holds then. What is staged still is lost when the
+/// store is closed.
 type StagedCase = (&'static [Step], &'static str);
 
 const T_1_B: &'static str = "16384 public.t 1 b x1\n";
@@ -264,7 +265,8 @@ fn make<R: Abort + AllocGlobal, C: Kept>(
     Ok(())
 }
 
-/// The store as it is closed and adopted: what was staged is lost, and no change has missed its row since.
+/// The store as it is closed and adopted: what was staged is lost, and no change has missed its row
+/// since.
 fn expect_reopened<R: Abort + AllocGlobal, C: Kept>(
     rt: &R,
     store: C,

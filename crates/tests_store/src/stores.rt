@@ -1,7 +1,7 @@
 //! New stores, over which a trial is run.
 //!
-//! Only this file names their types. A trial knows them by traits without clauses, so what it owes where it owns a store or lets one
-//! go is proved here once, and not in each trial.
+//! Only this file names their types. A trial knows them by traits without clauses, so what it owes
+//! where it owns a store or lets one go is proved here once, and not in each trial.
 
 use pgapply::{Commit, DumpRow, Misses, StoreFault, Work};
 use pglsn::Lsn;

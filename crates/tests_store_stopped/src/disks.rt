@@ -80,7 +80,8 @@ fn options() -> Options {
     }
 }
 
-/// Runs a trial over a store of any kind: the proof that one over given disks is a store gets too large.
+/// Runs a trial over a store of any kind: the proof that one over given disks is a store gets too
+/// large.
 fn run_over<S: Alter + Drop>(
     alloc: Global,
     store: Store<S>,
@@ -89,7 +90,8 @@ fn run_over<S: Alter + Drop>(
     trial.run(alloc, store)
 }
 
-/// Adopts a connection and runs a trial over the store. Gives the store back, or the connection where its adoption met the stop.
+/// Adopts a connection and runs a trial over the store. Gives the store back, or the connection
+/// where its adoption met the stop.
 fn run_adopted<S: Alter + Drop>(
     alloc: Global,
     conn: Connection<S>,
@@ -102,8 +104,8 @@ fn run_adopted<S: Alter + Drop>(
     }
 }
 
-/// Opens a connection on two disks, where that meets no stop, and runs a trial over its store. Gives the disks back as a crash finds
-/// them.
+/// Opens a connection on two disks, where that meets no stop, and runs a trial over its store.
+/// Gives the disks back as a crash finds them.
 fn run_on<D: Disk + Drop>(
     alloc: Global,
     files: Files<D>,
@@ -121,7 +123,8 @@ fn run_on<D: Disk + Drop>(
     }
 }
 
-/// Opens a store on what was left, and tries this over it where no disk stopped at the opening. Returns what is left then.
+/// Opens a store on what was left, and tries this over it where no disk stopped at the opening.
+/// Returns what is left then.
 pub(crate) fn try_over(
     alloc: Global,
     left: &Left,

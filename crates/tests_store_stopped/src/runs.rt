@@ -11,7 +11,8 @@ use pgtuple::Cell;
 use std::alloc::Global;
 use std::test::Fail;
 
-/// What is tried over an opened store, which is given back. It is proved once, for any `ReplicaStore`.
+/// What is tried over an opened store, which is given back. It is proved once, for any
+/// `ReplicaStore`.
 pub(crate) trait Trial {
     fn run<C: ReplicaStore + Drop>(&mut self, alloc: Global, store: C) -> Result<C, Fail>;
 }
@@ -102,7 +103,8 @@ impl Trial for Stops<'_> {
     }
 }
 
-/// A run on what a stop left: it is one of the states, and the session leads on to the last of them.
+/// A run on what a stop left: it is one of the states, and the session leads on to the last of
+/// them.
 #[derive(Drop)]
 pub(crate) struct GoesOn<'t> {
     pub(crate) bytes: &'t [u8],

@@ -8,7 +8,8 @@ use pgtuple::{CellRef, Seq, Text, Tuple};
 use std::alloc::{AllocError, Global};
 use std::test::Fail;
 
-/// The groups, each by the end LSNs of its commits. The rows of the last don't fit into the pages that stay in memory.
+/// The groups, each by the end LSNs of its commits. The rows of the last don't fit into the pages
+/// that stay in memory.
 pub(crate) const GROUPS: &[&[u64]] = &[&[101, 102], &[103], &[104, 105, 106]];
 
 /// The position after the last group.

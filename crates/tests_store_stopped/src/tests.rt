@@ -72,8 +72,9 @@ fn next_of(position: u64) -> u64 {
     position
 }
 
-/// Puts the groups on two new disks that stop after so many calls. Returns the position at which what is left is, and whether a stop was
-/// met. All groups that were settled are left, and of the others at most the next one, whole.
+/// Puts the groups on two new disks that stop after so many calls. Returns the position at which
+/// what is left is, and whether a stop was met. All groups that were settled are left, and of the
+/// others at most the next one, whole.
 fn put_on_stopping(alloc: Global, calls: Calls) -> Result<(u64, bool), Fail> {
     let mut run = Puts { position: 0 };
     let left = try_over(alloc, &nothing(alloc), calls, &mut run)?;
@@ -88,8 +89,9 @@ fn put_on_stopping(alloc: Global, calls: Calls) -> Result<(u64, bool), Fail> {
     Ok((position, left.has_stopped))
 }
 
-/// Stops a disk after so many calls while groups are staged and settled, for each number until a run meets no stop. A later stop leaves as
-/// much or one group more, so each group is left by some run.
+/// Stops a disk after so many calls while groups are staged and settled, for each number until a
+/// run meets no stop. A later stop leaves as much or one group more, so each group is left by some
+/// run.
 fn sweep_groups(alloc: Global, is_log: bool) -> Result<(), Fail> {
     let mut last = 0;
     for number in 0..NEVER {

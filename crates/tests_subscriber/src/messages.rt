@@ -1,13 +1,17 @@
-//! The words of which sessions are made, with their messages in hexadecimal, blanks between the fields.
+//! The words of which sessions are made, with their messages in hexadecimal, blanks between the
+//! fields.
 //!
 //! PostgreSQL documentation, Logical Replication Message Formats.
 //!
-//! - `begin:200/10` is Begin with the final LSN 0/200 and the xid 10, `commit:101/130` Commit with the LSN 0/101 and the end 0/130. Where
-//!   one number is left out, it is the usual one.
-//! - `start:10` opens the first block of a transaction and `again:10` a later one; `scommit:10` and `abort:10/12` end it or a part of it.
-//! - `rel`, `ins`, `upd` and `del` are of the table t with the cells that follow; a letter between colons is another table, `?` a cell that
-//!   wasn't sent. A number before them is the xid that they carry inside a block.
-//! - `keep:180` is a keepalive that ends at 0/180, with `?` one that asks for a reply; `done` is CopyDone.
+//! - `begin:200/10` is Begin with the final LSN 0/200 and the xid 10, `commit:101/130` Commit with
+//!   the LSN 0/101 and the end 0/130. Where one number is left out, it is the usual one.
+//! - `start:10` opens the first block of a transaction and `again:10` a later one; `scommit:10` and
+//!   `abort:10/12` end it or a part of it.
+//! - `rel`, `ins`, `upd` and `del` are of the table t with the cells that follow; a letter between
+//!   colons is another table, `?` a cell that wasn't sent. A number before them is the xid that
+//!   they carry inside a block.
+//! - `keep:180` is a keepalive that ends at 0/180, with `?` one that asks for a reply; `done` is
+//!   CopyDone.
 //!
 //! Digits after `=` are bytes of a session as they are. All others are in XLogData from 0/0 to 0/0.
 
@@ -338,7 +342,8 @@ pub(crate) static BLOCK_ITEMS: &[(&str, &str)] = &[
     ),
 ];
 
-/// Whole frames and parts of some. `t1` is the transaction at 0/100 that describes t and inserts a row.
+/// Whole frames and parts of some. `t1` is the transaction at 0/100 that describes t and inserts a
+/// row.
 pub(crate) static FRAMES: &[(&str, &str)] = &[
     ("done", "=63 00000004"),
     ("short", "=64 00000003"),

@@ -24,7 +24,8 @@ enum Compared {
 
 use Compared::{Left, Positions, Right, Rows, Same};
 
-/// Of two subscribers: what is shown, the sessions of both sides, what comparing gives, and the position of the right side then.
+/// Of two subscribers: what is shown, the sessions of both sides, what comparing gives, and the
+/// position of the right side then.
 type Pair = (
     &'static str,
     &'static [&'static str],
@@ -107,7 +108,8 @@ fn is_wanted(compared: Result<Verdict, ConvergeFault>, wanted: Compared) -> bool
     }
 }
 
-/// Whether two subscribers, to which the sessions come in chunks of several lengths, compare as is wanted.
+/// Whether two subscribers, to which the sessions come in chunks of several lengths, compare as is
+/// wanted.
 fn compare<P: Spools + Drop, C: ReplicaStore + Drop, Q: Spools + Drop, D: ReplicaStore + Drop>(
     alloc: Global,
     left: &mut Subscriber<P, C>,

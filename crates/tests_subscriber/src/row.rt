@@ -20,7 +20,8 @@ pub(crate) enum Step {
     Replies(&'static str),
     /// Position, confirmed and received.
     At(u64, u64, u64),
-    /// How many changes found no row, and of the first one where its commit ends and the relation; both 0 where there was none.
+    /// How many changes found no row, and of the first one where its commit ends and the relation;
+    /// both 0 where there was none.
     Misses(u64, u64, u32),
     /// All rows that are stored.
     Rows(&'static [Stored]),

@@ -1,4 +1,5 @@
-//! States of a subscriber within a session: what is confirmed, what is replied, and what a fault or a disconnection leaves.
+//! States of a subscriber within a session: what is confirmed, what is replied, and what a fault or
+//! a disconnection leaves.
 
 use crate::row::Step::{At, ClearReplies, Disconnect, Feed, Replies, Rows, Status};
 use crate::row::{AMPLE, Row, T_1_A, T_2_B};

@@ -59,7 +59,8 @@ pub(crate) fn unhex(alloc: Global, digits: &str) -> Result<Vec<u8>, BadSession> 
     Ok(bytes)
 }
 
-/// Appends the CopyData frame of a message, in XLogData from 0/0 to 0/0; of digits after `=` their bytes alone.
+/// Appends the CopyData frame of a message, in XLogData from 0/0 to 0/0; of digits after `=` their
+/// bytes alone.
 fn append_message(alloc: Global, bytes: &mut Vec<u8>, message: &str) -> Result<(), BadSession> {
     if let Some(digits) = message.strip_prefix('=') {
         bytes.extend_from_slice(unhex(alloc, digits)?.as_slice())?;
@@ -123,7 +124,8 @@ pub(crate) fn sessions_of(
     Ok(all)
 }
 
-// The calls below promise nothing of what they return: who calls them is proved without the subscriber's contracts.
+// The calls below promise nothing of what they return: who calls them is proved without the
+// subscriber's contracts.
 
 /// A new subscriber over a store.
 pub(crate) fn over<P: Spools + Drop, C: ReplicaStore + Drop>(

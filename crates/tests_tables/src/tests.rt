@@ -1,4 +1,5 @@
-//! The tables as others make them. What each statement does is proved, and `tests_store` runs them all.
+//! The tables as others make them. What each statement does is proved, and `tests_store` runs them
+//! all.
 
 ghost use Rattle.std.specs.Prelude.{◌≡◌, false};
 ghost use Rattle.sqlite.specs.Held.{state};
@@ -42,7 +43,8 @@ const SCHEMAS: &[Made] = &[
         "CREATE TABLE held (oid INTEGER NOT NULL, ident BLOB NOT NULL, body BLOB NOT NULL, copies INTEGER NOT NULL, PRIMARY KEY (oid, ident)) STRICT; CREATE TABLE pos (id INTEGER PRIMARY KEY NOT NULL CHECK (id = 0), lsn BLOB NOT NULL) STRICT; CREATE TABLE more (id INTEGER PRIMARY KEY)",
         false,
     ),
-    // A column that may be null, one of another type, a wider identity, no STRICT, and another test of the position.
+    // A column that may be null, one of another type, a wider identity, no STRICT, and another test
+    // of the position.
     (
         "CREATE TABLE held (oid INTEGER NOT NULL, ident BLOB NOT NULL, body BLOB, copies INTEGER NOT NULL, PRIMARY KEY (oid, ident)) STRICT; CREATE TABLE pos (id INTEGER PRIMARY KEY NOT NULL CHECK (id = 0), lsn BLOB NOT NULL) STRICT",
         false,

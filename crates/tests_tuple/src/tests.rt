@@ -18,7 +18,8 @@ const BINARY: &[u8] = &[0, 1, b'b', 0, 0, 0, 2, 255, 0];
 /// Encoded tuples and how many cells they have.
 const VECTORS: [(&[u8], usize); 5] = [(EMPTY, 0), (ROW, 2), (KEY, 2), (KEPT, 2), (BINARY, 1)];
 
-/// Bytes that don't begin with a tuple, and the first field that can't be read. Lengths and widths beyond the bytes are among them.
+/// Bytes that don't begin with a tuple, and the first field that can't be read. Lengths and widths
+/// beyond the bytes are among them.
 const FAULTS: [(&[u8], TupleFault); 16] = [
     (&[], TupleFault::Short(0)),
     (&[0], TupleFault::Short(0)),
@@ -102,7 +103,8 @@ fn is_same_tuple(
     Ok(())
 }
 
-/// The bytes are a tuple of so many cells, whichever decoder reads them, and are written again whichever way it is borrowed.
+/// The bytes are a tuple of so many cells, whichever decoder reads them, and are written again
+/// whichever way it is borrowed.
 fn goes_both_ways(rt: &impl Abort, alloc: Global, bytes: &[u8], width: usize) -> Result<(), Fail> {
     let (borrowed, len) = decode_ref(bytes)?;
     assert!(rt; len == bytes.len());
@@ -217,7 +219,8 @@ fn is_cell_copied(alloc: Global, borrowed: &CellRef<'_>, cell: &Cell) -> Result<
     Ok(copy == *cell && clone == *cell)
 }
 
-/// The tuple is written as the row, after other bytes. Where memory runs out that is the error, and the buffer stays.
+/// The tuple is written as the row, after other bytes. Where memory runs out that is the error, and
+/// the buffer stays.
 fn is_written(rt: &impl Abort, alloc: Global, tuple: &Tuple) -> Result<(), TupleFault> {
     let mut out = b"before".to_vec(alloc)?;
     if let Err(fault) = encode(&tuple.borrowed(), &mut out) {

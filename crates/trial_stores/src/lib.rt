@@ -1,6 +1,7 @@
 //! New SQL stores, over which tests of several crates run their trials.
 //!
-//! Only these functions name the stores' types: what dropping a store does is proved here once, and a trial once, over any store.
+//! Only these functions name the stores' types: what dropping a store does is proved here once, and
+//! a trial once, over any store.
 #![tactic(auto)]
 
 use pgapply::{ReplicaStore, StoreFault};
@@ -23,7 +24,8 @@ pub trait PairTrial<R> {
     fn run<C: ReplicaStore + Drop>(&self, rt: &R, left: C, right: C) -> Self::Outcome;
 }
 
-/// Runs a trial over a store of any kind, since the proof that one over given disks is a store gets too large.
+/// Runs a trial over a store of any kind, since the proof that one over given disks is a store gets
+/// too large.
 fn over<R, S: Alter + Drop, T: Trial<R>>(rt: &R, trial: &T, store: Store<S>) -> T::Outcome {
     trial.run(rt, store)
 }

@@ -9,5 +9,6 @@ use Rattle.pgcapture.proofs.is_hexadecimal.Goals as goal
 
 pub returns-then-line-eq0 : goal.returns-then-line-eq0
 returns-then-line-eq0 c =
-    let all = all_from_yields_List is_ascii_hexdigit _ _ c.all.result c.all.ensures.ran (YieldsList-from_slice c.args.line.now cc) (λ x b q k. search (rules, tests)) in
+    let all = all_from_yields_List is_ascii_hexdigit _ _ c.all.result c.all.ensures.ran (YieldsList-from_slice c.args.line.now cc)
+    (λ x b q k. search (rules, tests)) in
     subst (λ (b : Bool). IsTrue b ↔ IsOk (decode_of c.args.line.now)) (sym all) (decodes-even c.args.line.now c.if-line-eq0.true)

@@ -1,6 +1,8 @@
 -- What calls of a disk leave of a file.
-use Rattle.std.proofs.Common.{◌≡◌, ◌<◌, ◌≤◌, ◌+◌, ℕ, List, ◌++◌, length, get_or, take, drop, refl, ap, sym, ◌∙◌, arith, length-append}
-use Rattle.std.proofs.lemmas.List.{ext_get_or, take-append-drop, length-take-le, length-drop, get_or-take, get_or-drop}
+use Rattle.std.proofs.Common.{◌≡◌, ◌<◌, ◌≤◌, ◌+◌, ℕ, List, ◌++◌, length, get_or, take, drop, refl}
+use Rattle.std.proofs.Common.{ap, sym, ◌∙◌, arith, length-append}
+use Rattle.std.proofs.lemmas.List.{ext_get_or, take-append-drop, length-take-le, length-drop}
+use Rattle.std.proofs.lemmas.List.{get_or-take, get_or-drop}
 use Rattle.sqlite_disk.specs.Disk.{Cut, Holds, Torn}
 use Rattle.pgfeed.specs.Segments.{Begins}
 use Rattle.pgfeed.specs.Cutting.Walking.{take_front}
@@ -19,13 +21,15 @@ holds_at file at bytes holds =
     let n : ℕ = length bytes in
     let long = length-drop at file in
     let size : length (take n (drop at file)) ≡ n = length-take-le n (drop at file) (omega (arith, holds.within)) in
-    ext_get_or 0 (take n (drop at file)) bytes size (λ i lt. let less : i < n = omega arith in get_or-take n (drop at file) i 0 less ∙ get_or-drop at file i 0 ∙ holds.each i less)
+    ext_get_or 0 (take n (drop at file)) bytes size
+    (λ i lt. let less : i < n = omega arith in get_or-take n (drop at file) i 0 less ∙ get_or-drop at file i 0 ∙ holds.each i less)
 
 -- what the file has behind this offset begins with these bytes
 pub holds_behind : (file : List ℕ) (at : ℕ) (bytes : List ℕ) → Holds file at bytes → drop at file ≡ bytes ++ drop (at + length bytes) file
 holds_behind file at bytes holds =
     let n : ℕ = length bytes in
-    sym (take-append-drop n (drop at file)) ∙ ap (λ xs. xs ++ drop n (drop at file)) (holds_at file at bytes holds) ∙ ap (λ xs. bytes ++ xs) (drop_drop at n file)
+    sym (take-append-drop n (drop at file)) ∙ ap (λ xs. xs ++ drop n (drop at file)) (holds_at file at bytes holds)
+    ∙ ap (λ xs. bytes ++ xs) (drop_drop at n file)
 
 -- a write leaves what is before it
 pub torn_before : (k at n : ℕ) (old new : List ℕ) → Torn at n old new → k ≤ at → k ≤ length old → take k new ≡ take k old

@@ -1,5 +1,6 @@
 -- A line of a commit begins in one way.
-use Rattle.std.proofs.Common.{◌≡◌, ◌≢◌, ◌<◌, ◌^◌, ℕ, List, [], ◌∷◌, ◌++◌, refl, ap, sym, ◌∙◌, ◌≤◌, drop, subst, arith, append_assoc}
+use Rattle.std.proofs.Common.{◌≡◌, ◌≢◌, ◌<◌, ◌^◌, ℕ, List, [], ◌∷◌, ◌++◌, refl, ap, sym, ◌∙◌, ◌≤◌}
+use Rattle.std.proofs.Common.{drop, subst, arith, append_assoc}
 use Rattle.std.specs.List.{AllByRecursion}
 use Rattle.std.specs.Prelude.{codes, decimal}
 use Rattle.std.specs.Char.{digit_value}
@@ -47,26 +48,33 @@ decimal_lacks : (n : ℕ) → n < 2 ^ 64 → Lacks 44 (decimal n)
 decimal_lacks n small = digits_lack 10 44 (decimal n) (omega arith) (decimal_is_IsNumeral n small).0.1
 
 lsn_injective : (m n : ℕ) → m < 2 ^ 64 → n < 2 ^ 64 → lsn_text m ≡ lsn_text n → m ≡ n
-lsn_injective m n small few e = one_reading (lsn_text m) m n (text_reads m small) (subst (λ text. ReadsAs text n) (sym e) (text_reads n few))
+lsn_injective m n small few e =
+    one_reading (lsn_text m) m n (text_reads m small) (subst (λ text. ReadsAs text n) (sym e) (text_reads n few))
 
 -- behind the end, and behind the number of bytes
 behind_end : ℕ → ℕ → List ℕ → List ℕ
 behind_end prev bytes more = codes ",\"prev\":\"" ++ (lsn_text prev ++ (codes "\",\"bytes\":" ++ (decimal bytes ++ 44 ∷ more)))
 
-front_splits : (end prev bytes : ℕ) (more : List ℕ) → commit_front end prev bytes ++ more ≡ codes "{\"end\":\"" ++ (lsn_text end ++ 34 ∷ behind_end prev bytes more)
+front_splits : (end prev bytes : ℕ) (more : List ℕ)
+    → commit_front end prev bytes ++ more ≡ codes "{\"end\":\"" ++ (lsn_text end ++ 34 ∷ behind_end prev bytes more)
 unfolding behind_end
 front_splits end prev bytes more = simp append_assoc
 
-pub one_front : (end other prev bytes others : ℕ) (more rest : List ℕ) → end < 2 ^ 64 → other < 2 ^ 64 → prev < 2 ^ 64 → bytes < 2 ^ 64 → others < 2 ^ 64
+pub one_front : (end other prev bytes others : ℕ) (more rest : List ℕ) → end < 2 ^ 64 → other < 2 ^ 64 → prev < 2 ^ 64 → bytes < 2 ^ 64
+    → others < 2 ^ 64
     → commit_front end prev bytes ++ more ≡ commit_front other prev others ++ rest → (end ≡ other) × (bytes ≡ others)
 unfolding behind_end
 one_front end other prev bytes others more rest end_fits other_fits prev_fits bytes_fit others_fit same =
-    let whole : codes "{\"end\":\"" ++ (lsn_text end ++ 34 ∷ behind_end prev bytes more) ≡ codes "{\"end\":\"" ++ (lsn_text other ++ 34 ∷ behind_end prev others rest) =
+    let whole : codes "{\"end\":\"" ++ (lsn_text end ++ 34 ∷ behind_end prev bytes more) ≡ codes "{\"end\":\""
+    ++ (lsn_text other ++ 34 ∷ behind_end prev others rest) =
     sym (front_splits end prev bytes more) ∙ same ∙ front_splits other prev others rest in
     let opened : lsn_text end ++ 34 ∷ behind_end prev bytes more ≡ lsn_text other ++ 34 ∷ behind_end prev others rest = ap (drop 8) whole in
-    let ends = first_stop 34 (lsn_text end) (lsn_text other) (behind_end prev bytes more) (behind_end prev others rest) (lsn_lacks end end_fits) (lsn_lacks other other_fits) opened in
-    let prevs : lsn_text prev ++ (codes "\",\"bytes\":" ++ (decimal bytes ++ 44 ∷ more)) ≡ lsn_text prev ++ (codes "\",\"bytes\":" ++ (decimal others ++ 44 ∷ rest)) = ap (drop 9) ends.1 in
+    let ends = first_stop 34 (lsn_text end) (lsn_text other) (behind_end prev bytes more) (behind_end prev others rest)
+    (lsn_lacks end end_fits) (lsn_lacks other other_fits) opened in
+    let prevs : lsn_text prev ++ (codes "\",\"bytes\":" ++ (decimal bytes ++ 44 ∷ more)) ≡ lsn_text prev
+    ++ (codes "\",\"bytes\":" ++ (decimal others ++ 44 ∷ rest)) = ap (drop 9) ends.1 in
     let mid = first_stop 34 (lsn_text prev) (lsn_text prev) _ _ (lsn_lacks prev prev_fits) (lsn_lacks prev prev_fits) prevs in
     let numbers : decimal bytes ++ 44 ∷ more ≡ decimal others ++ 44 ∷ rest = ap (drop 9) mid.1 in
-    let lens = first_stop 44 (decimal bytes) (decimal others) more rest (decimal_lacks bytes bytes_fit) (decimal_lacks others others_fit) numbers in
+    let lens = first_stop 44 (decimal bytes) (decimal others) more rest (decimal_lacks bytes bytes_fit) (decimal_lacks others others_fit)
+    numbers in
     (lsn_injective end other end_fits other_fits ends.0, decimal_injective bytes others bytes_fit others_fit lens.0)

@@ -1,10 +1,13 @@
 -- The lines of commits lead over entries, and in one way.
-use Rattle.std.proofs.Common.{◌≡◌, ◌<◌, ◌≤◌, ◌+◌, ◌-◌, ◌^◌, ℕ, List, [], ◌∷◌, ◌++◌, length, map, take, drop, replicate, refl, ap, sym, ◌∙◌, subst, arith, append_assoc, length-append}
+use Rattle.std.proofs.Common.{◌≡◌, ◌<◌, ◌≤◌, ◌+◌, ◌-◌, ◌^◌, ℕ, List, [], ◌∷◌, ◌++◌, length, map}
+use Rattle.std.proofs.Common.{take, drop, replicate, refl, ap, sym, ◌∙◌, subst, arith, append_assoc}
+use Rattle.std.proofs.Common.{length-append}
 use Rattle.std.proofs.Common.{Option}
 use Rattle.std.proofs.Math.Seq.{take-append_seam, drop-append_seam}
 use Rattle.pgapply.specs.declared.commit.About.{About}
 use Rattle.pgledger.specs.Entries.{Entry, last_end}
-use Rattle.pgfeed.specs.Texts.{commit_front, commit_line, commit_object, commit_rest, entries_text, entry_body, entry_text}
+use Rattle.pgfeed.specs.Texts.{commit_front, commit_line, commit_object, commit_rest, entries_text}
+use Rattle.pgfeed.specs.Texts.{entry_body, entry_text}
 use Rattle.pgfeed.specs.Fits.{FitsLine}
 use Rattle.pgfeed.specs.declared.mark.Mark.{Mark}
 use Rattle.pgfeed.specs.Reading.{BeginsWith, LinesLeadOver, TextIsReadInOneWay, Walks, mark_of}
@@ -14,7 +17,8 @@ use Rattle.pgfeed.specs.Cutting.Widths.{line_length}
 -- a walk goes up
 pub walks_up : (at place size : ℕ) (marks : List Mark) (text : List ℕ) → Walks at marks text place size → at ≤ place
 walks_up at place size [] text walk = omega (arith, walk.0)
-walks_up at place size (mark ∷ marks) text walk = let more = walks_up mark.end place walk.1.0 marks (drop (256 + mark.bytes) text) walk.1.2 in omega (arith, walk.0.above)
+walks_up at place size (mark ∷ marks) text walk = let more =
+    walks_up mark.end place walk.1.0 marks (drop (256 + mark.bytes) text) walk.1.2 in omega (arith, walk.0.above)
 
 same_mark : (a b : Mark) → a.end ≡ b.end → a.bytes ≡ b.bytes → a ≡ b
 same_mark a b ends long = rw (ends, long) refl
@@ -22,7 +26,8 @@ same_mark a b ends long = rw (ends, long) refl
 -- two first lines are one
 one_line : (at : ℕ) (mark other : Mark) (text : List ℕ) → at < 2 ^ 64 → BeginsWith at mark text → BeginsWith at other text → mark ≡ other
 one_line at mark other text small a b =
-    let same = one_front mark.end other.end at mark.bytes other.bytes a.more b.more a.end_fits b.end_fits small a.bytes_fit b.bytes_fit (sym a.line ∙ b.line) in
+    let same = one_front mark.end other.end at mark.bytes other.bytes a.more b.more a.end_fits b.end_fits small a.bytes_fit b.bytes_fit
+    (sym a.line ∙ b.line) in
     same_mark mark other same.0 same.1
 
 pub one_walk : TextIsReadInOneWay
@@ -33,16 +38,21 @@ one_walk at place size other (mark ∷ marks) [] text small a b =
     let up = walks_up mark.end place a.1.0 marks (drop (256 + mark.bytes) text) a.1.2 in absurd (omega (arith, b.0, a.0.above))
 one_walk at place size other (mark ∷ marks) (second ∷ others) text small a b =
     let same : mark ≡ second = one_line at mark second text small a.0 b.0 in
-    let there : Walks mark.end others (drop (256 + mark.bytes) text) place b.1.0 = subst (λ (m : Mark). Walks m.end others (drop (256 + m.bytes) text) place b.1.0) (sym same) b.1.2 in
-    let rest = one_walk mark.end place a.1.0 b.1.0 marks others (drop (256 + mark.bytes) text) a.0.end_fits a.1.2 there in
-    (ap (λ m. m ∷ marks) same ∙ ap (λ ms. second ∷ ms) rest.0, a.1.1 ∙ ap (λ k. 256 + mark.bytes + k) rest.1 ∙ ap (λ (m : Mark). 256 + m.bytes + b.1.0) same ∙ sym b.1.1)
+    let there : Walks mark.end others (drop (256 + mark.bytes) text) place b.1.0 =
+    subst (λ (m : Mark). Walks m.end others (drop (256 + m.bytes) text) place b.1.0) (sym same) b.1.2 in
+    let rest = one_walk mark.end place a.1.0 b.1.0 marks others (drop (256 + mark.bytes) text) a.0.end_fits a.1.2 there in (
+      ap (λ m. m ∷ marks) same ∙ ap (λ ms. second ∷ ms) rest.0,
+      a.1.1 ∙ ap (λ k. 256 + mark.bytes + k) rest.1 ∙ ap (λ (m : Mark). 256 + m.bytes + b.1.0) same ∙ sym b.1.1,
+    )
 
 -- an entry is its line, and then so many bytes
-entry_splits : (at : ℕ) (e : Entry) → entry_text at e ≡ commit_line e.end at (length (entry_body e)) (length e.lines) e.about ++ entry_body e
+entry_splits : (at : ℕ) (e : Entry)
+    → entry_text at e ≡ commit_line e.end at (length (entry_body e)) (length e.lines) e.about ++ entry_body e
 unfolding entry_text
 entry_splits at e = refl
 
-pub entry_length : (at : ℕ) (e : Entry) → FitsLine e.end at (length (entry_body e)) (length e.lines) e.about → length (entry_text at e) ≡ 256 + length (entry_body e)
+pub entry_length : (at : ℕ) (e : Entry) → FitsLine e.end at (length (entry_body e)) (length e.lines) e.about
+    → length (entry_text at e) ≡ 256 + length (entry_body e)
 entry_length at e fits =
     ap length (entry_splits at e) ∙ length-append (commit_line e.end at (length (entry_body e)) (length e.lines) e.about) (entry_body e)
     ∙ ap (λ k. k + length (entry_body e)) (line_length e.end at (length (entry_body e)) (length e.lines) e.about fits)
@@ -63,17 +73,20 @@ unfolding entries_text
 no_entry at = refl
 
 -- the line of a commit is its front, and more
-line_more : (end prev bytes changes : ℕ) (about : Option About) → (more : List ℕ) × (commit_line end prev bytes changes about ≡ commit_front end prev bytes ++ more)
+line_more : (end prev bytes changes : ℕ) (about : Option About)
+    → (more : List ℕ) × (commit_line end prev bytes changes about ≡ commit_front end prev bytes ++ more)
 line_more end prev bytes changes about =
     let blanks : List ℕ = replicate (256 - 1 - length (commit_object end prev bytes changes about)) 32 ++ 10 ∷ [] in
     (commit_rest changes about ++ blanks, append_assoc (commit_front end prev bytes) (commit_rest changes about) blanks)
 
 -- a text that begins with an entry begins with its line
-begins : (at : ℕ) (e : Entry) (rest : List ℕ) → at < e.end → FitsLine e.end at (length (entry_body e)) (length e.lines) e.about → BeginsWith at (mark_of e) (entry_text at e ++ rest)
+begins : (at : ℕ) (e : Entry) (rest : List ℕ) → at < e.end → FitsLine e.end at (length (entry_body e)) (length e.lines) e.about
+    → BeginsWith at (mark_of e) (entry_text at e ++ rest)
 begins at e rest above fits =
     let line : List ℕ = commit_line e.end at (length (entry_body e)) (length e.lines) e.about in
     let long = line_length e.end at (length (entry_body e)) (length e.lines) e.about fits in
-    let whole : entry_text at e ++ rest ≡ line ++ (entry_body e ++ rest) = ap (λ text. text ++ rest) (entry_splits at e) ∙ append_assoc line (entry_body e) rest in
+    let whole : entry_text at e ++ rest ≡ line ++ (entry_body e ++ rest) =
+    ap (λ text. text ++ rest) (entry_splits at e) ∙ append_assoc line (entry_body e) rest in
     let parts = line_more e.end at (length (entry_body e)) (length e.lines) e.about in
     let size = entry_length at e fits in
     record {
@@ -92,12 +105,15 @@ over_entries at (e ∷ es) rest are =
     let text : entries_text at (e ∷ es) ++ rest ≡ entry_text at e ++ (entries_text e.end es ++ rest) =
     ap (λ text. text ++ rest) (next_entry at e es) ∙ append_assoc (entry_text at e) (entries_text e.end es) rest in
     let next : drop (256 + length (entry_body e)) (entries_text at (e ∷ es) ++ rest) ≡ entries_text e.end es ++ rest =
-    ap (drop (256 + length (entry_body e))) text ∙ drop_front (256 + length (entry_body e)) (entry_text at e) (entries_text e.end es ++ rest) size in
-    let more : Walks e.end (map mark_of es) (entries_text e.end es ++ rest) (last_end e.end es) (length (entries_text e.end es)) = over_entries e.end es rest are.2 in (
+    ap (drop (256 + length (entry_body e))) text
+    ∙ drop_front (256 + length (entry_body e)) (entry_text at e) (entries_text e.end es ++ rest) size in
+    let more : Walks e.end (map mark_of es) (entries_text e.end es ++ rest) (last_end e.end es) (length (entries_text e.end es)) =
+    over_entries e.end es rest are.2 in (
       subst (BeginsWith at (mark_of e)) (sym text) (begins at e (entries_text e.end es ++ rest) are.0 are.1),
       (
         length (entries_text e.end es),
-        ap length (next_entry at e es) ∙ length-append (entry_text at e) (entries_text e.end es) ∙ ap (λ k. k + length (entries_text e.end es)) size,
+        ap length (next_entry at e es) ∙ length-append (entry_text at e) (entries_text e.end es)
+            ∙ ap (λ k. k + length (entries_text e.end es)) size,
         subst (λ text. Walks e.end (map mark_of es) text (last_end e.end es) (length (entries_text e.end es))) (sym next) more,
       ),
     )

@@ -1,5 +1,6 @@
 -- How long the line of a commit is at most.
-use Rattle.std.proofs.Common.{◌≡◌, ◌<◌, ◌≤◌, ◌+◌, ◌-◌, ◌^◌, ℕ, ℤ, pos, negsuc, ◌+ℤ◌, List, ◌∷◌, length, Option, Some, None, refl, ap, arith, length-append}
+use Rattle.std.proofs.Common.{◌≡◌, ◌<◌, ◌≤◌, ◌+◌, ◌-◌, ◌^◌, ℕ, ℤ, pos, negsuc, ◌+ℤ◌, List, ◌∷◌}
+use Rattle.std.proofs.Common.{length, Option, Some, None, refl, ap, arith, length-append}
 use Rattle.std.specs.Prelude.{IfSome, decimal, FitsSigned, replicate}
 use Rattle.std.specs.Int.{w64}
 use Rattle.std.specs.Fmt.{signed_decimal}
@@ -9,7 +10,8 @@ use Rattle.std.proofs.lemmas.List.{length-replicate}
 use Rattle.pglsn.specs.Texts.{lsn_text}
 use Rattle.pglsn.proofs.Printed.{text_reads}
 use Rattle.pgapply.specs.declared.commit.About.{About}
-use Rattle.pgfeed.specs.Texts.{about_text, closing_object, commit_front, commit_line, commit_object, commit_rest, padded, unix_micros}
+use Rattle.pgfeed.specs.Texts.{about_text, closing_object, commit_front, commit_line, commit_object}
+use Rattle.pgfeed.specs.Texts.{commit_rest, padded, unix_micros}
 use Rattle.pgfeed.specs.Fits.{FitsAbout, FitsLine}
 
 pub lsn_length : (n : ℕ) → n < 2 ^ 64 → length (lsn_text n) ≤ 17
@@ -35,7 +37,8 @@ untold_length = omega arith
 told_length : (about : About) → FitsAbout about → length (about_text (Some about)) ≤ 73
 told_length about fits =
     let lsn = lsn_length about.final_lsn fits.final_lsn in
-    let xid : length (decimal about.xid) ≤ 10 = length-decimal-le 10 about.xid (omega arith) (let small = fits.xid in omega arith) (let small = fits.xid in omega arith) in
+    let xid : length (decimal about.xid) ≤ 10 =
+    length-decimal-le 10 about.xid (omega arith) (let small = fits.xid in omega arith) (let small = fits.xid in omega arith) in
     let micros = micros_length about.time fits.time in
     omega (arith, length-append {A = ℕ})
 
@@ -44,7 +47,8 @@ about_length None fits = omega (arith, untold_length)
 about_length (Some about) fits = told_length about fits
 
 -- the greatest values leave room
-pub object_length : (end prev bytes changes : ℕ) (about : Option About) → FitsLine end prev bytes changes about → length (commit_object end prev bytes changes about) < 256
+pub object_length : (end prev bytes changes : ℕ) (about : Option About) → FitsLine end prev bytes changes about
+    → length (commit_object end prev bytes changes about) < 256
 object_length end prev bytes changes about fits =
     let ends = lsn_length end fits.end_fits in
     let starts = lsn_length prev fits.prev_fits in
@@ -57,11 +61,14 @@ object_length end prev bytes changes about fits =
 
 pub padded_length : (size : ℕ) (text : List ℕ) → length text < size → length (padded size text) ≡ size
 padded_length size text fits =
-    let blanks : length (replicate {A = ℕ} (size - 1 - length text) 32) ≡ size - 1 - length text = length-replicate (size - 1 - length text) 32 in
+    let blanks : length (replicate {A = ℕ} (size - 1 - length text) 32) ≡ size - 1 - length text =
+    length-replicate (size - 1 - length text) 32 in
     omega (arith, length-append {A = ℕ})
 
-pub line_length : (end prev bytes changes : ℕ) (about : Option About) → FitsLine end prev bytes changes about → length (commit_line end prev bytes changes about) ≡ 256
-line_length end prev bytes changes about fits = padded_length 256 (commit_object end prev bytes changes about) (object_length end prev bytes changes about fits)
+pub line_length : (end prev bytes changes : ℕ) (about : Option About) → FitsLine end prev bytes changes about
+    → length (commit_line end prev bytes changes about) ≡ 256
+line_length end prev bytes changes about fits =
+    padded_length 256 (commit_object end prev bytes changes about) (object_length end prev bytes changes about fits)
 
 -- the line that ends a segment
 pub closing_length : (last : ℕ) → last < 2 ^ 64 → length (closing_object last) < 256

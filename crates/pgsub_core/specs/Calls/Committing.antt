@@ -6,12 +6,15 @@ use Rattle.pglogical.specs.declared.message.Message.TheVariants as message
 use Rattle.pgapply.specs.declared.commit.About.{About}
 use Rattle.pgapply.specs.Value.{Tables}
 use Rattle.pgsub_core.specs.declared.fault.Fault.{Fault}
-use Rattle.pgsub_core.specs.Machine.Replica.{Replica, RelationCache, Halt, Running, Stopped, GoesOrStops, IsOfStore, on_commit}
+use Rattle.pgsub_core.specs.Machine.Replica.{Replica, RelationCache, Halt, Running, Stopped}
+use Rattle.pgsub_core.specs.Machine.Replica.{GoesOrStops, IsOfStore, on_commit}
 use Rattle.pgsub_core.specs.Machine.Taking.{fault_of}
-use Rattle.pgsub_core.specs.Subscriber.Causes.{Cause, OutOfMemory, StatementRefused, HeaderTooLarge, ForeignBytes, NextMessage, NeverAnswered, cause}
+use Rattle.pgsub_core.specs.Subscriber.Causes.{Cause, OutOfMemory, StatementRefused, HeaderTooLarge}
+use Rattle.pgsub_core.specs.Subscriber.Causes.{ForeignBytes, NextMessage, NeverAnswered, cause}
 
 abbrev pub replica_with : Tables → ℕ → ℕ → RelationCache → Replica
-replica_with tables position confirmed relations = record { tables = tables; position = position; confirmed = confirmed; relations = relations }
+replica_with tables position confirmed relations =
+    record { tables = tables; position = position; confirmed = confirmed; relations = relations }
 
 -- What the message of a commit tells of its transaction.
 -- PostgreSQL documentation, Logical Replication Message Formats, Commit and Stream Commit.
@@ -34,9 +37,13 @@ module _ {C : Type 0} (holds : C → Tables → Type 0) (place : C → ℕ) wher
   abbrev pub Commits : ℕ → List Item → C → ℕ → RelationCache → C → ℕ → RelationCache → Type 0
   Commits end items old confirmed relations new confirmed' relations' =
       (tables : Tables) → holds old tables
-      → (tables' : Tables) × holds new tables' × (on_commit (replica_with tables (place old) confirmed relations) end items ≡ Running (replica_with tables' (place new) confirmed' relations'))
+      → (tables' : Tables) × holds new tables'
+      × (on_commit (replica_with tables (place old) confirmed relations) end items
+      ≡ Running (replica_with tables' (place new) confirmed' relations'))
 
   -- it isn't, and the store holds what it held
-  pub record RefusesCommit (end : ℕ) (items : List Item) (old : C) (confirmed : ℕ) (relations : RelationCache) (new : C) (f : Fault) : Type 0 where
+  pub record RefusesCommit (end : ℕ) (items : List Item) (old : C) (confirmed : ℕ) (relations : RelationCache) (new : C)
+      (f : Fault) : Type 0 where
     pub stays : (tables : Tables) → holds old tables → holds new tables
-    pub why : (tables : Tables) → holds old tables → StopsAtCommit (replica_with tables (place old) confirmed relations) end items f (cause f)
+    pub why : (tables : Tables) → holds old tables
+        → StopsAtCommit (replica_with tables (place old) confirmed relations) end items f (cause f)

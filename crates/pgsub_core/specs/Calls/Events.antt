@@ -12,7 +12,8 @@ use Rattle.pgsub_core.specs.Server.Stream.{Kind, Holds, kind as kind_of}
 use Rattle.pgsub_core.specs.Machine.Replica.{Halt, Running, Stopped, GoesOrStops, IsOfStore}
 use Rattle.pgsub_core.specs.Machine.ApplyState.{ApplyState, on_event}
 use Rattle.pgsub_core.specs.Machine.Taking.{fault_of}
-use Rattle.pgsub_core.specs.Subscriber.Causes.{Cause, OutOfMemory, StatementRefused, HeaderTooLarge, ForeignBytes, NextMessage, NeverAnswered, cause}
+use Rattle.pgsub_core.specs.Subscriber.Causes.{Cause, OutOfMemory, StatementRefused, HeaderTooLarge}
+use Rattle.pgsub_core.specs.Subscriber.Causes.{ForeignBytes, NextMessage, NeverAnswered, cause}
 use Rattle.pgsub_core.specs.Calls.Committing.{replica_with}
 use Rattle.pgsub_core.specs.Subscriber.Applied.{Applied}
 
@@ -69,7 +70,8 @@ module _ {C : Type 0} (holds : C → Tables → Type 0) (place : C → ℕ) (m :
   abbrev pub EventGoes : Applied C → Applied C → Type 0
   EventGoes old new =
       (tables : Tables) → holds old.store tables
-      → (tables' : Tables) × holds new.store tables' × (on_event (state_with place old tables) m old.order e ≡ Running (state_with place new tables'))
+      → (tables' : Tables) × holds new.store tables'
+      × (on_event (state_with place old tables) m old.order e ≡ Running (state_with place new tables'))
 
   -- it isn't, and the store holds what it held
   pub record EventStops (old new : Applied C) (f : Fault) : Type 0 where

@@ -1,5 +1,7 @@
--- PostgreSQL documentation, Streaming Replication Protocol: what is read of a session's bytes, and fed to a subscriber.
-use Rattle.std.specs.Prelude.{◌≡◌, ◌<◌, ◌≤◌, ◌+◌, ◌-◌, ◌^◌, ◌⊎◌, ℕ, ℤ, List, [], ◌∷◌, Option, length}
+-- PostgreSQL documentation, Streaming Replication Protocol: what is read of a session's bytes, and
+-- fed to a subscriber.
+use Rattle.std.specs.Prelude.{◌≡◌, ◌<◌, ◌≤◌, ◌+◌, ◌-◌, ◌^◌, ◌⊎◌, ℕ, ℤ, List, [], ◌∷◌, Option}
+use Rattle.std.specs.Prelude.{length}
 use Rattle.std.specs.List.{All, flat_map}
 use Rattle.std.specs.Io.KnownBytes.{Consumes, IsAtEnd}
 use Rattle.pgapply.specs.declared.misses.Misses.{Misses}
@@ -12,7 +14,8 @@ use Rattle.pgsub_core.specs.Machine.Counted.{FeedsCounted, FeedsCountedFront}
 abbrev pub bytes_in : List (List ℕ) → List ℕ
 bytes_in pieces = flat_map (λ (piece : List ℕ). piece) pieces
 
--- Each read gave one of these pieces, in order: 1 to 4096 bytes. The reader lost these bytes and no others.
+-- Each read gave one of these pieces, in order: 1 to 4096 bytes. The reader lost these bytes and no
+-- others.
 pub record AreRead (unread rest : Option (List ℕ)) (pieces : List (List ℕ)) : Type 0 where
   pub each : All (λ (piece : List ℕ). (0 < length piece) × (length piece ≤ 4096)) pieces
   pub read : Consumes unread rest (bytes_in pieces)
@@ -54,7 +57,8 @@ module _ {C : Type 0} (holds : C → Tables → Type 0) (place : C → ℕ) (cou
     pub fed : FeedsPieces holds place now old pieces new
     pub counts : CountsPieces old pieces new
 
-  -- Pieces were read, feeding them stopped with this fault, and a front of them was counted, with which the position is reached.
+  -- Pieces were read, feeding them stopped with this fault, and a front of them was counted, with
+  -- which the position is reached.
   pub record PumpsCountedUntil (unread rest : Option (List ℕ)) (old new : SubscriberValue C) (f : Fault) : Type 0 where
     pub pieces : List (List ℕ)
     pub are_read : AreRead unread rest pieces

@@ -1,5 +1,5 @@
--- What stands while the commits of a piece are staged in a store: what it holds, what a crash leaves, and what goes back where they
--- can't be settled.
+-- What stands while the commits of a piece are staged in a store: what it holds, what a crash
+-- leaves, and what goes back where they can't be settled.
 use Rattle.std.specs.Prelude.{◌≡◌, ◌<◌, ◌≤◌, ◌⊎◌, ◌++◌, ℕ, List, length, take}
 use Rattle.pgapply.specs.declared.fault.StoreFault.TheVariants as store
 use Rattle.pgapply.specs.Value.{Tables}
@@ -24,7 +24,8 @@ pub record IsMark {C : Type 0} (a : Applied C) (confirmed received replies : ℕ
 
 -- they go back to a mark, and nothing else but the store changes
 abbrev pub GoesBack : {C : Type 0} → ℕ → ℕ → ℕ → Applied C → Applied C → Type 0
-GoesBack confirmed received replies old new = new ≡ record old { store = new.store; confirmed = confirmed; received = received; replies = take replies old.replies }
+GoesBack confirmed received replies old new =
+    new ≡ record old { store = new.store; confirmed = confirmed; received = received; replies = take replies old.replies }
 
 module _ {C : Type 0} (holds : C → Tables → Type 0) (place : C → ℕ) where
   module _ (reopens : C → C → Type 0) (serves is_honest : C → Type 0) where
@@ -35,8 +36,8 @@ module _ {C : Type 0} (holds : C → Tables → Type 0) (place : C → ℕ) wher
       pub crash : is_honest new → (other : C) → reopens new other → reopens old other
 
     module _ (stages : C → Tables → Type 0) (reach : C → ℕ) where
-      -- Where nothing was staged, this stood at the mark; from there on the piece may stop for want of memory, and where something is
-      -- staged, as a commit that the store refuses.
+      -- Where nothing was staged, this stood at the mark; from there on the piece may stop for want
+      -- of memory, and where something is staged, as a commit that the store refuses.
       pub record IsMarked (stops : Applied C → Fault → Type 0) (start : C) (confirmed received replies : ℕ) (a : Applied C) : Type 0 where
         pub at : Applied C
         pub confirmed_is : confirmed ≡ at.confirmed
@@ -61,6 +62,8 @@ module _ {C : Type 0} (holds : C → Tables → Type 0) (place : C → ℕ) wher
         ((reach a.store ≡ place a.store) × Settles holds stages a.store a.store × IsMark a confirmed' received' replies')
         ⊎ ((place a.store < reach a.store) × (confirmed' ≡ confirmed) × (received' ≡ received) × (replies' ≡ replies))
 
-    -- As one that stopped somewhere (see StandsAs), with what it stages; where nothing is staged, it holds that.
+    -- As one that stopped somewhere (see StandsAs), with what it stages; where nothing is staged,
+    -- it holds that.
     abbrev pub StandsStaged : (Applied C → Type 0) → Applied C → Type 0
-    StandsStaged took new = (a : Applied C) × IsKept reach a new × took a × (reach new.store ≡ place new.store → (reach a.store ≡ place a.store) × Settles holds stages a.store a.store)
+    StandsStaged took new = (a : Applied C) × IsKept reach a new × took a
+        × (reach new.store ≡ place new.store → (reach a.store ≡ place a.store) × Settles holds stages a.store a.store)

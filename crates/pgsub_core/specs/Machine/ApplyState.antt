@@ -1,5 +1,6 @@
--- PostgreSQL documentation, Logical Streaming Replication Protocol: what a subscriber does with one message after the other,
--- by the order of messages, what it holds of open transactions, and its replica.
+-- PostgreSQL documentation, Logical Streaming Replication Protocol: what a subscriber does with one
+-- message after the other, by the order of messages, what it holds of open transactions, and its
+-- replica.
 use Rattle.std.specs.Prelude.{ℕ, List, [], ◌∷◌, ◌++◌, Result, Ok, Err}
 use Rattle.std.specs.FinMap as map
 use Rattle.pglogical.specs.declared.message.Message.{Message}
@@ -11,7 +12,8 @@ use Rattle.pgorder.specs.Steps.{OrderState, initial_order, order_step}
 pub use Rattle.pgorder.specs.States.{is_outside}
 use Rattle.pgspool.specs.Labels.{HeldMap, cut, items_of, held_of}
 use Rattle.pgsub_core.specs.Server.Stream.{Sent, Data, Keepalive, Kind, Holds, kind}
-use Rattle.pgsub_core.specs.Machine.Replica.{Replica, Halt, OutOfOrder, Outcome, Running, Stopped, then_run, on_commit, on_keepalive}
+use Rattle.pgsub_core.specs.Machine.Replica.{Replica, Halt, OutOfOrder, Outcome, Running, Stopped}
+use Rattle.pgsub_core.specs.Machine.Replica.{then_run, on_commit, on_keepalive}
 
 pub record ApplyState : Type 0 where
   pub order : OrderState
@@ -37,10 +39,12 @@ on_event old m order (event.Hold xid subxid) = Running (record old { order = ord
 on_event old m order (event.Open xid) = Running (record old { order = order; held = map.insert old.held xid [] })
 on_event old m order (event.Reopen xid) = Running (record old { order = order })
 on_event old m order event.Close = Running (record old { order = order })
-on_event old m order (event.Cut xid subxid) = Running (record old { order = order; held = map.insert old.held xid (cut subxid (held_of old.held xid)) })
+on_event old m order (event.Cut xid subxid) =
+    Running (record old { order = order; held = map.insert old.held xid (cut subxid (held_of old.held xid)) })
 on_event old m order (event.Drop xid) = Running (record old { order = order; held = map.remove old.held xid })
 on_event old m order (event.CommitPair xid lsn end) = committed old order xid (on_commit old.replica end (items_of (held_of old.held xid)))
-on_event old m order (event.CommitStream xid lsn end) = committed old order xid (on_commit old.replica end (items_of (held_of old.held xid)))
+on_event old m order (event.CommitStream xid lsn end) =
+    committed old order xid (on_commit old.replica end (items_of (held_of old.held xid)))
 
 abbrev pub on_message : ApplyState → Message → Result (OrderState × Event) OrderFault → ApplyResult
 on_message old m (Ok step) = on_event old m step.0 step.1
@@ -67,4 +71,5 @@ at_session replica = record { order = initial_order; held = map.empty; replica =
 -- one session after the other, each behind a disconnection
 abbrev pub follow_all : Version → Replica → List (List Sent) → Outcome Replica Halt
 follow_all v replica [] = Running replica
-follow_all v replica (complete ∷ all_complete) = then_run (replica_outcome (run v (at_session replica) complete)) (λ new. follow_all v new all_complete)
+follow_all v replica (complete ∷ all_complete) =
+    then_run (replica_outcome (run v (at_session replica) complete)) (λ new. follow_all v new all_complete)

@@ -31,7 +31,9 @@ abbrev kept_code : Coded Kept
 kept_code = coded× tables_code (coded× coded_ℕ (coded× coded_ℕ (coded× version.the_row.coded (coded× coded_ℕ coded_ℕ))))
 
 abbrev forgotten_code : Coded Forgotten
-forgotten_code = coded× coded_ℕ (coded× coded_bool (coded× order_state_code (coded× held_code (coded× relations_code (coded× (coded_list coded_ℕ) (coded× coded_bool (coded_list coded_ℕ)))))))
+forgotten_code = coded× coded_ℕ
+    (coded× coded_bool (coded× order_state_code
+    (coded× held_code (coded× relations_code (coded× (coded_list coded_ℕ) (coded× coded_bool (coded_list coded_ℕ)))))))
 
 abbrev kept_of : Subscribed → Kept
 kept_of s = (s.tables, (s.position, (s.confirmed, (s.version, (s.max_frame, s.limit)))))

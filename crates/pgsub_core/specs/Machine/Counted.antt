@@ -1,6 +1,8 @@
--- How many changes find no row, by the frames that are taken: those of each commit that isn't a repeat.
--- PostgreSQL documentation, Logical Replication, Conflicts, update_missing and delete_missing.
-use Rattle.std.specs.Prelude.{◌≡◌, ◌⊎◌, ℕ, ℤ, List, [], ◌∷◌, ◌++◌, Bool, Result, Ok, Err, nat_lt, if◌then◌else◌}
+-- How many changes find no row, by the frames that are taken: those of each commit that isn't a
+-- repeat. PostgreSQL documentation, Logical Replication, Conflicts, update_missing and
+-- delete_missing.
+use Rattle.std.specs.Prelude.{◌≡◌, ◌⊎◌, ℕ, ℤ, List, [], ◌∷◌, ◌++◌, Bool, Result, Ok, Err, nat_lt}
+use Rattle.std.specs.Prelude.{if◌then◌else◌}
 use Rattle.std.specs.FinMap as map
 use Rattle.pglogical.specs.Reading.{message_at}
 use Rattle.pglogical.specs.declared.fault.DecodeFault.{DecodeFault}
@@ -37,7 +39,8 @@ changes_counted tables end (Err oid) m = m
 
 -- a commit whose end passes the position
 abbrev pub commit_counted : Replica → ℕ → List Item → Misses → Misses
-commit_counted old end items m = if nat_lt old.position end then changes_counted old.tables end (described_from (λ oid. map.get old.relations oid) items) m else m
+commit_counted old end items m = if nat_lt old.position end
+    then changes_counted old.tables end (described_from (λ oid. map.get old.relations oid) items) m else m
 
 abbrev pub event_counted : Replica → HeldMap → Event → Misses → Misses
 event_counted replica held (event.CommitPair xid lsn end) m = commit_counted replica end (items_of (held_of held xid)) m
@@ -71,10 +74,11 @@ counted_behind (Stopped s fault) more m = m
 -- frames in order, each over what the ones before it leave
 abbrev pub frames_counted : ℤ → Subscribed → List wire.Frame → Misses → Misses
 frames_counted now s [] m = m
-frames_counted now s (f ∷ fs) m = counted_behind (take_frame now s f) (λ next. frames_counted now next fs (frame_counted s f m)) (frame_counted s f m)
+frames_counted now s (f ∷ fs) m =
+    counted_behind (take_frame now s f) (λ next. frames_counted now next fs (frame_counted s f m)) (frame_counted s f m)
 
--- All frames of a piece that stand whole are counted, with which the position is reached; how the bytes are deframed is said as in
--- IsFedWhole.
+-- All frames of a piece that stand whole are counted, with which the position is reached; how the
+-- bytes are deframed is said as in IsFedWhole.
 pub record IsCountedWhole (now : ℤ) (old : Subscribed) (piece : List ℕ) (position : ℕ) (before behind : Misses) : Type 0 where
   pub fs : List wire.Frame
   pub rest : List ℕ
@@ -99,78 +103,97 @@ pub record IsCountedFront (now : ℤ) (old : Subscribed) (piece : List ℕ) (pos
 abbrev pub AreCountedWhole : ℤ → Subscribed → List (List ℕ) → Subscribed → Misses → Misses → Type 0
 AreCountedWhole now old [] new before behind = (new ≡ old) × (behind ≡ before)
 AreCountedWhole now old (bytes ∷ sessions) new before behind =
-    (mid : Subscribed) × (between : Misses) × IsFedWhole now (disconnect old) bytes mid × IsCountedWhole now (disconnect old) bytes mid.position before between × AreCountedWhole now mid sessions new between behind
+    (mid : Subscribed) × (between : Misses) × IsFedWhole now (disconnect old) bytes mid
+    × IsCountedWhole now (disconnect old) bytes mid.position before between × AreCountedWhole now mid sessions new between behind
 
 -- The same of whole sessions and a front of the next, with which the position is reached.
 abbrev pub AreCountedFront : ℤ → Subscribed → List (List ℕ) → ℕ → Misses → Misses → Type 0
 AreCountedFront now old [] position before behind = (position ≡ old.position) × (behind ≡ before)
 AreCountedFront now old (bytes ∷ sessions) position before behind =
     IsCountedFront now (disconnect old) bytes position before behind
-    ⊎ ((mid : Subscribed) × (between : Misses) × IsFedWhole now (disconnect old) bytes mid × IsCountedWhole now (disconnect old) bytes mid.position before between × AreCountedFront now mid sessions position between behind)
+    ⊎ ((mid : Subscribed) × (between : Misses) × IsFedWhole now (disconnect old) bytes mid
+    × IsCountedWhole now (disconnect old) bytes mid.position before between × AreCountedFront now mid sessions position between behind)
 
 -- What is counted of a piece is determined by its bytes.
 abbrev pub PieceHasOneCount : Type 0
 PieceHasOneCount =
-    (now : ℤ) (old : Subscribed) (piece : List ℕ) (p q : ℕ) (before a b : Misses) → IsCountedWhole now old piece p before a → IsCountedWhole now old piece q before b → (a ≡ b) × (p ≡ q)
+    (now : ℤ) (old : Subscribed) (piece : List ℕ) (p q : ℕ) (before a b : Misses) → IsCountedWhole now old piece p before a
+    → IsCountedWhole now old piece q before b → (a ≡ b) × (p ≡ q)
 
 -- Counting a piece and then another is counting both as one.
 abbrev pub CountedPiecesAreOne : Type 0
 CountedPiecesAreOne =
-    (now : ℤ) (old mid : Subscribed) (piece next : List ℕ) (p q : ℕ) (before between behind : Misses) → IsFedWhole now old piece mid → IsCountedWhole now old piece p before between → IsCountedWhole now mid next q between behind
+    (now : ℤ) (old mid : Subscribed) (piece next : List ℕ) (p q : ℕ) (before between behind : Misses) → IsFedWhole now old piece mid
+    → IsCountedWhole now old piece p before between → IsCountedWhole now mid next q between behind
     → IsCountedWhole now old (piece ++ next) q before behind
 
 module _ {C : Type 0} (holds : C → Tables → Type 0) (place : C → ℕ) (count : C → Misses) where
   -- whatever tables the store held, the commit is counted over them,
   abbrev pub CountsCommit : ℕ → List Item → C → ℕ → RelationCache → C → Type 0
-  CountsCommit end items old confirmed relations new = (tables : Tables) → holds old tables → count new ≡ commit_counted (replica_with tables (place old) confirmed relations) end items (count old)
+  CountsCommit end items old confirmed relations new = (tables : Tables) → holds old tables
+      → count new ≡ commit_counted (replica_with tables (place old) confirmed relations) end items (count old)
 
   -- or the event,
   abbrev pub CountsEvent : Event → Applied C → Applied C → Type 0
-  CountsEvent e old new = (tables : Tables) → holds old.store tables → count new.store ≡ event_counted (replica_with tables (place old.store) old.confirmed old.relations) old.held e (count old.store)
+  CountsEvent e old new = (tables : Tables) → holds old.store tables
+      → count new.store ≡ event_counted (replica_with tables (place old.store) old.confirmed old.relations) old.held e (count old.store)
 
   -- or a message or frames
   abbrev pub CountsBy : (Subscribed → Misses → Misses) → Applied C → Applied C → Type 0
-  CountsBy by old new = (framing : Framing) (tables : Tables) → holds old.store tables → count new.store ≡ by (subscribed place framing old tables) (count old.store)
+  CountsBy by old new = (framing : Framing) (tables : Tables) → holds old.store tables
+      → count new.store ≡ by (subscribed place framing old tables) (count old.store)
 
   module _ (now : ℤ) where
     -- so many bytes of the piece were taken, and the frames in them counted
-    pub record IsCountedTo (serves : C → Type 0) (d₀ : Deframed) (a₀ : Applied C) (piece : List ℕ) (d : Deframed) (a : Applied C) (taken : ℕ) : Type 0 where
+    pub record IsCountedTo (serves : C → Type 0) (d₀ : Deframed) (a₀ : Applied C) (piece : List ℕ) (d : Deframed) (a : Applied C)
+        (taken : ℕ) : Type 0 where
       pub to : IsTakenTo holds place now serves d₀ a₀ piece d a taken
       pub counts : serves a.store → CountsBy (λ s. frames_counted now s to.fs) a₀ a
 
     -- all of a piece was fed, and the frames in it counted
     abbrev pub FeedCounts : Deframed → Applied C → List ℕ → C → Type 0
-    FeedCounts d₀ a₀ piece new = (closed : Bool) (tables : Tables) → holds a₀.store tables → IsCountedWhole now (subscribed place (framing_of d₀ closed) a₀ tables) piece (place new) (count a₀.store) (count new)
+    FeedCounts d₀ a₀ piece new = (closed : Bool) (tables : Tables) → holds a₀.store tables
+        → IsCountedWhole now (subscribed place (framing_of d₀ closed) a₀ tables) piece (place new) (count a₀.store) (count new)
 
     -- or what was fed of it
     abbrev pub FeedCountsFront : Deframed → Applied C → List ℕ → C → Type 0
-    FeedCountsFront d₀ a₀ piece new = (closed : Bool) (tables : Tables) → holds a₀.store tables → IsCountedFront now (subscribed place (framing_of d₀ closed) a₀ tables) piece (place new) (count a₀.store) (count new)
+    FeedCountsFront d₀ a₀ piece new = (closed : Bool) (tables : Tables) → holds a₀.store tables
+        → IsCountedFront now (subscribed place (framing_of d₀ closed) a₀ tables) piece (place new) (count a₀.store) (count new)
 
     abbrev pub FeedsCounted : SubscriberValue C → List ℕ → SubscriberValue C → Type 0
     FeedsCounted old piece new =
-        (tables : Tables) → holds old.applied.store tables → IsCountedWhole now (seen place old tables) piece (place new.applied.store) (count old.applied.store) (count new.applied.store)
+        (tables : Tables) → holds old.applied.store tables
+        → IsCountedWhole now (seen place old tables) piece (place new.applied.store) (count old.applied.store) (count new.applied.store)
 
     abbrev pub FeedsCountedFront : SubscriberValue C → List ℕ → SubscriberValue C → Type 0
     FeedsCountedFront old piece new =
-        (tables : Tables) → holds old.applied.store tables → IsCountedFront now (seen place old tables) piece (place new.applied.store) (count old.applied.store) (count new.applied.store)
+        (tables : Tables) → holds old.applied.store tables
+        → IsCountedFront now (seen place old tables) piece (place new.applied.store) (count old.applied.store) (count new.applied.store)
 
     -- one session's bytes were fed, from a disconnection on
     abbrev pub CountsSession : SubscriberValue C → List ℕ → SubscriberValue C → Type 0
     CountsSession old bytes new =
-        (tables : Tables) → holds old.applied.store tables → IsCountedWhole now (disconnect (seen place old tables)) bytes (place new.applied.store) (count old.applied.store) (count new.applied.store)
+        (tables : Tables) → holds old.applied.store tables
+        → IsCountedWhole now (disconnect (seen place old tables)) bytes (place new.applied.store) (count old.applied.store)
+        (count new.applied.store)
 
     -- sessions' bytes were fed
     abbrev pub CountsSessions : SubscriberValue C → List (List ℕ) → SubscriberValue C → Type 0
     CountsSessions old sessions new =
         (tables : Tables) → holds old.applied.store tables
-        → (tables' : Tables) × holds new.applied.store tables' × AreCountedWhole now (seen place old tables) sessions (seen place new tables') (count old.applied.store) (count new.applied.store)
+        → (tables' : Tables) × holds new.applied.store tables'
+        × AreCountedWhole now (seen place old tables) sessions (seen place new tables') (count old.applied.store) (count new.applied.store)
 
     -- a front of one session's bytes was fed, from a disconnection on
     abbrev pub CountsSessionFront : SubscriberValue C → List ℕ → SubscriberValue C → Type 0
     CountsSessionFront old bytes new =
-        (tables : Tables) → holds old.applied.store tables → IsCountedFront now (disconnect (seen place old tables)) bytes (place new.applied.store) (count old.applied.store) (count new.applied.store)
+        (tables : Tables) → holds old.applied.store tables
+        → IsCountedFront now (disconnect (seen place old tables)) bytes (place new.applied.store) (count old.applied.store)
+        (count new.applied.store)
 
     -- or a front of sessions' bytes
     abbrev pub CountsSessionsFront : SubscriberValue C → List (List ℕ) → SubscriberValue C → Type 0
     CountsSessionsFront old sessions new =
-        (tables : Tables) → holds old.applied.store tables → AreCountedFront now (seen place old tables) sessions (place new.applied.store) (count old.applied.store) (count new.applied.store)
+        (tables : Tables) → holds old.applied.store tables
+        → AreCountedFront now (seen place old tables) sessions (place new.applied.store) (count old.applied.store)
+        (count new.applied.store)

@@ -1,6 +1,7 @@
--- PostgreSQL documentation, Message Formats (CopyData, CopyDone) and Streaming Replication Protocol: what feeding a piece of a session's
--- bytes leaves, however they are cut.
-use Rattle.std.specs.Prelude.{◌≡◌, ◌≢◌, ◌<◌, ◌⊎◌, ◌++◌, ℕ, ℤ, List, [], ◌∷◌, Bool, true, false, Option, Some, None, Ok, if◌then◌else◌}
+-- PostgreSQL documentation, Message Formats (CopyData, CopyDone) and Streaming Replication
+-- Protocol: what feeding a piece of a session's bytes leaves, however they are cut.
+use Rattle.std.specs.Prelude.{◌≡◌, ◌≢◌, ◌<◌, ◌⊎◌, ◌++◌, ℕ, ℤ, List, [], ◌∷◌, Bool, true, false}
+use Rattle.std.specs.Prelude.{Option, Some, None, Ok, if◌then◌else◌}
 use Rattle.pglogical.specs.Reading.{message_at}
 use Rattle.pglogical.specs.declared.message.Message.{Message}
 use Rattle.pgorder.specs.States.{is_in_block}
@@ -19,7 +20,8 @@ use Rattle.pgsub_core.specs.Subscriber.Subscribed.{Subscribed, disconnect}
 use Rattle.pgsub_core.specs.Machine.Taking.{take_all, take_frame, take_frames, ReachesStore}
 use Rattle.pgsub_core.specs.Subscriber.Safely.{IsHandled}
 use Rattle.pgsub_core.specs.Subscriber.Handled.{IsLeft, commit_end}
-use Rattle.pgsub_core.specs.Subscriber.Causes.{Cause, OutOfMemory, StatementRefused, HeaderTooLarge, ForeignBytes, NextMessage, NeverAnswered, cause}
+use Rattle.pgsub_core.specs.Subscriber.Causes.{Cause, OutOfMemory, StatementRefused, HeaderTooLarge}
+use Rattle.pgsub_core.specs.Subscriber.Causes.{ForeignBytes, NextMessage, NeverAnswered, cause}
 use Rattle.pgsub_core.specs.Subscriber.HandledLaws.{StopsBy}
 
 -- CopyDone stays the last frame of its session
@@ -61,10 +63,12 @@ pub record IsCommitFrame (s : Subscribed) (f : wire.Frame) : Type 0 where
   pub commits : commit_end (Data start current clock message) ≡ Some end
   pub passes : s.position < end
 
--- Why the bytes behind the frames that were taken stop it: what they begin with is no front of a frame, or the next frame has the fault.
+-- Why the bytes behind the frames that were taken stop it: what they begin with is no front of a
+-- frame, or the next frame has the fault.
 abbrev pub StopsIn : ℤ → ℕ → Bool → List ℕ → Subscribed → Fault → Cause → Type 0
 StopsIn now max done rest s f OutOfMemory = Unit {0}
-StopsIn now max done rest s f StatementRefused = (next : wire.Frame) × BeginsWith max done rest next × IsCommitFrame s next × ReachesStore (take_frame now s next)
+StopsIn now max done rest s f StatementRefused =
+    (next : wire.Frame) × BeginsWith max done rest next × IsCommitFrame s next × ReachesStore (take_frame now s next)
 StopsIn now max done rest s f HeaderTooLarge = (k : WireFault) × (f ≡ fault.Wire k) × wire.IsFramingFault max done rest k
 StopsIn now max done rest s f ForeignBytes = (k : WireFault) × (f ≡ fault.Wire k) × wire.IsFramingFault max done rest k
 StopsIn now max done rest s f NextMessage =
@@ -72,7 +76,8 @@ StopsIn now max done rest s f NextMessage =
     ⊎ ((next : wire.Frame) × (stopped : Subscribed) × BeginsWith max done rest next × (take_frame now s next ≡ Stopped stopped f))
 StopsIn now max done rest s f NeverAnswered = ⊥
 
--- The frames before the first fault are taken, and what they leave stands until the next disconnection.
+-- The frames before the first fault are taken, and what they leave stands until the next
+-- disconnection.
 pub record IsFedUntil (now : ℤ) (old : Subscribed) (piece : List ℕ) (new : Subscribed) (f : Fault) : Type 0 where
   pub fs : List wire.Frame
   pub rest : List ℕ
@@ -84,23 +89,26 @@ pub record IsFedUntil (now : ℤ) (old : Subscribed) (piece : List ℕ) (new : S
   pub closed : new.closed ≡ true
   pub why : StopsIn now old.max_frame (wire.has_copy_done (done_frames old ++ fs)) rest state f (cause f)
 
--- What feeding a piece does, by what is answered. After a fault each further piece is refused as Closed, which changes nothing.
+-- What feeding a piece does, by what is answered. After a fault each further piece is refused as
+-- Closed, which changes nothing.
 abbrev pub IsFed : ℤ → Subscribed → List ℕ → Subscribed → Option Fault → Type 0
 IsFed now old piece new None = (old.closed ≡ false) × IsFedWhole now old piece new
 IsFed now old piece new (Some fault.Closed) = (old.closed ≡ true) × (new ≡ old)
 IsFed now old piece new (Some f) = (old.closed ≡ false) × IsFedUntil now old piece new f
 
--- Whoever is fed what comes of a session from a disconnection on has taken the messages that are complete in it, and nothing foreign
--- has come.
+-- Whoever is fed what comes of a session from a disconnection on has taken the messages that are
+-- complete in it, and nothing foreign has come.
 abbrev pub FedSessionIsTaken : Type 0
 FedSessionIsTaken =
     (now : ℤ) (v : Version) (history : List Transaction) (s : ℕ) (bytes : List ℕ) (complete : List Sent) (old new : Subscribed)
     → IsIncoming v history s bytes complete → IsFedWhole now (disconnect old) bytes new
-    → (state : Subscribed) × (take_all now (disconnect old) complete ≡ Running state) × (new ≡ record state { partial = new.partial; copy_done = new.copy_done })
+    → (state : Subscribed) × (take_all now (disconnect old) complete ≡ Running state)
+    × (new ≡ record state { partial = new.partial; copy_done = new.copy_done })
     × (EndsForeign complete bytes → ⊥)
 
--- Feeding what comes of a session stopped: a front of the complete messages was taken, and the next one has the fault, or the header
--- or something foreign behind it, or memory or the store asked for it.
+-- Feeding what comes of a session stopped: a front of the complete messages was taken, and the next
+-- one has the fault, or the header or something foreign behind it, or memory or the store asked for
+-- it.
 pub record IsStoppedIn (now : ℤ) (bytes : List ℕ) (complete : List Sent) (old new : Subscribed) (f : Fault) : Type 0 where
   pub front : List Sent
   pub handled : IsHandled (front ∷ []) (complete ∷ [])
@@ -111,21 +119,25 @@ pub record IsStoppedIn (now : ℤ) (bytes : List ℕ) (complete : List Sent) (ol
 
 abbrev pub FedSessionStops : Type 0
 FedSessionStops =
-    (now : ℤ) (v : Version) (history : List Transaction) (s : ℕ) (bytes : List ℕ) (complete : List Sent) → IsIncoming v history s bytes complete
+    (now : ℤ) (v : Version) (history : List Transaction) (s : ℕ) (bytes : List ℕ) (complete : List Sent)
+    → IsIncoming v history s bytes complete
     → (old new : Subscribed) (f : Fault) → IsFedUntil now (disconnect old) bytes new f → IsStoppedIn now bytes complete old new f
 
 -- Feeding a piece and then another is feeding both as one.
 abbrev pub PiecesAreOne : Type 0
-PiecesAreOne = (now : ℤ) (old mid new : Subscribed) (piece next : List ℕ) → IsFedWhole now old piece mid → IsFedWhole now mid next new → IsFedWhole now old (piece ++ next) new
+PiecesAreOne = (now : ℤ) (old mid new : Subscribed) (piece next : List ℕ) → IsFedWhole now old piece mid → IsFedWhole now mid next new
+    → IsFedWhole now old (piece ++ next) new
 
 -- So it is where the second stops,
 abbrev pub LaterPieceStops : Type 0
 LaterPieceStops =
-    (now : ℤ) (old mid new : Subscribed) (piece next : List ℕ) (f : Fault) → IsFedWhole now old piece mid → IsFedUntil now mid next new f → IsFedUntil now old (piece ++ next) new f
+    (now : ℤ) (old mid new : Subscribed) (piece next : List ℕ) (f : Fault) → IsFedWhole now old piece mid → IsFedUntil now mid next new f
+    → IsFedUntil now old (piece ++ next) new f
 
 -- and behind a fault it doesn't matter what would come.
 abbrev pub FaultStands : Type 0
-FaultStands = (now : ℤ) (old new : Subscribed) (piece next : List ℕ) (f : Fault) → IsFedUntil now old piece new f → IsFedUntil now old (piece ++ next) new f
+FaultStands = (now : ℤ) (old new : Subscribed) (piece next : List ℕ) (f : Fault) → IsFedUntil now old piece new f
+    → IsFedUntil now old (piece ++ next) new f
 
 -- neither memory nor a refusal of the store's own has a say
 abbrev pub IsSettledFault : Fault → Type 0
@@ -135,7 +147,8 @@ abbrev pub IsSettled : Option Fault → Type 0
 IsSettled None = Unit {0}
 IsSettled (Some f) = IsSettledFault f
 
--- two ends of which nothing tells apart what outlives the next disconnection, and where no fault is answered nothing at all
+-- two ends of which nothing tells apart what outlives the next disconnection, and where no fault is
+-- answered nothing at all
 abbrev pub EndsSame : Option Fault → Subscribed → Subscribed → Type 0
 EndsSame None a b = b ≡ a
 EndsSame (Some f) a b = IsLeft a b × (b.closed ≡ a.closed)
@@ -143,5 +156,6 @@ EndsSame (Some f) a b = IsLeft a b × (b.closed ≡ a.closed)
 -- Feeding a piece has one outcome.
 abbrev pub PieceHasOneOutcome : Type 0
 PieceHasOneOutcome =
-    (now : ℤ) (old a b : Subscribed) (piece : List ℕ) (x y : Option Fault) → IsSettled x → IsSettled y → IsFed now old piece a x → IsFed now old piece b y
+    (now : ℤ) (old a b : Subscribed) (piece : List ℕ) (x y : Option Fault) → IsSettled x → IsSettled y → IsFed now old piece a x
+    → IsFed now old piece b y
     → (x ≡ y) × EndsSame x a b

@@ -1,6 +1,7 @@
--- PostgreSQL documentation, Logical Replication, Subscription: what a subscriber does with one commit or keepalive after the
--- other, by what it has stored and knows.
-use Rattle.std.specs.Prelude.{ℕ, List, [], ◌∷◌, ◌++◌, Bool, true, false, Result, Ok, Err, max, nat_lt, if◌then◌else◌}
+-- PostgreSQL documentation, Logical Replication, Subscription: what a subscriber does with one
+-- commit or keepalive after the other, by what it has stored and knows.
+use Rattle.std.specs.Prelude.{ℕ, List, [], ◌∷◌, ◌++◌, Bool, true, false, Result, Ok, Err, max}
+use Rattle.std.specs.Prelude.{nat_lt, if◌then◌else◌}
 use Rattle.std.specs.Ordering.{nat_cmp}
 use Rattle.std.specs.FinMap as map
 use Rattle.pglogical.specs.declared.message.RelationDef.{RelationDef}
@@ -14,7 +15,8 @@ use Rattle.pgapply.specs.Apply.{Change, fold_changes}
 use Rattle.pgsub_core.specs.Server.Described.{described_from}
 use Rattle.pgsub_core.specs.Server.Streamed as streamed_item
 use Rattle.pgsub_core.specs.Server.Streamed.{StreamedItem}
-use Rattle.pgsub_core.specs.Server.Stream.{CommitOrKeepalive, Committed, KeepaliveEnd, Completed, WholeCommit, StreamedCommit, end_of}
+use Rattle.pgsub_core.specs.Server.Stream.{CommitOrKeepalive, Committed, KeepaliveEnd, Completed}
+use Rattle.pgsub_core.specs.Server.Stream.{WholeCommit, StreamedCommit, end_of}
 
 -- what is held of a transaction after these items and aborts
 abbrev pub held_after : List LabelledItem → List StreamedItem → List LabelledItem
@@ -55,7 +57,8 @@ pub data Halt : Type 0 where
   StoreRefuses : (end : ℕ) (fault : StoreFault) → Halt
   OutOfOrder : (fault : OrderFault) → Halt
 
--- a run that goes on from a state, or one that was stopped in the state before the message that has the fault
+-- a run that goes on from a state, or one that was stopped in the state before the message that has
+-- the fault
 pub data Outcome (S F : Type 0) : Type 0 where
   Running : (state : S) → Outcome S F
   Stopped : (state : S) (why : F) → Outcome S F
@@ -76,14 +79,16 @@ then_run (Running state) next = next state
 then_run (Stopped state why) next = Stopped state why
 
 abbrev pub stored : Replica → ℕ → RelationCache → Result Tables StoreFault → Outcome Replica Halt
-stored old end relations (Ok tables) = Running (record { tables = tables; position = end; confirmed = max old.confirmed end; relations = relations })
+stored old end relations (Ok tables) =
+    Running (record { tables = tables; position = end; confirmed = max old.confirmed end; relations = relations })
 stored old end relations (Err fault) = Stopped old (StoreRefuses end fault)
 
 abbrev pub taken : Replica → ℕ → RelationCache → Result (List Change) ℕ → Outcome Replica Halt
 taken old end relations (Err oid) = Stopped old (UnknownRelation oid)
 taken old end relations (Ok changes) = stored old end relations (fold_changes old.tables changes)
 
--- A commit whose end passes the position is taken. Another one is a repeat, of which the Relation messages alone count.
+-- A commit whose end passes the position is taken. Another one is a repeat, of which the Relation
+-- messages alone count.
 abbrev pub on_commit : Replica → ℕ → List Item → Outcome Replica Halt
 on_commit old end items =
     if nat_lt old.position end

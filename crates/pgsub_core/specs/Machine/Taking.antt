@@ -1,7 +1,9 @@
--- PostgreSQL documentation, Streaming Replication Protocol and Logical Streaming Replication Protocol: what a subscriber does with
--- one message or frame of the server after the other, with the first fault that stops it. Want of memory and a statement that
--- the store refuses can stop it too, and stand beside this (StopsBy in HandledLaws).
-use Rattle.std.specs.Prelude.{◌+◌, ℕ, ℤ, List, [], ◌∷◌, Bool, true, false, Result, Ok, Err, max, nat_lt, if◌then◌else◌}
+-- PostgreSQL documentation, Streaming Replication Protocol and Logical Streaming Replication
+-- Protocol: what a subscriber does with one message or frame of the server after the other, with
+-- the first fault that stops it. Want of memory and a statement that the store refuses can stop it
+-- too, and stand beside this (StopsBy in HandledLaws).
+use Rattle.std.specs.Prelude.{◌+◌, ℕ, ℤ, List, [], ◌∷◌, Bool, true, false, Result, Ok, Err, max}
+use Rattle.std.specs.Prelude.{nat_lt, if◌then◌else◌}
 use Rattle.pglogical.specs.Reading.{message_at}
 use Rattle.pglogical.specs.declared.fault.DecodeFault.{DecodeFault}
 use Rattle.pglogical.specs.declared.message.Message.{Message}
@@ -15,9 +17,11 @@ use Rattle.pgwire.specs.declared.fault.WireFault.{WireFault}
 use Rattle.pgsub_core.specs.declared.fault.Fault.{Fault}
 use Rattle.pgsub_core.specs.declared.fault.Fault.TheVariants as fault
 use Rattle.pgsub_core.specs.Server.Stream.{Sent, Data, Keepalive, Kind, Holds, kind}
-use Rattle.pgsub_core.specs.Machine.Replica.{Halt, UnknownRelation, StoreRefuses, OutOfOrder, Outcome, Running, Stopped, then_run, GoesOrStops}
+use Rattle.pgsub_core.specs.Machine.Replica.{Halt, UnknownRelation, StoreRefuses, OutOfOrder}
+use Rattle.pgsub_core.specs.Machine.Replica.{Outcome, Running, Stopped, then_run, GoesOrStops}
 use Rattle.pgsub_core.specs.Machine.ApplyState.{ApplyState, ApplyResult, step}
-use Rattle.pgsub_core.specs.Subscriber.Subscribed.{Subscribed, apply_state_of, with_status, disconnect}
+use Rattle.pgsub_core.specs.Subscriber.Subscribed.{Subscribed, apply_state_of, with_status}
+use Rattle.pgsub_core.specs.Subscriber.Subscribed.{disconnect}
 
 abbrev pub fault_of : Halt → Fault
 fault_of (UnknownRelation oid) = fault.Relation (rel.UnknownRelation oid)
@@ -42,7 +46,8 @@ abbrev pub reply : ℤ → Bool → Subscribed → Subscribed
 reply now true s = with_status now false s
 reply now false s = s
 
--- The message is handled. A keepalive that asks for a reply gets a status, after received and confirmed were brought up to date.
+-- The message is handled. A keepalive that asks for a reply gets a status, after received and
+-- confirmed were brought up to date.
 abbrev pub handled : ℤ → Sent → ApplyState → Subscribed → Subscribed
 handled now (Data start end clock m) state s = receive (max start end) (with_state state s)
 handled now (Keepalive end clock asks) state s = reply now asks (receive end (with_state state s))
@@ -57,7 +62,8 @@ message_passes_limit s (Data start end clock m) = passes_limit s (kind m)
 message_passes_limit s (Keepalive end clock asks) = false
 
 abbrev pub taken_with : ℤ → Subscribed → Sent → ApplyResult → Outcome Subscribed Fault
-taken_with now s m (Running state) = if message_passes_limit s m then Stopped s (fault.Spool spool.SpoolFull) else Running (handled now m state s)
+taken_with now s m (Running state) = if message_passes_limit s m then Stopped s (fault.Spool spool.SpoolFull)
+    else Running (handled now m state s)
 taken_with now s m (Stopped state why) = Stopped s (fault_of why)
 
 -- one message of the server
@@ -77,9 +83,11 @@ abbrev pub take_message : ℤ → Subscribed → ℕ → ℕ → ℤ → Result 
 take_message now s start end clock (Ok m) = take now s (Data start end clock m)
 take_message now s start end clock (Err k) = Stopped s (fault.Decode k)
 
--- the message of a payload: the data of XLogData is one logical message, which has an xid exactly inside a block
+-- the message of a payload: the data of XLogData is one logical message, which has an xid exactly
+-- inside a block
 abbrev pub take_payload : ℤ → Subscribed → Result wire.ServerMessage WireFault → Outcome Subscribed Fault
-take_payload now s (Ok (wire.XLogData start end clock body)) = take_message now s start end clock (message_at (is_in_block s.order.context) body)
+take_payload now s (Ok (wire.XLogData start end clock body)) =
+    take_message now s start end clock (message_at (is_in_block s.order.context) body)
 take_payload now s (Ok (wire.Keepalive end clock asks)) = take now s (Keepalive end clock asks)
 take_payload now s (Err k) = Stopped s (fault.Wire k)
 

@@ -1,6 +1,5 @@
--- Part of the statement.
--- PostgreSQL documentation, Streaming Replication Protocol and Logical Streaming Replication Protocol: which sessions a
--- well-formed server may send of its history.
+-- Part of the statement. PostgreSQL documentation, Streaming Replication Protocol and Logical
+-- Streaming Replication Protocol: which sessions a well-formed server may send of its history.
 use Rattle.std.specs.Prelude.{◌≡◌, ◌<◌, ℕ, List, [], ◌∷◌, ◌++◌, Ok}
 use Rattle.std.specs.List.{AllByRecursion}
 use Rattle.pglogical.specs.declared.message.RelationDef.{RelationDef}
@@ -11,7 +10,9 @@ use Rattle.pgsub_core.specs.Server.Work.{surviving_changes}
 use Rattle.pgsub_core.specs.Server.History.{Transaction, ChangesRows, ended_after}
 use Rattle.pgsub_core.specs.Server.Described.{described, relations_after}
 use Rattle.pgsub_core.specs.Server.Streamed.{IsStreamOf}
-use Rattle.pgsub_core.specs.Server.Stream.{Sent, CommitOrKeepalive, Committed, KeepaliveEnd, Completed, WholeCommit, StreamedCommit, messages_in, commits_and_keepalives}
+use Rattle.pgsub_core.specs.Server.Stream.{Sent, CommitOrKeepalive, Committed, KeepaliveEnd}
+use Rattle.pgsub_core.specs.Server.Stream.{Completed, WholeCommit, StreamedCommit, messages_in}
+use Rattle.pgsub_core.specs.Server.Stream.{commits_and_keepalives}
 
 -- the commit that came is this transaction's, and these of its items survive
 abbrev pub IsCommitOf : Transaction → Completed → List Item → Type 0

@@ -1,7 +1,7 @@
--- Part of the statement.
--- PostgreSQL documentation, Logical Replication Message Formats, Relation: which definition each change of a session has,
--- that of the last Relation message of its OID.
-use Rattle.std.specs.Prelude.{ℕ, List, [], ◌∷◌, ◌++◌, Option, Some, None, Result, Ok, Err, ◌==◌, if◌then◌else◌}
+-- Part of the statement. PostgreSQL documentation, Logical Replication Message Formats, Relation:
+-- which definition each change of a session has, that of the last Relation message of its OID.
+use Rattle.std.specs.Prelude.{ℕ, List, [], ◌∷◌, ◌++◌, Option, Some, None, Result, Ok, Err, ◌==◌}
+use Rattle.std.specs.Prelude.{if◌then◌else◌}
 use Rattle.pglogical.specs.Named.{named}
 use Rattle.pglogical.specs.declared.message.RelationDef.{RelationDef}
 use Rattle.pglogical.specs.declared.message.Item.{Item}
@@ -54,7 +54,7 @@ abbrev pub described_from : (ℕ → Option RelationDef) → List Item → Resul
 described_from find [] = Ok []
 described_from find (i ∷ items) = with_changes i (definitions_of find (named i)) (described_from (found_behind i find) items)
 
--- The changes of the items with their definitions, or the OID that the first item without one names. Earlier stand the
--- Relation messages before the items, the last first.
+-- The changes of the items with their definitions, or the OID that the first item without one
+-- names. Earlier stand the Relation messages before the items, the last first.
 abbrev pub described : List RelationDef → List Item → Result (List Change) ℕ
 described earlier items = described_from (λ oid. last_of oid earlier) items

@@ -1,6 +1,5 @@
--- Part of the statement.
--- PostgreSQL documentation, Logical Decoding Concepts: a server's history, the transactions in commit order, and the rows
--- that it gives.
+-- Part of the statement. PostgreSQL documentation, Logical Decoding Concepts: a server's history,
+-- the transactions in commit order, and the rows that it gives.
 use Rattle.std.specs.Prelude.{◌<◌, ◌≤◌, ◌≢◌, ℕ, List, [], ◌∷◌, nat_le, nat_lt, Result}
 use Rattle.std.specs.List.{flat_map, filter}
 use Rattle.std.specs.FinMap as map

@@ -1,9 +1,10 @@
--- Part of the statement.
--- PostgreSQL documentation, Streaming Replication Protocol, Standby status update: what a subscriber has reached, its
--- position (applied), confirmed (flushed) and received (written).
+-- Part of the statement. PostgreSQL documentation, Streaming Replication Protocol, Standby status
+-- update: what a subscriber has reached, its position (applied), confirmed (flushed) and received
+-- (written).
 use Rattle.std.specs.Prelude.{ℕ, List, [], ◌∷◌, true, false, max}
 use Rattle.pglogical.specs.declared.message.Message.{Message}
-use Rattle.pgsub_core.specs.Server.Stream.{Sent, Data, Keepalive, CommitOrKeepalive, Committed, KeepaliveEnd, end_of, commits_and_keepalives}
+use Rattle.pgsub_core.specs.Server.Stream.{Sent, Data, Keepalive, CommitOrKeepalive, Committed}
+use Rattle.pgsub_core.specs.Server.Stream.{KeepaliveEnd, end_of, commits_and_keepalives}
 
 pub record Progress : Type 0 where
   pub position : ℕ

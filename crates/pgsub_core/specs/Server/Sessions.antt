@@ -1,7 +1,7 @@
--- Part of the statement.
--- PostgreSQL documentation, Streaming Replication Protocol and Message Formats (CopyData, CopyDone): the bytes of sessions of
--- one history.
-use Rattle.std.specs.Prelude.{◌≡◌, ◌≢◌, ◌≤◌, ◌⊎◌, ℕ, List, [], ◌∷◌, ◌++◌, map, length, ◌<◌, ◌^◌, Bool, true, false, FitsSigned, ◌+◌}
+-- Part of the statement. PostgreSQL documentation, Streaming Replication Protocol and Message
+-- Formats (CopyData, CopyDone): the bytes of sessions of one history.
+use Rattle.std.specs.Prelude.{◌≡◌, ◌≢◌, ◌≤◌, ◌⊎◌, ℕ, List, [], ◌∷◌, ◌++◌, map, length, ◌<◌, ◌^◌}
+use Rattle.std.specs.Prelude.{Bool, true, false, FitsSigned, ◌+◌}
 use Rattle.std.specs.List.{AllByRecursion}
 use Rattle.std.specs.Int.{w64}
 use Rattle.pglogical.specs.Spelling.{message_spelling, IsWireMessage}
@@ -25,7 +25,8 @@ IsPartOfNextFrame [] rest = Unit {0}
 IsPartOfNextFrame (m ∷ later) rest = length rest < length (wire.frame (wire.CopyData (wire.payload (server_message m))))
 
 abbrev pub IsWireSent : Sent → Type 0
-IsWireSent (Data start end clock m) = (start < 2 ^ 64) × (end < 2 ^ 64) × FitsSigned w64 clock × IsWireMessage m × (length (message_spelling m) + 29 ≤ 2147483647)
+IsWireSent (Data start end clock m) =
+    (start < 2 ^ 64) × (end < 2 ^ 64) × FitsSigned w64 clock × IsWireMessage m × (length (message_spelling m) + 29 ≤ 2147483647)
 IsWireSent (Keepalive end clock reply) = (end < 2 ^ 64) × FitsSigned w64 clock
 
 -- One session's bytes: a front of the frames of what is delivered, behind which CopyDone may stand.
@@ -38,7 +39,8 @@ pub record IsSession (v : Version) (history : List Transaction) (s : ℕ) (bytes
   pub fits : AllByRecursion IsWireSent sent
   pub at_end : (done ≡ []) ⊎ (done ≡ wire.CopyDone ∷ [])
   pub front : bytes ++ behind ≡ wire.frames (frames_of sent ++ done)
-  -- the messages that are complete in the bytes, and what of the next one's frame stands behind them
+  -- the messages that are complete in the bytes, and what of the next one's frame stands behind
+  -- them
   pub later : List Sent
   pub rest : List ℕ
   pub parts : sent ≡ complete ++ later
@@ -53,14 +55,15 @@ last_frame false = []
 abbrev pub whole_frames : List Sent → Bool → List ℕ
 whole_frames complete done = wire.frames (frames_of complete ++ last_frame done)
 
--- No session holds this: a frame that is neither CopyData (`d`) nor CopyDone (`c`), or anything after CopyDone.
+-- No session holds this: a frame that is neither CopyData (`d`) nor CopyDone (`c`), or anything
+-- after CopyDone.
 abbrev pub IsForeign : Bool → List ℕ → Type 0
 IsForeign done [] = ⊥
 IsForeign true (byte ∷ more) = Unit {0}
 IsForeign false (byte ∷ more) = (byte ≢ 100) × (byte ≢ 99)
 
--- After all whole frames of a session comes something foreign: CommandComplete of a server that is shut down, for instance, or
--- ErrorResponse.
+-- After all whole frames of a session comes something foreign: CommandComplete of a server that is
+-- shut down, for instance, or ErrorResponse.
 pub record EndsForeign (complete : List Sent) (bytes : List ℕ) : Type 0 where
   pub done : Bool
   pub foreign : List ℕ
@@ -73,7 +76,8 @@ IsIncoming v history s bytes complete =
     IsSession v history s bytes complete
     ⊎ ((ends : EndsForeign complete bytes) × IsSession v history s (whole_frames complete ends.done) complete)
 
--- One after the other, each from a start that is at most what is confirmed before it. These messages are complete in each.
+-- One after the other, each from a start that is at most what is confirmed before it. These
+-- messages are complete in each.
 abbrev pub EachStarts : (ℕ → List ℕ → List Sent → Type 0) → Progress → List (List ℕ) → List (List Sent) → Type 0
 EachStarts is p [] [] = Unit {0}
 EachStarts is p [] (complete ∷ all_complete) = ⊥
@@ -89,7 +93,8 @@ AreSessions v history p sessions all_complete = EachStarts (IsSession v history)
 abbrev pub AreIncoming : Version → List Transaction → Progress → List (List ℕ) → List (List Sent) → Type 0
 AreIncoming v history p sessions all_complete = EachStarts (IsIncoming v history) p sessions all_complete
 
--- sessions may start as far as c, which is more than what is confirmed where nothing that changes rows lies between
+-- sessions may start as far as c, which is more than what is confirmed where nothing that changes
+-- rows lies between
 abbrev pub starting_by : ℕ → Progress → Progress
 starting_by c p = record p { confirmed = c }
 

@@ -1,7 +1,8 @@
--- Part of the statement.
--- PostgreSQL documentation, Streaming Replication Protocol and Logical Streaming Replication Protocol: what a server sends
--- in one session, and which transactions are committed in it.
-use Rattle.std.specs.Prelude.{ℕ, ℤ, List, [], ◌∷◌, ◌++◌, Bool, true, false, ◌&&◌, ◌==◌, Option, Some, None, if◌then◌else◌, unwrap_or}
+-- Part of the statement. PostgreSQL documentation, Streaming Replication Protocol and Logical
+-- Streaming Replication Protocol: what a server sends in one session, and which transactions are
+-- committed in it.
+use Rattle.std.specs.Prelude.{ℕ, ℤ, List, [], ◌∷◌, ◌++◌, Bool, true, false, ◌&&◌, ◌==◌, Option}
+use Rattle.std.specs.Prelude.{Some, None, if◌then◌else◌, unwrap_or}
 use Rattle.pglogical.specs.declared.message.Item.{Item}
 use Rattle.pglogical.specs.declared.message.Message.{Message}
 use Rattle.pglogical.specs.declared.message.Message.TheVariants as message
@@ -93,7 +94,8 @@ abbrev pub streamed_since_first_segment : ℕ → List Message → List Streamed
 streamed_since_first_segment xid [] = []
 streamed_since_first_segment xid (m ∷ before) = streamed_behind xid (block_of before) (kind m) (streamed_since_first_segment xid before)
 
--- a transaction whose commit has come: between Begin and Commit with its items, or in stream blocks with what was streamed
+-- a transaction whose commit has come: between Begin and Commit with its items, or in stream blocks
+-- with what was streamed
 pub data Completed : Type 0 where
   WholeCommit : (xid lsn end : ℕ) (items : List Item) → Completed
   StreamedCommit : (xid lsn end : ℕ) (streamed : List StreamedItem) → Completed
@@ -102,7 +104,8 @@ abbrev pub end_of : Completed → ℕ
 end_of (WholeCommit xid lsn end items) = end
 end_of (StreamedCommit xid lsn end streamed) = end
 
--- what moves a subscriber: a commit, or the end of a keepalive, which is quiet outside pairs and blocks
+-- what moves a subscriber: a commit, or the end of a keepalive, which is quiet outside pairs and
+-- blocks
 pub data CommitOrKeepalive : Type 0 where
   Committed : (completed : Completed) → CommitOrKeepalive
   KeepaliveEnd : (end : ℕ) (quiet : Bool) → CommitOrKeepalive

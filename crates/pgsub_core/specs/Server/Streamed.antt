@@ -1,14 +1,15 @@
--- Part of the statement.
--- PostgreSQL documentation, Logical Streaming Replication Protocol: how a transaction's work may come in stream blocks, and
--- which items survive.
+-- Part of the statement. PostgreSQL documentation, Logical Streaming Replication Protocol: how a
+-- transaction's work may come in stream blocks, and which items survive.
 use Rattle.std.specs.Prelude.{◌≡◌, ℕ, List, [], ◌∷◌, ◌++◌, map, Bool, true, false, ◌==◌}
 use Rattle.std.specs.List.{AllByRecursion, list_any}
 use Rattle.pglogical.specs.declared.message.RelationDef.{RelationDef}
 use Rattle.pglogical.specs.declared.message.Item.{Item}
 use Rattle.pglogical.specs.declared.message.Item.TheVariants.{Relation}
-use Rattle.pgsub_core.specs.Server.Work.{Work, is_among, Nothing, Changed, Subtransaction, RolledBack}
+use Rattle.pgsub_core.specs.Server.Work.{Work, is_among, Nothing, Changed, Subtransaction}
+use Rattle.pgsub_core.specs.Server.Work.{RolledBack}
 
--- an item (a Relation message or a change) under the xid that its message names, or the abort of a subtransaction
+-- an item (a Relation message or a change) under the xid that its message names, or the abort of a
+-- subtransaction
 pub data StreamedItem : Type 0 where
   Change : (subxid : ℕ) (item : Item) → StreamedItem
   SubtransactionAbort : (subxid : ℕ) → StreamedItem
@@ -27,8 +28,8 @@ EachIsAborted [] = Unit {0}
 EachIsAborted (Change subxid item ∷ rest) = (list_any (aborts subxid) rest ≡ true) × EachIsAborted rest
 EachIsAborted (SubtransactionAbort subxid ∷ rest) = EachIsAborted rest
 
--- What may come of a rolled-back subtransaction: items and aborts that name its xids alone. The aborts may stand in any
--- order, be repeated, and name xids without items.
+-- What may come of a rolled-back subtransaction: items and aborts that name its xids alone. The
+-- aborts may stand in any order, be repeated, and name xids without items.
 pub record IsRolledBackStream (xids : List ℕ) (streamed : List StreamedItem) : Type 0 where
   pub named : AllByRecursion (λ l. is_among xids (subxid_of l) ≡ true) streamed
   pub aborted : EachIsAborted streamed
@@ -40,8 +41,8 @@ relations subxid definitions = map (λ (def : RelationDef). Change subxid (Relat
 abbrev pub relation_items : List RelationDef → List Item
 relation_items definitions = map Relation definitions
 
--- The work comes under the xid of its transaction or subtransaction as these items and aborts, and these items survive.
--- Relation messages may stand before each part and behind the last.
+-- The work comes under the xid of its transaction or subtransaction as these items and aborts, and
+-- these items survive. Relation messages may stand before each part and behind the last.
 abbrev pub IsStreamOf : Work → ℕ → List StreamedItem → List Item → Type 0
 IsStreamOf Nothing subxid streamed surviving =
     (definitions : List RelationDef) × (streamed ≡ relations subxid definitions) × (surviving ≡ relation_items definitions)

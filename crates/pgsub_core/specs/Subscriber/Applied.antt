@@ -1,4 +1,5 @@
--- What takes the messages of a session, as its contracts see it: a store, of which it is said what tables it holds, and all else.
+-- What takes the messages of a session, as its contracts see it: a store, of which it is said what
+-- tables it holds, and all else.
 use Rattle.std.specs.Prelude.{◌≡◌, ◌<◌, ℕ, ℤ, List, Bool, Some, refl}
 use Rattle.std.specs.Coded.{Coded, code_by, coded×, coded_ℕ, coded_list}
 use Rattle.pgorder.specs.contracts.Version as version
@@ -13,7 +14,8 @@ use Rattle.pgsub_core.specs.Machine.Replica.{RelationCache, Outcome, Running, St
 use Rattle.pgsub_core.specs.Subscriber.Subscribed.{Subscribed}
 use Rattle.pgsub_core.specs.Machine.Taking.{take, ReachesStore}
 use Rattle.pgsub_core.specs.Subscriber.Handled.{commit_end}
-use Rattle.pgsub_core.specs.Subscriber.Causes.{Cause, OutOfMemory, StatementRefused, HeaderTooLarge, ForeignBytes, NextMessage, NeverAnswered, cause}
+use Rattle.pgsub_core.specs.Subscriber.Causes.{Cause, OutOfMemory, StatementRefused, HeaderTooLarge}
+use Rattle.pgsub_core.specs.Subscriber.Causes.{ForeignBytes, NextMessage, NeverAnswered, cause}
 use Rattle.pgsub_core.specs.Machine.Codes.{held_code, relations_code}
 
 pub record Applied (C : Type 0) : Type 0 where
@@ -30,7 +32,9 @@ pub record Applied (C : Type 0) : Type 0 where
 abbrev pub applied_code : {C : Type 0} → Coded C → Coded (Applied C)
 applied_code {C} store =
     code_by (C × (ℕ × (ℕ × (Version × (ℕ × (OrderState × (HeldMap × (RelationCache × List ℕ))))))))
-    (coded× store (coded× coded_ℕ (coded× coded_ℕ (coded× version.the_row.coded (coded× coded_ℕ (coded× order_state_code (coded× held_code (coded× relations_code (coded_list coded_ℕ)))))))))
+    (coded× store (coded× coded_ℕ
+    (coded× coded_ℕ (coded× version.the_row.coded
+    (coded× coded_ℕ (coded× order_state_code (coded× held_code (coded× relations_code (coded_list coded_ℕ)))))))))
     (λ a. (a.store, (a.confirmed, (a.received, (a.version, (a.limit, (a.order, (a.held, (a.relations, a.replies)))))))))
     (λ p. record {
       store = p.0;
@@ -98,10 +102,12 @@ module _ {C : Type 0} (holds : C → Tables → Type 0) (place : C → ℕ) wher
   abbrev pub Goes : (Subscribed → Outcome Subscribed Fault) → Applied C → Applied C → Type 0
   Goes next old new =
       (framing : Framing) (tables : Tables) → holds old.store tables
-      → (tables' : Tables) × holds new.store tables' × (next (subscribed place framing old tables) ≡ Running (subscribed place framing new tables'))
+      → (tables' : Tables) × holds new.store tables'
+      × (next (subscribed place framing old tables) ≡ Running (subscribed place framing new tables'))
 
   -- A message isn't handled: nothing that outlives a disconnection changes.
   pub record Stops (now : ℤ) (m : Sent) (old new : Applied C) (f : Fault) : Type 0 where
     pub kept : IsKept place old new
     pub stays : (tables : Tables) → holds old.store tables → holds new.store tables
-    pub why : (framing : Framing) (tables : Tables) → holds old.store tables → StopsAtMessage now (subscribed place framing old tables) m f (cause f)
+    pub why : (framing : Framing) (tables : Tables) → holds old.store tables
+        → StopsAtMessage now (subscribed place framing old tables) m f (cause f)

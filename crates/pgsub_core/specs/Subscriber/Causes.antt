@@ -1,5 +1,5 @@
--- Part of the statement.
--- From where a fault comes: what has to be shown of the messages or bytes that come next where a call returns it.
+-- Part of the statement. From where a fault comes: what has to be shown of the messages or bytes
+-- that come next where a call returns it.
 use Rattle.pgorder.specs.declared.fault.OrderFault.{OrderFault}
 use Rattle.pgorder.specs.declared.fault.OrderFault.TheVariants as order
 use Rattle.pgrel.specs.declared.fault.RelFault.{RelFault}
@@ -13,8 +13,9 @@ use Rattle.pgwire.specs.declared.fault.WireFault.TheVariants as wire_fault
 use Rattle.pgsub_core.specs.declared.fault.Fault.{Fault}
 use Rattle.pgsub_core.specs.declared.fault.Fault.TheVariants as fault
 
--- Memory can run out anywhere. The store can refuse a statement of a commit that is sound. A header can tell of a payload that is too
--- long, and something that no session holds can come. All other faults are those of the next message or frame.
+-- Memory can run out anywhere. The store can refuse a statement of a commit that is sound. A header
+-- can tell of a payload that is too long, and something that no session holds can come. All other
+-- faults are those of the next message or frame.
 pub data Cause : Type 0 where
   OutOfMemory : Cause
   StatementRefused : Cause

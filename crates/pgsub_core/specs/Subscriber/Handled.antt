@@ -1,7 +1,8 @@
--- Part of the statement.
--- PostgreSQL documentation, Streaming Replication Protocol and Logical Replication, Architecture: what following the sessions of a
--- history leaves, and why it ends, whatever is answered.
-use Rattle.std.specs.Prelude.{◌≡◌, ◌≤◌, ◌<◌, ◌++◌, ℕ, ℤ, List, [], ◌∷◌, Bool, true, false, Option, Some, None, Result, Ok, Err}
+-- Part of the statement. PostgreSQL documentation, Streaming Replication Protocol and Logical
+-- Replication, Architecture: what following the sessions of a history leaves, and why it ends,
+-- whatever is answered.
+use Rattle.std.specs.Prelude.{◌≡◌, ◌≤◌, ◌<◌, ◌++◌, ℕ, ℤ, List, [], ◌∷◌, Bool, true, false, Option}
+use Rattle.std.specs.Prelude.{Some, None, Result, Ok, Err}
 use Rattle.pgspool.specs.declared.fault.SpoolFault.TheVariants as spool
 use Rattle.pgwire.specs.Frames as wire
 use Rattle.pgwire.specs.declared.fault.WireFault.{WireFault}
@@ -9,8 +10,10 @@ use Rattle.pgwire.specs.declared.fault.WireFault.TheVariants as wire_fault
 use Rattle.pgsub_core.specs.declared.fault.Fault.{Fault}
 use Rattle.pgsub_core.specs.declared.fault.Fault.TheVariants as fault
 use Rattle.pgsub_core.specs.Server.History.{Transaction}
-use Rattle.pgsub_core.specs.Server.Stream.{Sent, Data, Keepalive, Kind, CommitsPair, CommitsStream, kind}
-use Rattle.pgsub_core.specs.Subscriber.Causes.{Cause, OutOfMemory, StatementRefused, HeaderTooLarge, ForeignBytes, NextMessage, NeverAnswered, cause}
+use Rattle.pgsub_core.specs.Server.Stream.{Sent, Data, Keepalive, Kind, CommitsPair, CommitsStream}
+use Rattle.pgsub_core.specs.Server.Stream.{kind}
+use Rattle.pgsub_core.specs.Subscriber.Causes.{Cause, OutOfMemory, StatementRefused, HeaderTooLarge}
+use Rattle.pgsub_core.specs.Subscriber.Causes.{ForeignBytes, NextMessage, NeverAnswered, cause}
 use Rattle.pgsub_core.specs.Machine.Replica.{Running}
 use Rattle.pgsub_core.specs.Server.Sessions.{EndsForeign, frames_of}
 use Rattle.pgsub_core.specs.Subscriber.Safe.{RefusesNext}
@@ -64,8 +67,9 @@ abbrev pub commit_end : Sent → Option ℕ
 commit_end (Data start end clock m) = end_by_kind (kind m)
 commit_end (Keepalive end clock asks) = None
 
--- Which faults the next message of a session of the history can have: it holds an item with which all that is held would cost more than
--- the limit, or it is the next commit that changes rows, and the history gives this fault there.
+-- Which faults the next message of a session of the history can have: it holds an item with which
+-- all that is held would cost more than the limit, or it is the next commit that changes rows, and
+-- the history gives this fault there.
 abbrev pub IsAllowedFault : List Transaction → Subscribed → Sent → Fault → Type 0
 IsAllowedFault history s m (fault.Store k) = (end : ℕ) × (commit_end m ≡ Some end) × RefusesNext history s.position end k
 IsAllowedFault history s m (fault.Spool spool.SpoolFull) = message_passes_limit s m ≡ true
@@ -78,18 +82,22 @@ IsAllowedFault history s m fault.Read = ⊥
 IsAllowedFault history s m fault.Closed = ⊥
 IsAllowedFault history s m fault.Memory = ⊥
 
--- The store can refuse a statement of a commit whose end passes the position, where nothing else is wrong with that commit.
+-- The store can refuse a statement of a commit whose end passes the position, where nothing else is
+-- wrong with that commit.
 abbrev pub IsRefusedBehind : ℤ → List (List Sent) → List (List Sent) → Subscribed → Type 0
 IsRefusedBehind now handled all_complete s =
-    (m : Sent) × IsNextBehind handled m all_complete × (end : ℕ) × (commit_end m ≡ Some end) × (s.position < end) × ReachesStore (take now s m)
+    (m : Sent) × IsNextBehind handled m all_complete × (end : ℕ) × (commit_end m ≡ Some end) × (s.position < end)
+    × ReachesStore (take now s m)
 
--- Why following stopped in the state that what was handled leaves: the next message has this fault, or what stands behind them tells it.
+-- Why following stopped in the state that what was handled leaves: the next message has this fault,
+-- or what stands behind them tells it.
 abbrev pub StopsFor : ℤ → List Transaction → List (List ℕ) → List (List Sent) → List (List Sent) → Subscribed → Fault → Cause → Type 0
 StopsFor now history sessions all_complete handled s f OutOfMemory = Unit {0}
 StopsFor now history sessions all_complete handled s f StatementRefused = IsRefusedBehind now handled all_complete s
 StopsFor now history sessions all_complete handled s f HeaderTooLarge = IsTooLargeBehind s.max_frame handled sessions
 StopsFor now history sessions all_complete handled s f ForeignBytes = IsForeignBehind handled all_complete sessions f
-StopsFor now history sessions all_complete handled s f NextMessage = (m : Sent) × IsNextBehind handled m all_complete × IsAllowedFault history s m f
+StopsFor now history sessions all_complete handled s f NextMessage =
+    (m : Sent) × IsNextBehind handled m all_complete × IsAllowedFault history s m f
 StopsFor now history sessions all_complete handled s f NeverAnswered = ⊥
 
 -- the fault that a call answers, if one
@@ -102,22 +110,24 @@ abbrev pub StopsAt : ℤ → List Transaction → List (List ℕ) → List (List
 StopsAt now history sessions all_complete handled s None = (handled ≡ all_complete) × NoneForeign all_complete sessions
 StopsAt now history sessions all_complete handled s (Some f) = StopsFor now history sessions all_complete handled s f (cause f)
 
--- What stands of a state after a fault: all but what the next disconnection forgets, received and the bytes that wait.
+-- What stands of a state after a fault: all but what the next disconnection forgets, received and
+-- the bytes that wait.
 pub record IsLeft (state new : Subscribed) : Type 0 where
   pub tables : new.tables ≡ state.tables
   pub progress : progress_of new ≡ progress_of state
   pub settings : KeepsSettings state new
   pub replies : new.replies ≡ state.replies
 
--- What the subscriber is behind what was handled: exactly this state where no fault is answered, all but what waits of a frame and
--- CopyDone; closed behind a fault.
+-- What the subscriber is behind what was handled: exactly this state where no fault is answered,
+-- all but what waits of a frame and CopyDone; closed behind a fault.
 abbrev pub IsLeftBy : Option Fault → Subscribed → Subscribed → Type 0
 IsLeftBy None state new = new ≡ record state { partial = new.partial; copy_done = new.copy_done }
 IsLeftBy (Some f) state new = new.closed ≡ true
 
--- What following these sessions of a history leaves, beyond what is safe: exactly the state in which the handled messages leave it, and a
--- reason why no more of them was handled.
-pub record IsFollowed (now : ℤ) (history : List Transaction) (sessions : List (List ℕ)) (all_complete : List (List Sent)) (old new : Subscribed) (answered : Option Fault) : Type 0 where
+-- What following these sessions of a history leaves, beyond what is safe: exactly the state in
+-- which the handled messages leave it, and a reason why no more of them was handled.
+pub record IsFollowed (now : ℤ) (history : List Transaction) (sessions : List (List ℕ)) (all_complete : List (List Sent))
+    (old new : Subscribed) (answered : Option Fault) : Type 0 where
   pub safely : IsFollowedSafely history all_complete old new
   pub state : Subscribed
   -- it is the state in which these messages leave it, one after the other

@@ -1,6 +1,6 @@
--- Part of the statement.
--- PostgreSQL documentation, Streaming Replication Protocol and Logical Replication, Architecture: what holds of a subscriber that has
--- followed the sessions of a history, whatever is answered: its rows, its position, what it confirms and what it has received.
+-- Part of the statement. PostgreSQL documentation, Streaming Replication Protocol and Logical
+-- Replication, Architecture: what holds of a subscriber that has followed the sessions of a
+-- history, whatever is answered: its rows, its position, what it confirms and what it has received.
 use Rattle.std.specs.Prelude.{◌≡◌, ◌≤◌, ◌++◌, ℕ, List, [], ◌∷◌}
 use Rattle.pgsub_core.specs.Server.History.{Transaction, IsHistory}
 use Rattle.pgsub_core.specs.Server.Stream.{Sent}
@@ -9,9 +9,11 @@ use Rattle.pgsub_core.specs.Subscriber.Safe.{NothingBetween}
 use Rattle.pgsub_core.specs.Subscriber.Confirming.{AreSafeReplies}
 use Rattle.pgsub_core.specs.Subscriber.Subscribed.{Subscribed, progress_of, IsSafeFor}
 
--- These sessions of this history come, these messages are complete in them, and the rows are the history's before. They start at
--- most at a place that is confirmed, or above it where nothing that changes rows lies between. Each may end with something foreign.
-pub record IsSent (history : List Transaction) (old : Subscribed) (sessions : List (List ℕ)) (all_complete : List (List Sent)) : Type 0 where
+-- These sessions of this history come, these messages are complete in them, and the rows are the
+-- history's before. They start at most at a place that is confirmed, or above it where nothing that
+-- changes rows lies between. Each may end with something foreign.
+pub record IsSent (history : List Transaction) (old : Subscribed) (sessions : List (List ℕ))
+    (all_complete : List (List Sent)) : Type 0 where
   pub is_history : IsHistory history
   pub safe : IsSafeFor history old
   pub start : ℕ
@@ -32,8 +34,9 @@ pub record KeepsSettings (old new : Subscribed) : Type 0 where
   pub max_frame : new.max_frame ≡ old.max_frame
   pub limit : new.limit ≡ old.limit
 
--- Of the messages that are complete in the sessions some were handled: whole sessions, and a front of one. It has the rows of the
--- history up to its position, and has reached what the handled messages reach.
+-- Of the messages that are complete in the sessions some were handled: whole sessions, and a front
+-- of one. It has the rows of the history up to its position, and has reached what the handled
+-- messages reach.
 pub record IsFollowedSafely (history : List Transaction) (all_complete : List (List Sent)) (old new : Subscribed) : Type 0 where
   pub handled : List (List Sent)
   pub front : IsHandled handled all_complete

@@ -1,5 +1,5 @@
--- Part of the statement.
--- PostgreSQL documentation, Streaming Replication Protocol: what a subscriber is, as its contracts see it.
+-- Part of the statement. PostgreSQL documentation, Streaming Replication Protocol: what a
+-- subscriber is, as its contracts see it.
 use Rattle.std.specs.Prelude.{◌++◌, [], ℕ, ℤ, List, Bool, false, map as mapped}
 use Rattle.std.specs.List.{flat_map}
 use Rattle.std.specs.FinMap as map
@@ -16,9 +16,10 @@ use Rattle.pgsub_core.specs.Machine.Replica.{Replica, RelationCache}
 use Rattle.pgsub_core.specs.Machine.ApplyState.{ApplyState}
 use Rattle.pgsub_core.specs.Subscriber.Safe.{IsSafe}
 
--- The store's tables and position; what is confirmed and received; the version, the longest payload and the most that may be
--- held; whether a fault has closed it; of this session the order of messages, what is held of open transactions, the relation
--- cache, the bytes of a frame that isn't whole yet, and whether CopyDone has come; and the bytes that wait to be sent.
+-- The store's tables and position; what is confirmed and received; the version, the longest payload
+-- and the most that may be held; whether a fault has closed it; of this session the order of
+-- messages, what is held of open transactions, the relation cache, the bytes of a frame that isn't
+-- whole yet, and whether CopyDone has come; and the bytes that wait to be sent.
 pub record Subscribed : Type 0 where
   pub tables : Tables
   pub position : ℕ
@@ -48,7 +49,8 @@ apply_state_of s = record { order = s.order; held = s.held; replica = replica_of
 abbrev pub IsSafeFor : List Transaction → Subscribed → Type 0
 IsSafeFor history s = IsSafe history s.tables s.position s.confirmed
 
--- Over a store with these tables and this position: nothing more is confirmed or received, and no session has begun.
+-- Over a store with these tables and this position: nothing more is confirmed or received, and no
+-- session has begun.
 abbrev pub newly : Tables → ℕ → Version → ℕ → ℕ → Subscribed
 newly tables position version max_frame limit = record {
   tables = tables;
@@ -67,8 +69,8 @@ newly tables position version max_frame limit = record {
   replies = [];
 }
 
--- A disconnection forgets the partial frame, the order of messages, the relation cache, all that is held and the bytes that wait
--- to be sent. Received becomes what is confirmed.
+-- A disconnection forgets the partial frame, the order of messages, the relation cache, all that is
+-- held and the bytes that wait to be sent. Received becomes what is confirmed.
 abbrev pub disconnect : Subscribed → Subscribed
 disconnect s = record s {
   received = s.confirmed;

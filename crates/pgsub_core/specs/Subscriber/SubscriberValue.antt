@@ -15,16 +15,20 @@ pub record SubscriberValue (C : Type 0) : Type 0 where
 
 abbrev pub framing_code : Coded Framing
 framing_code = code_by (ℕ × (Bool × (List ℕ × Bool))) (coded× coded_ℕ (coded× coded_bool (coded× (coded_list coded_ℕ) coded_bool)))
-    (λ f. (f.max_frame, (f.closed, (f.partial, f.copy_done)))) (λ p. record { max_frame = p.0; closed = p.1.0; partial = p.1.1.0; copy_done = p.1.1.1 }) (λ _. refl)
+    (λ f. (f.max_frame, (f.closed, (f.partial, f.copy_done))))
+    (λ p. record { max_frame = p.0; closed = p.1.0; partial = p.1.1.0; copy_done = p.1.1.1 }) (λ _. refl)
 
 abbrev pub subscriber_code : {C : Type 0} → Coded C → Coded (SubscriberValue C)
-subscriber_code {C} store = code_by (Applied C × Framing) (coded× (applied_code store) framing_code) (λ s. (s.applied, s.framing)) (λ p. record { applied = p.0; framing = p.1 }) (λ _. refl)
+subscriber_code {C} store =
+    code_by (Applied C × Framing) (coded× (applied_code store) framing_code) (λ s. (s.applied, s.framing))
+    (λ p. record { applied = p.0; framing = p.1 }) (λ _. refl)
 
 -- with these tables in its store
 abbrev pub seen : {C : Type 0} → (C → ℕ) → SubscriberValue C → Tables → Subscribed
 seen place s tables = subscribed place s.framing s.applied tables
 
--- While nothing has closed it, less than a frame is held, and items of the transactions that are under way.
+-- While nothing has closed it, less than a frame is held, and items of the transactions that are
+-- under way.
 pub record IsReady {C : Type 0} (d : Deframed) (a : Applied C) : Type 0 where
   pub waits : Waits d
   pub sound : d.fault ≡ None
@@ -33,9 +37,11 @@ pub record IsReady {C : Type 0} (d : Deframed) (a : Applied C) : Type 0 where
 -- whatever tables the store held, it holds others, with which the piece was fed
 abbrev pub Feeds : {C : Type 0} → (C → Tables → Type 0) → (C → ℕ) → ℤ → SubscriberValue C → List ℕ → SubscriberValue C → Type 0
 Feeds holds place now old piece new =
-    (tables : Tables) → holds old.applied.store tables → (tables' : Tables) × holds new.applied.store tables' × IsFed now (seen place old tables) piece (seen place new tables') None
+    (tables : Tables) → holds old.applied.store tables
+    → (tables' : Tables) × holds new.applied.store tables' × IsFed now (seen place old tables) piece (seen place new tables') None
 
 -- it was fed up to the first fault, or is closed by an earlier one
 abbrev pub FeedsUntil : {C : Type 0} → (C → Tables → Type 0) → (C → ℕ) → ℤ → SubscriberValue C → List ℕ → SubscriberValue C → Fault → Type 0
 FeedsUntil holds place now old piece new f =
-    (tables : Tables) → holds old.applied.store tables → (tables' : Tables) × holds new.applied.store tables' × IsFed now (seen place old tables) piece (seen place new tables') (Some f)
+    (tables : Tables) → holds old.applied.store tables
+    → (tables' : Tables) × holds new.applied.store tables' × IsFed now (seen place old tables) piece (seen place new tables') (Some f)

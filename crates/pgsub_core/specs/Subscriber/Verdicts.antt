@@ -16,7 +16,8 @@ use Rattle.pgsub_core.specs.Subscriber.Handled.{IsFollowed}
 use Rattle.pgsub_core.specs.Subscriber.Following.{AreFed}
 use Rattle.pgsub_core.specs.Subscriber.Subscribed.{Subscribed, IsSafeFor}
 
--- of two positions and the rows at them: positions that differ, or equal ones with the same rows or with rows that differ
+-- of two positions and the rows at them: positions that differ, or equal ones with the same rows or
+-- with rows that differ
 abbrev pub IsVerdictOf : ℕ → ℕ → List DumpRow → List DumpRow → Verdict → Type 0
 IsVerdictOf left right rows others (Same p) = (left ≡ p) × (right ≡ p) × (rows ≡ others)
 IsVerdictOf left right rows others (Positions p q) = (left ≡ p) × (right ≡ q) × (p ≢ q)
@@ -33,12 +34,14 @@ pub record SideIsFollowed (now : ℤ) (sessions : List (List ℕ)) (old new : Su
       (history : List Transaction) (all_complete : List (List Sent)) → IsSent history old sessions all_complete
       → IsFollowed now history sessions all_complete old new answered
 
--- The comparison ends with this fault of a side: of following its sessions, or of reading its rows once all of them were followed.
+-- The comparison ends with this fault of a side: of following its sessions, or of reading its rows
+-- once all of them were followed.
 abbrev pub SideFails : ℤ → List (List ℕ) → Subscribed → Subscribed → Fault → Type 0
 SideFails now sessions old new f = SideIsFollowed now sessions old new (Some f) ⊎ (IsReadFault f × SideIsFollowed now sessions old new None)
 
--- What each side is where the comparison ends with this fault of this side. The left one's sessions are followed and its rows read,
--- and then the right one's, which isn't touched after a fault of the left.
+-- What each side is where the comparison ends with this fault of this side. The left one's sessions
+-- are followed and its rows read, and then the right one's, which isn't touched after a fault of
+-- the left.
 abbrev pub LeftIsFollowed : ℤ → List (List ℕ) → Subscribed → Subscribed → Option (Side × Fault) → Type 0
 LeftIsFollowed now sessions old new None = SideIsFollowed now sessions old new None
 LeftIsFollowed now sessions old new (Some (Left, f)) = SideFails now sessions old new f
@@ -56,5 +59,6 @@ VerdictsAreOne = (left right : Subscribed) (v w : Verdict) → IsVerdict left ri
 -- Replicas of one history never differ in rows at one position.
 abbrev pub OneHistoryOneVerdict : Type 0
 OneHistoryOneVerdict =
-    (history : List Transaction) (left right : Subscribed) (v : Verdict) → IsSafeFor history left → IsSafeFor history right → IsVerdict left right v
+    (history : List Transaction) (left right : Subscribed) (v : Verdict) → IsSafeFor history left → IsSafeFor history right
+    → IsVerdict left right v
     → ((p : ℕ) → v ≢ Rows p) × (left.position ≡ right.position → v ≡ Same left.position)

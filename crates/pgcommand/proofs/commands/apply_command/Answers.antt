@@ -11,4 +11,5 @@ returns c =
     let five = with_arg _ _ _ _ _ four c.cache.ensures.rule c.cache.ensures.local c.in_ok-arg-5.ensures in
     let six = with_arg _ _ _ _ _ five c.max_buffered.ensures.rule c.max_buffered.ensures.local c.in_ok-arg-6.ensures in
     let seven = with_arg _ _ _ _ _ six c.max_frame.ensures.rule c.max_frame.ensures.local c.in_ok-command.ensures in
-    IfOk-weaker c.arg-8.result _ _ (λ r h. with_arg _ r _ _ _ (c.in_ok-with_feed.ensures _ seven) c.word.ensures.rule c.word.ensures.local h) c.arg-8.ensures
+    IfOk-weaker c.arg-8.result _ _
+    (λ r h. with_arg _ r _ _ _ (c.in_ok-with_feed.ensures _ seven) c.word.ensures.rule c.word.ensures.local h) c.arg-8.ensures

@@ -10,7 +10,8 @@ texts = option_map (λ s. s.now)
 pub returns-in_ok-feed_in-in-Some : goal.returns-in_ok-feed_in-in-Some
 unfolding texts
 returns-in_ok-feed_in-in-Some c =
-    c.in_ok-feed_in-in-Some.ensures (ap texts (sym c.in-Some.is) ∙ (c.get_str.ensures ∙ first_value-rows (found_of c.args.found.now) (codes "feed")))
+    c.in_ok-feed_in-in-Some.ensures
+    (ap texts (sym c.in-Some.is) ∙ (c.get_str.ensures ∙ first_value-rows (found_of c.args.found.now) (codes "feed")))
 
 pub returns-in-None : goal.returns-in-None
 unfolding texts

@@ -7,4 +7,5 @@ use Rattle.pgcommand.proofs.task.is_given.Goals as goal
 
 pub returns : goal.returns
 returns c =
-    c.is_some.ensures ∙ is_some_text c.get_str.result ∙ ap (λ (o : Option (List ℕ)). is_some o) (c.get_str.ensures ∙ first_value-rows (found_of c.args.found.now) c.args.name.now)
+    c.is_some.ensures ∙ is_some_text c.get_str.result
+    ∙ ap (λ (o : Option (List ℕ)). is_some o) (c.get_str.ensures ∙ first_value-rows (found_of c.args.found.now) c.args.name.now)

@@ -8,11 +8,13 @@ use Rattle.pgcommand.proofs.task.max_buffered_of.Goals as goal
 pub returns-in-Some : goal.returns-in-Some
 returns-in-Some c =
     let same = one_text-rows (found_of c.args.found.now) (codes "max-buffered") in
-    reads_up_to _ (λ bs r. ParsesUnsigned 64 10 bs r × ExplainsUnsignedError 10 bs r × HasUnsignedDigitsIfOk bs r) 64 18446744073709551615 _ c.get_one.result (omega arith) (λ u x g. g.0)
+    reads_up_to _ (λ bs r. ParsesUnsigned 64 10 bs r × ExplainsUnsignedError 10 bs r × HasUnsignedDigitsIfOk bs r) 64 18446744073709551615 _
+    c.get_one.result (omega arith) (λ u x g. g.0)
     (λ u e. c.get_one.ensures.value u (same ∙ e)) _ (λ m e small. some-inj (sym c.in-Some.is ∙ e))
 
 pub returns-in-None : goal.returns-in-None
 returns-in-None c =
     let same = one_text-rows (found_of c.args.found.now) (codes "max-buffered") in
-    reads_up_to _ (λ bs r. ParsesUnsigned 64 10 bs r × ExplainsUnsignedError 10 bs r × HasUnsignedDigitsIfOk bs r) 64 18446744073709551615 _ c.get_one.result (omega arith) (λ u x g. g.0)
+    reads_up_to _ (λ bs r. ParsesUnsigned 64 10 bs r × ExplainsUnsignedError 10 bs r × HasUnsignedDigitsIfOk bs r) 64 18446744073709551615 _
+    c.get_one.result (omega arith) (λ u x g. g.0)
     (λ u e. c.get_one.ensures.value u (same ∙ e)) _ (λ m e small. absurd (none≢some (sym c.in-None.is ∙ e)))

@@ -9,6 +9,8 @@ use Rattle.pgcommand.proofs.task.segment_bytes_of.Goals as goal
 pub returns : goal.returns
 returns c =
     let same = one_text-rows (found_of c.args.found.now) (codes "feed-segment-bytes") in
-    subst (ReadsOr 67108864 18446744073709551615 (one_of (codes "feed-segment-bytes") (rows_of (found_of c.args.found.now)))) (sym c.unwrap_or.ensures)
-    (reads_or _ (λ bs r. ParsesUnsigned 64 10 bs r × ExplainsUnsignedError 10 bs r × HasUnsignedDigitsIfOk bs r) 64 18446744073709551615 67108864 _ c.get_one.result (omega arith) (λ u x g. g.0)
+    subst (ReadsOr 67108864 18446744073709551615 (one_of (codes "feed-segment-bytes") (rows_of (found_of c.args.found.now))))
+    (sym c.unwrap_or.ensures)
+    (reads_or _ (λ bs r. ParsesUnsigned 64 10 bs r × ExplainsUnsignedError 10 bs r × HasUnsignedDigitsIfOk bs r) 64 18446744073709551615
+    67108864 _ c.get_one.result (omega arith) (λ u x g. g.0)
     (λ e. c.get_one.ensures.none (same ∙ e)) (λ u e. c.get_one.ensures.value u (same ∙ e)))

@@ -10,5 +10,6 @@ pub returns : goal.returns
 returns c =
     let same = one_text-rows (found_of c.args.found.now) (codes "feed-segment-seconds") in
     subst (ReadsOr 0 4294967295 (one_of (codes "feed-segment-seconds") (rows_of (found_of c.args.found.now)))) (sym c.unwrap_or.ensures)
-    (reads_or _ (λ bs r. ParsesUnsigned 32 10 bs r × ExplainsUnsignedError 10 bs r × HasUnsignedDigitsIfOk bs r) 32 4294967295 0 _ c.get_one.result (omega arith) (λ u x g. g.0)
+    (reads_or _ (λ bs r. ParsesUnsigned 32 10 bs r × ExplainsUnsignedError 10 bs r × HasUnsignedDigitsIfOk bs r) 32 4294967295 0 _
+    c.get_one.result (omega arith) (λ u x g. g.0)
     (λ e. c.get_one.ensures.none (same ∙ e)) (λ u e. c.get_one.ensures.value u (same ∙ e)))

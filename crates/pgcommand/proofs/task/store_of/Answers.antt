@@ -10,7 +10,8 @@ texts = option_map (λ s. s.now)
 pub returns-in_ok-from_str-in-Some : goal.returns-in_ok-from_str-in-Some
 unfolding texts
 returns-in_ok-from_str-in-Some c =
-    ap Some c.in_ok-from_str-in-Some.ensures.ok ∙ (ap texts (sym c.in-Some.is) ∙ (c.get_str.ensures ∙ first_value-rows (found_of c.args.found.now) (codes "store")))
+    ap Some c.in_ok-from_str-in-Some.ensures.ok
+    ∙ (ap texts (sym c.in-Some.is) ∙ (c.get_str.ensures ∙ first_value-rows (found_of c.args.found.now) (codes "store")))
 
 pub returns-in-None : goal.returns-in-None
 unfolding texts

@@ -1,6 +1,12 @@
 use Rattle.std.proofs.Common.{rules}
 use Rattle.pgcommand.proofs.task.task_of.Goals as goal
-use Rattle.pgcommand.proofs.task.task_of.Goals.{in-show+in_ok-file-in-show, in-apply+in_ok-task-in-apply, in-dump+in_ok-store-in-dump, in-follow+in_ok-task-in-follow, in-same+in_ok-left-in-same+in_ok-right-in-same, in-resume+in_ok-value_of-in-resume, in-lsn+in_ok-value_of-in-lsn}
+use Rattle.pgcommand.proofs.task.task_of.Goals.{in-show+in_ok-file-in-show}
+use Rattle.pgcommand.proofs.task.task_of.Goals.{in-apply+in_ok-task-in-apply}
+use Rattle.pgcommand.proofs.task.task_of.Goals.{in-dump+in_ok-store-in-dump}
+use Rattle.pgcommand.proofs.task.task_of.Goals.{in-follow+in_ok-task-in-follow}
+use Rattle.pgcommand.proofs.task.task_of.Goals.{in-same+in_ok-left-in-same+in_ok-right-in-same}
+use Rattle.pgcommand.proofs.task.task_of.Goals.{in-resume+in_ok-value_of-in-resume}
+use Rattle.pgcommand.proofs.task.task_of.Goals.{in-lsn+in_ok-value_of-in-lsn}
 
 pub returns : goal.returns
 returns c =

@@ -2,7 +2,8 @@ use Rattle.std.proofs.Common.{[], ◌∷◌}
 use Rattle.pglogical.specs.declared.message.RelationDef.{RelationDef}
 use Rattle.pgapply.specs.Value.{Rows}
 use Rattle.pgledger.specs.declared.image.Image.{Image}
-use Rattle.pgledger.specs.declared.image.Image.TheVariants.{Inserted, Updated, Deleted, Truncated, Missed}
+use Rattle.pgledger.specs.declared.image.Image.TheVariants.{Inserted, Updated, Deleted, Truncated}
+use Rattle.pgledger.specs.declared.image.Image.TheVariants.{Missed}
 use Rattle.pgledger.specs.Images.{Leads}
 use Rattle.pgfeed.specs.Whole.{LinesTellWholeRows, TellsWhole}
 use Rattle.pgfeed.proofs.laws.lines_tell_whole_rows.Goals as goal
@@ -16,7 +17,8 @@ whole def (Missed old new) rows next leads = tt
 
 all_whole : LinesTellWholeRows
 all_whole tables next [] lead = tt
-all_whole tables next (line ∷ ls) lead = (whole line.definition line.image lead.1.found lead.1.after lead.1.leads, all_whole lead.0 next ls lead.2)
+all_whole tables next (line ∷ ls) lead =
+    (whole line.definition line.image lead.1.found lead.1.after lead.1.leads, all_whole lead.0 next ls lead.2)
 
 pub returns : goal.returns
 returns c = all_whole

@@ -1,4 +1,5 @@
-use Rattle.std.proofs.Common.{◌≡◌, ◌≤◌, ◌+◌, ◌-◌, ℕ, List, [], ◌∷◌, drop, take, length, refl, ap, sym, ◌∙◌, subst, rules, arith, false, is_lt, nat_cmp}
+use Rattle.std.proofs.Common.{◌≡◌, ◌≤◌, ◌+◌, ◌-◌, ℕ, List, [], ◌∷◌, drop, take, length, refl, ap}
+use Rattle.std.proofs.Common.{sym, ◌∙◌, subst, rules, arith, false, is_lt, nat_cmp}
 use Rattle.pgfeed.specs.declared.mark.Mark.{Mark}
 use Rattle.pgfeed.specs.Reading.{BeginsWith, Walks}
 use Rattle.pgfeed.specs.Cutting.Files.{drop_drop}
@@ -8,7 +9,8 @@ sized : (at place a b : ℕ) (marks : List Mark) (text : List ℕ) → a ≡ b �
 sized at place a b marks text e walk = subst (λ n. Walks at marks text place n) e walk
 
 -- a commit more before the walk
-one_more : (at place offset rest : ℕ) (mark : Mark) (marks : List Mark) (file : List ℕ) → BeginsWith at mark (drop offset file) → Walks mark.end marks (drop (offset + (256 + mark.bytes)) file) place rest
+one_more : (at place offset rest : ℕ) (mark : Mark) (marks : List Mark) (file : List ℕ) → BeginsWith at mark (drop offset file)
+    → Walks mark.end marks (drop (offset + (256 + mark.bytes)) file) place rest
     → Walks at (mark ∷ marks) (drop offset file) place (256 + mark.bytes + rest)
 one_more at place offset rest mark marks file begins walk =
     (begins, (rest, refl, subst (λ text. Walks mark.end marks text place rest) (sym (drop_drop offset (256 + mark.bytes) file)) walk))
@@ -46,8 +48,11 @@ commits-preserved g c =
           let before = c.next_mark.ensures.clean clean in
           let first = c.test_head.ensures.clean (kept.clean before) in
           let long : c.in-Ok.len ≡ length (g.D.Disk.seen c.commits.disk) = c.in-Ok.ensures.len first ∙ ap length (sym kept.seen_is) in
-          let begins : BeginsWith c.commits.at mark (drop c.commits.offset file) = subst (λ bytes. BeginsWith c.commits.at mark (drop c.commits.offset bytes)) kept.seen_is (c.in_ok-mark.ensures.mark clean long) in
-          let all = kept.walk before (mark ∷ marks) place (256 + mark.bytes + rest) (one_more c.commits.at place c.commits.offset rest mark marks file begins walk) in
+          let begins : BeginsWith c.commits.at mark (drop c.commits.offset file) =
+          subst (λ bytes. BeginsWith c.commits.at mark (drop c.commits.offset bytes)) kept.seen_is
+          (c.in_ok-mark.ensures.mark clean long) in
+          let all = kept.walk before (mark ∷ marks) place (256 + mark.bytes + rest)
+          (one_more c.commits.at place c.commits.offset rest mark marks file begins walk) in
           (all.0, sized _ _ _ _ all.0 _ (omega arith) all.1);
     }
 

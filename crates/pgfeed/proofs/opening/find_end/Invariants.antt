@@ -14,7 +14,8 @@ invariant-commits g l =
       within : l.offset ≤ l.len;
       behind_head : 1024 ≤ l.offset;
       below : l.at ≤ l.position;
-      walk : IsTrue (g.D.Disk.is_clean l.disk) → (marks : List Mark) (place rest : ℕ) → Walks l.at marks (drop l.offset (seen l.fn.disk)) place rest
+      walk : IsTrue (g.D.Disk.is_clean l.disk) → (marks : List Mark) (place rest : ℕ)
+          → Walks l.at marks (drop l.offset (seen l.fn.disk)) place rest
           → (all : List Mark) × Walks l.fn.base all (drop 1024 (seen l.fn.disk)) place (l.offset - 1024 + rest);
     }
 

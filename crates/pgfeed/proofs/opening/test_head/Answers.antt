@@ -1,4 +1,5 @@
-use Rattle.std.proofs.Common.{◌≡◌, ◌++◌, ℕ, List, drop, take, length, refl, ap, sym, ◌∙◌, true, arith}
+use Rattle.std.proofs.Common.{◌≡◌, ◌++◌, ℕ, List, drop, take, length, refl, ap, sym, ◌∙◌, true}
+use Rattle.std.proofs.Common.{arith}
 use Rattle.std.proofs.lemmas.Slice.Eq.{starts_is}
 use Rattle.std.specs.Cmp.{unsigned_Decides}
 use Rattle.sqlite_disk.specs.Disk.{Holds}
@@ -15,5 +16,6 @@ returns-then-starts_with-clause-head g c = λ clean.
     let read : take 1024 file ≡ head = ap (λ n. take n file) (sym size) ∙ holds_at file 0 head holds in
     let is : c.as_bytes.result.now ≡ segment_front c.args.base = c.as_bytes.ensures.value ∙ c.in_ok-front.ensures in
     let rest : List ℕ = drop (length c.as_bytes.result.now) head in
-    let begins : head ≡ c.as_bytes.result.now ++ rest = (starts_is unsigned_Decides head c.as_bytes.result.now true c.if-starts_with.ensures.value).0 refl in
+    let begins : head ≡ c.as_bytes.result.now ++ rest =
+    (starts_is unsigned_Decides head c.as_bytes.result.now true c.if-starts_with.ensures.value).0 refl in
     (rest, read ∙ begins ∙ ap (λ xs. xs ++ rest) is)

@@ -9,4 +9,5 @@ same_head base a b p q x y system database slot =
 
 pub returns-in-Ok-clause-told : goal.returns-in-Ok-clause-told
 returns-in-Ok-clause-told g c =
-    c.in-Ok.ensures.told ∙ same_head c.args.base _ _ _ _ _ _ c.as_str-system.ensures.value c.as_str-database.ensures.value c.as_str.ensures.value
+    c.in-Ok.ensures.told ∙ same_head c.args.base _ _ _ _ _ _ c.as_str-system.ensures.value c.as_str-database.ensures.value
+    c.as_str.ensures.value

@@ -6,4 +6,5 @@ use Rattle.pgfeed.proofs.tables.is_told.Given as goal
 
 abbrev pub invariant-loop-other : goal.invariant-loop-other
 invariant-loop-other l =
-    is_told (reverse (map (λ other. other.now) (iter_rest (rev_source l.other-iterator)))) l.def ≡ is_told (reverse (map (λ other. other.now) l.told)) l.def
+    is_told (reverse (map (λ other. other.now) (iter_rest (rev_source l.other-iterator)))) l.def
+    ≡ is_told (reverse (map (λ other. other.now) l.told)) l.def

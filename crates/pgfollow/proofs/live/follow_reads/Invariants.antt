@@ -6,9 +6,11 @@ abbrev pub invariant-loop-link : goal.invariant-loop-link
 invariant-loop-link g l =
     (l.link.read_failed ≡ false) × (l.link.write_failed ≡ false) × (length l.room ≡ 65536) × (l.subscriber.framing.closed ≡ false)
     × (g.C.ReplicaStore.is_honest l.subscriber.applied.store → g.C.ReplicaStore.is_honest l.fn.subscriber.applied.store)
-    × (g.C.ReplicaStore.is_honest l.subscriber.applied.store → g.C.ReplicaStore.serves l.fn.subscriber.applied.store → g.C.ReplicaStore.serves l.subscriber.applied.store)
     × (g.C.ReplicaStore.is_honest l.subscriber.applied.store → g.C.ReplicaStore.serves l.fn.subscriber.applied.store
-    → LiveSteps g.C.ReplicaStore.holds g.C.ReplicaStore.place g.C.ReplicaStore.reopens g.C.ReplicaStore.serves g.C.ReplicaStore.missed (g.R.Read.remaining l.fn.link.reader) (g.R.Read.remaining l.link.reader) []
+    → g.C.ReplicaStore.serves l.subscriber.applied.store)
+    × (g.C.ReplicaStore.is_honest l.subscriber.applied.store → g.C.ReplicaStore.serves l.fn.subscriber.applied.store
+    → LiveSteps g.C.ReplicaStore.holds g.C.ReplicaStore.place g.C.ReplicaStore.reopens g.C.ReplicaStore.serves g.C.ReplicaStore.missed
+    (g.R.Read.remaining l.fn.link.reader) (g.R.Read.remaining l.link.reader) []
     (g.W.Write.contents l.fn.link.writer) (g.W.Write.contents l.link.writer) l.fn.subscriber l.subscriber)
 
 abbrev pub decreases-loop-link : goal.decreases-loop-link

@@ -7,7 +7,8 @@ use Rattle.pglogical.proofs.encoding.columns_len.Goals as goal
 
 pub loop-column-preserved : goal.loop-column-preserved
 loop-column-preserved c =
-    let one = ap (λ l. length (flat_map column_spelling l)) c.in-Some.ensures.steps ∙ length-first_column (column_value c.in-Some.column) c.next.new.self in
+    let one = ap (λ l. length (flat_map column_spelling l)) c.in-Some.ensures.steps
+    ∙ length-first_column (column_value c.in-Some.column) c.next.new.self in
     (omega arith, omega (arith, one, c.loop-column.invariant.0, c.loop-column.invariant.1))
 
 pub returns : goal.returns

@@ -1,7 +1,8 @@
 use Rattle.std.proofs.Common.{length, None, ap, ◌∙◌, sym, arith}
 use Rattle.pglogical.specs.LentItems.{item_value}
 use Rattle.pglogical.specs.Spelling.{item_spelling}
-use Rattle.pglogical.proofs.SpelledLengths.{length-insert, length-update, length-delete, length-truncate}
+use Rattle.pglogical.proofs.SpelledLengths.{length-insert, length-update, length-delete}
+use Rattle.pglogical.proofs.SpelledLengths.{length-truncate}
 use Rattle.pglogical.proofs.encoding.spelled_len.Goals as goal
 
 pub returns-in-Insert : goal.returns-in-Insert

@@ -30,5 +30,13 @@ returns c =
     let high : c.from.result ≡ digits_value 16 c.in-Some.high.now = c.from.ensures ∙ c.in_ok-high.ensures.1 in
     let low : c.from-2.result ≡ digits_value 16 c.in-Some.low.now = c.from-2.ensures ∙ c.in_ok-low.ensures.1 in
     let fits = part_fits c.in-Some.high.now c.in_ok-high.ensures.0 in
-    let value = joined c.from.result c.from-2.result (omega (arith, high, fits)) ∙ ap (λ n. n * 2 ^ 32 + c.from-2.result) high ∙ ap (λ n. digits_value 16 c.in-Some.high.now * 2 ^ 32 + n) low in
-    record { high = c.in-Some.high.now; low = c.in-Some.low.now; whole = s.0; high_part = c.in_ok-high.ensures.0; low_part = c.in_ok-low.ensures.0; value = value }
+    let value = joined c.from.result c.from-2.result (omega (arith, high, fits)) ∙ ap (λ n. n * 2 ^ 32 + c.from-2.result) high
+    ∙ ap (λ n. digits_value 16 c.in-Some.high.now * 2 ^ 32 + n) low in
+    record {
+      high = c.in-Some.high.now;
+      low = c.in-Some.low.now;
+      whole = s.0;
+      high_part = c.in_ok-high.ensures.0;
+      low_part = c.in_ok-low.ensures.0;
+      value = value;
+    }

@@ -38,9 +38,11 @@ returns-then-not-list_a_store g c =
             let late : IsTrue (state_of now).is_clean = (pool_files now.pool).1 ∙ sym (ap (λ f. are_clean g.D.Disk f.0 f.1) back) ∙ clean in
             let early = sym ((pool_files fresh.pool).1 ∙ ap (λ f. are_clean g.D.Disk f.0 f.1) made.files) ∙ read.honest late in
             let catalog = read.ok late in
-            let seen : image fresh ≡ content = ap (λ f. seen_image g.D.Disk f.0 f.1) made.files ∙ same_image c.plain_size.ensures.log c.plain_size.ensures.db in
+            let seen : image fresh ≡ content =
+            ap (λ f. seen_image g.D.Disk f.0 f.1) made.files ∙ same_image c.plain_size.ensures.log c.plain_size.ensures.db in
             let after : image now ≡ image_of g.D.Disk c.close.result = ap (λ f. seen_image g.D.Disk f.0 f.1) (sym back) in
-            still page content (c.in-Some.ensures.pages early) catalog.pages (subst₂ (λ n i. Recovers n i catalog.pages) made.size seen catalog.found)
+            still page content (c.in-Some.ensures.pages early) catalog.pages
+            (subst₂ (λ n i. Recovers n i catalog.pages) made.size seen catalog.found)
             (image_of g.D.Disk c.close.result) (subst₂ (λ n i. Recovers n i catalog.pages) made.size after catalog.again);
       };
     }
@@ -60,16 +62,20 @@ returns-in-Ok-open_numbered g c = record {
       let late = it.honest now in
       let early = sym ((pool_files fresh.pool).1 ∙ ap (λ f. are_clean g.D.Disk f.0 f.1) made.files) ∙ read.honest late in
       let catalog = read.ok late in
-      let seen : image fresh ≡ content = ap (λ f. seen_image g.D.Disk f.0 f.1) made.files ∙ same_image c.plain_size.ensures.log c.plain_size.ensures.db in
+      let seen : image fresh ≡ content =
+      ap (λ f. seen_image g.D.Disk f.0 f.1) made.files ∙ same_image c.plain_size.ensures.log c.plain_size.ensures.db in
       let middle : (state_of mid).page_size ≡ bytes_of page = (read.kept late).size ∙ made.size in
       let size : (state store).page_size ≡ bytes_of page = (it.kept now).size ∙ middle in
       let again = subst (λ n. Recovers n (image mid) catalog.pages) made.size catalog.again in
       let pages : (state store).committed ≡ catalog.pages =
-      recovers_once (bytes_of page) (image mid) (state store).committed catalog.pages (subst (λ n. Recovers n (image mid) (state store).committed) middle (it.found now)) again in
+      recovers_once (bytes_of page) (image mid) (state store).committed catalog.pages
+      (subst (λ n. Recovers n (image mid) (state store).committed) middle (it.found now)) again in
       let wanted = kept_schema store.saved store.schema.items in
       let is_open = it.ready.is_open clean in
-      opened page content (c.in-Some.ensures.pages early) catalog.pages (subst₂ (λ n i. Recovers n i catalog.pages) made.size seen catalog.found) (view store) wanted
+      opened page content (c.in-Some.ensures.pages early) catalog.pages
+      (subst₂ (λ n i. Recovers n i catalog.pages) made.size seen catalog.found) (view store) wanted
       (record { sound = it.ready.sound clean; numbered = it.numbered; clean = it.ready.clean; unmarked = it.ready.unmarked })
       (∥∥₁_map (store.stored is_open) (λ s. subst₃ (λ n b p. IsOurs n b wanted p) size it.numbered pages s.ours))
-      (it.ready.clean ∙ cond-true _ (file_trees (state store).page_size wanted (state store).committed) no_trees now ∙ ap₂ (λ n p. file_trees n wanted p) size pages);
+      (it.ready.clean ∙ cond-true _ (file_trees (state store).page_size wanted (state store).committed) no_trees now
+      ∙ ap₂ (λ n p. file_trees n wanted p) size pages);
 }

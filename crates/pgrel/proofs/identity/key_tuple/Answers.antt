@@ -10,5 +10,7 @@ from_vec-requires c =
     let columns = c.args.columns.now in
     let all : length columns ≡ c.loop-column.column-index = omega (arith, c.loop-column-test.false, c.loop-column.auto.column-index-end) in
     let items : c.loop-column.key.items ≡ key_cells columns c.args.row.now =
-    sym (append-nil c.loop-column.key.items) ∙ ap (λ cs. c.loop-column.key.items ++ key_cells cs c.loop-column.cells) (sym (drop_all columns c.loop-column.column-index all)) ∙ c.loop-column.invariant in
+    sym (append-nil c.loop-column.key.items)
+    ∙ ap (λ cs. c.loop-column.key.items ++ key_cells cs c.loop-column.cells) (sym (drop_all columns c.loop-column.column-index all))
+    ∙ c.loop-column.invariant in
     subst IsTuple (sym items) (key_is_tuple columns c.args.row.now c.width-width.ensures.limits)

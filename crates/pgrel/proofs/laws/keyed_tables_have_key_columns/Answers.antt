@@ -1,4 +1,5 @@
-use Rattle.pgrel.proofs.Keys.{keyed_means, full_never_keyed, key_count, bag_identity, identity_bound}
+use Rattle.pgrel.proofs.Keys.{keyed_means, full_never_keyed, key_count, bag_identity}
+use Rattle.pgrel.proofs.Keys.{identity_bound}
 use Rattle.pgrel.proofs.laws.keyed_tables_have_key_columns.Goals as goal
 
 pub returns : goal.returns

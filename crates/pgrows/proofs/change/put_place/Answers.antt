@@ -21,7 +21,8 @@ returns-clause-made g c clean =
     on_ok_weaker c.put.result (λ done.
     let sets = done clean in
     let up = open_of (g.S.Store.view store) (g.met.S.Store.broken_if_shut store) sets.sound in
-    let it = placed_by c.args.position.now (g.S.Store.view store) (g.S.Store.view c.put.new.self) c.write_place.new.row c.in_ok-write_place.ensures (c.requires was up).good sets in
+    let it = placed_by c.args.position.now (g.S.Store.view store) (g.S.Store.view c.put.new.self) c.write_place.new.row
+    c.in_ok-write_place.ensures (c.requires was up).good sets in
     record { was_open = up; is_open = ap (λ (v : View). v.is_open) sets.is ∙ up; made = it.1 }) c.put.ensures.ok
 
 pub returns-clause-rows : goal.returns-clause-rows
@@ -32,5 +33,9 @@ returns-clause-rows g c =
     let sets = done clean in
     let up = open_of (g.S.Store.view store) (g.met.S.Store.broken_if_shut store) sets.sound in
     let under = c.requires was up in
-    let it = placed_by c.args.position.now (g.S.Store.view store) (g.S.Store.view c.put.new.self) c.write_place.new.row c.in_ok-write_place.ensures under.good sets in
-    wrote_under _ _ c.args._last (frame clean) under.good under.behind it.0 (low_still c.args._last (g.S.Store.view store).committed ((g.S.Store.view store).trees 1) ((g.S.Store.view c.put.new.self).trees 1) (rows_stay (g.S.Store.view store) (g.S.Store.view c.put.new.self) c.write_place.new.row sets) under.below)) c.put.ensures.ok c.put.ensures.frame
+    let it = placed_by c.args.position.now (g.S.Store.view store) (g.S.Store.view c.put.new.self) c.write_place.new.row
+    c.in_ok-write_place.ensures under.good sets in
+    wrote_under _ _ c.args._last (frame clean) under.good under.behind it.0
+    (low_still c.args._last (g.S.Store.view store).committed ((g.S.Store.view store).trees 1) ((g.S.Store.view c.put.new.self).trees 1)
+    (rows_stay (g.S.Store.view store) (g.S.Store.view c.put.new.self) c.write_place.new.row sets) under.below)) c.put.ensures.ok
+    c.put.ensures.frame

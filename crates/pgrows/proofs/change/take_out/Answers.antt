@@ -15,7 +15,8 @@ pub delete-requires : goal.delete-requires
 delete-requires g c clean =
     let store = c.args.store.now in
     let good = c.requires.good (omega (arith, c.remove.ensures.quiet.clean)) in
-    ap (λ (v : View). v.shape 1) (c.in_ok-remove.ensures.frame clean) ∙ table_shape good (g.met.S.Alter.listed store good.unbroken) (g.met.S.Store.ordered store good.unbroken)
+    ap (λ (v : View). v.shape 1) (c.in_ok-remove.ensures.frame clean)
+    ∙ table_shape good (g.met.S.Alter.listed store good.unbroken) (g.met.S.Store.ordered store good.unbroken)
 
 pub returns-clause-kept : goal.returns-clause-kept
 returns-clause-kept g c clean =
@@ -27,7 +28,8 @@ returns-clause-kept g c clean =
     let entry = simp to_z-of_z at c.in_ok-write_entry.ensures in
     on_ok_weaker c.delete.result (λ done.
     let gone = simp to_z-of_z at (done clean) in
-    (row_goes good (g.met.S.Alter.listed store good.unbroken) (g.met.S.Store.ordered store good.unbroken) c.args.oid c.args.ident.now c.args.id (g.S.Store.view c.remove.new.self) (g.S.Store.view c.delete.new.self)
+    (row_goes good (g.met.S.Alter.listed store good.unbroken) (g.met.S.Store.ordered store good.unbroken) c.args.oid c.args.ident.now
+    c.args.id (g.S.Store.view c.remove.new.self) (g.S.Store.view c.delete.new.self)
     c.write_entry.new.entry entry (c.requires.stands was) (c.in_ok-remove.ensures.ok mid) gone).0) c.delete.ensures.ok
 
 pub returns-clause-below : goal.returns-clause-below
@@ -40,5 +42,6 @@ returns-clause-below g c clean =
     let entry = simp to_z-of_z at c.in_ok-write_entry.ensures in
     on_ok_weaker c.delete.result (λ done.
     let gone = simp to_z-of_z at (done clean) in
-    (row_goes good (g.met.S.Alter.listed store good.unbroken) (g.met.S.Store.ordered store good.unbroken) c.args.oid c.args.ident.now c.args.id (g.S.Store.view c.remove.new.self) (g.S.Store.view c.delete.new.self)
+    (row_goes good (g.met.S.Alter.listed store good.unbroken) (g.met.S.Store.ordered store good.unbroken) c.args.oid c.args.ident.now
+    c.args.id (g.S.Store.view c.remove.new.self) (g.S.Store.view c.delete.new.self)
     c.write_entry.new.entry entry (c.requires.stands was) (c.in_ok-remove.ensures.ok mid) gone).1) c.delete.ensures.ok

@@ -21,7 +21,11 @@ returns-clause-made g c clean =
     on_ok_weaker c.put.result (λ done.
     let sets = done clean in
     let up = open_of (g.S.Store.view store) (g.met.S.Store.broken_if_shut store) sets.sound in
-    let it = defined_by c.args.oid (record { namespace = c.args.namespace.now; name = c.args.name.now; letter = c.args.letter; columns = c.args.columns.now }) (g.S.Store.view store) (g.S.Store.view c.put.new.self) c.write_definition.new.row c.in_ok-write_definition.ensures (c.requires was up).good (definitions_rise (c.requires was up).good (g.met.S.Alter.listed store sets.sound) (g.met.S.Store.ordered store sets.sound)) sets in
+    let it = defined_by c.args.oid
+    (record { namespace = c.args.namespace.now; name = c.args.name.now; letter = c.args.letter; columns = c.args.columns.now })
+    (g.S.Store.view store) (g.S.Store.view c.put.new.self) c.write_definition.new.row c.in_ok-write_definition.ensures
+    (c.requires was up).good
+    (definitions_rise (c.requires was up).good (g.met.S.Alter.listed store sets.sound) (g.met.S.Store.ordered store sets.sound)) sets in
     record { was_open = up; is_open = ap (λ (v : View). v.is_open) sets.is ∙ up; made = it.1 }) c.put.ensures.ok
 
 pub returns-clause-rows : goal.returns-clause-rows
@@ -32,5 +36,11 @@ returns-clause-rows g c =
     let sets = done clean in
     let up = open_of (g.S.Store.view store) (g.met.S.Store.broken_if_shut store) sets.sound in
     let under = c.requires was up in
-    let it = defined_by c.args.oid (record { namespace = c.args.namespace.now; name = c.args.name.now; letter = c.args.letter; columns = c.args.columns.now }) (g.S.Store.view store) (g.S.Store.view c.put.new.self) c.write_definition.new.row c.in_ok-write_definition.ensures under.good (definitions_rise under.good (g.met.S.Alter.listed store sets.sound) (g.met.S.Store.ordered store sets.sound)) sets in
-    wrote_under _ _ c.args._last (frame clean) under.good under.behind it.0 (low_still c.args._last (g.S.Store.view store).committed ((g.S.Store.view store).trees 1) ((g.S.Store.view c.put.new.self).trees 1) (rows_stand (g.S.Store.view store) (g.S.Store.view c.put.new.self) c.write_definition.new.row sets) under.below)) c.put.ensures.ok c.put.ensures.frame
+    let it = defined_by c.args.oid
+    (record { namespace = c.args.namespace.now; name = c.args.name.now; letter = c.args.letter; columns = c.args.columns.now })
+    (g.S.Store.view store) (g.S.Store.view c.put.new.self) c.write_definition.new.row c.in_ok-write_definition.ensures under.good
+    (definitions_rise under.good (g.met.S.Alter.listed store sets.sound) (g.met.S.Store.ordered store sets.sound)) sets in
+    wrote_under _ _ c.args._last (frame clean) under.good under.behind it.0
+    (low_still c.args._last (g.S.Store.view store).committed ((g.S.Store.view store).trees 1) ((g.S.Store.view c.put.new.self).trees 1)
+    (rows_stand (g.S.Store.view store) (g.S.Store.view c.put.new.self) c.write_definition.new.row sets) under.below)) c.put.ensures.ok
+    c.put.ensures.frame

@@ -21,4 +21,6 @@ returns-clause-defines g c clean =
     let store = c.args.store.now in
     let was : IsClean (g.S.Store.view store) = omega (arith, c.get.ensures.quiet.clean) in
     let fits : SFits w64 c.args.oid = search rules in
-    IfOk-weaker c.get.result _ _ (λ found h. defines_from (g.S.Store.view store).trees (c.requires.good was).kept.defined c.args.oid (c.requires.number was) c.get.new.row found (simp to_z-of_z at (h clean))) c.get.ensures.ok
+    IfOk-weaker c.get.result _ _
+    (λ found h. defines_from (g.S.Store.view store).trees (c.requires.good was).kept.defined c.args.oid (c.requires.number was)
+    c.get.new.row found (simp to_z-of_z at (h clean))) c.get.ensures.ok

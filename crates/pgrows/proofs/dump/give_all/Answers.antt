@@ -18,7 +18,11 @@ returns-clause-made g c clean =
     let unbroken = sym (c.is_broken.ensures was) ∙ c.if-is_broken.false in
     let up = open_of (g.S.Store.view store) (g.met.S.Store.broken_if_shut store) unbroken in
     let same = c.in_ok-all.ensures.same clean in
-    record { was_open = up; is_open = opened (g.S.Store.view c.args.store.now) (g.S.Store.view c.give_rows.new.store) same up; made = ap (λ (v : View). tables_in v.trees) same }
+    record {
+      was_open = up;
+      is_open = opened (g.S.Store.view c.args.store.now) (g.S.Store.view c.give_rows.new.store) same up;
+      made = ap (λ (v : View). tables_in v.trees) same;
+    }
 
 pub returns-clause-rows : goal.returns-clause-rows
 returns-clause-rows g c clean _ =
@@ -26,7 +30,8 @@ returns-clause-rows g c clean _ =
     let was : IsClean (g.S.Store.view store) = omega (arith, c.give_rows.ensures.quiet.clean) in
     let unbroken = sym (c.is_broken.ensures was) ∙ c.if-is_broken.false in
     let up = open_of (g.S.Store.view store) (g.met.S.Store.broken_if_shut store) unbroken in
-    reads_under (g.S.Store.view c.args.store.now) (g.S.Store.view c.give_rows.new.store) c.args._last (c.in_ok-all.ensures.same clean) (c.requires was up)
+    reads_under (g.S.Store.view c.args.store.now) (g.S.Store.view c.give_rows.new.store) c.args._last (c.in_ok-all.ensures.same clean)
+    (c.requires was up)
 
 pub returns-clause-keeps : goal.returns-clause-keeps
 returns-clause-keeps g c clean = keeps_reads g.S.Store c.args.store.now c.give_rows.new.store (c.in_ok-all.ensures.same clean)

@@ -13,4 +13,5 @@ returns-then-branch-clause-below g c clean =
     let it = rw c.if-branch.true at (c.in_ok-last.ensures.ok clean) in
     let fits : SFits w64 c.id_in.result = search rules in
     simp to_z-of_z (subst (λ n. AreBelow n rows) (sym (c.id_in.ensures ∙ ap id_in c.get.ensures))
-    (below_last rows it.0 c.last.new.row good.kept.held (rises good (g.met.S.Alter.listed store good.unbroken) (g.met.S.Store.ordered store good.unbroken)) it.1))
+    (below_last rows it.0 c.last.new.row good.kept.held
+    (rises good (g.met.S.Alter.listed store good.unbroken) (g.met.S.Store.ordered store good.unbroken)) it.1))

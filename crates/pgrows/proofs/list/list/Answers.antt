@@ -9,4 +9,5 @@ returns-clause-rows g c clean _ =
     let was : IsClean (g.S.Store.view store) = omega (arith, c.read_rows.ensures.quiet.clean) in
     let unbroken = sym (c.is_broken.ensures was) ∙ c.if-is_broken.false in
     let up = open_of (g.S.Store.view store) (g.met.S.Store.broken_if_shut store) unbroken in
-    reads_under (g.S.Store.view store) (g.S.Store.view c.read_rows.new.store) c.args._last (c.in_ok-rows.ensures.same clean) (c.requires was up)
+    reads_under (g.S.Store.view store) (g.S.Store.view c.read_rows.new.store) c.args._last (c.in_ok-rows.ensures.same clean)
+    (c.requires was up)

@@ -13,7 +13,8 @@ get-requires g c clean =
     let was : IsClean (g.S.Store.view store) = omega (arith, c.find.ensures.quiet.clean) in
     let unbroken = c.in_ok-id.ensures.sound clean in
     let up = open_of (g.S.Store.view store) (g.met.S.Store.broken_if_shut store) unbroken in
-    ap (λ (v : View). v.shape 1) (c.in_ok-id.ensures.same clean) ∙ table_shape (c.requires was up).good (g.met.S.Alter.listed store unbroken) (g.met.S.Store.ordered store unbroken)
+    ap (λ (v : View). v.shape 1) (c.in_ok-id.ensures.same clean)
+    ∙ table_shape (c.requires was up).good (g.met.S.Alter.listed store unbroken) (g.met.S.Store.ordered store unbroken)
 
 pub returns-in-Some-clause-found : goal.returns-in-Some-clause-found
 returns-in-Some-clause-found g c clean =
@@ -23,8 +24,10 @@ returns-in-Some-clause-found g c clean =
     let up = open_of (g.S.Store.view store) (g.met.S.Store.broken_if_shut store) (c.in_ok-id.ensures.sound mid) in
     let fits : SFits w64 c.in-Some.id = search rules in
     IfOk-weaker c.get.result _ _ (λ found h.
-    read_by c.args.oid c.args.ident.now c.in-Some.id ((g.S.Store.view store).trees 1) c.get.new.row found (c.requires was up).good.kept.held (rw c.in-Some.is at (c.in_ok-id.ensures.found mid))
-    (subst (λ l. Finds l c.in-Some.id c.get.new.row found) (ap (λ (v : View). v.trees 1) (c.in_ok-id.ensures.same mid)) (simp to_z-of_z at (h clean)))) c.get.ensures.ok
+    read_by c.args.oid c.args.ident.now c.in-Some.id ((g.S.Store.view store).trees 1) c.get.new.row found (c.requires was up).good.kept.held
+    (rw c.in-Some.is at (c.in_ok-id.ensures.found mid))
+    (subst (λ l. Finds l c.in-Some.id c.get.new.row found) (ap (λ (v : View). v.trees 1) (c.in_ok-id.ensures.same mid))
+    (simp to_z-of_z at (h clean)))) c.get.ensures.ok
 
 pub returns-in-None-clause-found : goal.returns-in-None-clause-found
 returns-in-None-clause-found g c clean =

@@ -12,7 +12,13 @@ returns-in-Ok-open_feed-clause-ran g c =
     let e = applied.ends in (
       e.0,
       c.run_status.ensures ∙ ap₂ (status_closed status_of_unopened) e.1 c.close_told-fault.ensures.fault,
-      (c.apply_fed-status.new.err, e.3, subst (λ (f : Option StoreFault). Tells g.E.Output.takes g.E.Output.failed [] [] (ending_of_closing f) c.apply_fed-status.new.err c.close_told-fault.new.err) c.close_told-fault.ensures.fault c.close_told-fault.ensures.tells),
+      (
+        c.apply_fed-status.new.err,
+        e.3,
+        subst (λ (f : Option StoreFault).
+            Tells g.E.Output.takes g.E.Output.failed [] [] (ending_of_closing f) c.apply_fed-status.new.err c.close_told-fault.new.err)
+            c.close_told-fault.ensures.fault c.close_told-fault.ensures.tells,
+      ),
       record {
         opened = c.in-Ok.store;
         ended = c.apply_fed-status.result.1;
@@ -20,7 +26,8 @@ returns-in-Ok-open_feed-clause-ran g c =
         serves = λ honest. c.in-Ok.ensures.serves (applied.honest honest);
         run = (
           c.in-Ok-open_feed.feed,
-          subst (λ (p : ℕ). IsOpenedAt g.D.File.Disk.seen g.D.File.Disk.may_leave g.D.File.Disk.is_clean p c.in-Ok-open_feed.feed) c.position.ensures.position c.in-Ok-open_feed.ensures,
+          subst (λ (p : ℕ). IsOpenedAt g.D.File.Disk.seen g.D.File.Disk.may_leave g.D.File.Disk.is_clean p c.in-Ok-open_feed.feed)
+              c.position.ensures.position c.in-Ok-open_feed.ensures,
           e.2,
         );
         closes = c.close_told-fault.ensures.closes;
@@ -34,7 +41,13 @@ returns-in-Err-open_feed-clause-unfed g c none =
       c.in-Err-open_feed.unfed,
       told.ensures.status,
       refl,
-      (told.new.err, told.ensures.tells, subst (λ (f : Option StoreFault). Tells g.E.Output.takes g.E.Output.failed [] [] (ending_of_closing f) told.new.err closed.new.err) closed.ensures.fault closed.ensures.tells),
+      (
+        told.new.err,
+        told.ensures.tells,
+        subst (λ (f : Option StoreFault).
+            Tells g.E.Output.takes g.E.Output.failed [] [] (ending_of_closing f) told.new.err closed.new.err) closed.ensures.fault
+            closed.ensures.tells,
+      ),
       record {
         opened = c.in-Ok.store;
         ended = c.in-Ok.store;

@@ -10,7 +10,13 @@ returns-in-Ok-open_feed-clause-ran g c =
     let followed = c.follow_fed-status.ensures in
     let e = followed.ends in (
       e.0,
-      (c.follow_fed-status.new.err, e.2, subst (λ (f : Option StoreFault). Tells g.E.Output.takes g.E.Output.failed [] [] (ending_of_closing f) c.follow_fed-status.new.err c.close_told-fault.new.err) c.close_told-fault.ensures.fault c.close_told-fault.ensures.tells),
+      (
+        c.follow_fed-status.new.err,
+        e.2,
+        subst (λ (f : Option StoreFault).
+            Tells g.E.Output.takes g.E.Output.failed [] [] (ending_of_closing f) c.follow_fed-status.new.err c.close_told-fault.new.err)
+            c.close_told-fault.ensures.fault c.close_told-fault.ensures.tells,
+      ),
       e.3,
       e.4,
       e.5,
@@ -23,7 +29,8 @@ returns-in-Ok-open_feed-clause-ran g c =
           c.followed_status.ensures ∙ ap₂ (status_closed status_of_unclosed) e.1 c.close_told-fault.ensures.fault,
           (
             c.in-Ok-open_feed.feed,
-            subst (λ (p : ℕ). IsOpenedAt g.D.File.Disk.seen g.D.File.Disk.may_leave g.D.File.Disk.is_clean p c.in-Ok-open_feed.feed) c.position.ensures.position c.in-Ok-open_feed.ensures,
+            subst (λ (p : ℕ). IsOpenedAt g.D.File.Disk.seen g.D.File.Disk.may_leave g.D.File.Disk.is_clean p c.in-Ok-open_feed.feed)
+                c.position.ensures.position c.in-Ok-open_feed.ensures,
             λ honest. e.6 honest (c.in-Ok.ensures.serves (followed.honest honest)),
           ),
         );
@@ -38,7 +45,13 @@ returns-in-Err-open_feed-clause-unfed g c none =
       c.in-Err-open_feed.unfed,
       told.ensures.status,
       refl,
-      (told.new.err, told.ensures.tells, subst (λ (f : Option StoreFault). Tells g.E.Output.takes g.E.Output.failed [] [] (ending_of_closing f) told.new.err closed.new.err) closed.ensures.fault closed.ensures.tells),
+      (
+        told.new.err,
+        told.ensures.tells,
+        subst (λ (f : Option StoreFault).
+            Tells g.E.Output.takes g.E.Output.failed [] [] (ending_of_closing f) told.new.err closed.new.err) closed.ensures.fault
+            closed.ensures.tells,
+      ),
       record {
         opened = c.in-Ok.store;
         ended = c.in-Ok.store;

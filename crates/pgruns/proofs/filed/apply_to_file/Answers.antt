@@ -11,7 +11,13 @@ returns-in-Ok-clause-ran g c =
     let e = applied.ends in (
       e.0,
       c.run_status.ensures ∙ ap₂ (status_closed status_of_unopened) e.1 c.close_told-fault.ensures.fault,
-      (c.apply_to_store-status.new.err, e.3, subst (λ (f : Option StoreFault). Tells g.E.Output.takes g.E.Output.failed [] [] (ending_of_closing f) c.apply_to_store-status.new.err c.close_told-fault.new.err) c.close_told-fault.ensures.fault c.close_told-fault.ensures.tells),
+      (
+        c.apply_to_store-status.new.err,
+        e.3,
+        subst (λ (f : Option StoreFault).
+            Tells g.E.Output.takes g.E.Output.failed [] [] (ending_of_closing f) c.apply_to_store-status.new.err c.close_told-fault.new.err)
+            c.close_told-fault.ensures.fault c.close_told-fault.ensures.tells,
+      ),
       record {
         opened = c.in-Ok.store;
         ended = c.apply_to_store-status.result.1;
@@ -23,4 +29,5 @@ returns-in-Ok-clause-ran g c =
     )
 
 pub returns-in-Err-clause-unopened : goal.returns-in-Err-clause-unopened
-returns-in-Err-clause-unopened g c = (c.fault.result, c.tell_unopened.ensures.status, refl, c.tell_unopened.ensures.tells, c.in-Err.ensures.unchanged)
+returns-in-Err-clause-unopened g c =
+    (c.fault.result, c.tell_unopened.ensures.status, refl, c.tell_unopened.ensures.tells, c.in-Err.ensures.unchanged)

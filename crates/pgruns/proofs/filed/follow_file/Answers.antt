@@ -9,7 +9,13 @@ returns-in-Ok-clause-ran g c =
     let followed = c.follow_store-status.ensures in
     let e = followed.ends in (
       e.0,
-      (c.follow_store-status.new.err, e.2, subst (λ (f : Option StoreFault). Tells g.E.Output.takes g.E.Output.failed [] [] (ending_of_closing f) c.follow_store-status.new.err c.close_told-fault.new.err) c.close_told-fault.ensures.fault c.close_told-fault.ensures.tells),
+      (
+        c.follow_store-status.new.err,
+        e.2,
+        subst (λ (f : Option StoreFault).
+            Tells g.E.Output.takes g.E.Output.failed [] [] (ending_of_closing f) c.follow_store-status.new.err c.close_told-fault.new.err)
+            c.close_told-fault.ensures.fault c.close_told-fault.ensures.tells,
+      ),
       e.3,
       e.4,
       e.5,
@@ -27,4 +33,5 @@ returns-in-Ok-clause-ran g c =
     )
 
 pub returns-in-Err-clause-unopened : goal.returns-in-Err-clause-unopened
-returns-in-Err-clause-unopened g c = (c.fault-fault.result, c.tell_unfollowed.ensures.status, refl, c.tell_unfollowed.ensures.tells, c.in-Err.ensures.unchanged)
+returns-in-Err-clause-unopened g c =
+    (c.fault-fault.result, c.tell_unfollowed.ensures.status, refl, c.tell_unfollowed.ensures.tells, c.in-Err.ensures.unchanged)

@@ -8,8 +8,10 @@ pub returns-clause-ends : goal.returns-clause-ends
 returns-clause-ends g c =
     let e = c.run_follow-status.ensures.ends in
     let last = c.run_follow-status.result.1 in
-    let store = ap (λ (r : Recorded (StoreValue g.row.S.Denot) g.row.G.Denot). r.store) (sym c.into_store.ensures) ∙ sym c.into_parts-store.ensures.store in
-    let ledger = ap (λ (r : Recorded (StoreValue g.row.S.Denot) g.row.G.Denot). r.ledger) (sym c.into_store.ensures) ∙ sym c.into_parts-store.ensures.ledger in
+    let store = ap (λ (r : Recorded (StoreValue g.row.S.Denot) g.row.G.Denot). r.store) (sym c.into_store.ensures)
+    ∙ sym c.into_parts-store.ensures.store in
+    let ledger = ap (λ (r : Recorded (StoreValue g.row.S.Denot) g.row.G.Denot). r.ledger) (sym c.into_store.ensures)
+    ∙ sym c.into_parts-store.ensures.ledger in
     let opened = ap (λ (r : Recorded (StoreValue g.row.S.Denot) g.row.G.Denot). r.store) c.new-reported.ensures ∙ c.new.ensures.store in
     let begun = ap (λ (r : Recorded (StoreValue g.row.S.Denot) g.row.G.Denot). r.ledger) c.new-reported.ensures ∙ c.new.ensures.ledger in (
       e.0,
@@ -25,6 +27,7 @@ returns-clause-ends g c =
         begun,
         store,
         ledger,
-        e.6 (subst (λ (s : StoreValue g.row.S.Denot). IsHonest g.S.Store s) (sym store) honest) (subst (λ (s : StoreValue g.row.S.Denot). Serves g.S.Store s) (sym opened) serves),
+        e.6 (subst (λ (s : StoreValue g.row.S.Denot). IsHonest g.S.Store s) (sym store) honest)
+            (subst (λ (s : StoreValue g.row.S.Denot). Serves g.S.Store s) (sym opened) serves),
       ),
     )

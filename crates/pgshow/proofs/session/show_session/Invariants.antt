@@ -9,5 +9,6 @@ use Rattle.pgshow.proofs.session.show_session.Given as goal
 abbrev pub invariant-loop-piece : goal.invariant-loop-piece
 invariant-loop-piece l =
     Waits l.deframer × (l.deframer.fault ≡ None)
-    × ((said : List Said) × IsUnderWay l.fn.version l.fn.max_frame (flat_map (λ (piece : List ℕ). piece) (take l.piece-index l.pieces)) said l.deframer l.order
+    × ((said : List Said) × IsUnderWay l.fn.version l.fn.max_frame (flat_map (λ (piece : List ℕ). piece) (take l.piece-index l.pieces)) said
+    l.deframer l.order
     × (string_bytes l.lines ≡ string_bytes l.initial.lines ++ lines_of said))

@@ -17,7 +17,8 @@ returns-in_err-carry_row-clause-fault g c clean still =
     let goes = c.carry_row.ensures.goes in
     let rest = at_drop_more (λ l. l) xs i x c.loop-kept-test.true ∙ ap (λ y. y ∷ drop (i + 1) xs) (sym c.kept-item.is) in
     rw (p.1, p.2) (refuses_then g.S.Store c.args.rows.now c.args.old.now c.args.def.now xs c.loop-kept.rows x (drop (i + 1) xs)
-    (subst (CarriesOn g.S.Store c.args.rows.now c.loop-kept.rows c.args.old.now c.args.def.now xs) rest c.loop-kept.invariant) _ (c.in_err-carry_row.ensures.fault clean) (omega (arith, goes.survives.clean)) still)
+    (subst (CarriesOn g.S.Store c.args.rows.now c.loop-kept.rows c.args.old.now c.args.def.now xs) rest c.loop-kept.invariant) _
+    (c.in_err-carry_row.ensures.fault clean) (omega (arith, goes.survives.clean)) still)
 
 pub loop-kept-preserved : goal.loop-kept-preserved
 loop-kept-preserved g c =
@@ -26,4 +27,5 @@ loop-kept-preserved g c =
     let x = c.kept-item.result in
     let rest = at_drop_more (λ l. l) xs i x c.loop-kept-test.true ∙ ap (λ y. y ∷ drop (i + 1) xs) (sym c.kept-item.is) in
     carries_then g.S.Store c.args.rows.now c.args.old.now c.args.def.now xs c.loop-kept.rows x (drop (i + 1) xs)
-    (subst (CarriesOn g.S.Store c.args.rows.now c.loop-kept.rows c.args.old.now c.args.def.now xs) rest c.loop-kept.invariant) c.carry_row.new.rows c.in_ok-carry_row.ensures.made c.in_ok-carry_row.ensures.goes
+    (subst (CarriesOn g.S.Store c.args.rows.now c.loop-kept.rows c.args.old.now c.args.def.now xs) rest c.loop-kept.invariant)
+    c.carry_row.new.rows c.in_ok-carry_row.ensures.made c.in_ok-carry_row.ensures.goes

@@ -12,7 +12,9 @@ returns-in_err-identity-clause-fault g c clean =
     rw (p.1, p.2) (λ v rows h. c.in_err-identity.ensures.err)
 
 pub returns-in_err-find_row-clause-fault : goal.returns-in_err-find_row-clause-fault
-returns-in_err-find_row-clause-fault g c clean = read_refuses c.from_residual-in_err-find_row.result c.in_err-find_row.field-0.0 c.from_residual-in_err-find_row.ensures.1 (λ fault is v rows h.
+returns-in_err-find_row-clause-fault g c clean =
+    read_refuses c.from_residual-in_err-find_row.result c.in_err-find_row.field-0.0 c.from_residual-in_err-find_row.ensures.1
+    (λ fault is v rows h.
     let fits = row_fits v c.args.def.now rows (tables_of g.S.Store c.args.rows.now) h c.as_slice.result.now in
     own_fault fault _ (own_of_read _ fault (c.in_err-find_row.ensures.formed clean fits) is))
 
@@ -21,7 +23,8 @@ returns-clause-found g c clean =
     let place = c.in_ok-identity.ensures.ok in (
       place.0,
       place.1,
-      λ v rows h. row_found v c.args.def.now rows (tables_of g.S.Store c.args.rows.now) h place.0 c.as_slice.result.now (c.as_slice.ensures.value ∙ place.2) _ (c.in_ok-find_row.ensures.found clean),
+      λ v rows h. row_found v c.args.def.now rows (tables_of g.S.Store c.args.rows.now) h place.0 c.as_slice.result.now
+          (c.as_slice.ensures.value ∙ place.2) _ (c.in_ok-find_row.ensures.found clean),
     )
 
 pub returns-clause-stays : goal.returns-clause-stays

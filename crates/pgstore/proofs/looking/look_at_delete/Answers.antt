@@ -19,18 +19,23 @@ returns-in_err-stored_cells-in-Some-clause-fault g c clean =
     let finds = rw c.lend.ensures at c.in_ok-find_before.ensures.found in
     let found = finds clean in
     rw (p.1, p.2) (λ v rows h.
-    let was = row_there v c.args.def.now rows (tables_of g.S.Store c.args.rows.now) h found.0 c.in-Some.there (subst (λ o. IsRowAt rows found.0 o) c.in-Some.is (found.2 v rows h)) in
+    let was = row_there v c.args.def.now rows (tables_of g.S.Store c.args.rows.now) h found.0 c.in-Some.there
+    (subst (λ o. IsRowAt rows found.0 o) c.in-Some.is (found.2 v rows h)) in
     own_fault _ _ (c.in_err-stored_cells-in-Some.ensures.fault was.0.cells was.2 was.3))
 
 pub returns-in-None-clause-image : goal.returns-in-None-clause-image
 returns-in-None-clause-image g c clean v rows h =
     let finds = rw c.lend.ensures at c.in_ok-find_before.ensures.found in
     let found = finds clean in
-    rw c.lend-in-None.ensures (delete_missed c.args.def.now c.args.kind c.args.row.now rows found.0 found.1 (subst (λ o. IsRowAt rows found.0 o) c.in-None.is (found.2 v rows h)))
+    rw c.lend-in-None.ensures
+    (delete_missed c.args.def.now c.args.kind c.args.row.now rows found.0 found.1
+    (subst (λ o. IsRowAt rows found.0 o) c.in-None.is (found.2 v rows h)))
 
 pub returns-in_ok-stored_cells-in-Some-clause-image : goal.returns-in_ok-stored_cells-in-Some-clause-image
 returns-in_ok-stored_cells-in-Some-clause-image g c clean v rows h =
     let finds = rw c.lend.ensures at c.in_ok-find_before.ensures.found in
     let found = finds clean in
-    let was = row_there v c.args.def.now rows (tables_of g.S.Store c.args.rows.now) h found.0 c.in-Some.there (subst (λ o. IsRowAt rows found.0 o) c.in-Some.is (found.2 v rows h)) in
-    delete_found c.args.def.now c.args.kind c.args.row.now rows found.0 found.1 was.0 was.1 _ (c.in_ok-stored_cells-in-Some.ensures.cells was.0.cells was.2 was.3)
+    let was = row_there v c.args.def.now rows (tables_of g.S.Store c.args.rows.now) h found.0 c.in-Some.there
+    (subst (λ o. IsRowAt rows found.0 o) c.in-Some.is (found.2 v rows h)) in
+    delete_found c.args.def.now c.args.kind c.args.row.now rows found.0 found.1 was.0 was.1 _
+    (c.in_ok-stored_cells-in-Some.ensures.cells was.0.cells was.2 was.3)

@@ -23,7 +23,8 @@ returns-in-Trees-clause-counts g c clean =
     let was : HasCleanDisk (state g.S.Store c.in-Trees.rows) = omega (arith, c.stage_changes.ensures.nothing.survives.clean, clean) in
     let prepared = (rw c.in-Trees.is at c.prepare.ensures.prepares) was (c.is_sound.ensures.sound c.if-is_sound.true was).0 in
     on_ok c.stage_changes.result (c.stage_changes.ensures.counts clean) (λ counts.
-    subst (λ (t : stored.Tables). CountsFrom t c.args.definitions.now c.args.changes.now c.args.end c.args.misses.now c.stage_changes.new.misses) prepared.1 counts)
+    subst (λ (t : stored.Tables).
+    CountsFrom t c.args.definitions.now c.args.changes.now c.args.end c.args.misses.now c.stage_changes.new.misses) prepared.1 counts)
 
 pub returns-in-Trees-clause-fault : goal.returns-in-Trees-clause-fault
 returns-in-Trees-clause-fault g c clean still =
@@ -38,4 +39,5 @@ returns-in-Trees-clause-told g c clean =
     let was : HasCleanDisk (state g.S.Store c.in-Trees.rows) = omega (arith, c.stage_changes.ensures.nothing.survives.clean, clean) in
     let prepared = (rw c.in-Trees.is at c.prepare.ensures.prepares) was (c.is_sound.ensures.sound c.if-is_sound.true was).0 in
     on_ok c.stage_changes.result (c.stage_changes.ensures.told clean) (λ tells.
-    subst (λ (t : stored.Tables). TellsFrom t c.args.definitions.now c.args.changes.now c.args.telling.now c.stage_changes.new.telling) prepared.1 tells)
+    subst (λ (t : stored.Tables). TellsFrom t c.args.definitions.now c.args.changes.now c.args.telling.now c.stage_changes.new.telling)
+    prepared.1 tells)

@@ -11,14 +11,21 @@ pub returns-in-Ok-clause-told : goal.returns-in-Ok-clause-told
 returns-in-Ok-clause-told g c clean v h =
     let l = g.L.Ledger in
     let changes = c.args.commit.now.work.now.changes in
-    let told = c.in_ok-stage_all.ensures.told clean v h ∙ ap (λ t. told_more t (images v (change_values c.args.definitions.now c.args.changes.now))) c.new-telling.ensures
+    let told = c.in_ok-stage_all.ensures.told clean v h
+    ∙ ap (λ t. told_more t (images v (change_values c.args.definitions.now c.args.changes.now))) c.new-telling.ensures
     ∙ ap (λ cs. told_more (begun_telling c.wants.result) (images v cs)) c.requires.are in
-    told_appends l.keeps l.is_wanting g.met.L.Ledger.unasked c.args.ledger.now c.append.new.self c.append.ensures.rests.wanting_is c.args.commit.now.end c.args.commit.now.about changes
-    c.wants.result c.wants.ensures c.stage_all.new.telling c.images.result.now (images v changes) told c.images.ensures c.in-Ok.ensures.appended
+    told_appends l.keeps l.is_wanting g.met.L.Ledger.unasked c.args.ledger.now c.append.new.self c.append.ensures.rests.wanting_is
+    c.args.commit.now.end c.args.commit.now.about changes
+    c.wants.result c.wants.ensures c.stage_all.new.telling c.images.result.now (images v changes) told c.images.ensures
+    c.in-Ok.ensures.appended
 
 pub returns-in-Ok-clause-at_most : goal.returns-in-Ok-clause-at_most
 returns-in-Ok-clause-at_most g c es kept =
-    inr (entry_of c.args.commit.now.end c.args.commit.now.about c.args.commit.now.work.now.changes c.images.result.now, refl, c.in-Ok.ensures.appended es kept)
+    inr (
+      entry_of c.args.commit.now.end c.args.commit.now.about c.args.commit.now.work.now.changes c.images.result.now,
+      refl,
+      c.in-Ok.ensures.appended es kept,
+    )
 
 pub returns-in_err-stage_all-clause-at_most : goal.returns-in_err-stage_all-clause-at_most
 returns-in_err-stage_all-clause-at_most g c es kept = inl kept

@@ -10,5 +10,6 @@ returns-in-Ok-clause-new c =
     let empty = c.in-Ok.ensures.empty in
     record {
       empty = subst (λ (s : InMemory). holds_tables s map.empty) (sym c.subscriber_of.ensures.store) empty.held;
-      state = c.subscriber_of.ensures.state map.empty ∙ ap (λ (n : ℕ). subscriber_over default_limits map.empty n c.args.version) empty.position;
+      state = c.subscriber_of.ensures.state map.empty
+          ∙ ap (λ (n : ℕ). subscriber_over default_limits map.empty n c.args.version) empty.position;
     }

@@ -12,8 +12,10 @@ use Rattle.pgsub_cli.proofs.following.run_follow.Goals as goal
 pub returns-clause-ends : goal.returns-clause-ends
 returns-clause-ends g c = (
   ended_by c.follow_live-followed.result,
-  subst (λ (m : Misses). c.follow_status.result ≡ status_of_follow m.count (ended_by c.follow_live-followed.result)) c.misses.ensures c.follow_status.ensures,
-  subst (λ (x : Result Ending RunFault). TellsCaused g.E.Output.takes g.E.Output.failed x c.args.err.now c.tell.new.err) c.ending-ended.ensures (c.tell_cause.new.err, c.tell_cause.ensures, c.tell.ensures),
+  subst (λ (m : Misses). c.follow_status.result ≡ status_of_follow m.count (ended_by c.follow_live-followed.result)) c.misses.ensures
+      c.follow_status.ensures,
+  subst (λ (x : Result Ending RunFault). TellsCaused g.E.Output.takes g.E.Output.failed x c.args.err.now c.tell.new.err)
+      c.ending-ended.ensures (c.tell_cause.new.err, c.tell_cause.ensures, c.tell.ensures),
   (
     λ is. c.follow_live-followed.ensures.read.0 ((ended_is c.follow_live-followed.result follow.Read).0 is),
     λ failed. (ended_is c.follow_live-followed.result follow.Read).1 (c.follow_live-followed.ensures.read.1 failed),
@@ -29,6 +31,7 @@ returns-clause-ends g c = (
     c.subscriber_over-subscriber.ensures.store,
     sym c.into_store-store.ensures,
     c.subscriber_over-subscriber.ensures.state,
-    c.follow_live-followed.ensures.followed (subst g.C.ReplicaStore.is_honest c.into_store-store.ensures honest) (subst g.C.ReplicaStore.serves (sym c.subscriber_over-subscriber.ensures.store) serves),
+    c.follow_live-followed.ensures.followed (subst g.C.ReplicaStore.is_honest c.into_store-store.ensures honest)
+        (subst g.C.ReplicaStore.serves (sym c.subscriber_over-subscriber.ensures.store) serves),
   ),
 )

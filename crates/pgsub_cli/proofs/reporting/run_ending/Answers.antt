@@ -11,10 +11,14 @@ pub returns-clause-ends : goal.returns-clause-ends
 returns-clause-ends g c honest =
     let there = c.run_opened-status.result.1 in
     let e = c.run_opened-status.ensures.ends in
-    let prints : StoreValue g.row.S.Denot → Option Fault → List ℕ → Type 0 = λ new stopped lines. PrintsOver g.R.Input.gives g.R.Input.begins g.R.Input.failed (HasTables g.S.Store) position_of c.args.limits c.args.input c.args.store new stopped lines in (
+    let prints : StoreValue g.row.S.Denot → Option Fault → List ℕ → Type 0 =
+    λ new stopped lines. PrintsOver g.R.Input.gives g.R.Input.begins g.R.Input.failed (HasTables g.S.Store) position_of c.args.limits
+    c.args.input c.args.store new stopped lines in (
       e.0,
       e.1,
-      writes_weaker g.W.Output.takes g.W.Output.failed (λ fault. IsHonest g.S.Store there → IsReadFault fault) IsReadFault (λ stopped lines. IsHonest g.S.Store there → prints there stopped lines)
-          (λ stopped lines. (new : StoreValue g.row.S.Denot) × prints new stopped lines) c.args.out.now c.run_opened-status.new.out e.0 (λ fault lost. lost (honest there)) (λ stopped lines shows. (there, shows (honest there))) e.2,
+      writes_weaker g.W.Output.takes g.W.Output.failed (λ fault. IsHonest g.S.Store there → IsReadFault fault) IsReadFault
+          (λ stopped lines. IsHonest g.S.Store there → prints there stopped lines)
+          (λ stopped lines. (new : StoreValue g.row.S.Denot) × prints new stopped lines) c.args.out.now c.run_opened-status.new.out e.0
+          (λ fault lost. lost (honest there)) (λ stopped lines shows. (there, shows (honest there))) e.2,
       e.3,
     )

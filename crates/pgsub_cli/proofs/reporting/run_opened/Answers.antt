@@ -7,7 +7,8 @@ use Rattle.pgsub_cli.specs.declared.reporting.Commits.{Commits}
 use Rattle.pgsub_cli.specs.Reports.{input_within}
 use Rattle.pgsub_cli.specs.StoreAfter.{HoldsAfter, MayBeLeft, LosesNothing}
 use Rattle.pgsub_cli.specs.Storing.{PrintsOver}
-use Rattle.pgsub_cli.proofs.Within.{holds_within, left_within, loses_within, prints_within, writes_weaker}
+use Rattle.pgsub_cli.proofs.Within.{holds_within, left_within, loses_within, prints_within}
+use Rattle.pgsub_cli.proofs.Within.{writes_weaker}
 use Rattle.pgsub_cli.proofs.reporting.run_opened.Goals as goal
 
 pub returns-clause-ends : goal.returns-clause-ends
@@ -20,16 +21,29 @@ returns-clause-ends g c =
     let inner : Reported g.row.C.Denot (Commits g.row.K.Denot g.row.P.Denot) → g.row.C.Denot = λ s. s.store in
     let there = c.run_within-status.result.1 in
     let told : Option Fault → List ℕ → Type 0 = λ stopped lines. it.is_honest (inner there)
-    → PrintsOver (λ q. gives (reader q)) (λ q. begins (reader q)) (λ q. failed (reader q)) (λ s. it.holds (inner s)) (λ s. it.place (inner s)) c.args.limits c.count_bytes-counted.result c.new-store.result there stopped lines in
-    let wanted : Option Fault → List ℕ → Type 0 = λ stopped lines. it.is_honest c.into_store.result → PrintsOver gives begins failed it.holds it.place c.args.limits c.args.input c.args.store c.into_store.result stopped lines in
+    → PrintsOver (λ q. gives (reader q)) (λ q. begins (reader q)) (λ q. failed (reader q)) (λ s. it.holds (inner s))
+    (λ s. it.place (inner s)) c.args.limits c.count_bytes-counted.result c.new-store.result there stopped lines in
+    let wanted : Option Fault → List ℕ → Type 0 = λ stopped lines. it.is_honest c.into_store.result
+    → PrintsOver gives begins failed it.holds it.place c.args.limits c.args.input c.args.store c.into_store.result stopped lines in
     let shown : (stopped : Option Fault) (lines : List ℕ) → told stopped lines → wanted stopped lines = λ stopped lines h honest.
-    subst (λ i. PrintsOver gives begins failed it.holds it.place c.args.limits i c.args.store c.into_store.result stopped lines) c.count_bytes-counted.ensures
-    (subst (λ s. PrintsOver gives begins failed it.holds it.place c.args.limits (input_within reader c.count_bytes-counted.result) s c.into_store.result stopped lines) c.new-store.ensures
-    (subst (λ s. PrintsOver gives begins failed it.holds it.place c.args.limits (input_within reader c.count_bytes-counted.result) (inner c.new-store.result) s stopped lines) (sym c.into_store.ensures)
-    (prints_within reader inner gives begins failed it.holds it.place c.args.limits c.count_bytes-counted.result c.new-store.result there stopped lines
+    subst (λ i. PrintsOver gives begins failed it.holds it.place c.args.limits i c.args.store c.into_store.result stopped lines)
+    c.count_bytes-counted.ensures
+    (subst (λ s. PrintsOver gives begins failed it.holds it.place c.args.limits (input_within reader c.count_bytes-counted.result) s
+    c.into_store.result stopped lines) c.new-store.ensures
+    (subst (λ s. PrintsOver gives begins failed it.holds it.place c.args.limits (input_within reader c.count_bytes-counted.result)
+    (inner c.new-store.result) s stopped lines) (sym c.into_store.ensures)
+    (prints_within reader inner gives begins failed it.holds it.place c.args.limits c.count_bytes-counted.result c.new-store.result there
+    stopped lines
     (h (subst it.is_honest c.into_store.ensures honest))))) in
-    let e = c.run_within-status.ensures.ends in
-    (e.0, e.1, writes_weaker {W = g.row.W.Denot} g.W.Output.takes g.W.Output.failed (λ fault. it.is_honest (inner there) → IsReadFault fault) (λ fault. it.is_honest c.into_store.result → IsReadFault fault) told wanted c.args.out.now c.run_within-status.new.out e.0 (λ fault lost honest. lost (subst it.is_honest c.into_store.ensures honest)) shown e.2, e.3)
+    let e = c.run_within-status.ensures.ends in (
+      e.0,
+      e.1,
+      writes_weaker {W = g.row.W.Denot} g.W.Output.takes g.W.Output.failed
+          (λ fault. it.is_honest (inner there) → IsReadFault fault) (λ fault. it.is_honest c.into_store.result → IsReadFault fault) told
+          wanted c.args.out.now c.run_within-status.new.out e.0 (λ fault lost honest. lost (subst it.is_honest c.into_store.ensures honest))
+          shown e.2,
+      e.3,
+    )
 
 pub returns-clause-kept : goal.returns-clause-kept
 returns-clause-kept g c serves =
@@ -40,9 +54,12 @@ returns-clause-kept g c serves =
     let reader : Counted g.row.R.Denot g.row.K.Denot g.row.P.Denot → g.row.R.Denot = λ q. q.file in
     let inner : Reported g.row.C.Denot (Commits g.row.K.Denot g.row.P.Denot) → g.row.C.Denot = λ s. s.store in
     let there = c.run_within-status.result.1 in
-    subst (λ i. HoldsAfter gives begins failed it.holds it.place c.args.limits i c.args.store c.into_store.result) c.count_bytes-counted.ensures
-    (subst (λ s. HoldsAfter gives begins failed it.holds it.place c.args.limits (input_within reader c.count_bytes-counted.result) s c.into_store.result) c.new-store.ensures
-    (subst (λ s. HoldsAfter gives begins failed it.holds it.place c.args.limits (input_within reader c.count_bytes-counted.result) (inner c.new-store.result) s) (sym c.into_store.ensures)
+    subst (λ i. HoldsAfter gives begins failed it.holds it.place c.args.limits i c.args.store c.into_store.result)
+    c.count_bytes-counted.ensures
+    (subst (λ s. HoldsAfter gives begins failed it.holds it.place c.args.limits (input_within reader c.count_bytes-counted.result) s
+    c.into_store.result) c.new-store.ensures
+    (subst (λ s. HoldsAfter gives begins failed it.holds it.place c.args.limits (input_within reader c.count_bytes-counted.result)
+    (inner c.new-store.result) s) (sym c.into_store.ensures)
     (holds_within reader inner gives begins failed it.holds it.place c.args.limits c.count_bytes-counted.result c.new-store.result there
     (c.run_within-status.ensures.kept (subst it.serves c.into_store.ensures serves)))))
 
@@ -55,12 +72,22 @@ returns-clause-left g c honest =
     let reader : Counted g.row.R.Denot g.row.K.Denot g.row.P.Denot → g.row.R.Denot = λ q. q.file in
     let inner : Reported g.row.C.Denot (Commits g.row.K.Denot g.row.P.Denot) → g.row.C.Denot = λ s. s.store in
     let there = c.run_within-status.result.1 in
-    let outer : g.row.C.Denot → Reported g.row.C.Denot (Commits g.row.K.Denot g.row.P.Denot) = λ s. record { store = s; listener = c.new-store.result.listener; commits = c.new-store.result.commits; changes = c.new-store.result.changes } in
+    let outer : g.row.C.Denot → Reported g.row.C.Denot (Commits g.row.K.Denot g.row.P.Denot) =
+    λ s. record {
+      store = s;
+      listener = c.new-store.result.listener;
+      commits = c.new-store.result.commits;
+      changes = c.new-store.result.changes;
+    } in
     let back : (s : g.row.C.Denot) → inner (outer s) ≡ s = λ _. refl in
-    subst (λ i. MayBeLeft gives begins failed it.holds it.place it.reopens it.serves c.args.limits i c.args.store c.into_store.result) c.count_bytes-counted.ensures
-    (subst (λ s. MayBeLeft gives begins failed it.holds it.place it.reopens it.serves c.args.limits (input_within reader c.count_bytes-counted.result) s c.into_store.result) c.new-store.ensures
-    (subst (λ s. MayBeLeft gives begins failed it.holds it.place it.reopens it.serves c.args.limits (input_within reader c.count_bytes-counted.result) (inner c.new-store.result) s) (sym c.into_store.ensures)
-    (left_within reader inner gives begins failed it.holds it.place outer back it.reopens it.serves c.args.limits c.count_bytes-counted.result c.new-store.result there
+    subst (λ i. MayBeLeft gives begins failed it.holds it.place it.reopens it.serves c.args.limits i c.args.store c.into_store.result)
+    c.count_bytes-counted.ensures
+    (subst (λ s. MayBeLeft gives begins failed it.holds it.place it.reopens it.serves c.args.limits
+    (input_within reader c.count_bytes-counted.result) s c.into_store.result) c.new-store.ensures
+    (subst (λ s. MayBeLeft gives begins failed it.holds it.place it.reopens it.serves c.args.limits
+    (input_within reader c.count_bytes-counted.result) (inner c.new-store.result) s) (sym c.into_store.ensures)
+    (left_within reader inner gives begins failed it.holds it.place outer back it.reopens it.serves c.args.limits
+    c.count_bytes-counted.result c.new-store.result there
     (c.run_within-status.ensures.left (subst it.is_honest c.into_store.ensures honest)))))
 
 pub returns-clause-crash : goal.returns-clause-crash
@@ -72,10 +99,21 @@ returns-clause-crash g c honest serves =
     let reader : Counted g.row.R.Denot g.row.K.Denot g.row.P.Denot → g.row.R.Denot = λ q. q.file in
     let inner : Reported g.row.C.Denot (Commits g.row.K.Denot g.row.P.Denot) → g.row.C.Denot = λ s. s.store in
     let there = c.run_within-status.result.1 in
-    let outer : g.row.C.Denot → Reported g.row.C.Denot (Commits g.row.K.Denot g.row.P.Denot) = λ s. record { store = s; listener = c.new-store.result.listener; commits = c.new-store.result.commits; changes = c.new-store.result.changes } in
+    let outer : g.row.C.Denot → Reported g.row.C.Denot (Commits g.row.K.Denot g.row.P.Denot) =
+    λ s. record {
+      store = s;
+      listener = c.new-store.result.listener;
+      commits = c.new-store.result.commits;
+      changes = c.new-store.result.changes;
+    } in
     let back : (s : g.row.C.Denot) → inner (outer s) ≡ s = λ _. refl in
-    subst (λ i. LosesNothing gives begins failed it.holds it.place it.reopens c.args.limits i c.args.store c.into_store.result) c.count_bytes-counted.ensures
-    (subst (λ s. LosesNothing gives begins failed it.holds it.place it.reopens c.args.limits (input_within reader c.count_bytes-counted.result) s c.into_store.result) c.new-store.ensures
-    (subst (λ s. LosesNothing gives begins failed it.holds it.place it.reopens c.args.limits (input_within reader c.count_bytes-counted.result) (inner c.new-store.result) s) (sym c.into_store.ensures)
-    (loses_within reader inner gives begins failed it.holds it.place outer back it.reopens c.args.limits c.count_bytes-counted.result c.new-store.result there
-    (c.run_within-status.ensures.crash (subst it.is_honest c.into_store.ensures honest) (subst it.serves (sym c.new-store.ensures) serves)))))
+    subst (λ i. LosesNothing gives begins failed it.holds it.place it.reopens c.args.limits i c.args.store c.into_store.result)
+    c.count_bytes-counted.ensures
+    (subst (λ s. LosesNothing gives begins failed it.holds it.place it.reopens c.args.limits
+    (input_within reader c.count_bytes-counted.result) s c.into_store.result) c.new-store.ensures
+    (subst (λ s. LosesNothing gives begins failed it.holds it.place it.reopens c.args.limits
+    (input_within reader c.count_bytes-counted.result) (inner c.new-store.result) s) (sym c.into_store.ensures)
+    (loses_within reader inner gives begins failed it.holds it.place outer back it.reopens c.args.limits c.count_bytes-counted.result
+    c.new-store.result there
+    (c.run_within-status.ensures.crash (subst it.is_honest c.into_store.ensures honest)
+    (subst it.serves (sym c.new-store.ensures) serves)))))

@@ -11,5 +11,6 @@ returns g c =
     inr (
       incoming,
       c.in_ok-incoming.ensures.comes,
-      writes_as g.W.Output.takes g.W.Output.failed c.apply.result IsReadFault prints c.apply.ensures.applied c.apply.ensures.fault c.args.out.now c.write_printed.new.out c.write_printed.result c.write_printed.ensures,
+      writes_as g.W.Output.takes g.W.Output.failed c.apply.result IsReadFault prints c.apply.ensures.applied c.apply.ensures.fault
+          c.args.out.now c.write_printed.new.out c.write_printed.result c.write_printed.ensures,
     )

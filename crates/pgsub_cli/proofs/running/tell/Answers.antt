@@ -8,5 +8,6 @@ use Rattle.pgsub_cli.proofs.running.tell.Goals as goal
 pub returns-in-Err-fault_line : goal.returns-in-Err-fault_line
 returns-in-Err-fault_line g c =
     let wrote = c.write_lines-in-Err-fault_line in
-    subst (λ (ended : Result Ending RunFault). Tells g.E.Output.takes g.E.Output.failed c.args.left.now c.args.right.now ended c.args.err.now wrote.new.self) (sym c.in-Err.is)
+    subst (λ (ended : Result Ending RunFault).
+    Tells g.E.Output.takes g.E.Output.failed c.args.left.now c.args.right.now ended c.args.err.now wrote.new.self) (sym c.in-Err.is)
     (inr (written_or_failed wrote.result _ _ wrote.ensures.written wrote.ensures.failed))

@@ -15,6 +15,7 @@ returns c =
     let s = c.show_one.ensures in
     let line : string_bytes c.push_str.new.self ≡ string_bytes c.args.lines.now ++ disconnection_line = search rules in (
       disconnection_line ++ s.0,
-      then_lines (string_bytes c.args.lines.now) (string_bytes c.push_str.new.self) (string_bytes c.show_one.new.lines) disconnection_line s.0 line s.1,
+      then_lines (string_bytes c.args.lines.now) (string_bytes c.push_str.new.self) (string_bytes c.show_one.new.lines) disconnection_line
+          s.0 line s.1,
       is_next c.args.version (session_bytes c.args.session.now) s.0 (result_err c.show_one.result) s.2,
     )

@@ -10,5 +10,7 @@ use Rattle.pgsub_cli.proofs.stores.resume.Goals as goal
 pub returns-clause-resumed : goal.returns-clause-resumed
 returns-clause-resumed c =
     let empty = c.in_ok-store.ensures.empty in
-    if_ok c.resume_over.result _ _ (c.resume_over.ensures.resumed c.stores_on_memory_disks_are_honest.ensures empty.serves) (λ printed prints.
-    resumes_new holds_tables position_of default_limits Two c.in_ok-store.store (bytes_of c.args.sessions.now) printed.stopped (string_bytes printed.lines) empty.held empty.position prints)
+    if_ok c.resume_over.result _ _ (c.resume_over.ensures.resumed c.stores_on_memory_disks_are_honest.ensures empty.serves)
+    (λ printed prints.
+    resumes_new holds_tables position_of default_limits Two c.in_ok-store.store (bytes_of c.args.sessions.now) printed.stopped
+    (string_bytes printed.lines) empty.held empty.position prints)

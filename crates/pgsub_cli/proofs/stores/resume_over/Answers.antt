@@ -19,7 +19,10 @@ returns-in-Ok-clause-resumed g c honest serves =
     let own = honest new.applied.store in
     let served = subst (Serves g.S.Store) (sym begun.ensures.store) serves in
     let fed = FeedsSessions (HasTables g.S.Store) position_of clock begun.result (bytes_of c.args.sessions.now) in
-    let stands = stands_as position_of (Serves g.S.Store) fed new c.follow.result (c.follow.ensures.still_serves own served) c.follow.ensures.fed (c.follow.ensures.stopped own served) in
-    prints_from (HasTables g.S.Store) position_of c.fed_sessions_are_followed.ensures.followed default_limits Two c.args.store begun.result new (begun.ensures.store, begun.ensures.state) (bytes_of c.args.sessions.now) c.err-stopped.result _
+    let stands = stands_as position_of (Serves g.S.Store) fed new c.follow.result (c.follow.ensures.still_serves own served)
+    c.follow.ensures.fed (c.follow.ensures.stopped own served) in
+    prints_from (HasTables g.S.Store) position_of c.fed_sessions_are_followed.ensures.followed default_limits Two c.args.store begun.result
+    new (begun.ensures.store, begun.ensures.state) (bytes_of c.args.sessions.now) c.err-stopped.result _
     (subst (λ f. StandsAsFed position_of (λ s. fed s f) new) (fault_is c.follow.result ∙ sym c.err-stopped.ensures.value) stands)
-    (c.in-Ok.ensures ∙ ap (λ n. resumed_of n c.confirmed.result) c.position.ensures.position ∙ ap (resumed_of new.applied.store.position) c.confirmed.ensures)
+    (c.in-Ok.ensures ∙ ap (λ n. resumed_of n c.confirmed.result) c.position.ensures.position
+    ∙ ap (resumed_of new.applied.store.position) c.confirmed.ensures)

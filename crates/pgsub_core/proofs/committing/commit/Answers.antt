@@ -5,7 +5,8 @@ use Rattle.pgspool.specs.Labels.{items_of, held_of}
 use Rattle.pgsub_core.specs.Machine.Faults.{fault_of_store}
 use Rattle.pgsub_core.proofs.DescribedChanges.{on_residual, on_told}
 use Rattle.pgsub_core.proofs.Marks.{rests_same}
-use Rattle.pgsub_core.proofs.Commits.{commits_again, commits_changes, refuses_work, refuses_undescribed}
+use Rattle.pgsub_core.proofs.Commits.{commits_again, commits_changes, refuses_work}
+use Rattle.pgsub_core.proofs.Commits.{refuses_undescribed}
 use Rattle.pgsub_core.proofs.committing.commit.Goals as goal
 
 pub returns-then-le-clause-taken : goal.returns-then-le-clause-taken
@@ -15,7 +16,8 @@ returns-then-le-clause-taken g c serves =
     let below = c.le.ensures in
     let standing = c.reached.ensures.reach in
     let not_below : nat_lt (g.C.ReplicaStore.reach c.args.store.now) c.args.ending.end ≡ false = grind (arith, nat_tests) in
-    commits_again g.C.ReplicaStore.stages g.C.ReplicaStore.reach c.args.ending.end items c.args.store.now c.args.store.now c.args.confirmed c.args.book.now c.cache_relations.new.book not_below c.in_ok-cache_relations.ensures.cached
+    commits_again g.C.ReplicaStore.stages g.C.ReplicaStore.reach c.args.ending.end items c.args.store.now c.args.store.now c.args.confirmed
+    c.args.book.now c.cache_relations.new.book not_below c.in_ok-cache_relations.ensures.cached
 
 pub returns-in_err-work-clause-refused : goal.returns-in_err-work-clause-refused
 returns-in_err-work-clause-refused g c serves =
@@ -25,7 +27,8 @@ returns-in_err-work-clause-refused g c serves =
     let standing = c.reached.ensures.reach in
     let lt : nat_lt (g.C.ReplicaStore.reach c.args.store.now) c.args.ending.end ≡ true = grind (arith, nat_tests) in
     on_residual c.from_residual-in_err-work.result c.in_err-work.field-0.0 _ c.from_residual-in_err-work.ensures.1
-    (refuses_undescribed g.C.ReplicaStore.stages g.C.ReplicaStore.reach c.args.ending.end items c.args.store.now c.args.store.now c.args.confirmed c.args.book.now c.args.book.now lt c.in_err-work.field-0.0 c.in_err-work.ensures.refused)
+    (refuses_undescribed g.C.ReplicaStore.stages g.C.ReplicaStore.reach c.args.ending.end items c.args.store.now c.args.store.now
+    c.args.confirmed c.args.book.now c.args.book.now lt c.in_err-work.field-0.0 c.in_err-work.ensures.refused)
 
 pub returns-clause-taken : goal.returns-clause-taken
 returns-clause-taken g c serves =
@@ -34,7 +37,8 @@ returns-clause-taken g c serves =
     let below = c.le.ensures in
     let standing = c.reached.ensures.reach in
     let lt : nat_lt (g.C.ReplicaStore.reach c.args.store.now) c.args.ending.end ≡ true = grind (arith, nat_tests) in
-    commits_changes g.C.ReplicaStore.stages g.C.ReplicaStore.reach c.args.ending.end items c.args.store.now c.stage.new.self c.args.confirmed c.args.book.now c.describe.new.book lt c.later.result c.in_ok-work.work.changes
+    commits_changes g.C.ReplicaStore.stages g.C.ReplicaStore.reach c.args.ending.end items c.args.store.now c.stage.new.self
+    c.args.confirmed c.args.book.now c.describe.new.book lt c.later.result c.in_ok-work.work.changes
     c.in_ok-work.ensures.changes c.in_ok-work.ensures.cached (c.in_ok-stage.ensures.staged serves) c.in_ok-stage.ensures.end c.later.ensures
 
 pub returns-in_err-stage-clause-refused : goal.returns-in_err-stage-clause-refused
@@ -46,7 +50,8 @@ returns-in_err-stage-clause-refused g c serves =
     let lt : nat_lt (g.C.ReplicaStore.reach c.args.store.now) c.args.ending.end ≡ true = grind (arith, nat_tests) in
     let less : g.C.ReplicaStore.reach c.args.store.now < c.args.ending.end = grind (arith, nat_tests) in
     on_told c.from_residual-in_err-stage.result (fault_of_store c.in_err-stage.field-0.0) _ _ c.from_residual-in_err-stage.ensures.1
-    (refuses_work g.C.ReplicaStore.stages g.C.ReplicaStore.reach c.args.ending.end items c.args.store.now c.stage.new.self c.args.confirmed c.args.book.now c.describe.new.book lt less c.in_ok-work.work.changes c.in_err-stage.field-0.0
+    (refuses_work g.C.ReplicaStore.stages g.C.ReplicaStore.reach c.args.ending.end items c.args.store.now c.stage.new.self c.args.confirmed
+    c.args.book.now c.describe.new.book lt less c.in_ok-work.work.changes c.in_err-stage.field-0.0
     c.in_ok-work.ensures.changes (c.in_err-stage.ensures.undone serves) (c.in_err-stage.ensures.fault serves))
 
 pub returns-in_err-work-clause-why : goal.returns-in_err-work-clause-why
@@ -57,7 +62,8 @@ returns-in_err-work-clause-why g c honest serves =
     let standing = c.reached.ensures.reach in
     let lt : nat_lt (g.C.ReplicaStore.reach c.args.store.now) c.args.ending.end ≡ true = grind (arith, nat_tests) in
     on_residual c.from_residual-in_err-work.result c.in_err-work.field-0.0 _ c.from_residual-in_err-work.ensures.1
-    (refuses_undescribed g.C.ReplicaStore.stages g.C.ReplicaStore.reach c.args.ending.end items c.args.store.now c.args.store.now c.args.confirmed c.args.book.now c.args.book.now lt c.in_err-work.field-0.0 c.in_err-work.ensures.refused)
+    (refuses_undescribed g.C.ReplicaStore.stages g.C.ReplicaStore.reach c.args.ending.end items c.args.store.now c.args.store.now
+    c.args.confirmed c.args.book.now c.args.book.now lt c.in_err-work.field-0.0 c.in_err-work.ensures.refused)
 
 pub returns-in_err-stage-clause-why : goal.returns-in_err-stage-clause-why
 returns-in_err-stage-clause-why g c honest serves =
@@ -68,7 +74,8 @@ returns-in_err-stage-clause-why g c honest serves =
     let lt : nat_lt (g.C.ReplicaStore.reach c.args.store.now) c.args.ending.end ≡ true = grind (arith, nat_tests) in
     let less : g.C.ReplicaStore.reach c.args.store.now < c.args.ending.end = grind (arith, nat_tests) in
     on_told c.from_residual-in_err-stage.result (fault_of_store c.in_err-stage.field-0.0) _ _ c.from_residual-in_err-stage.ensures.1
-    (refuses_work g.C.ReplicaStore.stages g.C.ReplicaStore.reach c.args.ending.end items c.args.store.now c.args.store.now c.args.confirmed c.args.book.now c.describe.new.book lt less c.in_ok-work.work.changes c.in_err-stage.field-0.0
+    (refuses_work g.C.ReplicaStore.stages g.C.ReplicaStore.reach c.args.ending.end items c.args.store.now c.args.store.now c.args.confirmed
+    c.args.book.now c.describe.new.book lt less c.in_ok-work.work.changes c.in_err-stage.field-0.0
     c.in_ok-work.ensures.changes (λ tables h. h) (c.in_err-stage.ensures.why honest serves))
 
 pub returns-then-le-clause-rests : goal.returns-then-le-clause-rests

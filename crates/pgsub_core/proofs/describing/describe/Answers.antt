@@ -14,7 +14,8 @@ loop-place-preserved g c =
       c.in_ok-describe_item.ensures.changes left
           ∙ ap (λ items. behind_changes c.loop-place.draft.work.changes (described_from (known_to c.loop-place.book) items)) (sym next)
           ∙ c.loop-place.invariant.0,
-      ap (λ (book : RelationCache). all_cached book left) c.in_ok-describe_item.ensures.cached ∙ sym (ap (all_cached c.loop-place.book) next) ∙ c.loop-place.invariant.1,
+      ap (λ (book : RelationCache). all_cached book left) c.in_ok-describe_item.ensures.cached
+          ∙ sym (ap (all_cached c.loop-place.book) next) ∙ c.loop-place.invariant.1,
       c.in_ok-describe_item.ensures.numbers,
     )
 
@@ -25,6 +26,8 @@ returns-in_err-describe_item-clause-refused g c =
     on_residual c.from_residual.result c.in_err-describe_item.field-0.0 _ c.from_residual.ensures.1
     (elim c.in_err-describe_item.ensures.refused [
       | inl memory ↦ inl memory
-      | inr lacks ↦ inr (lacks_behind c.loop-place.draft.work.changes [] (described_from (known_to c.loop-place.book) (drop c.loop-place.place (items_of held))) (described_from (known_to c.args.book.now) (items_of held)) c.in_err-describe_item.field-0.0
+      | inr lacks ↦ inr (lacks_behind c.loop-place.draft.work.changes []
+          (described_from (known_to c.loop-place.book) (drop c.loop-place.place (items_of held)))
+          (described_from (known_to c.args.book.now) (items_of held)) c.in_err-describe_item.field-0.0
           c.loop-place.invariant.0 (rw next (lacks (drop (c.loop-place.place + 1) (items_of held)))))
     ])

@@ -10,14 +10,19 @@ abbrev pub invariant-loop-applier : goal.invariant-loop-applier
 invariant-loop-applier g l =
     AreOpened l.applier.order l.applier.held
     × (0 < length l.piece → 0 < l.taken)
-    × IsFedTo g.C.ReplicaStore.stages g.C.ReplicaStore.reach l.now g.C.ReplicaStore.serves l.fn.deframer l.fn.applier l.piece l.deframer l.applier l.taken
+    × IsFedTo g.C.ReplicaStore.stages g.C.ReplicaStore.reach l.now g.C.ReplicaStore.serves l.fn.deframer l.fn.applier l.piece l.deframer
+    l.applier l.taken
     × (g.C.ReplicaStore.serves l.applier.store → g.C.ReplicaStore.serves l.fn.applier.store)
     × (g.C.ReplicaStore.is_honest l.applier.store → g.C.ReplicaStore.is_honest l.fn.applier.store)
     × (g.C.ReplicaStore.is_honest l.applier.store → g.C.ReplicaStore.serves l.fn.applier.store → g.C.ReplicaStore.serves l.applier.store)
-    × Rests g.C.ReplicaStore.holds g.C.ReplicaStore.place g.C.ReplicaStore.reopens g.C.ReplicaStore.serves g.C.ReplicaStore.is_honest l.fn.applier.store l.applier.store
-    × Head g.C.ReplicaStore.holds g.C.ReplicaStore.place g.C.ReplicaStore.reopens g.C.ReplicaStore.serves g.C.ReplicaStore.is_honest g.C.ReplicaStore.stages g.C.ReplicaStore.reach
-    (FeedStops g.C.ReplicaStore.stages g.C.ReplicaStore.reach l.now l.fn.deframer l.fn.applier l.piece) l.fn.applier.store l.mark.confirmed l.mark.received l.mark.replies l.applier
-    × IsCountedTo g.C.ReplicaStore.stages g.C.ReplicaStore.reach g.C.ReplicaStore.stages_missed l.now g.C.ReplicaStore.serves l.fn.deframer l.fn.applier l.piece l.deframer l.applier l.taken
+    × Rests g.C.ReplicaStore.holds g.C.ReplicaStore.place g.C.ReplicaStore.reopens g.C.ReplicaStore.serves g.C.ReplicaStore.is_honest
+    l.fn.applier.store l.applier.store
+    × Head g.C.ReplicaStore.holds g.C.ReplicaStore.place g.C.ReplicaStore.reopens g.C.ReplicaStore.serves g.C.ReplicaStore.is_honest
+    g.C.ReplicaStore.stages g.C.ReplicaStore.reach
+    (FeedStops g.C.ReplicaStore.stages g.C.ReplicaStore.reach l.now l.fn.deframer l.fn.applier l.piece) l.fn.applier.store l.mark.confirmed
+    l.mark.received l.mark.replies l.applier
+    × IsCountedTo g.C.ReplicaStore.stages g.C.ReplicaStore.reach g.C.ReplicaStore.stages_missed l.now g.C.ReplicaStore.serves l.fn.deframer
+    l.fn.applier l.piece l.deframer l.applier l.taken
     × (g.C.ReplicaStore.missed l.applier.store ≡ g.C.ReplicaStore.missed l.fn.applier.store)
 
 abbrev pub decreases-loop-applier : goal.decreases-loop-applier

@@ -10,5 +10,7 @@ returns c = λ yes.
     let bytes = c.args.bytes.now in
     let back = drop (length bytes - 16) bytes in
     let ends = and_parts c.are_ends_ascii-2.result c.are_ends_ascii-3.result yes in
-    let all : take (length bytes - (length bytes - 16)) back ≡ back = take_all (length bytes - (length bytes - 16)) back (omega (arith, length-drop (length bytes - 16) bytes)) in
-    both_ends 16 (length bytes - 16) bytes (omega (arith, c.if-len-gt32.false)) (c.are_ends_ascii-2.ensures ends.0) (subst IsAscii all (c.are_ends_ascii-3.ensures ends.1))
+    let all : take (length bytes - (length bytes - 16)) back ≡ back =
+    take_all (length bytes - (length bytes - 16)) back (omega (arith, length-drop (length bytes - 16) bytes)) in
+    both_ends 16 (length bytes - 16) bytes (omega (arith, c.if-len-gt32.false)) (c.are_ends_ascii-2.ensures ends.0)
+    (subst IsAscii all (c.are_ends_ascii-3.ensures ends.1))

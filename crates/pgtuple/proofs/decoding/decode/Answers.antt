@@ -9,7 +9,9 @@ pub returns-in_err-lent-clause-only : goal.returns-in_err-lent-clause-only
 unfolding tuple_at
 returns-in_err-lent-clause-only c =
     let p = err_from_is_err_and c.from_residual.result c.from_residual.ensures.1 in
-    rw (p.1, p.2) (λ t more fits same. is_memory c.args.bytes.now c.in_err-lent.field-0.0 t more (fails_so c.in_err-lent.field-0.0 (tuple_from (0, c.args.bytes.now)) c.in_err-lent.ensures.exact) fits same)
+    rw (p.1, p.2) (λ t more fits same.
+    is_memory c.args.bytes.now c.in_err-lent.field-0.0 t more
+    (fails_so c.in_err-lent.field-0.0 (tuple_from (0, c.args.bytes.now)) c.in_err-lent.ensures.exact) fits same)
 
 pub returns-in_err-lent-clause-fault : goal.returns-in_err-lent-clause-fault
 returns-in_err-lent-clause-fault c =
@@ -19,7 +21,9 @@ returns-in_err-lent-clause-fault c =
 pub returns-clause-only : goal.returns-clause-only
 unfolding tuple_at
 returns-clause-only c =
-    rw c.in_ok-to_tuple.ensures.same (λ t more fits same. is_only c.args.bytes.now c.in_ok-lent.lent (c.in_ok-lent.len, drop c.in_ok-lent.len c.args.bytes.now) t more c.in_ok-lent.ensures.exact fits same)
+    rw c.in_ok-to_tuple.ensures.same
+    (λ t more fits same. is_only c.args.bytes.now c.in_ok-lent.lent (c.in_ok-lent.len, drop c.in_ok-lent.len c.args.bytes.now) t more
+    c.in_ok-lent.ensures.exact fits same)
 
 pub returns-in_err-lent-clause-memory : goal.returns-in_err-lent-clause-memory
 returns-in_err-lent-clause-memory c =

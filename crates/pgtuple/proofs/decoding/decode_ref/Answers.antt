@@ -16,10 +16,12 @@ pub returns-in_err-columns-clause-fault : goal.returns-in_err-columns-clause-fau
 unfolding tuple_at
 returns-in_err-columns-clause-fault c =
     let p = err_from_is_err_and c.from_residual.result c.from_residual.ensures.1 in
-    rw (p.1, p.2) ((faults_are_first c.args.bytes.now c.in_err-columns.field-0.0 (λ i. omega (arith, c.type_inv.bytes i))).0 (rw c.new-reader.ensures at c.in_err-columns.ensures))
+    rw (p.1, p.2) ((faults_are_first c.args.bytes.now c.in_err-columns.field-0.0 (λ i. omega (arith, c.type_inv.bytes i))).0
+    (rw c.new-reader.ensures at c.in_err-columns.ensures))
 
 front : (c : In_ok-columns) → SpelledFront c.args.bytes.now c.columns.new.reader
-front c = spelled_front c.args.bytes.now c.columns.new.reader (λ i. omega (arith, c.type_inv.bytes i)) (rw c.new-reader.ensures at c.in_ok-columns.ensures)
+front c = spelled_front c.args.bytes.now c.columns.new.reader (λ i. omega (arith, c.type_inv.bytes i))
+    (rw c.new-reader.ensures at c.in_ok-columns.ensures)
 
 pub split_at-requires : goal.split_at-requires
 split_at-requires c = rw c.offset-len.ensures (front (goal.at.split_at-requires c).In_ok-columns).within

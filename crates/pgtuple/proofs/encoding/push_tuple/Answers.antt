@@ -8,4 +8,5 @@ pub returns-clause-ok : goal.returns-clause-ok
 unfolding tuple_spelling
 returns-clause-ok c =
     let cells = c.args.cells.now in
-    rw (c.in_ok-push_cells.ensures.ok, c.in_ok-extend_from_slice.ensures.items, c.to_be_bytes.ensures) (append_assoc c.args.out.now.items (to_be_bytes w16 (length cells)) (flat_map cell_spelling cells))
+    rw (c.in_ok-push_cells.ensures.ok, c.in_ok-extend_from_slice.ensures.items, c.to_be_bytes.ensures)
+    (append_assoc c.args.out.now.items (to_be_bytes w16 (length cells)) (flat_map cell_spelling cells))

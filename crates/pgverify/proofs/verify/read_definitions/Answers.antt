@@ -10,4 +10,5 @@ returns-clause-found g c clean =
     let was : IsClean (g.S.Store.view store) = omega (arith, c.walk.ensures.quiet.clean, clean) in
     let it = c.requires was in
     let seen = c.walk.ensures.seen clean (c.in_ok-walk.was ∙ ap Ok c.if-not-branch.false) (rw c.new-all.ensures.items refl) in
-    definitions_found (g.S.Store.view store).trees _ seen (definitions_rise it (g.met.S.Alter.listed store it.unbroken) (g.met.S.Store.ordered store it.unbroken))
+    definitions_found (g.S.Store.view store).trees _ seen
+    (definitions_rise it (g.met.S.Alter.listed store it.unbroken) (g.met.S.Store.ordered store it.unbroken))

@@ -9,5 +9,7 @@ abbrev pub invariant-entries : goal.invariant-entries
 invariant-entries g l =
     let old = g.S.Store.view l.fn.store in
     let now = g.S.Store.view l.store in
-    IsSome (now.cursors 0) × (IsClean now → OnlyReads old now) × IsQuiet g.S.Store.view g.S.Store.faults g.S.Store.recovers g.S.Store.is_shielded l.fn.store l.store
-    × (IsClean now → g.V.TreeVisitor.has_seen l.fn.visitor l.fn.visitor [] → (done : List Row) × g.V.TreeVisitor.has_seen l.fn.visitor l.visitor done × (done ++ left_of now 0 ≡ old.trees l.fn.tree))
+    IsSome (now.cursors 0) × (IsClean now → OnlyReads old now)
+    × IsQuiet g.S.Store.view g.S.Store.faults g.S.Store.recovers g.S.Store.is_shielded l.fn.store l.store
+    × (IsClean now → g.V.TreeVisitor.has_seen l.fn.visitor l.fn.visitor []
+    → (done : List Row) × g.V.TreeVisitor.has_seen l.fn.visitor l.visitor done × (done ++ left_of now 0 ≡ old.trees l.fn.tree))

@@ -10,5 +10,8 @@ returns c =
     let fields = c.args.fields.now in
     let end = rw (take_all (length fields - 8) (drop 8 fields) (omega (arith, length-drop 8 fields))) at c.read_u64-2.ensures in
     let clock = rw (take_all (length fields - 16) (drop 16 fields) (omega (arith, length-drop 16 fields))) at c.read_i64.ensures in
-    rw (take_all (length fields - 24) (drop 24 fields) (omega (arith, length-drop 24 fields)), to_z-of_z w64 c.read_i64.result (record { sfits = c.read_i64.type_inv }))
+    rw (
+      take_all (length fields - 24) (drop 24 fields) (omega (arith, length-drop 24 fields)),
+      to_z-of_z w64 c.read_i64.result (record { sfits = c.read_i64.type_inv }),
+    )
     (data_gives fields c.read_u64.result c.read_u64-2.result c.read_i64.result (omega arith) c.read_u64.ensures end clock)

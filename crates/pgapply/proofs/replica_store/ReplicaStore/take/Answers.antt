@@ -16,7 +16,8 @@ returns-clause-crash g c honest other left = elim (c.settle.ensures.crash honest
   | inr all ↦ inr (
     c.unstage.ensures.served (c.stage.ensures.served all.0),
     (
-      (λ tables h. let one = c.in_ok-stage.ensures.staged all.0 tables (c.unstage.ensures.staged tables h) in (one.0, one.1, all.1.0 one.0 one.2)),
+      (λ tables h. let one = c.in_ok-stage.ensures.staged all.0 tables (c.unstage.ensures.staged tables h) in
+          (one.0, one.1, all.1.0 one.0 one.2)),
       all.1.1 ∙ c.in_ok-stage.ensures.end,
     ),
   )

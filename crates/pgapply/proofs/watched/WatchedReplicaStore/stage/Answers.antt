@@ -7,17 +7,20 @@ use Rattle.pgapply.proofs.watched.WatchedReplicaStore.stage.Goals as goal
 pub returns-clause-staged : goal.returns-clause-staged
 returns-clause-staged g c =
     let it = g.C.ReplicaStore in
-    subst (λ s. it.serves c.stage.new.self → OnOk c.stage.result (Folds it.stages s c.stage.new.self c.args.commit.now.work.now.changes)) c.in_ok-note.ensures.store c.stage.ensures.staged
+    subst (λ s. it.serves c.stage.new.self → OnOk c.stage.result (Folds it.stages s c.stage.new.self c.args.commit.now.work.now.changes))
+    c.in_ok-note.ensures.store c.stage.ensures.staged
 
 pub returns-clause-undone : goal.returns-clause-undone
 returns-clause-undone g c =
     let it = g.C.ReplicaStore in
-    subst (λ s. it.serves c.stage.new.self → OnErr c.stage.result (Stays it.stages s c.stage.new.self)) c.in_ok-note.ensures.store c.stage.ensures.undone
+    subst (λ s. it.serves c.stage.new.self → OnErr c.stage.result (Stays it.stages s c.stage.new.self)) c.in_ok-note.ensures.store
+    c.stage.ensures.undone
 
 pub returns-clause-fault : goal.returns-clause-fault
 returns-clause-fault g c =
     let it = g.C.ReplicaStore in
-    subst (λ s. it.serves c.stage.new.self → IfErr c.stage.result (RefusesWork it.stages s c.args.commit.now.work.now.changes)) c.in_ok-note.ensures.store c.stage.ensures.fault
+    subst (λ s. it.serves c.stage.new.self → IfErr c.stage.result (RefusesWork it.stages s c.args.commit.now.work.now.changes))
+    c.in_ok-note.ensures.store c.stage.ensures.fault
 
 pub returns-clause-unchanged : goal.returns-clause-unchanged
 returns-clause-unchanged g c =
@@ -32,9 +35,12 @@ returns-clause-crash g c honest other left =
 pub returns-clause-why : goal.returns-clause-why
 returns-clause-why g c =
     let it = g.C.ReplicaStore in
-    subst (λ s. it.is_honest c.stage.new.self → it.serves s → IfErr c.stage.result (RefusesWork it.stages s c.args.commit.now.work.now.changes)) c.in_ok-note.ensures.store c.stage.ensures.why
+    subst (λ s. it.is_honest c.stage.new.self → it.serves s
+    → IfErr c.stage.result (RefusesWork it.stages s c.args.commit.now.work.now.changes)) c.in_ok-note.ensures.store c.stage.ensures.why
 
 pub returns-clause-counts : goal.returns-clause-counts
 returns-clause-counts g c =
     let it = g.C.ReplicaStore in
-    subst (λ s. it.serves c.stage.new.self → OnOk c.stage.result (Counts it.stages s c.args.commit.now.work.now.changes c.args.commit.now.end (it.stages_missed s) (it.stages_missed c.stage.new.self))) c.in_ok-note.ensures.store c.stage.ensures.counts
+    subst (λ s. it.serves c.stage.new.self
+    → OnOk c.stage.result (Counts it.stages s c.args.commit.now.work.now.changes c.args.commit.now.end (it.stages_missed s)
+    (it.stages_missed c.stage.new.self))) c.in_ok-note.ensures.store c.stage.ensures.counts

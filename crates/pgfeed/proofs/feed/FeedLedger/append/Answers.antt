@@ -1,7 +1,8 @@
 use Rattle.std.proofs.Common.{◌≡◌, ◌∙◌, ap, inl, refl, sym, subst}
 use Rattle.pgfeed.specs.Feeds.{KeepsAll}
 use Rattle.pgfeed.specs.declared.segment.Segment.{Segment}
-use Rattle.pgfeed.proofs.Following.{ends_same, goes_behind, goes_on_by, keeps_behind, writes_stopped}
+use Rattle.pgfeed.proofs.Following.{ends_same, goes_behind, goes_on_by, keeps_behind}
+use Rattle.pgfeed.proofs.Following.{writes_stopped}
 use Rattle.pgfeed.proofs.feed.FeedLedger.append.Goals as goal
 
 pub returns-in-Ok-clause-rests : goal.returns-in-Ok-clause-rests
@@ -21,7 +22,8 @@ returns-in-Err-clause-refused g c = λ es kept.
     let size : c.stop.new.self.size ≡ c.write.new.self.segment.size = ap (λ (s : Segment g.row.F-File.Denot). s.size) c.stop.ensures in
     let last : c.stop.new.self.last ≡ c.write.new.self.segment.last = ap (λ (s : Segment g.row.F-File.Denot). s.last) c.stop.ensures in
     inl (subst (λ b. KeepsAll g.F.File.Disk.seen b c.write.new.self.ended.items c.stop.new.self es) (sym failed.begins)
-    (keeps_behind g.F.File.Disk.seen g.F.File.Disk.may_leave c.args.self.now.begins c.write.new.self.ended.items c.write.new.self.segment c.stop.new.self stopped size last es (failed.kept es kept)))
+    (keeps_behind g.F.File.Disk.seen g.F.File.Disk.may_leave c.args.self.now.begins c.write.new.self.ended.items c.write.new.self.segment
+    c.stop.new.self stopped size last es (failed.kept es kept)))
 
 pub returns-in-Err-clause-rests : goal.returns-in-Err-clause-rests
 returns-in-Err-clause-rests g c =

@@ -12,7 +12,8 @@ returns-clause-kept g c =
 
 pub returns-clause-rests : goal.returns-clause-rests
 returns-clause-rests g c =
-    let goes = goes_behind _ _ c.args.self.now.ended.items _ _ (writes_stopped g.F.File.Disk.seen g.F.File.Disk.may_leave c.args.self.now.segment c.stop.new.self c.stop.ensures) in
+    let goes = goes_behind _ _ c.args.self.now.ended.items _ _
+    (writes_stopped g.F.File.Disk.seen g.F.File.Disk.may_leave c.args.self.now.segment c.stop.new.self c.stop.ensures) in
     record {
       begins_is = refl;
       wanting_is = refl;

@@ -1,4 +1,5 @@
-use Rattle.std.proofs.Common.{◌≡◌, ◌<◌, ap, sym, ◌∙◌, rules, arith, length, List, ℕ, string_bytes, subst}
+use Rattle.std.proofs.Common.{◌≡◌, ◌<◌, ap, sym, ◌∙◌, rules, arith, length, List, ℕ, string_bytes}
+use Rattle.std.proofs.Common.{subst}
 use Rattle.sqlite_disk.specs.Disk.{Only}
 use Rattle.pgfeed.proofs.Calls.{head_keeps, head_lasts}
 use Rattle.pgfeed.proofs.segment.Segment.create.Goals as goal
@@ -11,7 +12,8 @@ returns-in-Ok-put_head-clause-keeps g c =
     let some : 0 < length c.as_str.result.now = omega (arith, ap length is) in
     let put = c.in-Ok-put_head.ensures some in
     let file : g.D.Disk.seen c.of.result.disk ≡ head = ap g.D.Disk.seen c.of.ensures.disk ∙ put.0 ∙ is in
-    head_keeps c.args.base _ _ _ head _ _ _ _ c.in-Ok.ensures.head size (search rules) c.of.ensures.base c.of.ensures.last c.of.ensures.size file
+    head_keeps c.args.base _ _ _ head _ _ _ _ c.in-Ok.ensures.head size (search rules) c.of.ensures.base c.of.ensures.last c.of.ensures.size
+    file
 
 pub returns-in-Ok-put_head-clause-lasts : goal.returns-in-Ok-put_head-clause-lasts
 returns-in-Ok-put_head-clause-lasts g c =
@@ -21,7 +23,8 @@ returns-in-Ok-put_head-clause-lasts g c =
     let some : 0 < length c.as_str.result.now = omega (arith, ap length is) in
     let put = c.in-Ok-put_head.ensures some in
     let only : Only head (g.D.Disk.may_leave c.of.result.disk) =
-    subst (λ d. Only head (g.D.Disk.may_leave d)) (sym c.of.ensures.disk) (subst (λ text. Only text (g.D.Disk.may_leave c.put_head.new.disk)) is put.1) in
+    subst (λ d. Only head (g.D.Disk.may_leave d)) (sym c.of.ensures.disk)
+    (subst (λ text. Only text (g.D.Disk.may_leave c.put_head.new.disk)) is put.1) in
     head_lasts c.args.base _ _ head _ _ _ _ c.in-Ok.ensures.head size (search rules) c.of.ensures.base c.of.ensures.size only
 
 pub returns-in-Ok-put_head-clause-told : goal.returns-in-Ok-put_head-clause-told

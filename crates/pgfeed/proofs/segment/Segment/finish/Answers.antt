@@ -17,5 +17,7 @@ returns-clause-finished g c =
     let torn : Torn c.args.self.now.size (length line) (g.D.Disk.seen c.args.self.now.disk) (g.D.Disk.seen c.sync_file.new.disk) =
     subst (λ file. Torn c.args.self.now.size (length line) file (g.D.Disk.seen c.sync_file.new.disk)) c.in-Ok.ensures.seen
     (subst (λ file. Torn c.args.self.now.size (length line) (g.D.Disk.seen c.len.new.self) file) (sym synced.seen) wrote.others) in
-    let only : Only (g.D.Disk.seen c.sync_file.new.disk) (g.D.Disk.may_leave c.sync_file.new.disk) = subst (λ file. Only file (g.D.Disk.may_leave c.sync_file.new.disk)) (sym synced.seen) durable in
-    finished _ _ _ _ _ line (g.D.Disk.may_leave c.sync_file.new.disk) es kept long is torn (rw synced.seen wrote.written) only) synced.durable
+    let only : Only (g.D.Disk.seen c.sync_file.new.disk) (g.D.Disk.may_leave c.sync_file.new.disk) =
+    subst (λ file. Only file (g.D.Disk.may_leave c.sync_file.new.disk)) (sym synced.seen) durable in
+    finished _ _ _ _ _ line (g.D.Disk.may_leave c.sync_file.new.disk) es kept long is torn (rw synced.seen wrote.written) only)
+    synced.durable

@@ -13,4 +13,6 @@ returns-clause-text g c =
     let is : c.as_str.result.now ≡ entry_text last e = rw c.as_str.ensures.value c.in_ok-text.ensures.text in
     let size = entry_length last e c.in_ok-text.ensures.fits in
     let long : length c.as_str.result.now ≡ length (entry_text last e) = ap length is in
-    on_ok_weaker c.put.result (λ written. subst (λ bytes. Holds (g.D.Disk.seen c.put.new.self.disk) c.args.self.now.size bytes) is (written (omega arith))) c.put.ensures.written
+    on_ok_weaker c.put.result
+    (λ written. subst (λ bytes. Holds (g.D.Disk.seen c.put.new.self.disk) c.args.self.now.size bytes) is (written (omega arith)))
+    c.put.ensures.written

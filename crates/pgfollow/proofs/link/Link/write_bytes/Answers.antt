@@ -13,5 +13,6 @@ loop-rest-preserved g c =
       c.loop-rest.invariant.1,
       c.loop-rest.invariant.2,
       c.loop-rest.invariant.3,
-      part_written _ _ _ c.args.bytes.now c.loop-rest.rest.now _ front.0 c.in-Ok.count front.1 front.2 c.in-Ok.ensures.bytes (between_to_end c.loop-rest.rest.now c.in-Ok.count _ (search rules)),
+      part_written _ _ _ c.args.bytes.now c.loop-rest.rest.now _ front.0 c.in-Ok.count front.1 front.2 c.in-Ok.ensures.bytes
+          (between_to_end c.loop-rest.rest.now c.in-Ok.count _ (search rules)),
     )

@@ -11,12 +11,14 @@ invariant_of-self g c =
     let was : IsClean (g.S.Store.view c.self.inside.store) = omega (arith, c.release.ensures.quiet.clean) in
     let unbroken = sym (c.is_broken.ensures was) ∙ c.if-is_broken.false in
     let was_up = open_of (g.S.Store.view c.self.inside.store) (g.met.S.Store.broken_if_shut c.self.inside.store) unbroken in
-    released_under (g.S.Store.view c.self.inside.store) (g.S.Store.view c.release.new.self) c.self.inside.last (c.in-Ok.ensures.ok clean) (c.self.invariant.rows c.if-self.false was was_up))
+    released_under (g.S.Store.view c.self.inside.store) (g.S.Store.view c.release.new.self) c.self.inside.last (c.in-Ok.ensures.ok clean)
+    (c.self.invariant.rows c.if-self.false was was_up))
     (λ clean up.
     let was : IsClean (g.S.Store.view c.self.inside.store) = omega (arith, c.release.ensures.quiet.clean) in
     let unbroken = sym (c.is_broken.ensures was) ∙ c.if-is_broken.false in
     let was_up = open_of (g.S.Store.view c.self.inside.store) (g.met.S.Store.broken_if_shut c.self.inside.store) unbroken in
-    gap_same c.self.inside.low c.self.inside.high (g.S.Store.view c.self.inside.store) (g.S.Store.view c.release.new.self) (ap (λ (v : View). v.trees) (c.in-Ok.ensures.ok clean)) (c.self.invariant.gap c.if-self.false was was_up))
+    gap_same c.self.inside.low c.self.inside.high (g.S.Store.view c.self.inside.store) (g.S.Store.view c.release.new.self)
+    (ap (λ (v : View). v.trees) (c.in-Ok.ensures.ok clean)) (c.self.invariant.gap c.if-self.false was was_up))
 
 pub invariant_of-self-in-Err : goal.invariant_of-self-in-Err
 invariant_of-self-in-Err g c =

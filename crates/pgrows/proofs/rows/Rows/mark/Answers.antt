@@ -11,12 +11,14 @@ invariant_of-self g c =
     let was : IsClean (g.S.Store.view c.self.inside.store) = omega (arith, c.savepoint.ensures.quiet.clean) in
     let marks = c.in-Ok.ensures.ok clean in
     let was_up = open_of (g.S.Store.view c.self.inside.store) (g.met.S.Store.broken_if_shut c.self.inside.store) marks.sound in
-    marked_under (g.S.Store.view c.self.inside.store) (g.S.Store.view c.savepoint.new.self) c.self.inside.last marks (c.self.invariant.rows c.if-self.false was was_up))
+    marked_under (g.S.Store.view c.self.inside.store) (g.S.Store.view c.savepoint.new.self) c.self.inside.last marks
+    (c.self.invariant.rows c.if-self.false was was_up))
     (λ clean up.
     let was : IsClean (g.S.Store.view c.self.inside.store) = omega (arith, c.savepoint.ensures.quiet.clean) in
     let marks = c.in-Ok.ensures.ok clean in
     let was_up = open_of (g.S.Store.view c.self.inside.store) (g.met.S.Store.broken_if_shut c.self.inside.store) marks.sound in
-    gap_same c.self.inside.low c.self.inside.high (g.S.Store.view c.self.inside.store) (g.S.Store.view c.savepoint.new.self) (ap (λ (v : View). v.trees) marks.is) (c.self.invariant.gap c.if-self.false was was_up))
+    gap_same c.self.inside.low c.self.inside.high (g.S.Store.view c.self.inside.store) (g.S.Store.view c.savepoint.new.self)
+    (ap (λ (v : View). v.trees) marks.is) (c.self.invariant.gap c.if-self.false was was_up))
 
 pub invariant_of-self-in-Err : goal.invariant_of-self-in-Err
 invariant_of-self-in-Err g c =

@@ -3,7 +3,12 @@ use Rattle.pgrows.proofs.Gaps.{adds_none_set, gap_kept, held_failed, held_on}
 use Rattle.pgrows.proofs.rows.Rows.set_row.Goals as goal
 
 pub invariant_of-self : goal.invariant_of-self
-invariant_of-self g c = held_on g.S.Store c.set.new.store _ c.self.inside.low c.self.inside.high c.self.inside.failed (search rules) (gap_kept g.S.Store c.self.inside.store c.set.new.store c.self.inside.low c.self.inside.high _ (adds_none_set c.args.oid c.args.ident.now (record { body = c.args.body.now; copies = c.args.copies })) c.set.ensures.quiet.clean c.in-Ok.ensures.made (c.self.invariant.gap c.if-self.false))
+invariant_of-self g c = held_on g.S.Store c.set.new.store _ c.self.inside.low c.self.inside.high c.self.inside.failed (search rules)
+    (gap_kept g.S.Store c.self.inside.store c.set.new.store c.self.inside.low c.self.inside.high _
+    (adds_none_set c.args.oid c.args.ident.now (record { body = c.args.body.now; copies = c.args.copies })) c.set.ensures.quiet.clean
+    c.in-Ok.ensures.made (c.self.invariant.gap c.if-self.false))
 
 pub invariant_of-self-in-Err : goal.invariant_of-self-in-Err
-invariant_of-self-in-Err g c = held_failed g.S.Store c.self.inside.store c.set.new.store c.self.inside.last _ _ c.set.ensures.quiet.clean c.set.ensures.keeps c.self.invariant.behind
+invariant_of-self-in-Err g c =
+    held_failed g.S.Store c.self.inside.store c.set.new.store c.self.inside.last _ _ c.set.ensures.quiet.clean c.set.ensures.keeps
+    c.self.invariant.behind

@@ -17,4 +17,5 @@ returns-clause-value g c =
     let listed = g.T.TransactionItems.listed in
     let entries = c.self.inside.transactions.entries in
     rw (← c.self.view_is) (c.item.ensures.value ∙ ap (λ l. option_map (λ (e : LabelledItem). e.1) (slice_get l c.args.index))
-    (sym (held_there (listed_entries listed entries) c.args.xid _ (listed_there listed entries c.args.xid c.in_ok-items.items.now c.in_ok-items.ensures.value))))
+    (sym (held_there (listed_entries listed entries) c.args.xid _
+    (listed_there listed entries c.args.xid c.in_ok-items.items.now c.in_ok-items.ensures.value))))

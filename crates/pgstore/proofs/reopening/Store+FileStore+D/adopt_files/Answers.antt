@@ -10,7 +10,8 @@ returns-in-Ok-adopt-clause-stood g c honest =
     let clean : HasCleanDisk (state over_files c.in-Ok.conn) = omega (arith, c.in-Ok-adopt.ensures.crash.clean, honest) in
     let found = c.in-Ok.ensures.found clean in
     let opened = c.in-Ok.ensures.opened clean in
-    adopted_holds over_files (image_of g.D.Disk c.args.files) c.in-Ok.conn _ (record { holds = found.holds; reads = found.reads }) opened.0 opened.1 (c.in-Ok-adopt.ensures.adopted honest)
+    adopted_holds over_files (image_of g.D.Disk c.args.files) c.in-Ok.conn _ (record { holds = found.holds; reads = found.reads }) opened.0
+    opened.1 (c.in-Ok-adopt.ensures.adopted honest)
 
 pub returns-in-Ok-adopt-clause-disks : goal.returns-in-Ok-adopt-clause-disks
 returns-in-Ok-adopt-clause-disks g c honest =
@@ -21,7 +22,8 @@ pub returns-in-Err-adopt-clause-unchanged : goal.returns-in-Err-adopt-clause-unc
 returns-in-Err-adopt-clause-unchanged g c honest =
     let clean : HasCleanDisk (state over_files c.in-Ok.conn) = omega (arith, c.in-Err-adopt.ensures.crash_refused.clean, honest) in
     let found = c.in-Ok.ensures.found clean in
-    c.in-Err-adopt.ensures.as_found (image_of g.D.Disk c.args.files) (record { holds = found.holds; reads = found.reads }) (c.in-Ok.ensures.opened clean).0
+    c.in-Err-adopt.ensures.as_found (image_of g.D.Disk c.args.files) (record { holds = found.holds; reads = found.reads })
+    (c.in-Ok.ensures.opened clean).0
 
 pub returns-in-Err-adopt-clause-disks_refused : goal.returns-in-Err-adopt-clause-disks_refused
 returns-in-Err-adopt-clause-disks_refused g c honest =

@@ -8,7 +8,8 @@ use Rattle.pgstore.proofs.reopening.Store+FileStore+D.close_files.Goals as goal
 pub stop-requires-clause-numbered : goal.stop-requires-clause-numbered
 stop-requires-clause-numbered g c clean =
     let before : IsClean (view c.into_store-store.result) = omega (arith, c.checkpoint.ensures.quiet.clean, clean) in
-    subst (λ (v : View). IsTrue v.is_numbered) (sym (c.checkpoint.ensures.same (c.in-Ok.ensures.open clean))) (c.into_store-store.ensures.numbered before)
+    subst (λ (v : View). IsTrue v.is_numbered) (sym (c.checkpoint.ensures.same (c.in-Ok.ensures.open clean)))
+    (c.into_store-store.ensures.numbered before)
 
 pub stop-requires-clause-sound : goal.stop-requires-clause-sound
 stop-requires-clause-sound g c clean db left =

@@ -2,7 +2,9 @@ use Rattle.pgstore.proofs.Replicas.{holds_with_position, if_ok, stays_tables}
 use Rattle.pgstore.proofs.replica.StoreReplicaStore.each_row.Goals as goal
 
 pub returns-clause-front : goal.returns-clause-front
-returns-clause-front g c honest tables h = c.each_row.ensures.front honest (record { tables = tables; position = c.args.self.now.position }) (holds_with_position g.S.Store c.args.self.now tables h)
+returns-clause-front g c honest tables h =
+    c.each_row.ensures.front honest (record { tables = tables; position = c.args.self.now.position })
+    (holds_with_position g.S.Store c.args.self.now tables h)
 
 pub returns-clause-all : goal.returns-clause-all
 returns-clause-all g c honest = if_ok c.each_row.result.0 _ _ (c.each_row.ensures.all honest) (λ all gives whole tables h.

@@ -1,11 +1,13 @@
-use Rattle.pgstore.proofs.Replicas.{forgets_held, forgets_reopens, forgets_served, forgets_serves, forgets_staged}
+use Rattle.pgstore.proofs.Replicas.{forgets_held, forgets_reopens, forgets_served, forgets_serves}
+use Rattle.pgstore.proofs.Replicas.{forgets_staged}
 use Rattle.pgstore.proofs.replica.StoreReplicaStore.unstage.Goals as goal
 
 pub returns-clause-unchanged : goal.returns-clause-unchanged
 returns-clause-unchanged g c = forgets_held g.S.Store c.args.self.now c.unstage.new.self c.unstage.ensures.rows
 
 pub returns-clause-staged : goal.returns-clause-staged
-returns-clause-staged g c = forgets_staged g.S.Store c.args.self.now c.unstage.new.self c.unstage.ensures.rows c.unstage.ensures.position c.unstage.ensures.group
+returns-clause-staged g c =
+    forgets_staged g.S.Store c.args.self.now c.unstage.new.self c.unstage.ensures.rows c.unstage.ensures.position c.unstage.ensures.group
 
 pub returns-clause-serves : goal.returns-clause-serves
 returns-clause-serves g c = forgets_serves g.S.Store c.args.self.now c.unstage.new.self c.unstage.ensures.rows

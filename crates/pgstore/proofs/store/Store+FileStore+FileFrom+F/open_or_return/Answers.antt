@@ -17,10 +17,13 @@ pub returns-in-Ok-clause-stood : goal.returns-in-Ok-clause-stood
 returns-in-Ok-clause-stood g c =
     let (log, db) = c.in-Ok.ensures.fresh in
     let same = ap₂ image (ap₂ (seen g.F.Start.log g.F.Start.db) log.0 log.1) (ap₂ (seen g.F.Start.log g.F.Start.db) db.0 db.1) in
-    if_ok c.open_found.result _ _ (λ it held honest. subst (λ i. HoldsContent over_files i it) same (held honest)) c.open_found.ensures.stood
+    if_ok c.open_found.result _ _ (λ it held honest. subst (λ i. HoldsContent over_files i it) same (held honest))
+    c.open_found.ensures.stood
 
 pub returns-in-Ok-clause-unchanged : goal.returns-in-Ok-clause-unchanged
 returns-in-Ok-clause-unchanged g c =
     let (log, db) = c.in-Ok.ensures.fresh in
     let same = ap₂ image (ap₂ (seen g.F.Start.log g.F.Start.db) log.0 log.1) (ap₂ (seen g.F.Start.log g.F.Start.db) db.0 db.1) in
-    if_err c.open_found.result _ _ (λ e stays. if_some e.1 _ _ (λ conn held clean. subst (λ i. StaysAsFound over_files i conn) same (held clean)) stays) c.open_found.ensures.unchanged
+    if_err c.open_found.result _ _
+    (λ e stays. if_some e.1 _ _ (λ conn held clean. subst (λ i. StaysAsFound over_files i conn) same (held clean)) stays)
+    c.open_found.ensures.unchanged

@@ -13,15 +13,19 @@ returns-in-Ok-adopt-clause-holds g c honest =
     let opened = c.in-Ok.ensures.opens clean in (
       was,
       λ content finds.
-          adopted_holds g.S.Store content c.in-Ok.conn _ (over_finds g.S.Store c.args.store c.in-Ok.conn content (c.in-Ok.ensures.trees clean) opened.0 opened.1 finds) opened.0 opened.1 (c.in-Ok-adopt.ensures.adopted honest),
+          adopted_holds g.S.Store content c.in-Ok.conn _
+          (over_finds g.S.Store c.args.store c.in-Ok.conn content (c.in-Ok.ensures.trees clean) opened.0 opened.1 finds) opened.0
+          opened.1 (c.in-Ok-adopt.ensures.adopted honest),
     )
 
 pub returns-in-Err-adopt-clause-stays : goal.returns-in-Err-adopt-clause-stays
 returns-in-Err-adopt-clause-stays g c honest =
-    let clean : HasCleanDisk (connection.state g.S.Store c.in-Ok.conn) = omega (arith, c.in-Err-adopt.ensures.crash_refused.clean, honest) in
+    let clean : HasCleanDisk (connection.state g.S.Store c.in-Ok.conn) =
+    omega (arith, c.in-Err-adopt.ensures.crash_refused.clean, honest) in
     let was : IsClean (g.S.Store.view c.args.store) = omega (arith, c.in-Ok.ensures.clean, clean) in
     let opened = c.in-Ok.ensures.opens clean in (
       was,
       λ content finds.
-          c.in-Err-adopt.ensures.as_found content (over_finds g.S.Store c.args.store c.in-Ok.conn content (c.in-Ok.ensures.trees clean) opened.0 opened.1 finds) opened.0,
+          c.in-Err-adopt.ensures.as_found content
+          (over_finds g.S.Store c.args.store c.in-Ok.conn content (c.in-Ok.ensures.trees clean) opened.0 opened.1 finds) opened.0,
     )

@@ -17,6 +17,8 @@ invariant_of-result g c =
     let same = sym c.of_trees.ensures in
     let range : c.args.position < 2 ^ 64 = omega arith in (
       subst (IsNumbered g.S.Store) same (λ clean. (c.requires.fresh clean).numbered),
-      subst (λ r. IsStore g.S.Store r c.args.position) same (trees_store g.S.Store s c.args.position range c.requires.fresh c.requires.holds g.met.S.Store.settled (g.met.S.Store.broken_if_shut s)),
+      subst (λ r. IsStore g.S.Store r c.args.position) same
+          (trees_store g.S.Store s c.args.position range c.requires.fresh c.requires.holds g.met.S.Store.settled
+          (g.met.S.Store.broken_if_shut s)),
       begun_empty g.S.Store _ c.args.position range _ c.at.ensures,
     )

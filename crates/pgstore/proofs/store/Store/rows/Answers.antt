@@ -6,9 +6,12 @@ use Rattle.pgstore.proofs.store.Store.rows.Goals as goal
 pub invariant_of-self : goal.invariant_of-self
 invariant_of-self g c = (
   c.dump_rows.ensures.source,
-  stays_store g.S.Store (rows_in c.self.inside.source) (rows_in c.dump_rows.new.source) c.self.inside.position c.dump_rows.ensures.crash.clean c.dump_rows.ensures.commit c.self.invariant.1
-      (read_left g.S.Store (rows_in c.self.inside.source) (rows_in c.dump_rows.new.source) c.self.inside.position c.dump_rows.ensures.crash) g.met.S.Store.settled,
-  unstaged_empty g.S.Store (rows_in c.dump_rows.new.source) c.self.inside.position c.self.invariant.1.range c.unstage.new.self c.self.inside.group c.unstage.ensures,
+  stays_store g.S.Store (rows_in c.self.inside.source) (rows_in c.dump_rows.new.source) c.self.inside.position
+      c.dump_rows.ensures.crash.clean c.dump_rows.ensures.commit c.self.invariant.1
+      (read_left g.S.Store (rows_in c.self.inside.source) (rows_in c.dump_rows.new.source) c.self.inside.position c.dump_rows.ensures.crash)
+      g.met.S.Store.settled,
+  unstaged_empty g.S.Store (rows_in c.dump_rows.new.source) c.self.inside.position c.self.invariant.1.range c.unstage.new.self
+      c.self.inside.group c.unstage.ensures,
 )
 
 pub returns-clause-formed : goal.returns-clause-formed

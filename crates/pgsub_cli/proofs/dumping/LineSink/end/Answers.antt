@@ -10,15 +10,21 @@ use Rattle.pgsub_cli.proofs.dumping.LineSink.end.Goals as goal
 pub returns-in-Some-default : goal.returns-in-Some-default
 returns-in-Some-default g c old bytes more writing own last =
     let lines = c.args.self.now.lines in
-    stops g.W.Output.takes g.W.Output.failed c.in-Some-default.fault (subst (λ f. IsWriting g.W.Output.takes g.W.Output.failed old bytes lines.out (string_bytes lines.text) f) c.in-Some-default.is-0 writing) more
+    stops g.W.Output.takes g.W.Output.failed c.in-Some-default.fault
+    (subst (λ f. IsWriting g.W.Output.takes g.W.Output.failed old bytes lines.out (string_bytes lines.text) f) c.in-Some-default.is-0
+    writing) more
 
 pub returns-in-None-Ok-false : goal.returns-in-None-Ok-false
 returns-in-None-Ok-false g c old bytes more writing own last =
     let lines = c.args.self.now.lines in
-    unread g.W.Output.takes g.W.Output.failed (subst (λ f. IsWriting g.W.Output.takes g.W.Output.failed old bytes lines.out (string_bytes lines.text) f) c.in-None-Ok-false.is-0 writing) more Memory (inl refl)
+    unread g.W.Output.takes g.W.Output.failed
+    (subst (λ f. IsWriting g.W.Output.takes g.W.Output.failed old bytes lines.out (string_bytes lines.text) f) c.in-None-Ok-false.is-0
+    writing) more Memory (inl refl)
 
 pub returns-in-None-Err : goal.returns-in-None-Err
 returns-in-None-Err g c old bytes more writing own last =
     let lines = c.args.self.now.lines in
-    unread g.W.Output.takes g.W.Output.failed (subst (λ f. IsWriting g.W.Output.takes g.W.Output.failed old bytes lines.out (string_bytes lines.text) f) c.in-None-Err.is-0 writing) more c.from.result
+    unread g.W.Output.takes g.W.Output.failed
+    (subst (λ f. IsWriting g.W.Output.takes g.W.Output.failed old bytes lines.out (string_bytes lines.text) f) c.in-None-Err.is-0
+    writing) more c.from.result
     (subst IsReadFault (sym c.from.ensures.0) (own_read c.in-None-Err.fault (subst (λ r. IfErr r IsOwnFault) c.in-None-Err.is-1 own)))

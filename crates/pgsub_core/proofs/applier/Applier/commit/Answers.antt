@@ -7,11 +7,15 @@ use Rattle.pgsub_core.proofs.applier.Applier.commit.Goals as goal
 
 pub returns-clause-taken : goal.returns-clause-taken
 returns-clause-taken g c serves =
-    subst (λ (a : Applied g.row.C.Denot). Commits g.C.ReplicaStore.stages g.C.ReplicaStore.reach c.args.ending.end (items_of (held_of a.held c.args.ending.xid)) a.store a.confirmed a.relations c.commit.new.store c.in_ok-confirmed.confirmed c.commit.new.book) c.self.view_is
+    subst (λ (a : Applied g.row.C.Denot).
+    Commits g.C.ReplicaStore.stages g.C.ReplicaStore.reach c.args.ending.end (items_of (held_of a.held c.args.ending.xid)) a.store
+    a.confirmed a.relations c.commit.new.store c.in_ok-confirmed.confirmed c.commit.new.book) c.self.view_is
     (c.in_ok-confirmed.ensures.taken serves)
 
 pub returns-clause-counts : goal.returns-clause-counts
 returns-clause-counts g c serves =
     let it = g.C.ReplicaStore in
-    subst (λ (a : Applied g.row.C.Denot). CountsCommit it.stages it.reach it.stages_missed c.args.ending.end (items_of (held_of a.held c.args.ending.xid)) a.store a.confirmed a.relations c.commit.new.store) c.self.view_is
+    subst (λ (a : Applied g.row.C.Denot).
+    CountsCommit it.stages it.reach it.stages_missed c.args.ending.end (items_of (held_of a.held c.args.ending.xid)) a.store a.confirmed
+    a.relations c.commit.new.store) c.self.view_is
     (c.in_ok-confirmed.ensures.counts serves)

@@ -10,7 +10,8 @@ use Rattle.pgsub_core.specs.Machine.Opened.{Fits, under_way_behind}
 use Rattle.pgsub_core.specs.Calls.Events.{event_end}
 use Rattle.pgsub_core.proofs.Opening.{key_inserted, key_removed}
 use Rattle.pgsub_core.proofs.DescribedChanges.{on_ok, on_ok_two, if_err}
-use Rattle.pgsub_core.proofs.EventSteps.{goes_by, goes_commit, stops_commit, pushed_keys, cut_when_open}
+use Rattle.pgsub_core.proofs.EventSteps.{goes_by, goes_commit, stops_commit, pushed_keys}
+use Rattle.pgsub_core.proofs.EventSteps.{cut_when_open}
 use Rattle.pgsub_core.proofs.applier.Applier.take_event.Goals as goal
 
 pub returns-in-Ignore-clause-goes : goal.returns-in-Ignore-clause-goes
@@ -22,15 +23,18 @@ returns-in-Ignore-clause-goes g c serves tables h = elim c.in-Ignore.is [
 
 pub returns-in-Hold-clause-goes : goal.returns-in-Hold-clause-goes
 returns-in-Hold-clause-goes g c serves = on_ok c.hold.result _ _ c.hold.ensures.ok (λ ok.
-    goes_by g.C.ReplicaStore.stages g.C.ReplicaStore.reach (message_value c.args.message.now) c.args.event _ c.args.self.now c.self.view_is _ _ ok (λ tables. rw c.in-Hold.is refl))
+    goes_by g.C.ReplicaStore.stages g.C.ReplicaStore.reach (message_value c.args.message.now) c.args.event _ c.args.self.now c.self.view_is
+    _ _ ok (λ tables. rw c.in-Hold.is refl))
 
 pub returns-in-Hold-clause-opened : goal.returns-in-Hold-clause-opened
 returns-in-Hold-clause-opened g c = on_ok c.hold.result _ _ c.hold.ensures.ok (λ ok x.
     let held = g.P.Spools.held c.self.inside.spools in
     let same : held ≡ c.args.self.now.held = ap (λ (a : Applied g.row.C.Denot). a.held) c.self.view_is in
-    let fits : map.contains_key c.args.self.now.held c.in-Hold.top ≡ true = subst (Fits c.args.self.now.held) c.in-Hold.is c.requires.fits in
+    let fits : map.contains_key c.args.self.now.held c.in-Hold.top ≡ true =
+    subst (Fits c.args.self.now.held) c.in-Hold.is c.requires.fits in
     ap (λ (y : HeldMap). map.contains_key y x) ok
-    ∙ pushed_keys held c.in-Hold.top c.in-Hold.label (kind (message_value c.args.message.now)) (ap (λ (y : HeldMap). map.contains_key y c.in-Hold.top) same ∙ fits) x
+    ∙ pushed_keys held c.in-Hold.top c.in-Hold.label (kind (message_value c.args.message.now))
+    (ap (λ (y : HeldMap). map.contains_key y c.in-Hold.top) same ∙ fits) x
     ∙ ap (λ (y : HeldMap). (c.in-Hold.top == x) || map.contains_key y x) same
     ∙ ap (λ (e : Event). under_way_behind e (map.contains_key c.args.self.now.held) x) (sym c.in-Hold.is))
 
@@ -40,8 +44,10 @@ returns-in-Cut-clause-goes g c serves =
     let same : held ≡ c.args.self.now.held = ap (λ (a : Applied g.row.C.Denot). a.held) c.self.view_is in
     let fits : map.contains_key c.args.self.now.held c.in-Cut.xid ≡ true = subst (Fits c.args.self.now.held) c.in-Cut.is c.requires.fits in
     let cutted = map.insert held c.in-Cut.xid (cut c.in-Cut.label (held_of held c.in-Cut.xid)) in
-    goes_by g.C.ReplicaStore.stages g.C.ReplicaStore.reach (message_value c.args.message.now) c.args.event _ c.args.self.now c.self.view_is _ cutted
-    (c.cut.ensures.held ∙ cut_when_open held (map.contains_key held c.in-Cut.xid) cutted (ap (λ (y : HeldMap). map.contains_key y c.in-Cut.xid) same ∙ fits)) (λ tables. rw c.in-Cut.is refl)
+    goes_by g.C.ReplicaStore.stages g.C.ReplicaStore.reach (message_value c.args.message.now) c.args.event _ c.args.self.now c.self.view_is
+    _ cutted
+    (c.cut.ensures.held ∙ cut_when_open held (map.contains_key held c.in-Cut.xid) cutted
+    (ap (λ (y : HeldMap). map.contains_key y c.in-Cut.xid) same ∙ fits)) (λ tables. rw c.in-Cut.is refl)
 
 pub returns-in-Cut-clause-opened : goal.returns-in-Cut-clause-opened
 returns-in-Cut-clause-opened g c x =
@@ -49,14 +55,17 @@ returns-in-Cut-clause-opened g c x =
     let same : held ≡ c.args.self.now.held = ap (λ (a : Applied g.row.C.Denot). a.held) c.self.view_is in
     let fits : map.contains_key c.args.self.now.held c.in-Cut.xid ≡ true = subst (Fits c.args.self.now.held) c.in-Cut.is c.requires.fits in
     let cutted = map.insert held c.in-Cut.xid (cut c.in-Cut.label (held_of held c.in-Cut.xid)) in
-    ap (λ (y : HeldMap). map.contains_key y x) (c.cut.ensures.held ∙ cut_when_open held (map.contains_key held c.in-Cut.xid) cutted (ap (λ (y : HeldMap). map.contains_key y c.in-Cut.xid) same ∙ fits))
+    ap (λ (y : HeldMap). map.contains_key y x)
+    (c.cut.ensures.held ∙ cut_when_open held (map.contains_key held c.in-Cut.xid) cutted
+    (ap (λ (y : HeldMap). map.contains_key y c.in-Cut.xid) same ∙ fits))
     ∙ key_inserted held c.in-Cut.xid (cut c.in-Cut.label (held_of held c.in-Cut.xid)) x
     ∙ ap (λ (y : HeldMap). (c.in-Cut.xid == x) || map.contains_key y x) same
     ∙ ap (λ (e : Event). under_way_behind e (map.contains_key c.args.self.now.held) x) (sym c.in-Cut.is)
 
 pub returns-in-Drop-clause-goes : goal.returns-in-Drop-clause-goes
 returns-in-Drop-clause-goes g c serves =
-    goes_by g.C.ReplicaStore.stages g.C.ReplicaStore.reach (message_value c.args.message.now) c.args.event _ c.args.self.now c.self.view_is _ _ c.drop_xid.ensures.held (λ tables. rw c.in-Drop.is refl)
+    goes_by g.C.ReplicaStore.stages g.C.ReplicaStore.reach (message_value c.args.message.now) c.args.event _ c.args.self.now c.self.view_is
+    _ _ c.drop_xid.ensures.held (λ tables. rw c.in-Drop.is refl)
 
 pub returns-in-Drop-clause-opened : goal.returns-in-Drop-clause-opened
 returns-in-Drop-clause-opened g c x =
@@ -68,10 +77,13 @@ returns-in-Drop-clause-opened g c x =
     ∙ ap (λ (e : Event). under_way_behind e (map.contains_key c.args.self.now.held) x) (sym c.in-Drop.is)
 
 pub returns-in-CommitPair-clause-goes : goal.returns-in-CommitPair-clause-goes
-returns-in-CommitPair-clause-goes g c serves = on_ok_two c.commit.result _ _ _ (c.commit.ensures.taken serves) c.commit.ensures.held (λ taken held. elim c.in-CommitPair.is [
-  | inl is ↦ goes_commit g.C.ReplicaStore.stages g.C.ReplicaStore.reach (message_value c.args.message.now) c.args.event c.args.self.now c.commit.new.self c.in-CommitPair.end c.in-CommitPair.xid (λ st. rw is.1 refl) c.commit.ensures.beside held taken
-  | inr is ↦ goes_commit g.C.ReplicaStore.stages g.C.ReplicaStore.reach (message_value c.args.message.now) c.args.event c.args.self.now c.commit.new.self c.in-CommitPair.end c.in-CommitPair.xid (λ st. rw is.1 refl) c.commit.ensures.beside held taken
-])
+returns-in-CommitPair-clause-goes g c serves =
+    on_ok_two c.commit.result _ _ _ (c.commit.ensures.taken serves) c.commit.ensures.held (λ taken held. elim c.in-CommitPair.is [
+      | inl is ↦ goes_commit g.C.ReplicaStore.stages g.C.ReplicaStore.reach (message_value c.args.message.now) c.args.event c.args.self.now
+          c.commit.new.self c.in-CommitPair.end c.in-CommitPair.xid (λ st. rw is.1 refl) c.commit.ensures.beside held taken
+      | inr is ↦ goes_commit g.C.ReplicaStore.stages g.C.ReplicaStore.reach (message_value c.args.message.now) c.args.event c.args.self.now
+          c.commit.new.self c.in-CommitPair.end c.in-CommitPair.xid (λ st. rw is.1 refl) c.commit.ensures.beside held taken
+    ])
 
 pub returns-in-CommitPair-clause-opened : goal.returns-in-CommitPair-clause-opened
 returns-in-CommitPair-clause-opened g c = on_ok c.commit.result _ _ c.commit.ensures.held (λ held x.
@@ -81,28 +93,37 @@ returns-in-CommitPair-clause-opened g c = on_ok c.commit.result _ _ c.commit.ens
     ])
 
 pub returns-in-CommitPair-clause-refused : goal.returns-in-CommitPair-clause-refused
-returns-in-CommitPair-clause-refused g c serves = if_err c.commit.result _ _ (c.commit.ensures.refused serves) (λ f refuses. elim c.in-CommitPair.is [
-  | inl is ↦ stops_commit g.C.ReplicaStore.stages g.C.ReplicaStore.reach (message_value c.args.message.now) c.args.event c.args.self.now c.commit.new.self c.in-CommitPair.end c.in-CommitPair.xid (λ st. rw is.1 refl) (ap event_end is.1) f refuses
-  | inr is ↦ stops_commit g.C.ReplicaStore.stages g.C.ReplicaStore.reach (message_value c.args.message.now) c.args.event c.args.self.now c.commit.new.self c.in-CommitPair.end c.in-CommitPair.xid (λ st. rw is.1 refl) (ap event_end is.1) f refuses
-])
+returns-in-CommitPair-clause-refused g c serves =
+    if_err c.commit.result _ _ (c.commit.ensures.refused serves) (λ f refuses. elim c.in-CommitPair.is [
+      | inl is ↦ stops_commit g.C.ReplicaStore.stages g.C.ReplicaStore.reach (message_value c.args.message.now) c.args.event c.args.self.now
+          c.commit.new.self c.in-CommitPair.end c.in-CommitPair.xid (λ st. rw is.1 refl) (ap event_end is.1) f refuses
+      | inr is ↦ stops_commit g.C.ReplicaStore.stages g.C.ReplicaStore.reach (message_value c.args.message.now) c.args.event c.args.self.now
+          c.commit.new.self c.in-CommitPair.end c.in-CommitPair.xid (λ st. rw is.1 refl) (ap event_end is.1) f refuses
+    ])
 
 pub returns-in-CommitPair-clause-why : goal.returns-in-CommitPair-clause-why
-returns-in-CommitPair-clause-why g c honest serves = if_err c.commit.result _ _ (c.commit.ensures.why honest serves) (λ f refuses. elim c.in-CommitPair.is [
-  | inl is ↦ stops_commit g.C.ReplicaStore.stages g.C.ReplicaStore.reach (message_value c.args.message.now) c.args.event c.args.self.now c.args.self.now c.in-CommitPair.end c.in-CommitPair.xid (λ st. rw is.1 refl) (ap event_end is.1) f refuses
-  | inr is ↦ stops_commit g.C.ReplicaStore.stages g.C.ReplicaStore.reach (message_value c.args.message.now) c.args.event c.args.self.now c.args.self.now c.in-CommitPair.end c.in-CommitPair.xid (λ st. rw is.1 refl) (ap event_end is.1) f refuses
-])
+returns-in-CommitPair-clause-why g c honest serves =
+    if_err c.commit.result _ _ (c.commit.ensures.why honest serves) (λ f refuses. elim c.in-CommitPair.is [
+      | inl is ↦ stops_commit g.C.ReplicaStore.stages g.C.ReplicaStore.reach (message_value c.args.message.now) c.args.event c.args.self.now
+          c.args.self.now c.in-CommitPair.end c.in-CommitPair.xid (λ st. rw is.1 refl) (ap event_end is.1) f refuses
+      | inr is ↦ stops_commit g.C.ReplicaStore.stages g.C.ReplicaStore.reach (message_value c.args.message.now) c.args.event c.args.self.now
+          c.args.self.now c.in-CommitPair.end c.in-CommitPair.xid (λ st. rw is.1 refl) (ap event_end is.1) f refuses
+    ])
 
 pub returns-in-Begin-clause-goes : goal.returns-in-Begin-clause-goes
 returns-in-Begin-clause-goes g c serves = on_ok c.open.result _ _ c.open.ensures.ok (λ ok. elim c.in-Begin.is [
-  | inl is ↦ goes_by g.C.ReplicaStore.stages g.C.ReplicaStore.reach (message_value c.args.message.now) c.args.event _ c.args.self.now c.self-in-Begin.view_is _ _ ok (λ tables. rw is refl)
-  | inr is ↦ goes_by g.C.ReplicaStore.stages g.C.ReplicaStore.reach (message_value c.args.message.now) c.args.event _ c.args.self.now c.self-in-Begin.view_is _ _ ok (λ tables. rw is refl)
+  | inl is ↦ goes_by g.C.ReplicaStore.stages g.C.ReplicaStore.reach (message_value c.args.message.now) c.args.event _ c.args.self.now
+      c.self-in-Begin.view_is _ _ ok (λ tables. rw is refl)
+  | inr is ↦ goes_by g.C.ReplicaStore.stages g.C.ReplicaStore.reach (message_value c.args.message.now) c.args.event _ c.args.self.now
+      c.self-in-Begin.view_is _ _ ok (λ tables. rw is refl)
 ])
 
 pub returns-in-Begin-clause-opened : goal.returns-in-Begin-clause-opened
 returns-in-Begin-clause-opened g c = on_ok c.open.result _ _ c.open.ensures.ok (λ ok x.
     let held = g.P.Spools.held c.self-in-Begin.inside.spools in
     let same : held ≡ c.args.self.now.held = ap (λ (a : Applied g.row.C.Denot). a.held) c.self-in-Begin.view_is in
-    ap (λ (y : HeldMap). map.contains_key y x) ok ∙ key_inserted held c.in-Begin.xid [] x ∙ ap (λ (y : HeldMap). (c.in-Begin.xid == x) || map.contains_key y x) same ∙ elim c.in-Begin.is [
+    ap (λ (y : HeldMap). map.contains_key y x) ok ∙ key_inserted held c.in-Begin.xid [] x
+    ∙ ap (λ (y : HeldMap). (c.in-Begin.xid == x) || map.contains_key y x) same ∙ elim c.in-Begin.is [
       | inl is ↦ ap (λ (e : Event). under_way_behind e (map.contains_key c.args.self.now.held) x) (sym is)
       | inr is ↦ ap (λ (e : Event). under_way_behind e (map.contains_key c.args.self.now.held) x) (sym is)
     ])
@@ -115,19 +136,24 @@ returns-in-Ignore-clause-counts g c serves tables h = elim c.in-Ignore.is [
 ]
 
 pub returns-in-Hold-clause-counts : goal.returns-in-Hold-clause-counts
-returns-in-Hold-clause-counts g c serves = on_ok c.hold.result _ _ c.hold.ensures.ok (λ ok tables h. rw c.in-Hold.is (ap (λ (a : Applied g.row.C.Denot). g.C.ReplicaStore.stages_missed a.store) c.self.view_is))
+returns-in-Hold-clause-counts g c serves =
+    on_ok c.hold.result _ _ c.hold.ensures.ok
+    (λ ok tables h. rw c.in-Hold.is (ap (λ (a : Applied g.row.C.Denot). g.C.ReplicaStore.stages_missed a.store) c.self.view_is))
 
 pub returns-in-Cut-clause-counts : goal.returns-in-Cut-clause-counts
-returns-in-Cut-clause-counts g c serves tables h = rw c.in-Cut.is (ap (λ (a : Applied g.row.C.Denot). g.C.ReplicaStore.stages_missed a.store) c.self.view_is)
+returns-in-Cut-clause-counts g c serves tables h =
+    rw c.in-Cut.is (ap (λ (a : Applied g.row.C.Denot). g.C.ReplicaStore.stages_missed a.store) c.self.view_is)
 
 pub returns-in-Drop-clause-counts : goal.returns-in-Drop-clause-counts
-returns-in-Drop-clause-counts g c serves tables h = rw c.in-Drop.is (ap (λ (a : Applied g.row.C.Denot). g.C.ReplicaStore.stages_missed a.store) c.self.view_is)
+returns-in-Drop-clause-counts g c serves tables h =
+    rw c.in-Drop.is (ap (λ (a : Applied g.row.C.Denot). g.C.ReplicaStore.stages_missed a.store) c.self.view_is)
 
 pub returns-in-CommitPair-clause-counts : goal.returns-in-CommitPair-clause-counts
-returns-in-CommitPair-clause-counts g c serves = on_ok c.commit.result _ _ (c.commit.ensures.counts serves) (λ counts tables h. elim c.in-CommitPair.is [
-  | inl is ↦ rw is.1 (counts tables h)
-  | inr is ↦ rw is.1 (counts tables h)
-])
+returns-in-CommitPair-clause-counts g c serves =
+    on_ok c.commit.result _ _ (c.commit.ensures.counts serves) (λ counts tables h. elim c.in-CommitPair.is [
+      | inl is ↦ rw is.1 (counts tables h)
+      | inr is ↦ rw is.1 (counts tables h)
+    ])
 
 pub returns-in-Begin-clause-counts : goal.returns-in-Begin-clause-counts
 returns-in-Begin-clause-counts g c serves = on_ok c.open.result _ _ c.open.ensures.ok (λ ok tables h. elim c.in-Begin.is [

@@ -13,8 +13,10 @@ use Rattle.pgsub_core.proofs.applier.Applier.take_message.Goals as goal
 
 pub returns-in_err-event-clause-refused : goal.returns-in_err-event-clause-refused
 returns-in_err-event-clause-refused g c serves =
-    on_told c.from_residual-in_err-event.result (fault_of_order c.in_err-event.field-0.0) _ _ c.from_residual-in_err-event.ensures.1 (λ now clock.
-    order_refuses g.C.ReplicaStore.stages g.C.ReplicaStore.reach (message_value c.args.message.now) c.args.start c.args.end _ c.args.self.now c.self.view_is c.step.new.self.state c.step.new.self.version c.step.ensures.version
+    on_told c.from_residual-in_err-event.result (fault_of_order c.in_err-event.field-0.0) _ _ c.from_residual-in_err-event.ensures.1
+    (λ now clock.
+    order_refuses g.C.ReplicaStore.stages g.C.ReplicaStore.reach (message_value c.args.message.now) c.args.start c.args.end _
+    c.args.self.now c.self.view_is c.step.new.self.state c.step.new.self.version c.step.ensures.version
     c.in_err-event.field-0.0 (fault_of_order c.in_err-event.field-0.0) refl c.in_err-event.ensures.fault now clock)
 
 pub returns-in_err-take_event-clause-refused : goal.returns-in_err-take_event-clause-refused
@@ -25,14 +27,20 @@ returns-in_err-take_event-clause-refused g c serves =
     let stops = c.in_err-take_event.ensures.refused serves in
     let taken = c.in_ok-event.ensures.taken in
     on_residual c.from_residual-in_err-take_event.result f _ c.from_residual-in_err-take_event.ensures.1 (λ now clock.
-    subst (λ (a : Applied g.row.C.Denot). Stops holds place now (Data c.args.start c.args.end clock (message_value c.args.message.now)) a c.take_event.new.self f) c.self.view_is
-    (message_stops holds place (message_value c.args.message.now) c.args.start c.args.end _ c.step.new.self.state c.in_ok-event.event c.step.new.self.version taken c.take_event.new.self f stops c.in_err-take_event.ensures.kept c.step.ensures.version now clock))
+    subst (λ (a : Applied g.row.C.Denot).
+    Stops holds place now (Data c.args.start c.args.end clock (message_value c.args.message.now)) a c.take_event.new.self f)
+    c.self.view_is
+    (message_stops holds place (message_value c.args.message.now) c.args.start c.args.end _ c.step.new.self.state c.in_ok-event.event
+    c.step.new.self.version taken c.take_event.new.self f stops c.in_err-take_event.ensures.kept c.step.ensures.version now clock))
 
 pub returns-in_err-event-clause-why : goal.returns-in_err-event-clause-why
 returns-in_err-event-clause-why g c honest serves =
-    on_told c.from_residual-in_err-event.result (fault_of_order c.in_err-event.field-0.0) _ _ c.from_residual-in_err-event.ensures.1 (λ now clock.
-    stops_here g.C.ReplicaStore.stages g.C.ReplicaStore.reach now (Data c.args.start c.args.end clock (message_value c.args.message.now)) c.args.self.now _ _
-    (order_refuses g.C.ReplicaStore.stages g.C.ReplicaStore.reach (message_value c.args.message.now) c.args.start c.args.end _ c.args.self.now c.self.view_is c.step.new.self.state c.step.new.self.version c.step.ensures.version
+    on_told c.from_residual-in_err-event.result (fault_of_order c.in_err-event.field-0.0) _ _ c.from_residual-in_err-event.ensures.1
+    (λ now clock.
+    stops_here g.C.ReplicaStore.stages g.C.ReplicaStore.reach now (Data c.args.start c.args.end clock (message_value c.args.message.now))
+    c.args.self.now _ _
+    (order_refuses g.C.ReplicaStore.stages g.C.ReplicaStore.reach (message_value c.args.message.now) c.args.start c.args.end _
+    c.args.self.now c.self.view_is c.step.new.self.state c.step.new.self.version c.step.ensures.version
     c.in_err-event.field-0.0 (fault_of_order c.in_err-event.field-0.0) refl c.in_err-event.ensures.fault now clock))
 
 pub returns-in_err-take_event-clause-why : goal.returns-in_err-take_event-clause-why
@@ -40,12 +48,15 @@ returns-in_err-take_event-clause-why g c honest serves =
     let holds = g.C.ReplicaStore.stages in
     let place = g.C.ReplicaStore.reach in
     let f = c.in_err-take_event.field-0.0 in
-    let stops = c.in_err-take_event.ensures.why honest (subst (λ (a : Applied g.row.C.Denot). g.C.ReplicaStore.serves a.store) (sym c.self.view_is) serves) in
+    let stops = c.in_err-take_event.ensures.why honest
+    (subst (λ (a : Applied g.row.C.Denot). g.C.ReplicaStore.serves a.store) (sym c.self.view_is) serves) in
     let taken = c.in_ok-event.ensures.taken in
     on_residual c.from_residual-in_err-take_event.result f _ c.from_residual-in_err-take_event.ensures.1 (λ now clock.
-    subst (λ (a : Applied g.row.C.Denot). Stops holds place now (Data c.args.start c.args.end clock (message_value c.args.message.now)) a a f) c.self.view_is
+    subst (λ (a : Applied g.row.C.Denot).
+    Stops holds place now (Data c.args.start c.args.end clock (message_value c.args.message.now)) a a f) c.self.view_is
     (stops_here holds place now (Data c.args.start c.args.end clock (message_value c.args.message.now)) _ _ f
-    (message_stops holds place (message_value c.args.message.now) c.args.start c.args.end _ c.step.new.self.state c.in_ok-event.event c.step.new.self.version taken _ f stops (unchanged place _) c.step.ensures.version now clock)))
+    (message_stops holds place (message_value c.args.message.now) c.args.start c.args.end _ c.step.new.self.state c.in_ok-event.event
+    c.step.new.self.version taken _ f stops (unchanged place _) c.step.ensures.version now clock)))
 
 pub returns-clause-takes : goal.returns-clause-takes
 returns-clause-takes g c serves now clock =
@@ -53,9 +64,12 @@ returns-clause-takes g c serves now clock =
     let taken = c.in_ok-event.ensures.taken in
     let goes = c.in_ok-take_event.ensures.goes (subst (λ (a : Applied g.row.C.Denot). g.C.ReplicaStore.serves a.store) own serves) in
     let raised : c.later-self-inside.result ≡ max c.self-2.inside.confirmed (max c.self-2.inside.received (max c.args.start c.args.end)) =
-    c.later-self-inside.ensures ∙ ap (max c.self-2.inside.confirmed) (c.later-2.ensures ∙ ap (max c.self-2.inside.received) c.later.ensures) in
-    event_takes g.C.ReplicaStore.stages g.C.ReplicaStore.reach (message_value c.args.message.now) c.args.start c.args.end _ c.args.self.now c.self.view_is c.step.new.self.state c.step.new.self.version c.step.ensures.version
-    c.in_ok-event.event taken _ c.take_event.new.self own goes c.in_ok-take_event.ensures.room c.take_event.ensures.beside c.later-self-inside.result raised now clock
+    c.later-self-inside.ensures
+    ∙ ap (max c.self-2.inside.confirmed) (c.later-2.ensures ∙ ap (max c.self-2.inside.received) c.later.ensures) in
+    event_takes g.C.ReplicaStore.stages g.C.ReplicaStore.reach (message_value c.args.message.now) c.args.start c.args.end _ c.args.self.now
+    c.self.view_is c.step.new.self.state c.step.new.self.version c.step.ensures.version
+    c.in_ok-event.event taken _ c.take_event.new.self own goes c.in_ok-take_event.ensures.room c.take_event.ensures.beside
+    c.later-self-inside.result raised now clock
 
 pub returns-clause-opened : goal.returns-clause-opened
 returns-clause-opened g c =
@@ -64,13 +78,16 @@ returns-clause-opened g c =
     let beside = c.take_event.ensures.beside in
     let held_now = ap (λ (a : Applied g.row.C.Denot). a.held) own in
     let order_now : c.self-2.inside.order.state ≡ c.step.new.self.state = ap (λ (a : Applied g.row.C.Denot). a.order) own ∙ beside.order in
-    let was : AreOpened c.self.inside.order.state (g.P.Spools.held c.self.inside.spools) = subst (λ (a : Applied g.row.C.Denot). AreOpened a.order a.held) (sym c.self.view_is) c.requires.opened in
-    let opened = event_opens c.self.inside.order.version c.self.inside.order.state c.step.new.self.state (message_value c.args.message.now) c.in_ok-event.event (g.P.Spools.held c.self.inside.spools) was taken c.take_event.new.self.held c.in_ok-take_event.ensures.opened in
+    let was : AreOpened c.self.inside.order.state (g.P.Spools.held c.self.inside.spools) =
+    subst (λ (a : Applied g.row.C.Denot). AreOpened a.order a.held) (sym c.self.view_is) c.requires.opened in
+    let opened = event_opens c.self.inside.order.version c.self.inside.order.state c.step.new.self.state (message_value c.args.message.now)
+    c.in_ok-event.event (g.P.Spools.held c.self.inside.spools) was taken c.take_event.new.self.held c.in_ok-take_event.ensures.opened in
     rw (order_now, held_now) opened
 
 pub returns-clause-counts : goal.returns-clause-counts
 returns-clause-counts g c serves =
     let own = c.self-2.view_is in
     let it = g.C.ReplicaStore in
-    counts_message it.stages it.reach it.stages_missed (message_value c.args.message.now) _ c.args.self.now c.self.view_is c.step.new.self.state c.step.new.self.version c.in_ok-event.event c.in_ok-event.ensures.taken _ c.take_event.new.self own
+    counts_message it.stages it.reach it.stages_missed (message_value c.args.message.now) _ c.args.self.now c.self.view_is
+    c.step.new.self.state c.step.new.self.version c.in_ok-event.event c.in_ok-event.ensures.taken _ c.take_event.new.self own
     (c.in_ok-take_event.ensures.counts (subst (λ (a : Applied g.row.C.Denot). it.serves a.store) own serves)) c.later-self-inside.result

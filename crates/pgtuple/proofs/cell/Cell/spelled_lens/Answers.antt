@@ -8,5 +8,7 @@ pub overflow_add-total : goal.overflow_add-total
 overflow_add-total c =
     let cells = c.args.cells.now in
     let so_far : c.loop-cell.total ≤ 3435973843200 = rw c.loop-cell.invariant (front_bounded cells c.loop-cell.cell-index c.requires) in
-    let next : c.spelled_len-total.result ≤ 2147483652 = rw (c.spelled_len-total.ensures, c.cell-item.is) (cell_bounded _ (All-from_recursion IsCell cells c.requires.each c.loop-cell.cell-index _ c.loop-cell-test.true)) in
+    let next : c.spelled_len-total.result ≤ 2147483652 =
+    rw (c.spelled_len-total.ensures, c.cell-item.is)
+    (cell_bounded _ (All-from_recursion IsCell cells c.requires.each c.loop-cell.cell-index _ c.loop-cell-test.true)) in
     omega arith

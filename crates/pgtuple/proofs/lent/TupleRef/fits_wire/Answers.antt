@@ -8,7 +8,11 @@ use Rattle.pgtuple.proofs.lent.TupleRef.fits_wire.Goals as goal
 pub returns-in-Owned : goal.returns-in-Owned
 returns-in-Owned c =
     let same = sym (ap form_cells c.in-Owned.is) ∙ c.self.view_is in
-    subst (λ (cells : List Cell). IsWireTuple cells) same (record { tuple = subst IsForm c.in-Owned.is c.self.invariant; texts = recursion_from_All IsTextCell c.in-Owned.cells.now c.have_utf8.ensures })
+    subst (λ (cells : List Cell). IsWireTuple cells) same
+    (record {
+      tuple = subst IsForm c.in-Owned.is c.self.invariant;
+      texts = recursion_from_All IsTextCell c.in-Owned.cells.now c.have_utf8.ensures;
+    })
 
 pub returns-in-Spelled : goal.returns-in-Spelled
 returns-in-Spelled c =

@@ -4,4 +4,5 @@ use Rattle.pgtuple.proofs.lent.TupleRef.get.Goals as goal
 
 pub returns-in-Spelled : goal.returns-in-Spelled
 returns-in-Spelled c =
-    nth_from_yields_List c.nth.result c.nth.new.self c.args.k c.nth.ensures.ran (YieldsList-from_first cell_value (λ cells. cells) c.args.self.now c.cells.ensures.cells)
+    nth_from_yields_List c.nth.result c.nth.new.self c.args.k c.nth.ensures.ran
+    (YieldsList-from_first cell_value (λ cells. cells) c.args.self.now c.cells.ensures.cells)

@@ -5,7 +5,8 @@ use Rattle.pgtuple.proofs.Lengths.{tuple_bounded}
 use Rattle.pgtuple.proofs.lent.TupleRef.spelled_len.Goals as goal
 
 pub overflow_add-result : goal.overflow_add-result
-overflow_add-result c = omega (arith, tuple_bounded c.in-Owned.cells.now (subst IsForm c.in-Owned.is c.self.invariant), c.spelled_lens.ensures)
+overflow_add-result c = omega
+    (arith, tuple_bounded c.in-Owned.cells.now (subst IsForm c.in-Owned.is c.self.invariant), c.spelled_lens.ensures)
 
 pub returns-in-Owned : goal.returns-in-Owned
 unfolding tuple_spelling

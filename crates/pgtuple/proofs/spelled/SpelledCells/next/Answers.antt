@@ -20,4 +20,5 @@ pub returns : goal.returns
 returns c =
     let first = next_read c.self.inside.left c.self.inside.reader c.if-self-eq0.false c.self.invariant in
     let known = known_cell c.cell.result c.self.inside.reader c.cell.new.reader first.0 c.cell.ensures first.1.here in
-    rw (c.ok.ensures.value ∙ ap result_ok known.1) (sym c.self.view_is ∙ first.1.all ∙ (λ i. sym known.2 i ∷ cells_read (cells_at (c.self.inside.left - 1) (sym known.3 i))))
+    rw (c.ok.ensures.value ∙ ap result_ok known.1)
+    (sym c.self.view_is ∙ first.1.all ∙ (λ i. sym known.2 i ∷ cells_read (cells_at (c.self.inside.left - 1) (sym known.3 i))))

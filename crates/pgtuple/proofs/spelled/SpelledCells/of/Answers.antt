@@ -14,7 +14,8 @@ unreachable-requires c =
 width_is : (c : In-Ok) → HasWidth c.args.bytes.now (c.in-Ok.width, c.u16.new.self)
 width_is c =
     let width = width_read c.args.bytes.now c.requires in
-    let same : ◌≡◌ {A = ℕ × At} width.0 (c.in-Ok.width, c.u16.new.self) = ok_is width.0 (c.in-Ok.width, c.u16.new.self) (sym width.1.number ∙ (rw c.new-reader.ensures at c.in-Ok.ensures)) in
+    let same : ◌≡◌ {A = ℕ × At} width.0 (c.in-Ok.width, c.u16.new.self) =
+    ok_is width.0 (c.in-Ok.width, c.u16.new.self) (sym width.1.number ∙ (rw c.new-reader.ensures at c.in-Ok.ensures)) in
     subst (λ (w : ℕ × At). HasWidth c.args.bytes.now w) same width.1
 
 pub invariant_of-result : goal.invariant_of-result

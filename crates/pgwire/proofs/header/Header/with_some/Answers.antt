@@ -12,5 +12,7 @@ invariant_of-result c =
     record {
       within = omega arith;
       five = grind (arith, length-append, length-take, length-drop);
-      bytes_fit = let a = c.args.self.len in let n = c.min-count.result in IsBytes-append _ _ (IsBytes-take _ _ old_fits) (IsBytes-append _ _ new_fits (IsBytes-drop (a + n - a) (drop a old) (IsBytes-drop a old old_fits)));
+      bytes_fit = let a = c.args.self.len in let n = c.min-count.result in
+          IsBytes-append _ _ (IsBytes-take _ _ old_fits)
+          (IsBytes-append _ _ new_fits (IsBytes-drop (a + n - a) (drop a old) (IsBytes-drop a old old_fits)));
     }
