@@ -13,7 +13,7 @@ use Rattle.pgsub_core.proofs.applier.Applier.take_message.Goals as goal
 
 pub returns-in_err-event-clause-refused : goal.returns-in_err-event-clause-refused
 returns-in_err-event-clause-refused g c serves =
-    on_told c.from_residual-in_err-event.result (fault_of_order c.in_err-event.field-0.0) _ _ c.from_residual-in_err-event.ensures.1
+    on_told c.from_residual.result (fault_of_order c.in_err-event.field-0.0) _ _ c.from_residual.ensures.1
     (λ now clock.
     order_refuses g.C.ReplicaStore.stages g.C.ReplicaStore.reach (message_value c.args.message.now) c.args.start c.args.end _
     c.args.self.now c.self.view_is c.step.new.self.state c.step.new.self.version c.step.ensures.version
@@ -35,7 +35,7 @@ returns-in_err-take_event-clause-refused g c serves =
 
 pub returns-in_err-event-clause-why : goal.returns-in_err-event-clause-why
 returns-in_err-event-clause-why g c honest serves =
-    on_told c.from_residual-in_err-event.result (fault_of_order c.in_err-event.field-0.0) _ _ c.from_residual-in_err-event.ensures.1
+    on_told c.from_residual.result (fault_of_order c.in_err-event.field-0.0) _ _ c.from_residual.ensures.1
     (λ now clock.
     stops_here g.C.ReplicaStore.stages g.C.ReplicaStore.reach now (Data c.args.start c.args.end clock (message_value c.args.message.now))
     c.args.self.now _ _
