@@ -17,7 +17,7 @@ use crate::dump::resume_text;
 use crate::files::Input;
 use crate::limits::{CLOCK, Limits};
 use crate::printed::Printed;
-use crate::storing::{Incoming, apply_over, subscriber_over};
+use crate::storing::{Incoming, apply_over, store_fault, subscriber_over};
 use pgmemory::MemoryDisk;
 use pgorder::Version;
 use pgspool::ByteSpools;
@@ -35,8 +35,10 @@ pub(crate) fn new_store(alloc: Global) -> Result<MemoryStore, Fault>
     ensures empty { IfOk result IsEmpty }
     ensures fault { IfErr result IsReadFault }
 {
-    let store = Store::on_memory_disks(alloc)?;
-    Ok(store)
+    match Store::on_memory_disks(alloc) {
+        Ok(store) => Ok(store),
+        Err(fault) => Err(store_fault(fault)),
+    }
 }
 
 // Below, a store is of any kind, since the proof that one over given disks is a store gets too
