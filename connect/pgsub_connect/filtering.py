@@ -178,7 +178,9 @@ class Filter:
             fcntl.fcntl(self.down, fcntl.F_SETPIPE_SZ, PIPE)
         self.pending: collections.deque[bytearray] = collections.deque()
         self.waiting = self.written = 0
-        self.partial, self.line, self.said = bytearray(), b"", ""
+        self.partial, self.line, self.said = b"", b"", ""
+        self.hearing = select.poll()
+        self.hearing.register(self.err, select.POLLIN)
         self.missing = Missing()
         self.status, self.in_session, self.takes, self.speaks = b"", False, True, True
         self.runs = True
@@ -292,7 +294,7 @@ class Filter:
 
     def has_said(self) -> bool:
         """Whether there is something on standard error, or its end."""
-        return self.speaks and bool(select.select([self.err], [], [], 0)[0])
+        return self.speaks and bool(self.hearing.poll(0))
 
     def read_err(self) -> None:
         """Takes all that the filter has said: notes how many changes found no row, passes on the rest, and keeps its last line."""
@@ -323,15 +325,17 @@ class Filter:
             return []
         if not piece:
             raise self.ended()
-        self.partial += piece
-        statuses = []
-        while len(self.partial) >= STATUS:
-            if self.partial[: len(STATUS_HEAD)] != STATUS_HEAD:
+        if self.partial:
+            piece = self.partial + piece
+        statuses, at = [], 0
+        while at + STATUS <= len(piece):
+            if not piece.startswith(STATUS_HEAD, at):
                 self.kill()
                 raise FilterFault("the filter wrote what isn't a status")
-            self.status = bytes(self.partial[5:STATUS])
-            del self.partial[:STATUS]
+            self.status = piece[at + 5 : at + STATUS]
             statuses.append(self.status)
+            at += STATUS
+        self.partial = piece[at:]
         return statuses
 
     def ended(self) -> FilterEnded:

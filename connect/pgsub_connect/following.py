@@ -545,7 +545,8 @@ class Follower:
         payloads, more = (hold.take_kept(), True) if hold.kept else connection.payloads(self.filter.room(), PIECE)
         if not payloads:
             return more
-        payloads = hold.passing(payloads, bool(self.noting.begun))
+        if hold.point is not None:
+            payloads = hold.passing(payloads, bool(self.noting.begun))
         recorded = payloads
         if self.adder.leaving.points:
             payloads = self.adder.leaving.passing(payloads)
@@ -606,6 +607,10 @@ class Follower:
         """
         for status in statuses[-1:]:
             lsn = flushed(status)
+            if self.noting.ends and self.noting.ends[-1] == lsn:
+                # (the last commit that was passed on is stored: there is nothing to look up first)
+                self.pass_on(status)
+                return
             self.forget_confirmed(lsn)
             if self.checkpoint.known.confirmed < self.position < lsn:
                 self.pass_on(confirming(status, self.position))
@@ -631,9 +636,8 @@ class Follower:
             self.last_moved = began
         if self.noting.asked is not None and lsn >= self.noting.asked:
             self.noting.asked = None
-        self.forget_confirmed(lsn)
         self.held = None
-        if lsn > self.position:
+        if lsn > self.noting.stored(lsn, self.position):
             self.note_statuses([status])
             self.noted_in = time.monotonic() - began
         self.told = status

@@ -238,6 +238,8 @@ class Noting:
 
     def stored(self, confirmed: int, position: int) -> int:
         """The store's position where this is confirmed, by commits that were passed on; at least `position`."""
+        if self.ends and position <= self.ends[-1] <= confirmed:
+            return self.ends[-1]
         return max((end for end in self.ends if end <= confirmed), default=position)
 
     def rejected_text(self, position: int) -> str:

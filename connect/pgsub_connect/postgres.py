@@ -4,7 +4,6 @@ from __future__ import annotations
 
 import contextlib
 import ctypes
-import functools
 import ipaddress
 import os
 import re
@@ -13,7 +12,7 @@ import socket
 import threading
 import time
 from collections.abc import Callable, Iterator
-from typing import Any
+from typing import Any, Protocol
 
 import psycopg
 from psycopg import pq
@@ -55,6 +54,11 @@ def typed(call: Any, gives: Any, *takes: Any) -> Any:
 # libpq's own calls, where psycopg makes them by ctypes too, and Python's own to make bytes of a place in memory.
 GET_COPY_DATA = typed(LIBPQ and LIBPQ.PQgetCopyData, ctypes.c_int, ctypes.c_void_p, ctypes.c_void_p, ctypes.c_int)
 FREE = typed(LIBPQ and LIBPQ.PQfreemem, None, ctypes.c_void_p)
+CONSUME_INPUT = typed(LIBPQ and LIBPQ.PQconsumeInput, ctypes.c_int, ctypes.c_void_p)
+PUT_COPY_DATA = typed(
+    LIBPQ and LIBPQ.PQputCopyData, ctypes.c_int, ctypes.c_void_p, ctypes.c_char_p, ctypes.c_int
+)
+FLUSH = typed(LIBPQ and LIBPQ.PQflush, ctypes.c_int, ctypes.c_void_p)
 BYTES_AT = typed(ctypes.pythonapi["PyBytes_FromStringAndSize"], ctypes.py_object, ctypes.c_void_p, ctypes.c_ssize_t)
 # A call of libpq that psycopg lacks.
 GSS_IN_USE: Any = getattr(LIBPQ, "PQgssEncInUse", None)
@@ -159,7 +163,6 @@ class Connection:
         self.unsent = False
         # what broke the stream of CopyData off, and is to be raised after those that came before it
         self.broken: ServerError | None = None
-        self.take: Take | None = None
         settings = {**DEFAULTS, "application_name": name, **parameters(dsn), "client_encoding": "UTF8"}
         if replication:
             settings["replication"] = "database"
@@ -167,6 +170,7 @@ class Connection:
         self.raw = self.connected(settings)
         self.raw.notice_handler = None if quiet else tell_notice
         self.number = self.raw.socket
+        self.wire = wire_of(self.raw)
 
     def connected(self, settings: dict[str, str]) -> pq.abc.PGconn:
         """Connects to the first host that can be reached. The error is that of all of them."""
@@ -360,10 +364,8 @@ class Connection:
 
     def consume(self) -> None:
         """Reads what has come on the socket."""
-        try:
-            self.raw.consume_input()
-        except psycopg.OperationalError as error:
-            raise ServerError(str(error)) from None
+        if not self.wire.consume():
+            raise ServerError(self.error())
 
     def next_payload(self) -> bytes | None:
         """Returns the payload of the next CopyData, b"" where none is there yet, and None after the last."""
@@ -386,8 +388,7 @@ class Connection:
         """
         if self.broken:
             raise self.broken
-        self.take = self.take or take_of(self.raw)
-        found, last = self.take(room, long)
+        found, last = self.wire.take(room, long)
         try:
             if last == ENDED:
                 self.end_copies()
@@ -408,17 +409,16 @@ class Connection:
 
     def send(self, payload: bytes) -> None:
         """Sends a CopyData without waiting; `unsent` tells that some of it waits for the socket."""
-        try:
-            self.raw.put_copy_data(payload)
-        except psycopg.OperationalError as error:
-            raise ServerError(str(error)) from None
-        self.flush()
+        self.note_left(self.wire.send(payload))
 
     def flush(self) -> None:
-        try:
-            self.unsent = self.raw.flush() > 0
-        except psycopg.OperationalError as error:
-            raise ServerError(str(error)) from None
+        self.note_left(self.wire.flush())
+
+    def note_left(self, left: int) -> None:
+        """Notes what libpq says of sending: whether something waits, or that it failed."""
+        if left < 0:
+            raise ServerError(self.error())
+        self.unsent = left > 0
 
     def end_copy(self) -> None:
         """Tells the server that nothing more is sent, within a second. Whether it hears it doesn't matter."""
@@ -430,22 +430,39 @@ class Connection:
                 self.flush()
 
     def close(self) -> None:
-        self.take = functools.partial(taken_by_psycopg, self.raw)
+        self.wire = Slow(self.raw)
         self.raw.finish()
 
 
-# Takes payloads of CopyData, as far as there is room for so many bytes, or to the first one that is at least so long. Returns beside them
-# what PQgetCopyData returned last.
-Take = Callable[[int, int], tuple[list[bytes], int]]
+class Wire(Protocol):
+    """What a session asks of libpq for each of its messages, or each time that some have come.
+    Nothing of it waits."""
+
+    def consume(self) -> bool:
+        """Reads what has come on the socket. Returns false where that failed."""
+
+    def take(self, room: int, long: int) -> tuple[list[bytes], int]:
+        """Takes payloads of CopyData, as far as there is room for so many bytes, or to the first
+        one that is at least so long. Returns beside them what PQgetCopyData returned last."""
+
+    def send(self, payload: bytes) -> int:
+        """Sends a CopyData, as `flush` does what is there."""
+
+    def flush(self) -> int:
+        """Sends as much as the socket takes. Returns 1 where some of it waits, 0 where nothing
+        does, and less where that failed."""
 
 
 class Quick:
-    """Does so by libpq's own calls. They are made for each message of a session, so psycopg's way by ctypes, which costs as much again, is
-    passed by, and what is the same for all is made once."""
+    """Does so by libpq's own calls. psycopg's way to them by ctypes, which costs as much again, is
+    passed by, and what is the same for all messages is made once."""
 
     def __init__(self, pointer: int) -> None:
         self.pointer, self.buffer = pointer, ctypes.c_void_p()
         self.place = ctypes.addressof(self.buffer)
+
+    def consume(self) -> bool:
+        return bool(CONSUME_INPUT(self.pointer))
 
     def take(self, room: int, long: int) -> tuple[list[bytes], int]:
         get, pointer, buffer, place = GET_COPY_DATA, self.pointer, self.buffer, self.place
@@ -461,28 +478,60 @@ class Quick:
             room -= length if length < long else room
         return found, length
 
+    def send(self, payload: bytes) -> int:
+        put = PUT_COPY_DATA(self.pointer, payload, len(payload))
+        return FAILED if put < 0 else int(FLUSH(self.pointer))
 
-def take_of(raw: pq.abc.PGconn) -> Take:
-    """How payloads are taken of an open connection."""
+    def flush(self) -> int:
+        return int(FLUSH(self.pointer))
+
+
+class Slow:
+    """Does so by psycopg, where it isn't the one over Debian's libpq, or where this is closed."""
+
+    def __init__(self, raw: pq.abc.PGconn) -> None:
+        self.raw = raw
+
+    def consume(self) -> bool:
+        try:
+            self.raw.consume_input()
+            return True
+        except psycopg.OperationalError:
+            return False
+
+    def take(self, room: int, long: int) -> tuple[list[bytes], int]:
+        found, length = list[bytes](), 1
+        while room > 0:
+            try:
+                length, view = self.raw.get_copy_data(1)
+            except psycopg.OperationalError:
+                return found, FAILED
+            if length <= 0:
+                break
+            found.append(bytes(view))
+            room -= length if length < long else room
+        return found, length
+
+    def send(self, payload: bytes) -> int:
+        try:
+            self.raw.put_copy_data(payload)
+            return self.raw.flush()
+        except psycopg.OperationalError:
+            return FAILED
+
+    def flush(self) -> int:
+        try:
+            return self.raw.flush()
+        except psycopg.OperationalError:
+            return FAILED
+
+
+def wire_of(raw: pq.abc.PGconn) -> Wire:
+    """That of an open connection."""
     pointer = getattr(raw, "pgconn_ptr", None) if GET_COPY_DATA else None
     if pointer is None:
-        return functools.partial(taken_by_psycopg, raw)
-    return Quick(pointer).take
-
-
-def taken_by_psycopg(raw: pq.abc.PGconn, room: int, long: int) -> tuple[list[bytes], int]:
-    """The same where psycopg isn't the one over Debian's libpq."""
-    found, length = list[bytes](), 1
-    while room > 0:
-        try:
-            length, view = raw.get_copy_data(1)
-        except psycopg.OperationalError:
-            return found, FAILED
-        if length <= 0:
-            break
-        found.append(bytes(view))
-        room -= length if length < long else room
-    return found, length
+        return Slow(raw)
+    return Quick(pointer)
 
 
 def set_verbosity(raw: pq.abc.PGconn, verbosity: int) -> None:

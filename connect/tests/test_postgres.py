@@ -231,9 +231,10 @@ class Copies(Case):
         for quick in (True, False):
             server = self.start(5433 + quick)
             server.to_send = list(sent)
-            connection, lots, more, until = self.connect(server.dsn()), list[list[bytes]](), True, time.monotonic() + 20
-            connection.run("START_REPLICATION", COPY_BOTH, 5.0)
+            lots, more, until = list[list[bytes]](), True, time.monotonic() + 20
             with mock.patch.object(postgres, "GET_COPY_DATA", postgres.GET_COPY_DATA if quick else None):
+                connection = self.connect(server.dsn())
+                connection.run("START_REPLICATION", COPY_BOTH, 5.0)
                 while sum(map(len, lots)) < len(sent) and time.monotonic() < until:
                     found, more = connection.payloads(50, 1000)  # type: ignore[assignment]
                     lots += [found] if found else []
