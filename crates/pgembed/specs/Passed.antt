@@ -1,5 +1,6 @@
 -- What a caller that isn't Rust gets: a number and bytes.
-use Rattle.std.specs.Prelude.{◌≡◌, ◌<◌, ◌≤◌, ◌⊎◌, ℕ, Bool, List, ◌++◌, length, drop, Option, Some, None}
+use Rattle.std.specs.Prelude.{◌≡◌, ◌<◌, ◌≤◌, ◌⊎◌, ℕ, Bool, List, ◌++◌, length, drop, Option, Some}
+use Rattle.std.specs.Prelude.{None}
 use Rattle.pgorder.specs.declared.Version.{Version}
 use Rattle.pgshow.specs.declared.fault.Fault.{Fault}
 use Rattle.pgshow.specs.declared.fault.Fault.TheVariants.{Wire, Decode, Order, Memory}
@@ -13,8 +14,8 @@ number_of (Decode fault) = 2
 number_of (Order fault) = 3
 number_of Memory = 9
 
--- These bytes were written to the front of the room, and 0 is returned; or they don't fit, and then nothing is written and 10 is returned.
--- How long they are is told in both cases.
+-- These bytes were written to the front of the room, and 0 is returned; or they don't fit, and then
+-- nothing is written and 10 is returned. How long they are is told in both cases.
 pub record IsPassed (bytes old new : List ℕ) (told result : ℕ) : Type 0 where
   pub length_is : told ≡ length bytes
   pub fits : length bytes ≤ length old → (result ≡ 0) × (new ≡ bytes ++ drop (length bytes) old)
@@ -24,8 +25,8 @@ pub record IsPassed (bytes old new : List ℕ) (told result : ℕ) : Type 0 wher
 abbrev pub PassesNothing : List ℕ → List ℕ → ℕ → Type 0
 PassesNothing old new told = (told ≡ 0) × (new ≡ old)
 
--- Some text was written to the front of the room, or it doesn't fit and nothing is written. How long
--- it is is told in both cases.
+-- Some text was written to the front of the room, or it doesn't fit and nothing is written. How
+-- long it is is told in both cases.
 abbrev pub PassesText : List ℕ → List ℕ → ℕ → Type 0
 PassesText old new told = (text : List ℕ) × (passed : ℕ) × IsPassed text old new told passed
 

@@ -39,8 +39,8 @@ pub fn pass(bytes: &[u8], room: &mut [u8], length: &mut usize) -> u32
 }
 
 /// Writes the text of a fault, where there is room and memory for it, and returns its number. How
-/// many bytes the text has goes to `length`: more than there is room for where it isn't written, and
-/// 0 where memory is short.
+/// many bytes the text has goes to `length`: more than there is room for where it isn't written,
+/// and 0 where memory is short.
 pub fn pass_fault(alloc: Global, fault: Fault, room: &mut [u8], length: &mut usize) -> u32
     ensures number { result ≡ number_of fault }
     ensures text { PassesText room.old room.new length.new }
@@ -68,8 +68,8 @@ pub fn pass_line(
     }
 }
 
-/// Passes the lines of a session, as `show` makes them, and the text of the fault that ends them, if
-/// there is one. Its number is returned where the lines fit; else no text is passed.
+/// Passes the lines of a session, as `show` makes them, and the text of the fault that ends them,
+/// if there is one. Its number is returned where the lines fit; else no text is passed.
 pub fn pass_lines(
     alloc: Global,
     version: Version,
