@@ -17,6 +17,7 @@ use Rattle.pglogical.specs.declared.message.RelationDef.{RelationDef}
 use Rattle.pglogical.specs.declared.message.OldKind.{OldKind}
 use Rattle.pgrel.specs.Identity.{keyed, has_unchanged, identity, lacks_identity, new_has_width}
 use Rattle.pgrel.specs.Identity.{old_has_width, searched_identity}
+use Rattle.pgrel.specs.declared.fault.RelFault.TheVariants.{Width}
 use Rattle.pgrel.proofs.Rows.{sent_stays}
 use Rattle.pgtables.specs.Kept as stored
 use Rattle.pgrows.specs.Rows.{with_row_if_there}
@@ -38,7 +39,8 @@ pub searched_whole : (def : RelationDef) (row searched : List Cell) → keyed de
     → searched_identity def None (Some row) ≡ Ok searched
     → StaysWhole def (tuple_spelling searched) row
 searched_whole def row searched key sent e =
-    let widths = (refused (not (new_has_width def (Some row))) _ _ searched (refused (not (old_has_width def None)) _ _ searched e).1).1 in
+    let old = (refused (not (old_has_width def None)) Width _ searched e).1 in
+    let widths = (refused (not (new_has_width def (Some row))) _ _ searched old).1 in
     let known = (refused (has_unchanged (identity def row)) _ _ searched (refused (lacks_identity def None) _ _ searched widths).1).1 in
     record {
       keyed = key;
