@@ -14,6 +14,8 @@ mod counting;
 #[cfg(test)]
 mod messages;
 #[cfg(test)]
+mod missing;
+#[cfg(test)]
 mod pairs;
 #[cfg(test)]
 mod places;
@@ -21,6 +23,8 @@ mod places;
 mod pumped;
 #[cfg(test)]
 mod refusing;
+#[cfg(test)]
+mod restarting;
 #[cfg(test)]
 mod row;
 #[cfg(test)]

@@ -14,7 +14,7 @@ use trial_stores::{PairTrial, two_in_memory};
 
 /// What comparing gives: how the sides compare, at which positions, or the fault of a side.
 #[derive(Clone, Copy)]
-enum Compared {
+pub(crate) enum Compared {
     Same(u64),
     Positions(u64, u64),
     Rows(u64),
@@ -94,17 +94,30 @@ static PAIRS: &[Pair] = &[
     ),
 ];
 
+/// The verdict that is wanted, if one is.
+fn verdict_of(wanted: Compared) -> Option<Verdict> {
+    match wanted {
+        Same(position) => Some(Verdict::Same(Lsn(position))),
+        Positions(left, right) => Some(Verdict::Positions(Lsn(left), Lsn(right))),
+        Rows(position) => Some(Verdict::Rows(Lsn(position))),
+        Left(_) | Right(_) => None,
+    }
+}
+
+/// The fault that is wanted of a side, if one is.
+fn fault_of(wanted: Compared) -> Option<(Side, Fault)> {
+    match wanted {
+        Left(fault) => Some((Side::Left, fault)),
+        Right(fault) => Some((Side::Right, fault)),
+        _ => None,
+    }
+}
+
 /// Whether comparing gave what is wanted.
-fn is_wanted(compared: Result<Verdict, ConvergeFault>, wanted: Compared) -> bool {
-    match (compared, wanted) {
-        (Ok(verdict), Same(position)) => verdict == Verdict::Same(Lsn(position)),
-        (Ok(verdict), Positions(left, right)) => {
-            verdict == Verdict::Positions(Lsn(left), Lsn(right))
-        }
-        (Ok(verdict), Rows(position)) => verdict == Verdict::Rows(Lsn(position)),
-        (Err(found), Left(fault)) => found.side == Side::Left && found.fault == fault,
-        (Err(found), Right(fault)) => found.side == Side::Right && found.fault == fault,
-        _ => false,
+pub(crate) fn is_wanted(compared: Result<Verdict, ConvergeFault>, wanted: Compared) -> bool {
+    match compared {
+        Ok(verdict) => verdict_of(wanted) == Some(verdict),
+        Err(ConvergeFault { side, fault }) => fault_of(wanted) == Some((side, fault)),
     }
 }
 

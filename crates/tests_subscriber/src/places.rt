@@ -1,4 +1,4 @@
-//! One bad change at each place of a transaction.
+//! One bad change at each index of a transaction.
 
 use crate::row::Step::{At, Disconnect, Feed, Rows};
 use crate::row::{AMPLE, AT_ONCE, Row, T_1_A, T_2_G, T_3_G, T_4_G, T_5_G};
@@ -59,16 +59,22 @@ static DISCONNECTED: Row = Row {
     ],
 };
 
+/// Appends the messages of words.
+fn append_words(alloc: Global, bytes: &mut Vec<u8>, words: &[&str]) -> Result<(), BadSession> {
+    for word in words {
+        bytes.extend_from_slice(bytes_of(alloc, word)?.as_slice())?;
+    }
+    Ok(())
+}
+
 /// The transaction with further changes after so many of its own.
 fn transaction_with(alloc: Global, count: usize, more: &[&str]) -> Result<Vec<u8>, BadSession> {
     let (before, after) = GOOD.split_at(count.min(GOOD.len()));
     let mut bytes = bytes_of(alloc, "begin:200 rel:t rel:n")?;
-    let last = ["commit:230"];
-    for words in [before, more, after, last.as_slice()] {
-        for word in words {
-            bytes.extend_from_slice(bytes_of(alloc, word)?.as_slice())?;
-        }
-    }
+    append_words(alloc, &mut bytes, before)?;
+    append_words(alloc, &mut bytes, more)?;
+    append_words(alloc, &mut bytes, after)?;
+    append_words(alloc, &mut bytes, &["commit:230"])?;
     Ok(bytes)
 }
 
@@ -140,25 +146,37 @@ impl<R: Abort + AllocGlobal> Trial<R> for RejectsAt {
     }
 }
 
-// By both forms of spools, over stores in memory and on disks in memory.
+/// A bad change at an index, by both forms of spools, over stores in memory and on disks in memory.
+fn check_place(
+    rt: &(impl Abort + AllocGlobal),
+    count: usize,
+    bad: (&'static str, StoreFault),
+) -> Result<(), Fail> {
+    let is_encoded = true;
+    in_memory(
+        rt,
+        &RejectsAt {
+            count,
+            bad,
+            is_encoded,
+        },
+    )??;
+    let is_encoded = false;
+    on_memory_disks(
+        rt,
+        &RejectsAt {
+            count,
+            bad,
+            is_encoded,
+        },
+    )?
+}
+
 #[test]
 fn a_bad_change_at_each_place(rt: HostRuntime) -> Result<(), Fail> {
     for bad in BAD {
         for count in 0..=GOOD.len() {
-            let (bad, is_encoded) = (*bad, true);
-            let trial = RejectsAt {
-                count,
-                bad,
-                is_encoded,
-            };
-            in_memory(&rt, &trial)??;
-            let is_encoded = false;
-            let trial = RejectsAt {
-                count,
-                bad,
-                is_encoded,
-            };
-            on_memory_disks(&rt, &trial)??;
+            check_place(&rt, count, *bad)?;
         }
     }
     Ok(())

@@ -4,7 +4,7 @@ use crate::row::Step::{At, Rows};
 use crate::row::{AMPLE, Row, T_1_A};
 use crate::steps::{NOW, bytes_of, feed, over, position_of, take_steps};
 use pgapply::ReplicaStore;
-use pgorder::Version;
+use pgorder::{OrderFault, Version};
 use pgspool::{ByteSpools, ListSpools, Spools};
 use pgsub_core::{Fault, Source, Subscriber, pump};
 use std::io;
@@ -71,6 +71,24 @@ fn pump_and_feed<P: Spools + Drop, C: ReplicaStore + Drop>(
     take_steps(rt, subscriber, &STORED, 1)
 }
 
+/// Whether pumping the bytes of words, so many at a call, gives this result, and no read fails.
+fn pumps<P: Spools + Drop, C: ReplicaStore + Drop>(
+    rt: &(impl Abort + AllocGlobal),
+    subscriber: &mut Subscriber<P, C>,
+    words: &str,
+    at_once: usize,
+    wanted: Result<(), Fault>,
+) -> Result<bool, Fail> {
+    let bytes = bytes_of(rt.alloc(), words)?;
+    let reader = Reader {
+        rest: bytes.as_slice(),
+        at_once,
+        fails: false,
+    };
+    let (pumped, failed) = pump_from(rt, subscriber, reader);
+    Ok(pumped == wanted && !failed)
+}
+
 /// Pumps the first bytes over a new store, and feeds the others.
 fn fail_after<P: Spools + Drop, C: ReplicaStore + Drop>(
     rt: &(impl Abort + AllocGlobal),
@@ -124,4 +142,36 @@ fn a_reader_that_fails_after_each_byte(rt: HostRuntime) -> Result<(), Fail> {
         }
     }
     Ok(())
+}
+
+/// Pumps readers: one of a transaction, a byte at each call, and one of a Commit in a session of
+/// its own.
+fn read_to_the_end<P: Spools + Drop, C: ReplicaStore + Drop>(
+    rt: &(impl Abort + AllocGlobal),
+    subscriber: &mut Subscriber<P, C>,
+) -> Result<(), Fail> {
+    assert!(rt; pumps(rt, subscriber, "t1", 1, Ok(()))?);
+    take_steps(rt, subscriber, &STORED, 1)?;
+    subscriber.disconnect();
+    let fault = Err(Fault::Order(OrderFault::CommitWithoutBegin));
+    assert!(rt; pumps(rt, subscriber, "commit:130", 4096, fault)?);
+    take_steps(rt, subscriber, &STORED, 1)
+}
+
+/// Pumps readers to their end over a new store.
+struct ReadsToTheEnd;
+
+impl<R: Abort + AllocGlobal> Trial<R> for ReadsToTheEnd {
+    type Outcome = Result<(), Fail>;
+
+    fn run<C: ReplicaStore + Drop>(&self, rt: &R, store: C) -> Result<(), Fail> {
+        let spools = ListSpools::new(rt.alloc(), AMPLE);
+        let mut subscriber = over(rt.alloc(), store, spools, Version::Two);
+        read_to_the_end(rt, &mut subscriber)
+    }
+}
+
+#[test]
+fn a_reader_is_read_to_its_end(rt: HostRuntime) -> Result<(), Fail> {
+    in_memory(&rt, &ReadsToTheEnd)?
 }

@@ -78,13 +78,21 @@ fn append_message(alloc: Global, bytes: &mut Vec<u8>, message: &str) -> Result<(
     Ok(())
 }
 
+/// The digits of a word in a table.
+fn found(table: &[(&'static str, &'static str)], word: &str) -> Option<&'static str> {
+    for &(name, digits) in table {
+        if name == word {
+            return Some(digits);
+        }
+    }
+    None
+}
+
 /// The digits of a word.
 fn digits_of(word: &str) -> Option<&'static str> {
     for table in [BOUNDS, ITEMS, BLOCK_ITEMS, FRAMES] {
-        for &(name, digits) in table {
-            if name == word {
-                return Some(digits);
-            }
+        if let Some(digits) = found(table, word) {
+            return Some(digits);
         }
     }
     None
@@ -109,6 +117,13 @@ fn chunks_of(alloc: Global, bytes: &[u8], chunk_len: usize) -> Result<Vec<Bytes>
     Ok(chunks)
 }
 
+/// A session in chunks of so many bytes.
+fn session_of(alloc: Global, session: &str, chunk_len: usize) -> Result<Session, BadSession> {
+    let bytes = bytes_of(alloc, session)?;
+    let pieces = Seq::from_vec(chunks_of(alloc, bytes.as_slice(), chunk_len)?);
+    Ok(Session { pieces })
+}
+
 /// Sessions in chunks of so many bytes.
 pub(crate) fn sessions_of(
     alloc: Global,
@@ -117,9 +132,7 @@ pub(crate) fn sessions_of(
 ) -> Result<Vec<Session>, BadSession> {
     let mut all = Vec::new(alloc);
     for session in sessions {
-        let bytes = bytes_of(alloc, session)?;
-        let pieces = Seq::from_vec(chunks_of(alloc, bytes.as_slice(), chunk_len)?);
-        all.push(Session { pieces })?;
+        all.push(session_of(alloc, session, chunk_len)?)?;
     }
     Ok(all)
 }
@@ -264,7 +277,7 @@ fn is_at<P: Spools + Drop, C: ReplicaStore + Drop>(
 }
 
 /// Whether so many changes found no row, the first of them in the commit that ends there.
-fn has_missed<P: Spools + Drop, C: ReplicaStore + Drop>(
+pub(crate) fn has_missed<P: Spools + Drop, C: ReplicaStore + Drop>(
     subscriber: &Subscriber<P, C>,
     count: u64,
     end: u64,
@@ -280,6 +293,15 @@ fn has_missed<P: Spools + Drop, C: ReplicaStore + Drop>(
     };
     let (at, of) = (first.end.0, first.oid);
     at == end && of == oid
+}
+
+/// Whether these are all stored rows.
+fn has_rows<P: Spools + Drop, C: ReplicaStore + Drop>(
+    subscriber: &mut Subscriber<P, C>,
+    stored: &[Stored],
+) -> Result<bool, Fault> {
+    let rows = rows_of(subscriber)?;
+    Ok(are_rows(rows.as_slice(), stored))
 }
 
 /// Takes a step. Returns whether its result is the one that it names.
@@ -306,10 +328,7 @@ fn take<P: Spools + Drop, C: ReplicaStore + Drop>(
             Ok(is_at(subscriber, position, confirmed, received))
         }
         Step::Misses(count, end, oid) => Ok(has_missed(subscriber, count, end, oid)),
-        Step::Rows(stored) => {
-            let rows = rows_of(subscriber)?;
-            Ok(are_rows(rows.as_slice(), stored))
-        }
+        Step::Rows(stored) => Ok(has_rows(subscriber, stored)?),
     }
 }
 

@@ -4,7 +4,7 @@ use crate::blocks::BLOCKS;
 use crate::row::{AT_ONCE, Row};
 use crate::states::{STATES, VERSION_1};
 use crate::steps::{Way, check};
-use crate::transactions::TRANSACTIONS;
+use crate::transactions::{BAD_CHANGES, TRANSACTIONS};
 use pgapply::ReplicaStore;
 use pgorder::Version;
 use std::process::Abort;
@@ -69,23 +69,54 @@ impl<R: Abort + AllocGlobal> Trial<R> for TakesRow {
     }
 }
 
-/// Takes rows over stores in memory, and over B-trees on disks in memory.
-fn check_rows(rt: &(impl Abort + AllocGlobal), rows: &[Row], way: Way) -> Result<(), Fail> {
+/// Takes rows over stores in memory.
+fn check_in_memory(rt: &(impl Abort + AllocGlobal), rows: &[Row], way: Way) -> Result<(), Fail> {
     for row in rows {
         in_memory(rt, &TakesRow { row: *row, way })??;
+    }
+    Ok(())
+}
+
+/// Takes rows over B-trees on disks in memory.
+fn check_on_disks(rt: &(impl Abort + AllocGlobal), rows: &[Row], way: Way) -> Result<(), Fail> {
+    for row in rows {
         on_memory_disks(rt, &TakesRow { row: *row, way })??;
     }
     Ok(())
 }
 
 #[test]
-fn worked_rows(rt: HostRuntime) -> Result<(), Fail> {
+fn transactions_in_memory(rt: HostRuntime) -> Result<(), Fail> {
     for way in [ENCODED_IN_BYTES, DECODED_AT_ONCE, IN_VERSION_1] {
-        check_rows(&rt, TRANSACTIONS, way)?;
+        check_in_memory(&rt, TRANSACTIONS, way)?;
+        check_in_memory(&rt, BAD_CHANGES, way)?;
     }
+    Ok(())
+}
+
+#[test]
+fn blocks_in_memory(rt: HostRuntime) -> Result<(), Fail> {
     for way in [ENCODED_IN_CHUNKS, ENCODED_AT_ONCE, DECODED_IN_BYTES] {
-        check_rows(&rt, BLOCKS, way)?;
-        check_rows(&rt, STATES, way)?;
+        check_in_memory(&rt, BLOCKS, way)?;
+        check_in_memory(&rt, STATES, way)?;
     }
-    check_rows(&rt, VERSION_1, IN_VERSION_1)
+    Ok(())
+}
+
+#[test]
+fn version_1_has_no_blocks(rt: HostRuntime) -> Result<(), Fail> {
+    check_in_memory(&rt, VERSION_1, IN_VERSION_1)
+}
+
+#[test]
+fn transactions_on_disks(rt: HostRuntime) -> Result<(), Fail> {
+    check_on_disks(&rt, TRANSACTIONS, ENCODED_IN_CHUNKS)?;
+    check_on_disks(&rt, BAD_CHANGES, DECODED_AT_ONCE)
+}
+
+#[test]
+fn blocks_on_disks(rt: HostRuntime) -> Result<(), Fail> {
+    check_on_disks(&rt, BLOCKS, ENCODED_IN_BYTES)?;
+    check_on_disks(&rt, BLOCKS, DECODED_AT_ONCE)?;
+    check_on_disks(&rt, STATES, DECODED_IN_BYTES)
 }

@@ -2,7 +2,7 @@
 
 use crate::row::Step::{At, Disconnect, Feed, Follow, Misses, Rows};
 use crate::row::{AMPLE, Row, T_1_A, T_2_B, T_2_G, T_2_M, T_3_G, T_4_G, T_5_G, T_9_B};
-use pgapply::StoreFault::{Clash, NoIdentity};
+use pgapply::StoreFault::{Clash, NoIdentity, UnchangedInInsert, UnknownIdentity, Width};
 use pgorder::OrderFault::CommitLsnDiffers;
 use pgrel::RelFault::UnknownRelation;
 use pgspool::SpoolFault::SpoolFull;
@@ -303,6 +303,120 @@ pub(crate) static TRANSACTIONS: &[Row] = &[
             Follow(&["t1 begin:200/10 ins:2b commit:230"], Ok(())),
             At(0x230, 0x230, 0x230),
             Rows(&[T_1_A, T_2_B]),
+        ],
+    },
+];
+
+/// Commits of five changes of which the store rejects one, and the same without it.
+pub(crate) static BAD_CHANGES: &[Row] = &[
+    Row {
+        shows: "a clash with a stored row",
+        limit: AMPLE,
+        steps: &[
+            Feed("t1", Ok(())),
+            Feed(
+                "begin:200 rel:t rel:n ins:1z ins:2g ins:3g ins:4g ins:5g commit:230",
+                Err(Store(Clash)),
+            ),
+            At(0x130, 0x130, 0x130),
+            Rows(&[T_1_A]),
+            Feed("t1", Err(Closed)),
+            At(0x130, 0x130, 0x130),
+            Disconnect,
+            Feed(
+                "begin:200 rel:t rel:n ins:2g ins:3g ins:4g ins:5g commit:230",
+                Ok(()),
+            ),
+            At(0x230, 0x230, 0x230),
+            Rows(&[T_1_A, T_2_G, T_3_G, T_4_G, T_5_G]),
+        ],
+    },
+    Row {
+        shows: "a delete without an identity",
+        limit: AMPLE,
+        steps: &[
+            Feed("t1", Ok(())),
+            Feed(
+                "begin:200 rel:t rel:n ins:2g del:n ins:3g ins:4g ins:5g commit:230",
+                Err(Store(NoIdentity)),
+            ),
+            At(0x130, 0x130, 0x130),
+            Rows(&[T_1_A]),
+            Feed("t1", Err(Closed)),
+            At(0x130, 0x130, 0x130),
+            Disconnect,
+            Feed(
+                "begin:200 rel:t rel:n ins:2g ins:3g ins:4g ins:5g commit:230",
+                Ok(()),
+            ),
+            At(0x230, 0x230, 0x230),
+            Rows(&[T_1_A, T_2_G, T_3_G, T_4_G, T_5_G]),
+        ],
+    },
+    Row {
+        shows: "a delete by a cell that was not sent",
+        limit: AMPLE,
+        steps: &[
+            Feed("t1", Ok(())),
+            Feed(
+                "begin:200 rel:t rel:n ins:2g ins:3g del:? ins:4g ins:5g commit:230",
+                Err(Store(UnknownIdentity)),
+            ),
+            At(0x130, 0x130, 0x130),
+            Rows(&[T_1_A]),
+            Feed("t1", Err(Closed)),
+            At(0x130, 0x130, 0x130),
+            Disconnect,
+            Feed(
+                "begin:200 rel:t rel:n ins:2g ins:3g ins:4g ins:5g commit:230",
+                Ok(()),
+            ),
+            At(0x230, 0x230, 0x230),
+            Rows(&[T_1_A, T_2_G, T_3_G, T_4_G, T_5_G]),
+        ],
+    },
+    Row {
+        shows: "an insert of a cell that was not sent",
+        limit: AMPLE,
+        steps: &[
+            Feed("t1", Ok(())),
+            Feed(
+                "begin:200 rel:t rel:n ins:2g ins:3g ins:4g ins:9? ins:5g commit:230",
+                Err(Store(UnchangedInInsert)),
+            ),
+            At(0x130, 0x130, 0x130),
+            Rows(&[T_1_A]),
+            Feed("t1", Err(Closed)),
+            At(0x130, 0x130, 0x130),
+            Disconnect,
+            Feed(
+                "begin:200 rel:t rel:n ins:2g ins:3g ins:4g ins:5g commit:230",
+                Ok(()),
+            ),
+            At(0x230, 0x230, 0x230),
+            Rows(&[T_1_A, T_2_G, T_3_G, T_4_G, T_5_G]),
+        ],
+    },
+    Row {
+        shows: "a row of another width",
+        limit: AMPLE,
+        steps: &[
+            Feed("t1", Ok(())),
+            Feed(
+                "begin:200 rel:t rel:n ins:2g ins:3g ins:4g ins:5g ins:9 commit:230",
+                Err(Store(Width)),
+            ),
+            At(0x130, 0x130, 0x130),
+            Rows(&[T_1_A]),
+            Feed("t1", Err(Closed)),
+            At(0x130, 0x130, 0x130),
+            Disconnect,
+            Feed(
+                "begin:200 rel:t rel:n ins:2g ins:3g ins:4g ins:5g commit:230",
+                Ok(()),
+            ),
+            At(0x230, 0x230, 0x230),
+            Rows(&[T_1_A, T_2_G, T_3_G, T_4_G, T_5_G]),
         ],
     },
     Row {
