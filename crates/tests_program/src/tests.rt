@@ -50,6 +50,19 @@ fn push_line(alloc: Global, text: &mut String, line: &str, in_bytes: bool) -> Re
     Ok(())
 }
 
+/// Appends the lines of messages.
+fn push_lines(
+    alloc: Global,
+    text: &mut String,
+    lines: &[&str],
+    in_bytes: bool,
+) -> Result<(), Fail> {
+    for line in lines {
+        push_line(alloc, text, line, in_bytes)?;
+    }
+    Ok(())
+}
+
 /// The recording of these lines after others, each line a chunk, or a line for each byte.
 fn recording(
     alloc: Global,
@@ -58,11 +71,8 @@ fn recording(
     in_bytes: bool,
 ) -> Result<String, Fail> {
     let mut text = String::new(alloc);
-    for all in [before, lines] {
-        for line in all {
-            push_line(alloc, &mut text, line, in_bytes)?;
-        }
-    }
+    push_lines(alloc, &mut text, before, in_bytes)?;
+    push_lines(alloc, &mut text, lines, in_bytes)?;
     Ok(text)
 }
 
