@@ -5,7 +5,7 @@ ghost use Rattle.pgrows.specs.Rows.{IsNumbered, state};
 ghost use Rattle.pgstore.specs.Sources.{Begins, IsSource, rows_in};
 
 use core::mem::replace_with;
-use pgrows::rows::Rows;
+use pgrows::Rows;
 use pgtables::see_committed;
 use sqlite::{Alter, Connection};
 use std::alloc::Global;

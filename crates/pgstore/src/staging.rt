@@ -24,7 +24,7 @@ use pgapply::{Commit, Misses, Op, StoreFault};
 use pgledger::Ledger;
 use pglogical::RelationDef;
 use pglsn::Lsn;
-use pgrows::rows::Rows;
+use pgrows::Rows;
 use sqlite::Alter;
 use sqlite_trees::error::StoreError;
 use std::alloc::Global;
