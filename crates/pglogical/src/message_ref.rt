@@ -12,6 +12,7 @@ ghost use Rattle.pglogical.specs.Borrowed.{message_value};
 ghost use Rattle.pglogical.specs.BorrowedColumns.{column_value};
 ghost use Rattle.pglogical.specs.BorrowedItems.{def_value, item_value};
 ghost use Rattle.pglogical.specs.Answers.{out_of_memory};
+ghost use Rattle.pglogical.specs.Kinds.{is_bound, is_of_stream};
 ghost use Rattle.pglogical.specs.Spelling.{IsSpellable, IsWire};
 ghost use Rattle.pglogical.specs.Typed.{IsTypedColumn, AreTypedColumns, AreNumbers};
 
@@ -101,28 +102,9 @@ impl<'a> MessageRef<'a> {
         ensures memory { IfErr result (λ fault. fault ≡ out_of_memory) }
     {
         match self {
-            MessageRef::Begin {
-                final_lsn,
-                commit_time,
-                xid,
-            } => Ok(Message::Begin {
-                final_lsn: *final_lsn,
-                commit_time: *commit_time,
-                xid: *xid,
-            }),
-            MessageRef::Commit {
-                commit_lsn,
-                end_lsn,
-                commit_time,
-            } => Ok(Message::Commit {
-                commit_lsn: *commit_lsn,
-                end_lsn: *end_lsn,
-                commit_time: *commit_time,
-            }),
-            MessageRef::Origin { commit_lsn, name } => Ok(Message::Origin {
-                commit_lsn: *commit_lsn,
-                name: text(alloc, name)?,
-            }),
+            MessageRef::Begin { .. } => self.to_bound(alloc),
+            MessageRef::Commit { .. } => self.to_bound(alloc),
+            MessageRef::Origin { .. } => self.to_bound(alloc),
             MessageRef::TypeName {
                 xid,
                 oid,
@@ -151,26 +133,84 @@ impl<'a> MessageRef<'a> {
                 xid: *xid,
                 item: item.to_item(alloc)?,
             }),
-            MessageRef::StreamStart { xid, first_segment } => Ok(Message::StreamStart {
+            MessageRef::StreamStart { .. } => Ok(self.to_message_of_stream()),
+            MessageRef::StreamStop => Ok(self.to_message_of_stream()),
+            MessageRef::StreamCommit { .. } => Ok(self.to_message_of_stream()),
+            MessageRef::StreamAbort { .. } => Ok(self.to_message_of_stream()),
+        }
+    }
+
+    /// A Begin, Commit or Origin with memory of its own.
+    fn to_bound(&self, alloc: Global) -> Result<Message, DecodeFault>
+        requires { is_bound (message_value self.now) ≡ true }
+        ensures same { IfOk result (λ m. m ≡ message_value self.now) }
+        ensures memory { IfErr result (λ fault. fault ≡ out_of_memory) }
+    {
+        match self {
+            MessageRef::Begin {
+                final_lsn,
+                commit_time,
+                xid,
+            } => Ok(Message::Begin {
+                final_lsn: *final_lsn,
+                commit_time: *commit_time,
+                xid: *xid,
+            }),
+            MessageRef::Commit {
+                commit_lsn,
+                end_lsn,
+                commit_time,
+            } => Ok(Message::Commit {
+                commit_lsn: *commit_lsn,
+                end_lsn: *end_lsn,
+                commit_time: *commit_time,
+            }),
+            MessageRef::Origin { commit_lsn, name } => Ok(Message::Origin {
+                commit_lsn: *commit_lsn,
+                name: text(alloc, name)?,
+            }),
+            MessageRef::TypeName { .. }
+            | MessageRef::Logical { .. }
+            | MessageRef::Item { .. }
+            | MessageRef::StreamStart { .. }
+            | MessageRef::StreamStop
+            | MessageRef::StreamCommit { .. }
+            | MessageRef::StreamAbort { .. } => unreachable!(),
+        }
+    }
+
+    /// A Stream Start, Stop, Commit or Abort, which asks for no memory.
+    fn to_message_of_stream(&self) -> Message
+        requires { is_of_stream (message_value self.now) ≡ true }
+        ensures { result ≡ message_value self.now }
+    {
+        match self {
+            MessageRef::StreamStart { xid, first_segment } => Message::StreamStart {
                 xid: *xid,
                 first_segment: *first_segment,
-            }),
-            MessageRef::StreamStop => Ok(Message::StreamStop),
+            },
+            MessageRef::StreamStop => Message::StreamStop,
             MessageRef::StreamCommit {
                 xid,
                 commit_lsn,
                 end_lsn,
                 commit_time,
-            } => Ok(Message::StreamCommit {
+            } => Message::StreamCommit {
                 xid: *xid,
                 commit_lsn: *commit_lsn,
                 end_lsn: *end_lsn,
                 commit_time: *commit_time,
-            }),
-            MessageRef::StreamAbort { xid, subxid } => Ok(Message::StreamAbort {
+            },
+            MessageRef::StreamAbort { xid, subxid } => Message::StreamAbort {
                 xid: *xid,
                 subxid: *subxid,
-            }),
+            },
+            MessageRef::Begin { .. }
+            | MessageRef::Commit { .. }
+            | MessageRef::Origin { .. }
+            | MessageRef::TypeName { .. }
+            | MessageRef::Logical { .. }
+            | MessageRef::Item { .. } => unreachable!(),
         }
     }
 }
