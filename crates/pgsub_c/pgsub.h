@@ -7,7 +7,10 @@
  *     if (number == 0) fwrite(room, 1, length, stdout);
  *
  * A call returns 0, or the number of a fault (docs/PROTOCOL.md): 1 wire, 2 decode, 3 order, 9 memory. 10 says that the room is too small:
- * nothing is written then, and `*length` tells how much is needed. 11 says that there is no such protocol version.
+ * nothing is written then, and `*length` tells how much is needed. 11 says that there is no such protocol version; both lengths are 0 then.
+ *
+ * Where the text of a fault doesn't fit its room, the number is still that of the fault: nothing is written there, and the text's length is
+ * greater than the size. So compare the two before you print it. Where there is no memory for the text, its length is 0.
  *
  * The caller owes pointers that aren't NULL, even to no bytes; behind each as many bytes as it says; and that nothing else writes them
  * during the call. What is written and what is read may not overlap. A `bool` is 0 or 1. The library keeps nothing between calls.
@@ -24,11 +27,12 @@ extern "C" {
 #endif
 
 /* Writes the line that `pgsub show` prints of a payload of CopyData, XLogData or a keepalive, or the text of its fault if there is room
- * for it. `in_block`: whether it comes after Stream Start and before Stream Stop. */
+ * for it (else `*length` > `size`). `in_block`: whether it comes after Stream Start and before Stream Stop. */
 uint32_t pgsub_decode(const uint8_t *payload, size_t count, bool in_block, uint8_t *room, size_t size, size_t *length);
 
 /* Writes the lines that `pgsub show` prints of the frames of a session, up to its first fault, whose text goes into `text` if there is room
- * for it. A frame at the end that isn't whole has no line. */
+ * for it (else `*text_length` > `text_size`). `*text_length` is 0 where there is no fault, and with 10. A frame at the end that isn't whole
+ * has no line. */
 uint32_t pgsub_show(uint32_t version, const uint8_t *session, size_t count, uint8_t *room, size_t size, size_t *length, uint8_t *text,
                     size_t text_size, size_t *text_length);
 

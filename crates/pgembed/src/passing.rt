@@ -1,7 +1,7 @@
 //! Faults and bytes for callers that aren't Rust.
 
 ghost use Rattle.std.specs.Prelude.{◌≡◌};
-ghost use Rattle.pgembed.specs.Passed.{IsPassed, PassesLine, PassesLines, number_of};
+ghost use Rattle.pgembed.specs.Passed.{IsPassed, PassesLine, PassesLines, PassesText, number_of};
 
 use crate::decoding::decode;
 use crate::showing::show;
@@ -38,10 +38,12 @@ pub fn pass(bytes: &[u8], room: &mut [u8], length: &mut usize) -> u32
     0
 }
 
-/// Writes the text of a fault, where there is room and memory for it, and returns its number. How many
-/// bytes the text has goes to `length`.
+/// Writes the text of a fault, where there is room and memory for it, and returns its number. How
+/// many bytes the text has goes to `length`: more than there is room for where it isn't written, and
+/// 0 where memory is short.
 pub fn pass_fault(alloc: Global, fault: Fault, room: &mut [u8], length: &mut usize) -> u32
-    ensures { result ≡ number_of fault }
+    ensures number { result ≡ number_of fault }
+    ensures text { PassesText room.old room.new length.new }
 {
     *length = 0;
     if let Ok(text) = format!(in alloc; "{fault}") {
@@ -67,7 +69,7 @@ pub fn pass_line(
 }
 
 /// Passes the lines of a session, as `show` makes them, and the text of the fault that ends them, if
-/// there is one. Its number is returned where the lines fit.
+/// there is one. Its number is returned where the lines fit; else no text is passed.
 pub fn pass_lines(
     alloc: Global,
     version: Version,
@@ -77,7 +79,8 @@ pub fn pass_lines(
     text: &mut [u8],
     text_length: &mut usize,
 ) -> u32
-    ensures { PassesLines version session.now room.old room.new length.new result }
+    ensures { PassesLines version session.now room.old room.new length.new
+        text.old text.new text_length.new result }
 {
     *text_length = 0;
     let mut lines = String::new(alloc);

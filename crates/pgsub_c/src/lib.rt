@@ -8,7 +8,7 @@
 
 ghost use Rattle.std.specs.Prelude.{◌≡◌, ◌≢◌};
 ghost use Rattle.pgorder.specs.declared.Version.TheVariants as of;
-ghost use Rattle.pgembed.specs.Passed.{PassesLine, PassesLines};
+ghost use Rattle.pgembed.specs.Passed.{PassesLine, PassesLines, PassesNothing};
 
 use pgembed::{pass_line, pass_lines};
 use pgorder::Version;
@@ -42,11 +42,13 @@ pub extern "C" fn pgsub_show(
     text: &mut [u8],
     text_length: &mut usize,
 ) -> u32
-    ensures one { version ≡ 1 →
-        PassesLines of.One session.now room.old room.new length.new result }
-    ensures two { version ≡ 2 →
-        PassesLines of.Two session.now room.old room.new length.new result }
-    ensures none { version ≢ 1 → version ≢ 2 → result ≡ 11 }
+    ensures one { version ≡ 1 → PassesLines of.One session.now room.old room.new length.new
+        text.old text.new text_length.new result }
+    ensures two { version ≡ 2 → PassesLines of.Two session.now room.old room.new length.new
+        text.old text.new text_length.new result }
+    ensures none { version ≢ 1 → version ≢ 2 → (result ≡ 11)
+        × PassesNothing room.old room.new length.new
+        × PassesNothing text.old text.new text_length.new }
 {
     let version = match version {
         1 => Version::One,
