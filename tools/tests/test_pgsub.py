@@ -59,7 +59,7 @@ class Case(unittest.TestCase):
         self.assertEqual(self.run_it("--is-current")[0], 1)
         status, out, err = self.run_it("a", "b")
         self.assertEqual((status, out), (0, "first a b\n"))
-        self.assertIn("an hour on four cores", err)
+        self.assertIn("an hour and more on four cores", err)
         self.assertEqual(self.run_it("c"), (0, "first c\n", ""))
         self.assertEqual(self.run_it("--is-current"), (0, "", ""))
         self.assertEqual(self.builds(), 1)
