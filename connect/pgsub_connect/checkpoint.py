@@ -151,7 +151,7 @@ class Checkpoint:
         self.known.confirmed, self.known.position = confirmed, position
 
     def put_lines(self, durably: bool, line: bytes, counted: Counted | None) -> None:
-        lines = (line, counted_text(counted).encode() if counted else b"")
+        lines = (line, TEXT.encode(vars(counted)).encode() if counted else b"")
         if len(max(lines, key=len)) >= SIZE:
             raise FileError(f"{self.path}: names too long for a checkpoint")
         try:
@@ -263,15 +263,6 @@ def around_positions(known: Known) -> tuple[str, str]:
     text, positions = encoded(known).decode(), f"{known.confirmed}{BETWEEN}{known.position}"
     at = text.index(BEFORE + positions) + len(BEFORE)
     return text[:at], text[at + len(positions) :]
-
-
-def counted_text(counted: Counted) -> str:
-    """The second line. It is written for most of the statuses, and an encoder takes much longer."""
-    gap = TEXT.encode(counted.gap) if counted.gap else "null"
-    return (
-        f'{{"since":{counted.since},"upto":{counted.upto},"count":{counted.count},'
-        f'"first":{counted.first},"relation":{counted.relation},"gap":{gap}}}'
-    )
 
 
 def counted_of(said: Any) -> Counted:
