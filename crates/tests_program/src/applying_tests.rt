@@ -65,7 +65,33 @@ const FRONTS: [(usize, &str); 5] = [
     (227, ROW),
 ];
 
-/// So many bytes of the transaction and these behind them, and how they are answered.
+#[test]
+fn the_first_bytes_of_a_file_are_fed(rt: HostRuntime) -> Result<(), Fail> {
+    let (err, status) = ("", 0);
+    for (count, out) in FRONTS {
+        let front = TRANSACTION.get(..count).map(File::of);
+        let answer = Answer { out, err, status };
+        check(&rt, APPLY_RAW, out, front, None, answer)?;
+    }
+    Ok(())
+}
+
+#[test]
+fn a_read_that_fails_leaves_what_was_fed(rt: HostRuntime) -> Result<(), Fail> {
+    let (err, status) = ("pgsub: read\n", 3);
+    for (count, out) in FRONTS {
+        let file = File {
+            rest: TRANSACTION.get(..count).unwrap_or(b""),
+            at_once: 5,
+            error: Some(ErrorKind::Other),
+        };
+        let answer = Answer { out, err, status };
+        check(&rt, APPLY_RAW, out, Some(file), None, answer)?;
+    }
+    Ok(())
+}
+
+/// So many bytes of the transaction and these after them, and what is returned.
 const FAULTS: [(usize, &[u8], &str, &str); 2] = [
     (
         BEFORE_COMMIT,
@@ -75,6 +101,28 @@ const FAULTS: [(usize, &[u8], &str, &str); 2] = [
     ),
     (227, b"--\n", ROW, "pgsub: wire 1 UnknownFrame 45\n"),
 ];
+
+#[test]
+fn a_file_of_bytes_stops_at_its_first_fault(rt: HostRuntime) -> Result<(), Fail> {
+    let status = 1;
+    for (count, later, out, err) in FAULTS {
+        let front = TRANSACTION.get(..count).unwrap_or(b"");
+        let mut bytes = Vec::from_slice(rt.alloc(), front)?;
+        bytes.extend_from_slice(later)?;
+        let file = Some(File::of(bytes.as_slice()));
+        let answer = Answer { out, err, status };
+        check(&rt, APPLY_RAW, err, file, None, answer)?;
+    }
+    Ok(())
+}
+
+#[test]
+fn a_file_that_is_not_there(rt: HostRuntime) -> Result<(), Fail> {
+    let (out, err, status) = ("", "pgsub: cannot read in.bin\n", 3);
+    let missing: Option<File<'_>> = None;
+    let answer = Answer { out, err, status };
+    check(&rt, APPLY_RAW, "no file", missing, None, answer)
+}
 
 /// A recording, and what is reached by it.
 struct Resumed {
@@ -167,33 +215,8 @@ static RESUMED: &[Resumed] = &[
     },
 ];
 
-// A read that fails leaves what was fed before it, and so does the first fault.
 #[test]
-fn a_file_is_fed_and_what_is_reached_is_printed(rt: HostRuntime) -> Result<(), Fail> {
-    for (error, err, status) in [(None, "", 0), (Some(ErrorKind::Other), "pgsub: read\n", 3)] {
-        for (count, out) in FRONTS {
-            let file = File {
-                rest: TRANSACTION.get(..count).unwrap_or(b""),
-                at_once: 5,
-                error,
-            };
-            let answer = Answer { out, err, status };
-            check(&rt, APPLY_RAW, out, Some(file), None, answer)?;
-        }
-    }
-    let status = 1;
-    for (count, later, out, err) in FAULTS {
-        let front = TRANSACTION.get(..count).unwrap_or(b"");
-        let mut bytes = Vec::from_slice(rt.alloc(), front)?;
-        bytes.extend_from_slice(later)?;
-        let file = Some(File::of(bytes.as_slice()));
-        let answer = Answer { out, err, status };
-        check(&rt, APPLY_RAW, err, file, None, answer)?;
-    }
-    let (out, err, status) = ("", "pgsub: cannot read in.bin\n", 3);
-    let missing: Option<File<'_>> = None;
-    let answer = Answer { out, err, status };
-    check(&rt, APPLY_RAW, "no file", missing, None, answer)?;
+fn what_is_reached_is_printed(rt: HostRuntime) -> Result<(), Fail> {
     for row in RESUMED {
         let text = recording(rt.alloc(), row.lines)?;
         let file = Some(File::of(text.as_bytes()));

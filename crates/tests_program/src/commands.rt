@@ -209,6 +209,18 @@ fn reads_tasks(rt: HostRuntime) -> Result<(), Fail> {
     Ok(())
 }
 
+/// The error's kind, its exit code, and whether it goes to standard error.
+fn rejected(alloc: Global, line: &str) -> Result<Option<(ErrorKind, i32, bool)>, AllocError> {
+    match asked(alloc, line)? {
+        Err(CommandFault::Usage(error)) => Ok(Some((
+            error.kind(),
+            error.exit_code(),
+            error.use_stderr(),
+        ))),
+        _ => Ok(None),
+    }
+}
+
 /// Command lines that ask for no task, each with the kind of its error.
 const REJECTED: &[(&str, ErrorKind)] = &[
     ("pgsub", ErrorKind::MissingSubcommand),
@@ -378,12 +390,10 @@ fn outcome(kind: ErrorKind) -> (i32, bool) {
 #[test]
 fn rejects_the_rest(rt: HostRuntime) -> Result<(), Fail> {
     for (line, kind) in REJECTED {
-        let Err(CommandFault::Usage(error)) = asked(rt.alloc(), line)? else {
-            return Err(Fail::from(*line));
-        };
-        let (found, code, to_stderr) = (error.kind(), error.exit_code(), error.use_stderr());
+        let found = rejected(rt.alloc(), line)?;
+        let (code, to_stderr) = outcome(*kind);
         assert!(rt;
-            found == *kind && (code, to_stderr) == outcome(*kind),
+            found == Some((*kind, code, to_stderr)),
             "{line}: {found:?}"
         );
     }
@@ -396,43 +406,67 @@ const STATUSES: [&str; 11] = [
     "  15  ", "  16  ",
 ];
 
-/// The help or the error of a command line that asks for no task.
-fn told(alloc: Global, line: &str) -> Result<String, Fail> {
-    let Err(fault) = asked(alloc, line)? else {
-        return Err(Fail::from("a task"));
-    };
-    Ok(format!(in alloc; "{fault}")?)
-}
-
-/// Command lines that ask for no task, each with two texts of what is told.
-const TOLD: [(&str, &str, &str); 6] = [
-    ("pgsub follow --help", "--max-buffered", "--max-frame"),
-    ("pgsub apply --help", "--cache <PAGES>", "20000 cost 20 MB"),
-    ("pgsub dump --help", "--cache <PAGES>", "20000 cost 20 MB"),
-    ("pgsub follow --help", "--cache <PAGES>", "20000 cost 20 MB"),
-    (
-        "pgsub follow --store S --feed-slot c",
-        "  --feed <FOLDER>\n",
-        "Usage: pgsub follow [OPTIONS] --store <FILE> --feed <FOLDER>\n",
-    ),
-    (
-        "pgsub apply --feed D F",
-        "  --store <FILE>\n",
-        "Usage: pgsub apply [OPTIONS] --store <FILE> --feed <FOLDER> <FILE>\n",
-    ),
-];
-
 #[test]
-fn tells_help_and_the_version(rt: HostRuntime) -> Result<(), Fail> {
-    let text = told(rt.alloc(), "pgsub follow --help")?;
+fn the_help_of_follow_has_its_statuses(rt: HostRuntime) -> Result<(), Fail> {
+    let Err(fault) = asked(rt.alloc(), "pgsub follow --help")? else {
+        return Err(Fail::from("no help"));
+    };
+    let text = format!(in rt.alloc(); "{fault}")?;
     for status in STATUSES {
         assert!(rt; text.contains(status), "{status}: {text}");
     }
-    for (line, first, second) in TOLD {
-        let text = told(rt.alloc(), line)?;
-        assert!(rt; text.contains(first) && text.contains(second), "{text}");
+    assert!(rt; text.contains("--max-buffered") && text.contains("--max-frame"));
+    Ok(())
+}
+
+#[test]
+fn the_help_tells_what_a_cache_costs(rt: HostRuntime) -> Result<(), Fail> {
+    for line in [
+        "pgsub apply --help",
+        "pgsub dump --help",
+        "pgsub follow --help",
+    ] {
+        let Err(fault) = asked(rt.alloc(), line)? else {
+            return Err(Fail::from("no help"));
+        };
+        let text = format!(in rt.alloc(); "{fault}")?;
+        assert!(rt;
+            text.contains("--cache <PAGES>") && text.contains("20000 cost 20 MB"),
+            "{text}"
+        );
     }
-    let text = told(rt.alloc(), "pgsub --version")?;
+    Ok(())
+}
+
+#[test]
+fn a_feed_tells_which_word_it_lacks(rt: HostRuntime) -> Result<(), Fail> {
+    for (line, word, usage) in [
+        (
+            "pgsub follow --store S --feed-slot c",
+            "  --feed <FOLDER>\n",
+            "Usage: pgsub follow [OPTIONS] --store <FILE> --feed <FOLDER>\n",
+        ),
+        (
+            "pgsub apply --feed D F",
+            "  --store <FILE>\n",
+            "Usage: pgsub apply [OPTIONS] --store <FILE> --feed <FOLDER> <FILE>\n",
+        ),
+    ] {
+        let Err(fault) = asked(rt.alloc(), line)? else {
+            return Err(Fail::from(line));
+        };
+        let text = format!(in rt.alloc(); "{fault}")?;
+        assert!(rt; text.contains(word) && text.contains(usage), "{text}");
+    }
+    Ok(())
+}
+
+#[test]
+fn prints_the_version(rt: HostRuntime) -> Result<(), Fail> {
+    let Err(fault) = asked(rt.alloc(), "pgsub --version")? else {
+        return Err(Fail::from("no version"));
+    };
+    let text = format!(in rt.alloc(); "{fault}")?;
     let expected = format!(in rt.alloc(); "pgsub {VERSION}\n")?;
     assert!(rt; text == expected, "{text}");
     let memory = format!(in rt.alloc(); "{}", CommandFault::Memory)?;

@@ -313,6 +313,30 @@ fn check_pair(rt: &(impl Abort + AllocGlobal), line: &str, pair: &Pair) -> Resul
     check(rt, line, pair.shows, left_file, right_file, answer)
 }
 
+#[test]
+fn each_verdict_has_its_line(rt: HostRuntime) -> Result<(), Fail> {
+    for pair in &VERDICTS {
+        check_pair(&rt, SAME, pair)?;
+    }
+    Ok(())
+}
+
+#[test]
+fn a_fault_names_its_side(rt: HostRuntime) -> Result<(), Fail> {
+    for pair in &FAULTS {
+        check_pair(&rt, SAME, pair)?;
+    }
+    Ok(())
+}
+
+#[test]
+fn the_version_is_that_of_both_sides(rt: HostRuntime) -> Result<(), Fail> {
+    for pair in &STREAMED {
+        check_pair(&rt, SAME_IN_VERSION_1, pair)?;
+    }
+    Ok(())
+}
+
 /// The left and the right file, where there is one, and the line of the fault of reading them.
 type Unread = (Option<&'static [u8]>, Option<&'static [u8]>, &'static str);
 
@@ -338,25 +362,20 @@ static UNREAD: [Unread; 7] = [
     ),
 ];
 
-// Each verdict has its line, a fault names its side, and the version is that of both sides. Both
-// files are read before one is followed.
 #[test]
-fn recordings_are_compared(rt: HostRuntime) -> Result<(), Fail> {
-    for pair in &VERDICTS {
-        check_pair(&rt, SAME, pair)?;
-    }
-    for pair in &FAULTS {
-        check_pair(&rt, SAME, pair)?;
-    }
-    for pair in &STREAMED {
-        check_pair(&rt, SAME_IN_VERSION_1, pair)?;
-    }
+fn both_files_are_read_before_one_is_followed(rt: HostRuntime) -> Result<(), Fail> {
     let (out, status) = ("", 3);
     for (left, right, err) in &UNREAD {
         let (left, right, err) = (left.map(File::of), right.map(File::of), *err);
         let answer = Answer { out, err, status };
         check(&rt, SAME, err, left, right, answer)?;
     }
+    Ok(())
+}
+
+#[test]
+fn a_read_that_fails_names_its_file(rt: HostRuntime) -> Result<(), Fail> {
+    let (out, status) = ("", 3);
     let whole = File::of(b"78\n");
     let mut failing = whole;
     failing.error = Some(ErrorKind::Other);

@@ -83,6 +83,11 @@ fn a_fault_is_told_in_the_words_of_its_library(rt: HostRuntime) -> Result<(), Fa
     for fault in FAULTS {
         check(&rt, fault)?;
     }
+    Ok(())
+}
+
+#[test]
+fn a_fault_of_decoding_is_told_in_the_words_of_its_library(rt: HostRuntime) -> Result<(), Fail> {
     for reason in REASONS {
         let place = 12;
         check(&rt, Fault::Decode(DecodeFault { place, reason }))?;

@@ -73,16 +73,20 @@ struct Expected<'t> {
     status: u8,
 }
 
-/// The bytes of the statuses, each of an LSN that is received, flushed and applied, of which the
-/// writer takes at most so many.
+/// Appends the status of an LSN that is received, flushed and applied.
+fn push_status(told: &mut Vec<u8>, lsn: u64) -> Result<(), AllocError> {
+    told.extend_from_slice(b"\x64\x00\x00\x00\x26\x72")?;
+    for _ in 0..3 {
+        told.extend_from_slice(&lsn.to_be_bytes())?;
+    }
+    told.extend_from_slice(b"\x00\x00\x00\x00\x00\x00\x00\x07\x00")
+}
+
+/// The bytes of the statuses, of which the writer takes at most so many.
 fn told_bytes(alloc: Global, told: &[u64], most: usize) -> Result<Vec<u8>, AllocError> {
     let mut bytes = Vec::new(alloc);
     for lsn in told {
-        bytes.extend_from_slice(b"\x64\x00\x00\x00\x26\x72")?;
-        for _ in 0..3 {
-            bytes.extend_from_slice(&lsn.to_be_bytes())?;
-        }
-        bytes.extend_from_slice(b"\x00\x00\x00\x00\x00\x00\x00\x07\x00")?;
+        push_status(&mut bytes, *lsn)?;
     }
     bytes.truncate(most);
     Ok(bytes)
@@ -128,23 +132,14 @@ impl<R: Abort + AllocGlobal> Trial<R> for Follows<'_> {
     }
 }
 
-const AMPLE: usize = 100000;
-
-/// Follows the bytes over an empty store.
-fn check(
+fn check_within(
     rt: &(impl Abort + AllocGlobal),
-    rest: &[u8],
-    at_once: usize,
-    error: Option<ErrorKind>,
+    limits: Limits,
+    reader: File<'_>,
     most: usize,
     expected: &Expected<'_>,
 ) -> Result<(), Fail> {
-    let reader = File {
-        rest,
-        at_once,
-        error,
-    };
-    let (limits, expected) = (Limits::DEFAULT, *expected);
+    let expected = *expected;
     on_memory_disks(
         rt,
         &Follows {
@@ -156,25 +151,44 @@ fn check(
     )?
 }
 
-// The next session follows CopyDone, and a rejected stream confirms no more.
+fn check(
+    rt: &(impl Abort + AllocGlobal),
+    reader: File<'_>,
+    most: usize,
+    expected: &Expected<'_>,
+) -> Result<(), Fail> {
+    check_within(rt, Limits::DEFAULT, reader, most, expected)
+}
+
+const AMPLE: usize = 100000;
+
 #[test]
 fn statuses_follow_what_is_stored(rt: HostRuntime) -> Result<(), Fail> {
-    let (err, status) = ("", 0);
-    for (at_once, told) in [
-        (AMPLE, [0, 0x180, 0x180].as_slice()),
-        (250, [0, 0x180, 0x180].as_slice()),
-        (5, [0, 0x130, 0x180, 0x180].as_slice()),
-        (1, [0, 0x130, 0x180, 0x180].as_slice()),
-    ] {
-        let position = 0x130;
-        let expected = Expected {
-            told,
-            position,
-            err,
-            status,
+    let whole = Expected {
+        told: &[0, 0x180, 0x180],
+        position: 0x130,
+        err: "",
+        status: 0,
+    };
+    let parts = Expected {
+        told: &[0, 0x130, 0x180, 0x180],
+        position: 0x130,
+        err: "",
+        status: 0,
+    };
+    for (at_once, expected) in [(AMPLE, &whole), (250, &whole), (5, &parts), (1, &parts)] {
+        let reader = File {
+            rest: SESSION,
+            at_once,
+            error: None,
         };
-        check(&rt, SESSION, at_once, None, AMPLE, &expected)?;
+        check(&rt, reader, AMPLE, expected)?;
     }
+    Ok(())
+}
+
+#[test]
+fn the_next_session_follows_copy_done(rt: HostRuntime) -> Result<(), Fail> {
     let mut sessions = Vec::new(rt.alloc());
     sessions.extend_from_slice(SESSION)?;
     sessions.extend_from_slice(COPY_DONE)?;
@@ -183,26 +197,24 @@ fn statuses_follow_what_is_stored(rt: HostRuntime) -> Result<(), Fail> {
         (AMPLE, [0, 0x180, 0x180, 0x280, 0x280].as_slice()),
         (1, [0, 0x130, 0x180, 0x180, 0x230, 0x280, 0x280].as_slice()),
     ] {
-        let position = 0x230;
+        let reader = File {
+            rest: sessions.as_slice(),
+            at_once,
+            error: None,
+        };
         let expected = Expected {
             told,
-            position,
-            err,
-            status,
+            position: 0x230,
+            err: "",
+            status: 0,
         };
-        check(&rt, sessions.as_slice(), at_once, None, AMPLE, &expected)?;
+        check(&rt, reader, AMPLE, &expected)?;
     }
-    let expected = Expected {
-        told: &[0],
-        position: 0,
-        err: "pgsub: wire 1 UnknownFrame 120\n",
-        status: 1,
-    };
-    check(&rt, b"x", AMPLE, None, AMPLE, &expected)
+    Ok(())
 }
 
 #[test]
-fn a_failed_read_or_write_ends_it(rt: HostRuntime) -> Result<(), Fail> {
+fn a_failed_read_ends_it(rt: HostRuntime) -> Result<(), Fail> {
     for (count, told, position) in [
         (0, [0].as_slice(), 0),
         (226, [0].as_slice(), 0),
@@ -210,63 +222,108 @@ fn a_failed_read_or_write_ends_it(rt: HostRuntime) -> Result<(), Fail> {
         (249, [0, 0x130].as_slice(), 0x130),
         (250, [0, 0x130, 0x180, 0x180].as_slice(), 0x130),
     ] {
-        let front = SESSION.get(..count).unwrap_or(b"");
+        let reader = File {
+            rest: SESSION.get(..count).unwrap_or(b""),
+            at_once: 1,
+            error: Some(ErrorKind::Other),
+        };
         let expected = Expected {
             told,
             position,
             err: "pgsub: read\n",
             status: 15,
         };
-        check(&rt, front, 1, Some(ErrorKind::Other), AMPLE, &expected)?;
+        check(&rt, reader, AMPLE, &expected)?;
     }
+    Ok(())
+}
+
+#[test]
+fn a_failed_write_ends_it(rt: HostRuntime) -> Result<(), Fail> {
     for (most, position) in [(0, 0), (38, 0), (39, 0x130), (50, 0x130), (78, 0x130)] {
+        let reader = File {
+            rest: SESSION,
+            at_once: 5,
+            error: None,
+        };
         let expected = Expected {
             told: &[0, 0x130, 0x180],
             position,
             err: "pgsub: cannot write\n",
             status: 15,
         };
-        check(&rt, SESSION, 5, None, most, &expected)?;
+        check(&rt, reader, most, &expected)?;
     }
     Ok(())
 }
 
-/// The least limits within which the session is followed, and two that are too low, with what
-/// the statuses confirm, the position, the line and the exit status.
-const LIMITS: [(u64, u32, &[u64], u64, &str, u8); 3] = [
-    (76, 65, &[0, 0x180, 0x180], 0x130, "", 0),
-    (75, 65, &[0], 0, "pgsub: spool 1 SpoolFull\n", 10),
-    (76, 64, &[0], 0, "pgsub: wire 3 TooLarge\n", 11),
-];
+#[test]
+fn a_rejected_stream_confirms_no_more(rt: HostRuntime) -> Result<(), Fail> {
+    let reader = File {
+        rest: b"x",
+        at_once: AMPLE,
+        error: None,
+    };
+    let expected = Expected {
+        told: &[0],
+        position: 0,
+        err: "pgsub: wire 1 UnknownFrame 120\n",
+        status: 1,
+    };
+    check(&rt, reader, AMPLE, &expected)
+}
+
+/// The least limits within which the session is followed.
+const EXACT: Limits = Limits {
+    max_buffered: 76,
+    max_frame: 65,
+};
+
+const BUFFERS_LESS: Limits = Limits {
+    max_buffered: 75,
+    max_frame: 65,
+};
+
+const SHORTER_FRAMES: Limits = Limits {
+    max_buffered: 76,
+    max_frame: 64,
+};
 
 #[test]
 fn it_follows_within_its_limits(rt: HostRuntime) -> Result<(), Fail> {
-    for (max_buffered, max_frame, told, position, err, status) in LIMITS {
-        let limits = Limits {
-            max_buffered,
-            max_frame,
-        };
-        let expected = Expected {
-            told,
-            position,
-            err,
-            status,
-        };
-        let (reader, most) = (File::of(SESSION), AMPLE);
-        on_memory_disks(
-            &rt,
-            &Follows {
-                reader,
-                most,
-                limits,
-                expected,
-            },
-        )??;
-    }
-    Ok(())
+    let followed = Expected {
+        told: &[0, 0x180, 0x180],
+        position: 0x130,
+        err: "",
+        status: 0,
+    };
+    let reader = File::of(SESSION);
+    check_within(&rt, EXACT, reader, AMPLE, &followed)
 }
 
-/// A store that takes nothing.
+/// The status and the line where a limit is too low.
+fn check_too_low(
+    rt: &(impl Abort + AllocGlobal),
+    limits: Limits,
+    err: &str,
+    status: u8,
+) -> Result<(), Fail> {
+    let stopped = Expected {
+        told: &[0],
+        position: 0,
+        err,
+        status,
+    };
+    check_within(rt, limits, File::of(SESSION), AMPLE, &stopped)
+}
+
+#[test]
+fn a_limit_that_is_too_low_has_its_status(rt: HostRuntime) -> Result<(), Fail> {
+    check_too_low(&rt, BUFFERS_LESS, "pgsub: spool 1 SpoolFull\n", 10)?;
+    check_too_low(&rt, SHORTER_FRAMES, "pgsub: wire 3 TooLarge\n", 11)
+}
+
+/// A store that accepts nothing.
 #[derive(Drop)]
 struct Failing {
     alloc: Global,
@@ -327,6 +384,30 @@ impl ReplicaStore for Failing {
     }
 }
 
+/// What following over a store that accepts nothing tells, and its status.
+fn check_failing(
+    rt: &(impl Abort + AllocGlobal),
+    fault: StoreFault,
+    line: &str,
+    expected: u8,
+) -> Result<(), Fail> {
+    let alloc = rt.alloc();
+    let mut link = Link::new(File::of(SESSION), Vec::new(alloc));
+    let mut err = Vec::new(alloc);
+    let (status, _) = run_follow(
+        alloc,
+        Failing { alloc, fault },
+        Limits::DEFAULT,
+        Version::Two,
+        &mut link,
+        &mut Still,
+        &mut err,
+    );
+    assert!(rt; err.as_slice() == line.as_bytes(), "{err:?}");
+    assert!(rt; status == expected, "{line}: {status}");
+    Ok(())
+}
+
 #[test]
 fn a_store_that_fails_has_its_status(rt: HostRuntime) -> Result<(), Fail> {
     for (fault, line, status) in [
@@ -339,21 +420,13 @@ fn a_store_that_fails_has_its_status(rt: HostRuntime) -> Result<(), Fail> {
         (StoreFault::NotAStore, "pgsub: store 10 NotAStore\n", 13),
         (StoreFault::Memory, "pgsub: memory\n", 14),
     ] {
-        let alloc = rt.alloc();
-        let mut link = Link::new(File::of(SESSION), Vec::new(alloc));
-        let mut err = Vec::new(alloc);
-        let (found, _) = run_follow(
-            alloc,
-            Failing { alloc, fault },
-            Limits::DEFAULT,
-            Version::Two,
-            &mut link,
-            &mut Still,
-            &mut err,
-        );
-        assert!(rt; err.as_slice() == line.as_bytes(), "{err:?}");
-        assert!(rt; found == status, "{line}: {found}");
+        check_failing(&rt, fault, line, status)?;
     }
+    Ok(())
+}
+
+#[test]
+fn a_store_that_is_not_opened_has_its_status(rt: HostRuntime) -> Result<(), Fail> {
     for (fault, line, status) in [
         (StoreFault::NotAStore, "pgsub: store 10 NotAStore\n", 3),
         (

@@ -38,17 +38,6 @@ fn new_clock() -> Ticking {
     }
 }
 
-/// A commit with so many changes.
-fn settling(position: Lsn, changes: u64) -> Settling {
-    Settling {
-        commits: 1,
-        changes,
-        position,
-        misses: Misses::none(),
-    }
-}
-
-// A line comes once a second at most.
 #[test]
 fn a_line_says_how_far_it_is(rt: HostRuntime) -> Result<(), Fail> {
     let mut progress = Progress {
@@ -67,6 +56,21 @@ fn a_line_says_how_far_it_is(rt: HostRuntime) -> Result<(), Fail> {
     let line = format!(in rt.alloc(); "{progress}")?;
     let expected = "pgsub: 4096 bytes read, 2 commits, 30 changes, position 0/130, 25 changes/s\n";
     assert_eq!(rt; line.as_str(), expected);
+    Ok(())
+}
+
+/// A commit with so many changes.
+fn settling(position: Lsn, changes: u64) -> Settling {
+    Settling {
+        commits: 1,
+        changes,
+        position,
+        misses: Misses::none(),
+    }
+}
+
+#[test]
+fn a_line_comes_once_a_second_at_most(rt: HostRuntime) -> Result<(), Fail> {
     let mut lines = Vec::new(rt.alloc());
     let mut reporter = Reporter::new(rt.alloc(), new_clock(), &mut lines, Some(9))?;
     reporter.note_commits(&settling(Lsn(0x130), 3));

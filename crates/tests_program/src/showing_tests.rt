@@ -269,10 +269,15 @@ fn check_row(rt: &(impl Abort + AllocGlobal), row: &Row) -> Result<(), Fail> {
 }
 
 #[test]
-fn frames_and_the_number_of_an_lsn_are_shown(rt: HostRuntime) -> Result<(), Fail> {
+fn frames_are_shown(rt: HostRuntime) -> Result<(), Fail> {
     for row in &SHOWN {
         check_row(&rt, row)?;
     }
+    Ok(())
+}
+
+#[test]
+fn the_number_of_an_lsn_is_written(rt: HostRuntime) -> Result<(), Fail> {
     for row in &NUMBERS {
         check_row(&rt, row)?;
     }

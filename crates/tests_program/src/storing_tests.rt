@@ -5,11 +5,43 @@ use pgapply::{ReplicaStore, StoreFault};
 use pgcommand::{DEFAULT_CACHE, Limits, Task};
 use pgorder::Version;
 use pgsub_cli::fault::RunFault;
-use pgsub_cli::storing::{Incoming, read_input, run_within, tell_stopped, tell_unopened};
+use pgsub_cli::storing::{
+    Incoming, read_input, run_store, run_within, tell_stopped, tell_unopened,
+};
 use pgsub_core::Side;
 use std::process::Abort;
 use std::test::Fail;
 use trial_stores::{Trial, on_memory_disks};
+
+/// The bytes of a file, which are no frames.
+struct FeedsBytes;
+
+impl<R: Abort + AllocGlobal> Trial<R> for FeedsBytes {
+    type Outcome = Result<(), Fail>;
+
+    fn run<C: ReplicaStore + Drop>(&self, rt: &R, store: C) -> Result<(), Fail> {
+        let alloc = rt.alloc();
+        let file = Some(b"x".as_slice());
+        let Ok(Incoming::Raw(bytes)) = read_input(alloc, true, file) else {
+            return Err(Fail::from("the file isn't taken as bytes"));
+        };
+        let input = Some((Version::Two, Incoming::Raw(bytes)));
+        let (mut out, mut err) = (Vec::new(alloc), Vec::new(alloc));
+        let (status, _) = run_store(alloc, store, input, &mut out, &mut err);
+        assert_eq!(rt; out.as_slice(), b"position 0/0\n".as_slice());
+        assert_eq!(rt;
+            err.as_slice(),
+            b"pgsub: wire 1 UnknownFrame 120\n".as_slice()
+        );
+        assert_eq!(rt; status, 1);
+        Ok(())
+    }
+}
+
+#[test]
+fn the_bytes_of_a_file_are_fed_to_a_store(rt: HostRuntime) -> Result<(), Fail> {
+    on_memory_disks(&rt, &FeedsBytes)?
+}
 
 /// A session whose items cost more than may be buffered.
 struct BuffersLess;
@@ -25,10 +57,7 @@ impl<R: Abort + AllocGlobal> Trial<R> for BuffersLess {
 
     fn run<C: ReplicaStore + Drop>(&self, rt: &R, store: C) -> Result<(), Fail> {
         let alloc = rt.alloc();
-        let Ok(Incoming::Raw(bytes)) = read_input(alloc, true, Some(SESSION)) else {
-            return Err(Fail::from("the file isn't taken as bytes"));
-        };
-        let input = Some((Version::Two, Incoming::Raw(bytes)));
+        let input = Some((Version::Two, Incoming::Raw(SESSION)));
         let (mut out, mut err) = (Vec::new(alloc), Vec::new(alloc));
         let (status, _) = run_within(alloc, store, BUFFERS_LESS, input, &mut out, &mut err);
         assert_eq!(rt; out.as_slice(), b"position 0/0\n".as_slice());
@@ -39,12 +68,12 @@ impl<R: Abort + AllocGlobal> Trial<R> for BuffersLess {
 }
 
 #[test]
-fn the_bytes_of_a_file_are_fed_to_a_store_within_limits(rt: HostRuntime) -> Result<(), Fail> {
+fn what_is_applied_is_within_its_limits(rt: HostRuntime) -> Result<(), Fail> {
     on_memory_disks(&rt, &BuffersLess)?
 }
 
 #[test]
-fn what_cannot_be_read_or_opened_is_told(rt: HostRuntime) -> Result<(), Fail> {
+fn what_cannot_be_read_is_no_input(rt: HostRuntime) -> Result<(), Fail> {
     let none: Option<&[u8]> = None;
     for raw in [false, true] {
         let Err(fault) = read_input(rt.alloc(), raw, none) else {
@@ -56,6 +85,11 @@ fn what_cannot_be_read_or_opened_is_told(rt: HostRuntime) -> Result<(), Fail> {
         return Err(Fail::from("a recording that isn't one"));
     };
     assert_eq!(rt; fault, RunFault::NotHexadecimal(1));
+    Ok(())
+}
+
+#[test]
+fn a_store_that_is_not_opened_is_told(rt: HostRuntime) -> Result<(), Fail> {
     let alloc = rt.alloc();
     for (fault, line, status) in [
         (StoreFault::Refused, "pgsub: store 8 Refused\n", 3),

@@ -76,7 +76,6 @@ fn recording(
     Ok(text)
 }
 
-// A fault has its line, and what was stored before it is printed.
 #[test]
 fn what_is_stored_is_printed(rt: HostRuntime) -> Result<(), Fail> {
     for row in TRANSACTIONS {
@@ -87,6 +86,11 @@ fn what_is_stored_is_printed(rt: HostRuntime) -> Result<(), Fail> {
         let answer = Answer { out, err, status };
         check(&rt, APPLY, shows, file, None, answer)?;
     }
+    Ok(())
+}
+
+#[test]
+fn a_fault_has_its_line_and_what_was_stored_is_printed(rt: HostRuntime) -> Result<(), Fail> {
     for (lines, err) in FAULTS {
         let text = recording(rt.alloc(), BEFORE, lines, false)?;
         let (out, status) = (ROW_BEFORE, 1);
@@ -237,14 +241,19 @@ static BAD_LINES: [(&str, &[u8], &str); 6] = [
     ),
 ];
 
-// A recording that can't be read, or is too long, leaves the output empty.
 #[test]
-fn a_recording_that_is_none_is_told(rt: HostRuntime) -> Result<(), Fail> {
+fn a_line_that_is_not_hexadecimal_is_told(rt: HostRuntime) -> Result<(), Fail> {
     let (out, status) = ("", 3);
     for (shows, text, err) in BAD_LINES {
         let answer = Answer { out, err, status };
         check(&rt, APPLY, shows, Some(File::of(text)), None, answer)?;
     }
+    Ok(())
+}
+
+#[test]
+fn a_recording_that_is_not_read_leaves_the_output_empty(rt: HostRuntime) -> Result<(), Fail> {
+    let out = "";
     for (error, err, status) in [
         (None, "pgsub: cannot read in.pgx\n", 3),
         (Some(ErrorKind::Other), "pgsub: cannot read in.pgx\n", 3),
@@ -259,13 +268,24 @@ fn a_recording_that_is_none_is_told(rt: HostRuntime) -> Result<(), Fail> {
         let answer = Answer { out, err, status };
         check(&rt, APPLY, err, file, None, answer)?;
     }
+    Ok(())
+}
+
+#[test]
+fn a_recording_has_a_greatest_length(rt: HostRuntime) -> Result<(), Fail> {
     for (left, out, err, status) in [
         (67108865, "", "pgsub: capture too long\n", 3),
         (67108864, NOTHING, "", 0),
     ] {
         let answer = Answer { out, err, status };
-        let comment = Some(Comment { left });
-        check(&rt, APPLY, "one comment", comment, None, answer)?;
+        check(
+            &rt,
+            APPLY,
+            "one comment",
+            Some(Comment { left }),
+            None,
+            answer,
+        )?;
     }
     Ok(())
 }

@@ -75,12 +75,16 @@ fn rows_of(alloc: Global, end: u64) -> Result<Vec<Tuple>, StoreFault> {
     Ok(rows)
 }
 
-/// Whether two tuples have the same bytes.
+/// The bytes of a tuple.
+fn encoded(alloc: Global, tuple: &Tuple) -> Result<Vec<u8>, StoreFault> {
+    let mut bytes = Vec::new(alloc);
+    pgtuple::encode(&tuple.borrowed(), &mut bytes).map_err(|_| StoreFault::Memory)?;
+    Ok(bytes)
+}
+
 fn is_same(alloc: Global, left: &Tuple, right: &Tuple) -> Result<bool, StoreFault> {
-    let (mut found, mut wanted) = (Vec::new(alloc), Vec::new(alloc));
-    pgtuple::encode(&left.borrowed(), &mut found).map_err(|_| StoreFault::Memory)?;
-    pgtuple::encode(&right.borrowed(), &mut wanted).map_err(|_| StoreFault::Memory)?;
-    Ok(found.as_slice() == wanted.as_slice())
+    let (left, right) = (encoded(alloc, left)?, encoded(alloc, right)?);
+    Ok(left.as_slice() == right.as_slice())
 }
 
 /// A work that inserts these rows.

@@ -1,6 +1,6 @@
 //! Each number of calls that a disk passes on before it stops.
 
-use crate::disks::{Calls, NEVER, nothing, try_in_files, try_over};
+use crate::disks::{Calls, Left, NEVER, nothing, try_in_files, try_over};
 use crate::recordings::{CARRIED, IN_BLOCKS, Recording, bytes_of};
 use crate::runs::{GoesOn, Stops};
 use crate::staged::{GROUPS, Puts, PutsMore, end_of};
@@ -8,6 +8,30 @@ use sqlite::Files;
 use sqlite_disk::Memory;
 use std::alloc::Global;
 use std::test::Fail;
+
+/// A run on two new disks that stop after so many calls.
+fn run(alloc: Global, bytes: &[u8], calls: Calls) -> Result<Left, Fail> {
+    try_over(alloc, &nothing(alloc), calls, &mut Stops { bytes })
+}
+
+/// A run on what was left. Returns the state in which that is.
+fn run_again(
+    alloc: Global,
+    bytes: &[u8],
+    left: &Left,
+    recording: &Recording,
+) -> Result<usize, Fail> {
+    let mut run = GoesOn {
+        bytes,
+        recording,
+        state: None,
+    };
+    let _left = try_over(alloc, left, calls_of(NEVER, true), &mut run)?;
+    match run.state {
+        Some(state) => Ok(state),
+        None => Err(Fail::from("what was left can't be opened")),
+    }
+}
 
 /// One of the disks passes so many calls on, the other all.
 fn calls_of(number: u64, is_log: bool) -> Calls {
@@ -28,18 +52,8 @@ fn sweep(alloc: Global, recording: &Recording, is_log: bool) -> Result<(), Fail>
     let bytes = bytes_of(alloc, recording.messages)?;
     let mut last = 0;
     for number in 0..NEVER {
-        let calls = calls_of(number, is_log);
-        let bytes = bytes.as_slice();
-        let left = try_over(alloc, &nothing(alloc), calls, &mut Stops { bytes })?;
-        let mut again = GoesOn {
-            bytes,
-            recording,
-            state: None,
-        };
-        let _left = try_over(alloc, &left, calls_of(NEVER, true), &mut again)?;
-        let Some(state) = again.state else {
-            return Err(Fail::from("what was left can't be opened"));
-        };
+        let left = run(alloc, bytes.as_slice(), calls_of(number, is_log))?;
+        let state = run_again(alloc, bytes.as_slice(), &left, recording)?;
         if state < last {
             return Err(Fail::from("a later stop leaves less"));
         }
@@ -52,13 +66,23 @@ fn sweep(alloc: Global, recording: &Recording, is_log: bool) -> Result<(), Fail>
 }
 
 #[test]
-fn a_disk_stops_in_blocks_and_while_rows_are_carried(rt: HostRuntime) -> Result<(), Fail> {
-    for recording in [&IN_BLOCKS, &CARRIED] {
-        for is_log in [true, false] {
-            sweep(rt.alloc(), recording, is_log)?;
-        }
-    }
-    Ok(())
+fn the_log_stops_in_blocks(rt: HostRuntime) -> Result<(), Fail> {
+    sweep(rt.alloc(), &IN_BLOCKS, true)
+}
+
+#[test]
+fn the_database_file_stops_in_blocks(rt: HostRuntime) -> Result<(), Fail> {
+    sweep(rt.alloc(), &IN_BLOCKS, false)
+}
+
+#[test]
+fn the_log_stops_while_rows_are_carried(rt: HostRuntime) -> Result<(), Fail> {
+    sweep(rt.alloc(), &CARRIED, true)
+}
+
+#[test]
+fn the_database_file_stops_while_rows_are_carried(rt: HostRuntime) -> Result<(), Fail> {
+    sweep(rt.alloc(), &CARRIED, false)
 }
 
 /// The end of the first group that ends after this position, else the position.
@@ -72,17 +96,23 @@ fn next_of(position: u64) -> u64 {
     position
 }
 
+/// Puts the groups that are left on what was left. Returns the position at which that is.
+fn put_again(alloc: Global, left: &Left) -> Result<u64, Fail> {
+    let mut run = PutsMore { position: None };
+    let _left = try_over(alloc, left, calls_of(NEVER, true), &mut run)?;
+    match run.position {
+        Some(position) => Ok(position),
+        None => Err(Fail::from("what was left can't be opened")),
+    }
+}
+
 /// Puts the groups on two new disks that stop after so many calls. Returns the position at which
 /// what is left is, and whether a stop was met. All groups that were settled are left, and of the
 /// others at most the next one, whole.
 fn put_on_stopping(alloc: Global, calls: Calls) -> Result<(u64, bool), Fail> {
     let mut run = Puts { position: 0 };
     let left = try_over(alloc, &nothing(alloc), calls, &mut run)?;
-    let mut more = PutsMore { position: None };
-    let _left = try_over(alloc, &left, calls_of(NEVER, true), &mut more)?;
-    let Some(position) = more.position else {
-        return Err(Fail::from("what was left can't be opened"));
-    };
+    let position = put_again(alloc, &left)?;
     if position != run.position && position != next_of(run.position) {
         return Err(Fail::from("another group is left"));
     }
@@ -111,11 +141,13 @@ fn sweep_groups(alloc: Global, is_log: bool) -> Result<(), Fail> {
 }
 
 #[test]
-fn a_disk_stops_while_groups_are_settled(rt: HostRuntime) -> Result<(), Fail> {
-    for is_log in [true, false] {
-        sweep_groups(rt.alloc(), is_log)?;
-    }
-    Ok(())
+fn the_log_stops_while_groups_are_settled(rt: HostRuntime) -> Result<(), Fail> {
+    sweep_groups(rt.alloc(), true)
+}
+
+#[test]
+fn the_database_file_stops_while_groups_are_settled(rt: HostRuntime) -> Result<(), Fail> {
+    sweep_groups(rt.alloc(), false)
 }
 
 /// The files of a store that was stopped hold its last state when they are opened again.
