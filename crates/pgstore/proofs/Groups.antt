@@ -96,7 +96,7 @@ module _ {S : Type 0} (g : Ghosts S) (old new : S) (position : ℕ) (group : Gro
   was_planned t plans not = subst (λ b. IsStored t (before_of g b old)) (sym first) (plans not)
 
   -- what it is staged behind are tables of a store
-  before_stored : IsStore g old position → IsGroup g old position group → group.is_lost ≡ false → HasCleanDisk (state g old)
+  pub before_stored : IsStore g old position → IsGroup g old position group → group.is_lost ≡ false → HasCleanDisk (state g old)
       → IsTrue (state g old).is_open → (v : Tables) × IsStored v (before_of g is_first old)
   before_stored store is not clean still = elim (cases_Bool is_first) [
     | inl one ↦ let v = store.stored clean still in (v.0, subst (λ b. IsStored v.0 (before_of g b old)) (sym one) v.1)

@@ -39,8 +39,7 @@ module _ {S : Type 0} (g : Ghosts S) (old new : S) where
     pub committed_is : (state g new).committed ≡ (state g old).committed
     pub marks_are : (state g new).marks ≡ (state g old).marks
 
-  -- calls of which some may mark and go back: nothing was committed, and a crash leaves nothing
-  -- else
+  -- calls of which some mark and go back: nothing was committed, and a crash leaves nothing else
   pub record CommitsNothing : Type 0 where
     pub commit : HasCleanDisk (state g new) → KeepsCommit (state g old) (state g new)
     pub numbered : IsNumbered g old → IsNumbered g new

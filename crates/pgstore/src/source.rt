@@ -5,6 +5,7 @@ ghost use Rattle.pgrows.specs.Rows.{IsNumbered, state};
 ghost use Rattle.pgstore.specs.Sources.{Begins, IsSource, rows_in};
 
 use core::mem::replace_with;
+use pgrel::Book;
 use pgrows::rows::Rows;
 use pgtables::see_committed;
 use sqlite::{Alter, Connection};
@@ -16,8 +17,19 @@ use std::alloc::Global;
 pub(crate) enum Source<S: Alter> {
     /// The connection that was adopted, outside a transaction.
     Adopted(Connection<S>),
-    /// Its trees.
-    Trees(Rows<S>),
+    /// Its trees, the definitions that relations are known to have in them, and whether nothing was
+    /// changed since the last commit.
+    Trees(Rows<S>, Book, bool),
+}
+
+/// The rows as they were committed. What isn't committed is gone.
+fn undone<S: Alter + Drop>(mut rows: Rows<S>) -> Rows<S>
+    ensures numbered { IsNumbered S.Store rows → IsNumbered S.Store result }
+    ensures begun { Begins S.Store rows result }
+    ensures survives { Survives (state S.Store rows) (state S.Store result) (λ _. ⊥) }
+{
+    rows.undo();
+    rows
 }
 
 impl<S: Alter + Drop> Source<S> {
@@ -33,10 +45,7 @@ impl<S: Alter + Drop> Source<S> {
                 see_committed(&conn);
                 Rows::of_connection(alloc, conn)
             }
-            Source::Trees(mut rows) => {
-                rows.undo();
-                rows
-            }
+            Source::Trees(rows, _known, _is_settled) => undone(rows),
         }
     }
 
@@ -48,7 +57,13 @@ impl<S: Alter + Drop> Source<S> {
         ensures survives { Survives (state S.Store (rows_in self))
             (state S.Store (rows_in result.0)) (λ _. ⊥) }
     {
-        (Source::Trees(self.into_rows(alloc)), ())
+        match self {
+            Source::Trees(rows, known, true) => (Source::Trees(undone(rows), known, true), ()),
+            source => (
+                Source::Trees(source.into_rows(alloc), Book::new(alloc), true),
+                (),
+            ),
+        }
     }
 
     /// Goes back to what is committed, in the trees from now on.

@@ -9,7 +9,10 @@ ghost use Rattle.pglogical.specs.Spelling.{IsDefinition};
 ghost use Rattle.pgapply.specs.Works.{IsNumbered, change_values};
 ghost use Rattle.pgapply.specs.Stored.{IsOwnFault};
 ghost use Rattle.pgrows.specs.Rows.{IfServing, IsNumbered as HasNumbers, state, tables_of};
-ghost use Rattle.pgstore.specs.Acts.{CountsFrom, IfOpened, RefusesToFold};
+ghost use Rattle.pgstore.specs.Acts.{CountsFrom, IfOpened, IsBegun, RefusesToFold};
+ghost use Rattle.pgapply.specs.Value.{Tables};
+ghost use Rattle.pgstore.specs.Known.{AreKnown, HasTables};
+ghost use Rattle.pgstore.specs.Spelled.{IsStored};
 ghost use Rattle.pgstore.specs.Sources.{IsSource, rows_in};
 ghost use Rattle.pgledger.specs.Ledgers.{AppendsAtMost, Keeps, Rests, StaysOrSticks, Syncs};
 ghost use Rattle.pgstore.specs.Looks.{AppendsFrom, TellsFrom};
@@ -24,6 +27,7 @@ use pgapply::{Commit, Misses, Op, StoreFault};
 use pgledger::Ledger;
 use pglogical::RelationDef;
 use pglsn::Lsn;
+use pgrel::Book;
 use pgrows::rows::Rows;
 use sqlite::Alter;
 use sqlite_trees::error::StoreError;
@@ -99,11 +103,13 @@ fn undo_one<S: Alter>(rows: &mut Rows<S>, refusal: Refusal) -> Unstaged
 }
 
 /// Puts the changes of a commit after those that the transaction has, or nothing of it. It counts
-/// those that find no row, and tells what each of them does.
+/// those that find no row, and tells what each of them does. Where it is rejected, no definition is
+/// known any more.
 pub(crate) fn stage_changes<'a, S: Alter>(
     rows: &mut Rows<S>,
     alloc: Global,
     definitions: &[RelationDef],
+    known: &mut Book,
     changes: &[(usize, Op<'a>)],
     end: Lsn,
     misses: &mut Misses,
@@ -111,6 +117,9 @@ pub(crate) fn stage_changes<'a, S: Alter>(
 ) -> Result<(), Unstaged>
     requires definitions { AllByRecursion IsDefinition definitions.now }
     requires numbered { AllByRecursion (IsNumbered definitions.now) changes.now }
+    requires known { AreKnown S.Store known.old rows.old }
+    requires stored { HasTables S.Store rows.old }
+    ensures knows { AreKnown S.Store known.new rows.new }
     ensures staged { HasCleanDisk (state S.Store rows.new) → OnOk result
         (Stages S.Store rows.old rows.new definitions.now changes.now) }
     ensures counts { HasCleanDisk (state S.Store rows.new) → OnOk result
@@ -127,13 +136,25 @@ pub(crate) fn stage_changes<'a, S: Alter>(
     ensures nothing { CommitsNothing S.Store rows.old rows.new }
 {
     if let Err(error) = rows.mark() {
+        known.clear();
         return Err(Unstaged::lost(error));
     }
     rows.see_kept();
-    if let Err(refusal) = take_changes(rows, alloc, definitions, changes, end, misses, telling) {
+    if let Err(refusal) = take_changes(
+        rows,
+        alloc,
+        definitions,
+        known,
+        changes,
+        end,
+        misses,
+        telling,
+    ) {
+        known.clear(); // What the commit gave is undone.
         return Err(undo_one(rows, refusal));
     }
     if let Err(error) = rows.keep() {
+        known.clear();
         return Err(Unstaged::lost(error));
     }
     rows.see_kept();
@@ -141,8 +162,16 @@ pub(crate) fn stage_changes<'a, S: Alter>(
 }
 
 /// Commits what the transaction has, with the position after its last commit. Where that fails,
-/// nothing of it is kept.
-pub(crate) fn settle_rows<S: Alter>(rows: &mut Rows<S>, end: Lsn) -> Result<(), Refusal>
+/// nothing of it is kept, and no definition is known any more.
+pub(crate) fn settle_rows<S: Alter>(
+    rows: &mut Rows<S>,
+    known: &mut Book,
+    is_settled: &mut bool,
+    end: Lsn,
+) -> Result<(), Refusal>
+    requires { AreKnown S.Store known.old rows.old }
+    ensures knows { AreKnown S.Store known.new rows.new }
+    ensures rests { is_settled.new ≡ true → IfServing S.Store rows.new (IsBegun S.Store rows.new) }
     ensures settled { HasCleanDisk (state S.Store rows.new) → OnOk result
         (Settles S.Store rows.old rows.new (to_be_bytes w64 end)) }
     ensures commit { HasCleanDisk (state S.Store rows.new) → OnErr result
@@ -152,12 +181,18 @@ pub(crate) fn settle_rows<S: Alter>(rows: &mut Rows<S>, end: Lsn) -> Result<(), 
     ensures crash { Survives (state S.Store rows.old) (state S.Store rows.new)
         (LeavesSettled S.Store rows.old (to_be_bytes w64 end)) }
 {
+    *is_settled = false;
     if let Err(error) = rows.put_position(&end.0.to_be_bytes()) {
+        known.clear();
         rows.undo();
         return Err(Refusal::from(error));
     }
-    rows.commit()?;
+    if let Err(error) = rows.commit() {
+        known.clear();
+        return Err(Refusal::from(error));
+    }
     rows.see_kept();
+    *is_settled = true;
     Ok(())
 }
 
@@ -186,6 +221,8 @@ pub(crate) fn stage_all<'a, S: Alter + Drop>(
     telling: &mut Telling<'a>,
 ) -> Result<(), Unstaged>
     requires source { IsSource S.Store source.old }
+    requires stored { IfServing S.Store (rows_in source.old)
+        ((v : Tables) × IsStored v (before_of S.Store is_first (rows_in source.old))) }
     requires definitions { AllByRecursion IsDefinition definitions.now }
     requires numbered { AllByRecursion (IsNumbered definitions.now) changes.now }
     ensures source { IsSource S.Store source.new }
@@ -213,8 +250,18 @@ pub(crate) fn stage_all<'a, S: Alter + Drop>(
 {
     prepare(source, alloc, is_first);
     match source {
-        Source::Trees(rows) if rows.is_sound() => {
-            stage_changes(rows, alloc, definitions, changes, end, misses, telling)
+        Source::Trees(rows, known, is_settled) if rows.is_sound() => {
+            *is_settled = false;
+            stage_changes(
+                rows,
+                alloc,
+                definitions,
+                known,
+                changes,
+                end,
+                misses,
+                telling,
+            )
         }
         _ => Err(Unstaged {
             refusal: Refusal::new(StoreFault::Refused),
@@ -236,6 +283,8 @@ pub(crate) fn stage_told<S: Alter + Drop, L: Ledger>(
     ledger: &mut L,
 ) -> Result<(), Unstaged>
     requires source { IsSource S.Store source.old }
+    requires stored { IfServing S.Store (rows_in source.old)
+        ((v : Tables) × IsStored v (before_of S.Store is_first (rows_in source.old))) }
     requires definitions { AllByRecursion IsDefinition definitions.now }
     requires numbered { AllByRecursion (IsNumbered definitions.now) changes.now }
     requires are { change_values definitions.now changes.now ≡ commit.now.work.now.changes }
@@ -298,7 +347,7 @@ pub(crate) fn settle_all<S: Alter + Drop>(source: &mut Source<S>, end: Lsn) -> R
         (LeavesSettled S.Store (rows_in source.old) (to_be_bytes w64 end)) }
 {
     match source {
-        Source::Trees(rows) => settle_rows(rows, end),
+        Source::Trees(rows, known, is_settled) => settle_rows(rows, known, is_settled, end),
         Source::Adopted(_) => Err(Refusal::new(StoreFault::Refused)),
     }
 }

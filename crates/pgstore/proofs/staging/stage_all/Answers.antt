@@ -41,3 +41,19 @@ returns-in-Trees-clause-told g c clean =
     on_ok c.stage_changes.result (c.stage_changes.ensures.told clean) (λ tells.
     subst (λ (t : stored.Tables). TellsFrom t c.args.definitions.now c.args.changes.now c.args.telling.now c.stage_changes.new.telling)
     prepared.1 tells)
+
+pub stage_changes-requires-clause-stored : goal.stage_changes-requires-clause-stored
+stage_changes-requires-clause-stored g c clean still =
+    let prepared = (rw c.in-Trees.is at c.prepare.ensures.prepares) clean still in
+    let v = c.requires.stored (omega (arith, clean, rw c.in-Trees.is at c.prepare.ensures.survives.clean)) prepared.0 in
+    (v.0, subst (IsStored v.0) (sym prepared.1) v.1)
+
+pub stage_changes-requires-clause-known : goal.stage_changes-requires-clause-known
+stage_changes-requires-clause-known g c = (rw c.in-Trees.is at c.prepare.ensures.source).1
+
+pub returns-in-Trees-clause-source : goal.returns-in-Trees-clause-source
+returns-in-Trees-clause-source g c = (
+  c.stage_changes.ensures.nothing.numbered (rw c.in-Trees.is at c.prepare.ensures.source).0,
+  c.stage_changes.ensures.knows,
+  λ settled. absurd (cc),
+)

@@ -1,10 +1,10 @@
-use Rattle.std.proofs.Common.{◌≡◌, ◌<◌, ◌^◌, sym, subst, ap, ◌∙◌}
+use Rattle.std.proofs.Common.{◌≡◌, ◌<◌, ◌^◌, sym, subst, ap, ◌∙◌, arith}
 use Rattle.pgapply.specs.Taken as taken
 use Rattle.pgapply.specs.Works.{change_values}
 use Rattle.pgstore.specs.Sources.{rows_in}
 use Rattle.pgstore.specs.StoreValue.{Group, IsGroup, Plans, StoreValue}
-use Rattle.pgstore.proofs.Groups.{refused_group, refused_plans, staged_group, stages_folds}
-use Rattle.pgstore.proofs.Groups.{was_planned}
+use Rattle.pgstore.proofs.Groups.{before_stored, refused_group, refused_plans, staged_group}
+use Rattle.pgstore.proofs.Groups.{stages_folds, was_planned}
 use Rattle.pgstore.proofs.Stores.{read_left, stays_store}
 use Rattle.pgstore.proofs.store.Store.stage_with.Goals as goal
 
@@ -97,3 +97,9 @@ returns-in-Ok-clause-told g c clean tables plans =
     (was_planned g.S.Store old (rows_in c.stage_told-staged.new.source) position group c.is_empty-is_first.result
     c.is_empty-is_first.ensures c.stage_told-staged.ensures.survives.clean tables
     (subst (λ (s : StoreValue g.row.S.Denot). Plans g.S.Store s tables) (sym c.self.view_is) plans) stands)
+
+pub stage_told-staged-requires-clause-stored : goal.stage_told-staged-requires-clause-stored
+stage_told-staged-requires-clause-stored g c clean still =
+    let old = rows_in c.self.inside.source in
+    before_stored g.S.Store old old c.self.inside.position c.self.inside.group c.is_empty-is_first.result
+    c.is_empty-is_first.ensures (omega arith) c.self.invariant.1 c.self.invariant.2 (sym c.in_default.ensures.lost) clean still

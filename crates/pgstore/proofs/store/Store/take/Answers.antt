@@ -72,3 +72,6 @@ returns-clause-crash g c =
     (survives_work g.S.Store (rows_in c.self.inside.source) (rows_in c.take_all-taken.new.source) c.self.inside.position
     c.definitions.result.now c.entries.result.now c.args.end (to_be_bytes w64 c.args.end) refl range c.args.work.now.changes changes
     c.self.inside.group c.take_all-taken.ensures.crash)
+
+pub take_all-taken-requires-clause-stored : goal.take_all-taken-requires-clause-stored
+take_all-taken-requires-clause-stored g c clean still = c.self.invariant.1.stored clean still
