@@ -2,7 +2,7 @@
 //!
 //! PostgreSQL documentation, Logical Replication Message Formats, Insert, Update, Delete, Truncate.
 
-ghost use Rattle.std.specs.Prelude.{◌≡◌, ◌++◌, OnOk, Some, None, codes, string_bytes};
+ghost use Rattle.std.specs.Prelude.{◌≡◌, ◌++◌, OnOk, string_bytes};
 ghost use Rattle.serde_json.specs.Written.{compact_text};
 ghost use Rattle.pgjson.specs.Cells.{cells_data};
 ghost use Rattle.pgjson.specs.Messages.{prior_data};
@@ -66,67 +66,25 @@ fn push_front(op: &str, oid: u32, n: usize, out: &mut String) -> Result<(), Allo
     write!(out, "{{\"op\":\"{op}\",\"oid\":{oid},\"n\":{n},")
 }
 
-/// Appends the line of a row that comes.
-fn push_inserted(
+/// Appends the line of a change of a row, which was as `before` and is as `after`.
+fn push_change(
     alloc: Global,
+    op: &str,
     oid: u32,
     n: usize,
-    row: &TupleRef<'_>,
+    before: &Option<TupleRef<'_>>,
+    after: &Option<TupleRef<'_>>,
     out: &mut String,
 ) -> Result<(), AllocError>
     ensures { OnOk result (string_bytes out.new
-        ≡ string_bytes out.old ++ change_line (codes "c") oid n None (Some row.now)) }
+        ≡ string_bytes out.old ++ change_line op.now oid n before.now after.now) }
 {
-    push_front("c", oid, n, out)?;
-    out.push_str("\"before\":null,\"after\":")?;
-    push_row(alloc, row, out)?;
-    out.push_str("}\n")
-}
-
-/// Appends the line of a row that replaces another.
-fn push_updated(
-    alloc: Global,
-    oid: u32,
-    n: usize,
-    old: &TupleRef<'_>,
-    new: &TupleRef<'_>,
-    out: &mut String,
-) -> Result<(), AllocError>
-    ensures { OnOk result (string_bytes out.new
-        ≡ string_bytes out.old ++ change_line (codes "u") oid n (Some old.now) (Some new.now)) }
-{
-    push_front("u", oid, n, out)?;
+    push_front(op, oid, n, out)?;
     out.push_str("\"before\":")?;
-    push_row(alloc, old, out)?;
+    push_row_or_null(alloc, before, out)?;
     out.push_str(",\"after\":")?;
-    push_row(alloc, new, out)?;
+    push_row_or_null(alloc, after, out)?;
     out.push_str("}\n")
-}
-
-/// Appends the line of a row that goes.
-fn push_deleted(
-    alloc: Global,
-    oid: u32,
-    n: usize,
-    row: &TupleRef<'_>,
-    out: &mut String,
-) -> Result<(), AllocError>
-    ensures { OnOk result (string_bytes out.new
-        ≡ string_bytes out.old ++ change_line (codes "d") oid n (Some row.now) None) }
-{
-    push_front("d", oid, n, out)?;
-    out.push_str("\"before\":")?;
-    push_row(alloc, row, out)?;
-    out.push_str(",\"after\":null}\n")
-}
-
-/// Appends the line of a truncation.
-fn push_truncated(oid: u32, n: usize, out: &mut String) -> Result<(), AllocError>
-    ensures { OnOk result (string_bytes out.new
-        ≡ string_bytes out.old ++ change_line (codes "t") oid n None None) }
-{
-    push_front("t", oid, n, out)?;
-    out.push_str("\"before\":null,\"after\":null}\n")
 }
 
 /// What was sent for a change that found no row.
@@ -193,12 +151,15 @@ pub(crate) fn push_image(
         ≡ string_bytes out.old ++ image_line oid n image.now) }
 {
     match image {
-        Image::Inserted { row } => push_inserted(alloc, oid, n, row, out),
+        Image::Inserted { row } => push_change(alloc, "c", oid, n, &None, &Some(row.lend()), out),
         Image::Updated { old, new } => {
-            push_updated(alloc, oid, n, &old.borrowed(), &new.borrowed(), out)
+            let (before, after) = (Some(old.borrowed()), Some(new.borrowed()));
+            push_change(alloc, "u", oid, n, &before, &after, out)
         }
-        Image::Deleted { row } => push_deleted(alloc, oid, n, &row.borrowed(), out),
-        Image::Truncated => push_truncated(oid, n, out),
+        Image::Deleted { row } => {
+            push_change(alloc, "d", oid, n, &Some(row.borrowed()), &None, out)
+        }
+        Image::Truncated => push_change(alloc, "t", oid, n, &None, &None, out),
         Image::Missed { old, new } => push_missed(alloc, oid, n, old, new, out),
     }
 }
