@@ -15,7 +15,7 @@
 //! `mending.py` and `repairing.py` there do what `specs/Mended.antt` and `specs/Repairing.antt` do.
 #![tactic(auto)]
 
-pub mod laws;
+mod laws;
 
 pub use laws::{
     copy_is_the_servers, passed_on_is_a_session, repaired_copy_is_the_servers,

@@ -23,10 +23,10 @@ ghost use Rattle.std.specs.Prelude.{IfOk, IfErr, map, string_bytes};
 ghost use Rattle.pgcommand.specs.Asked.{IsRefusalOf, IsTaskOf};
 
 mod commands;
-pub mod fault;
-pub mod feed;
-pub mod limits;
-pub mod task;
+mod fault;
+mod feed;
+mod limits;
+mod task;
 
 pub use commands::VERSION;
 use commands::{missing, program};

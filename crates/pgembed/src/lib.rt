@@ -13,10 +13,10 @@
 //! and bytes go into room that the caller has.
 #![tactic(auto)]
 
-pub mod decoding;
-pub mod passing;
-pub mod showing;
-pub mod subscribing;
+mod decoding;
+mod passing;
+mod showing;
+mod subscribing;
 
 pub use decoding::decode;
 pub use passing::{ROOM, number, pass, pass_fault, pass_line, pass_lines};

@@ -34,7 +34,7 @@ pub fn text_is_read_in_one_way()
 {}
 
 /// Rows that are told have all their cells: one that wasn't sent is only in what was sent for a
-/// change that found no row. `pgledger::laws::lines_lead` says that the lines of commits lead from
+/// change that found no row. `pgledger::lines_lead` says that the lines of commits lead from
 /// the rows before to those after.
 pub fn lines_tell_whole_rows()
     ensures { LinesTellWholeRows }

@@ -34,12 +34,12 @@
 
 mod changes;
 mod entries;
-pub mod fault;
+mod fault;
 mod feed;
 mod folder;
 mod heads;
-pub mod laws;
-pub mod mark;
+mod laws;
+mod mark;
 mod opening;
 mod segment;
 mod segments;
@@ -50,5 +50,9 @@ pub use entries::entry_text;
 pub use fault::FeedFault;
 pub use feed::{Feed, MOST_ENDED};
 pub use folder::{Folder, Origin, SegmentLimits};
+pub use laws::{
+    lines_lead_over_entries, lines_of_commits_fit, lines_tell_whole_rows, lines_that_end_segments,
+    text_is_read_in_one_way,
+};
 pub use mark::Mark;
 pub use segment::Segment;

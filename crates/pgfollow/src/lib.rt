@@ -10,10 +10,10 @@
 //! CopyDone after a session that ended without one.
 #![tactic(auto)]
 
-pub mod clock;
-pub mod fault;
-pub mod link;
-pub mod live;
+mod clock;
+mod fault;
+mod link;
+mod live;
 
 pub use clock::Clock;
 pub use fault::FollowFault;

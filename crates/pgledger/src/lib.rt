@@ -16,13 +16,14 @@
 //! PostgreSQL documentation, Logical Replication, Subscription; ALTER TABLE, REPLICA IDENTITY.
 #![tactic(auto)]
 
-pub mod image;
-pub mod laws;
-pub mod ledger;
-pub mod ledger_store;
-pub mod recorded;
+mod image;
+mod laws;
+mod ledger;
+mod ledger_store;
+mod recorded;
 
 pub use image::Image;
+pub use laws::lines_lead;
 pub use ledger::{Ledger, NoLedger};
 pub use ledger_store::LedgerStore;
 pub use recorded::Recorded;

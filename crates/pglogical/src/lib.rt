@@ -14,14 +14,14 @@
 //! ```
 #![tactic(auto)]
 
-pub mod column_refs;
+mod column_refs;
 mod decoding;
 mod encoding;
-pub mod fault;
-pub mod laws;
-pub mod message;
-pub mod message_ref;
-pub mod oid_refs;
+mod fault;
+mod laws;
+mod message;
+mod message_ref;
+mod oid_refs;
 mod reader;
 mod tags;
 
@@ -29,6 +29,9 @@ pub use column_refs::{ColumnRef, ColumnRefs};
 pub use decoding::{decode, decode_columns, decode_ref};
 pub use encoding::{encode, encode_columns, encode_item, spelled_len};
 pub use fault::{DecodeFault, Reason};
+pub use laws::{
+    columns_have_one_spelling, messages_have_one_spelling, what_is_read_can_be_written,
+};
 pub use message::{Column, Item, Message, OldKind, RelationDef};
 pub use message_ref::{DefRef, ItemParts, ItemRef, MessageRef};
 pub use oid_refs::OidRefs;

@@ -10,11 +10,12 @@
 //! ```
 #![tactic(auto)]
 
-pub mod disk;
-pub mod laws;
-pub mod opening;
-pub mod stopping;
+mod disk;
+mod laws;
+mod opening;
+mod stopping;
 
 pub use disk::MemoryDisk;
+pub use laws::memory_stays_clean;
 pub use opening::open;
 pub use stopping::stop;

@@ -13,7 +13,7 @@
 //! ```
 #![tactic(auto)]
 
-pub mod listed;
-pub mod opening;
+mod listed;
+mod opening;
 
 pub use opening::{Found, open};

@@ -12,8 +12,8 @@
 //! confirmed is lost.
 #![tactic(auto)]
 
-pub mod following;
-pub mod laws;
+mod following;
+mod laws;
 
 pub use following::follow_in_files;
 pub use laws::crashes_lose_nothing_confirmed;

@@ -15,11 +15,11 @@
 //! ```
 #![tactic(auto)]
 
-pub mod book;
-pub mod carrying;
-pub mod fault;
-pub mod identity;
-pub mod laws;
+mod book;
+mod carrying;
+mod fault;
+mod identity;
+mod laws;
 
 pub use book::Book;
 pub use carrying::{Carrying, carry};
@@ -27,5 +27,8 @@ pub use fault::RelFault;
 pub use identity::{
     check_insert, has_unchanged, keyed, resolve, row_identity, same_shape, search_identity,
 };
-pub use laws::{keyed_tables_have_key_columns, resolved_rows_are_whole, shapes_are_compared_whole};
+pub use laws::{
+    carried_rows_are_whole, keyed_tables_have_key_columns, resolved_rows_are_whole,
+    rows_are_carried_by_places, shapes_are_compared_whole,
+};
 pub use pglogical::{Column, RelationDef};

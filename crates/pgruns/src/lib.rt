@@ -7,10 +7,10 @@
 #![tactic(auto)]
 
 mod closing;
-pub mod fed;
+mod fed;
 mod file_folder;
-pub mod filed;
-pub mod laws;
+mod filed;
+mod laws;
 mod new_file;
 mod recorded;
 mod telling;
@@ -19,3 +19,4 @@ pub use closing::Closing;
 pub use fed::{FeedPlan, apply_fed_to_file, follow_fed_file};
 pub use file_folder::FileFolder;
 pub use filed::{Filed, apply_to_file, dump_file, follow_file};
+pub use laws::new_files_are_empty;

@@ -13,7 +13,7 @@
 //! ```
 #![tactic(auto)]
 
-pub mod fault;
+mod fault;
 mod frames;
 mod session;
 

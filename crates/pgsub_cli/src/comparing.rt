@@ -14,8 +14,7 @@ use crate::stores::{MemoryStore, new_store, subscriber_of};
 use pgapply::ReplicaStore;
 use pgorder::Version;
 use pgspool::{ByteSpools, Spools};
-use pgstore::Store;
-use pgstore::laws::stores_on_memory_disks_are_honest;
+use pgstore::{Store, stores_on_memory_disks_are_honest};
 use pgsub_core::{ConvergeFault, Fault, Session, Side, Subscriber, Verdict, converge};
 use sqlite::Alter;
 use std::alloc::Global;
@@ -118,7 +117,7 @@ fn compare_with_new<P: Spools + Drop, S: Alter + Drop>(
 ///
 /// It fails with the first fault of a side, of its sessions or of reading its rows, or where there
 /// is no memory for a store.
-pub fn compare(
+pub(crate) fn compare(
     alloc: Global,
     version: Version,
     left: &[Session],

@@ -17,18 +17,18 @@
 #![tactic(auto)]
 
 mod found;
-pub mod opened;
-pub mod put;
-pub mod remains;
-pub mod rows;
-pub mod schema;
-pub mod settled;
+mod opened;
+mod put;
+mod remains;
+mod rows;
+mod schema;
+mod settled;
 
 pub use opened::{FoundPosition, RowCheck};
 pub use put::{put_definition, put_position};
 pub use remains::{
     Remains, check_remaining_rows, drop_remains, find_remains, read_remaining_definitions,
-    read_remaining_position,
+    read_remaining_position, remains_of,
 };
 pub use rows::{StoredDefinition, StoredRow};
 pub use schema::{create_tables, put_first_position};

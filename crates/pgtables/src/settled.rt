@@ -19,7 +19,7 @@ pub fn see_committed<S: Alter>(conn: &Connection<S>)
 
 /// The rows that an open connection sees obey its tables. The call does nothing: a connection shows
 /// this only to a caller that asks for its tables.
-pub fn see_sound<S: Alter>(conn: &Connection<S>)
+pub(crate) fn see_sound<S: Alter>(conn: &Connection<S>)
     ensures { IsTrue (state S.Store conn.now).is_open → IsDatabase (state S.Store conn.now).now }
 {
     let _tables = conn.schema();

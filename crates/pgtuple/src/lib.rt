@@ -14,24 +14,25 @@
 #![tactic(auto)]
 
 mod ascii;
-pub mod bytes;
-pub mod cell;
-pub mod decoding;
-pub mod encoding;
-pub mod fault;
-pub mod laws;
-pub mod lent;
-pub mod limits;
+mod bytes;
+mod cell;
+mod decoding;
+mod encoding;
+mod fault;
+mod laws;
+mod lent;
+mod limits;
 mod reader;
-pub mod seq;
+mod seq;
 mod spelled;
-pub mod text;
+mod text;
 
 pub use bytes::Bytes;
 pub use cell::{Cell, Tuple};
 pub use decoding::{decode, decode_ref};
 pub use encoding::encode;
 pub use fault::TupleFault;
+pub use laws::{tuple_faults_are_the_first, tuples_have_one_spelling};
 pub use lent::{CellRef, Cells, TupleRef};
 pub use limits::{MAX_COLUMNS, MAX_INT32};
 pub use seq::Seq;

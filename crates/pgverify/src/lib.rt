@@ -17,8 +17,8 @@ mod definitions;
 mod held;
 mod keys;
 mod place;
-pub mod verify;
-pub mod walk;
+mod verify;
+mod walk;
 
 pub use verify::{check_rows, lists_store, read_definitions, read_position};
 pub use walk::TreeVisitor;

@@ -18,15 +18,20 @@
 #![tactic(auto)]
 
 mod deframer;
-pub mod fault;
+mod fault;
 mod frame;
 mod header;
-pub mod laws;
+mod laws;
 mod message;
 mod status;
 
 pub use deframer::Deframer;
 pub use fault::WireFault;
 pub use frame::Frame;
+pub use laws::{
+    cuts_change_nothing, first_bytes_tell_the_frame, first_fault_is_that_of_the_bytes,
+    frames_are_those_of_the_bytes, payload_has_one_reading, stream_has_one_fault,
+    stream_has_one_reading,
+};
 pub use message::{ServerMsg, decode_server};
 pub use status::{Status, encode_status};
