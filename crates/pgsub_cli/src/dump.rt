@@ -62,7 +62,11 @@ pub(crate) fn position_text(alloc: Global, position: Lsn) -> Result<String, Allo
 }
 
 /// The line of the position, and that of the LSN up to which it may be confirmed.
-pub fn resume_text(alloc: Global, position: Lsn, confirmed: Lsn) -> Result<String, AllocError>
+pub(crate) fn resume_text(
+    alloc: Global,
+    position: Lsn,
+    confirmed: Lsn,
+) -> Result<String, AllocError>
     ensures { IfOk result (λ text. string_bytes text ≡ resumed_of position confirmed) }
 {
     let mut lines = String::new(alloc);
@@ -72,7 +76,11 @@ pub fn resume_text(alloc: Global, position: Lsn, confirmed: Lsn) -> Result<Strin
 }
 
 /// The rows, a line each, and the position after them.
-pub fn dump_text(alloc: Global, rows: &[DumpRow], position: Lsn) -> Result<String, AllocError>
+pub(crate) fn dump_text(
+    alloc: Global,
+    rows: &[DumpRow],
+    position: Lsn,
+) -> Result<String, AllocError>
     ensures { IfOk result (λ text. string_bytes text ≡ dump_of rows.now position) }
 {
     let mut text = String::new(alloc);

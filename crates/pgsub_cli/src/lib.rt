@@ -7,23 +7,23 @@
 //! ```
 #![tactic(auto)]
 
-pub mod comparing;
-pub mod dump;
+mod comparing;
+mod dump;
 mod dumping;
 pub mod fault;
 pub mod fault_text;
 pub mod files;
 pub mod following;
-pub mod limits;
-pub mod missing;
+mod limits;
+mod missing;
 mod numbering;
-pub mod printed;
-pub mod recorded;
+mod printed;
+mod recorded;
 pub mod reported;
 pub mod reporting;
 pub mod running;
-pub mod showing;
-pub mod stores;
+mod showing;
+mod stores;
 pub mod storing;
 
 pub use dumping::run_dump;

@@ -9,7 +9,7 @@ use std::alloc::AllocError;
 
 /// The lines that a task prints.
 #[derive(Drop)]
-pub struct Printed {
+pub(crate) struct Printed {
     /// The lines, each with its line feed.
     pub lines: String,
     /// The fault that stopped it, if one did. The lines are those of what was done before.
