@@ -19,7 +19,7 @@ use crate::fault::Refusal;
 use pgapply::StoreFault;
 use pglogical::RelationDef;
 use pgrel::{Carrying, keyed};
-use pgrows::rows::Rows;
+use pgrows::Rows;
 use pgtables::StoredRow;
 use sqlite::Alter;
 use std::alloc::Global;

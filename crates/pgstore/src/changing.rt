@@ -22,7 +22,7 @@ use crate::fault::Refusal;
 use pgapply::{Op, StoreFault};
 use pglogical::{OldKind, RelationDef};
 use pgrel::{check_insert, has_unchanged, keyed, resolve};
-use pgrows::rows::Rows;
+use pgrows::Rows;
 use pgtables::StoredRow;
 use pgtuple::TupleRef;
 use sqlite::Alter;

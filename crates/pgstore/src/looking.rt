@@ -24,7 +24,7 @@ use pgapply::{Op, StoreFault};
 use pgledger::Image;
 use pglogical::{OldKind, RelationDef};
 use pgrel::resolve;
-use pgrows::rows::Rows;
+use pgrows::Rows;
 use pgtables::StoredRow;
 use pgtuple::{Tuple, TupleRef};
 use sqlite::Alter;

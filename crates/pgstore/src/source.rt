@@ -6,7 +6,7 @@ ghost use Rattle.pgstore.specs.Sources.{Begins, IsSource, rows_in};
 
 use core::mem::replace_with;
 use pgrel::Book;
-use pgrows::rows::Rows;
+use pgrows::Rows;
 use pgtables::see_committed;
 use sqlite::{Alter, Connection};
 use std::alloc::Global;

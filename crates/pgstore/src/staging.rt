@@ -28,7 +28,7 @@ use pgledger::Ledger;
 use pglogical::RelationDef;
 use pglsn::Lsn;
 use pgrel::Book;
-use pgrows::rows::Rows;
+use pgrows::Rows;
 use sqlite::Alter;
 use sqlite_trees::error::StoreError;
 use std::alloc::Global;
