@@ -20,9 +20,13 @@ use std::marker::Model;
 /// PostgreSQL documentation, Logical Replication Message Formats, Relation.
 #[derive(Clone, Copy, Debug)]
 pub struct ColumnRef<'a> {
+    /// Whether it is part of the key.
     pub key: bool,
+    /// Its name.
     pub name: &'a str,
+    /// The OID of its data type.
     pub type_oid: u32,
+    /// The type's modifier, -1 where it has none.
     pub modifier: i32,
 }
 

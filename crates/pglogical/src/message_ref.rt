@@ -33,26 +33,31 @@ const MAX_OPTIONS: u8 = 3;
 /// PostgreSQL documentation, Logical Replication Message Formats.
 #[derive(Drop)]
 pub enum MessageRef<'a> {
+    /// A transaction begins.
     Begin {
         final_lsn: Lsn,
         commit_time: i64,
         xid: u32,
     },
+    /// The transaction that began last is committed.
     Commit {
         commit_lsn: Lsn,
         end_lsn: Lsn,
         commit_time: i64,
     },
+    /// The transaction came from another server.
     Origin {
         commit_lsn: Lsn,
         name: &'a str,
     },
+    /// The name of a data type.
     TypeName {
         xid: Option<u32>,
         oid: u32,
         namespace: &'a str,
         name: &'a str,
     },
+    /// Bytes that a client wrote into the log.
     Logical {
         xid: Option<u32>,
         transactional: bool,
@@ -60,21 +65,26 @@ pub enum MessageRef<'a> {
         prefix: &'a str,
         content: &'a [u8],
     },
+    /// A relation or a change.
     Item {
         xid: Option<u32>,
         item: ItemRef<'a>,
     },
+    /// A stream block begins.
     StreamStart {
         xid: u32,
         first_segment: bool,
     },
+    /// The stream block ends.
     StreamStop,
+    /// The streamed transaction is committed.
     StreamCommit {
         xid: u32,
         commit_lsn: Lsn,
         end_lsn: Lsn,
         commit_time: i64,
     },
+    /// The streamed transaction or a subtransaction of it is rolled back.
     StreamAbort {
         xid: u32,
         subxid: u32,
@@ -303,21 +313,26 @@ impl<'a> ItemRef<'a> {
 /// Truncate.
 #[derive(Drop)]
 pub enum ItemParts<'a> {
+    /// The definition that the changes after it have.
     Relation(DefRef<'a>),
+    /// A new row.
     Insert {
         oid: u32,
         row: TupleRef<'a>,
     },
+    /// A row in place of another one.
     Update {
         oid: u32,
         prior: Option<(OldKind, TupleRef<'a>)>,
         row: TupleRef<'a>,
     },
+    /// A row that goes.
     Delete {
         oid: u32,
         kind: OldKind,
         row: TupleRef<'a>,
     },
+    /// All rows of these relations go.
     Truncate {
         options: u8,
         oids: OidRefs<'a>,
@@ -417,10 +432,15 @@ impl<'a> ItemParts<'a> {
 /// PostgreSQL documentation, Logical Replication Message Formats, Relation.
 #[derive(Drop)]
 pub struct DefRef<'a> {
+    /// The OID of the relation.
     pub oid: u32,
+    /// Its namespace; an empty one means `pg_catalog`.
     pub namespace: &'a str,
+    /// Its name.
     pub name: &'a str,
+    /// The letter of the replica identity: `d`, `n`, `f` or `i`.
     pub letter: u8,
+    /// Its columns.
     pub columns: ColumnRefs<'a>,
 }
 

@@ -24,12 +24,13 @@ use pgrel::Book;
 use pgspool::Spools;
 use std::alloc::Global;
 
-/// The changes of a commit that were described so far. `numbers` gives, by OID, the number in
-/// `work` of the definition that the relation cache has now: so a definition is copied once each
-/// time that a relation is described and then used.
+/// The changes of a commit that were described so far. A definition is copied once each time that a
+/// relation is described and then used.
 #[derive(Drop)]
 pub(crate) struct Draft<'a> {
+    /// The changes, with the definitions that they are under.
     pub work: Work<'a>,
+    /// By OID, the number in `work` of the definition that the relation cache has now.
     pub numbers: IndexMap<u32, usize>,
 }
 
