@@ -4,7 +4,7 @@
 
 ghost use Rattle.std.specs.Prelude.{◌≡◌, IfOk};
 ghost use Rattle.serde_json.specs.View.{view};
-ghost use Rattle.pgtuple.specs.Lent.{cell_value};
+ghost use Rattle.pgtuple.specs.Borrowed.{cell_value};
 ghost use Rattle.pgjson.specs.Cells.{cell_data, cells_data};
 
 use pgtuple::{CellRef, TupleRef};

@@ -5,7 +5,7 @@
 
 ghost use Rattle.std.specs.Prelude.{◌≡◌, Option, IfOk};
 ghost use Rattle.serde_json.specs.View.{view};
-ghost use Rattle.pglogical.specs.LentItems.{def_value, item_value};
+ghost use Rattle.pglogical.specs.BorrowedItems.{def_value, item_value};
 ghost use Rattle.pgjson.specs.Messages.{item_data, prior_data, relation_data};
 
 use crate::cells::cells_json;

@@ -6,7 +6,7 @@
 ghost use Rattle.std.specs.Prelude.{◌≡◌, IfOk, false, string_bytes};
 ghost use Rattle.serde_json.specs.Written.{compact_text, has_float};
 ghost use Rattle.serde_json.specs.View.{view};
-ghost use Rattle.pglogical.specs.Lent.{message_value};
+ghost use Rattle.pglogical.specs.Borrowed.{message_value};
 ghost use Rattle.pgjson.specs.Lines.{data_data, keepalive_data, done_data, line};
 
 use crate::messages::message_json;

@@ -4,7 +4,7 @@
 
 ghost use Rattle.std.specs.Prelude.{◌≡◌, IfOk};
 ghost use Rattle.serde_json.specs.View.{view};
-ghost use Rattle.pglogical.specs.Lent.{message_value};
+ghost use Rattle.pglogical.specs.Borrowed.{message_value};
 ghost use Rattle.pgjson.specs.Messages.{begin_data, commit_data, logical_data, message_data};
 ghost use Rattle.pgjson.specs.Messages.{origin_data, stream_commit_data, type_data};
 

@@ -5,7 +5,7 @@
 ghost use Rattle.std.specs.Prelude.{◌≡◌, IfOk, option_map};
 ghost use Rattle.serde_json.specs.Data.{number, string};
 ghost use Rattle.serde_json.specs.View.{view};
-ghost use Rattle.pglogical.specs.LentColumns.{column_value};
+ghost use Rattle.pglogical.specs.BorrowedColumns.{column_value};
 ghost use Rattle.pgjson.specs.Messages.{bit, column_data, columns_data, letter_data, lsn_data};
 ghost use Rattle.pgjson.specs.Messages.{old_data, oids_data, xid_data};
 

@@ -1,10 +1,10 @@
--- What the bytes of lent columns give, column by column.
+-- What the bytes of borrowed columns give, column by column.
 use Rattle.std.proofs.Common.{◌≡◌, ◌≢◌, ℕ, zero, suc, ◌-◌, List, [], ◌∷◌, Result, length, Ok, Err}
 use Rattle.std.proofs.Common.{refl, sym, ap, subst, ◌∙◌, arith}
 use Rattle.pglogical.specs.declared.fault.DecodeFault.{DecodeFault}
 use Rattle.pglogical.specs.declared.message.Column.{Column}
 use Rattle.pglogical.specs.declared.column_refs.ColumnRef.{ColumnRef}
-use Rattle.pglogical.specs.LentColumns.{column_value}
+use Rattle.pglogical.specs.BorrowedColumns.{column_value}
 use Rattle.pglogical.specs.Answers.{Gives}
 use Rattle.pglogical.specs.Reading.{◌>>=◌, At, Read, column_at, columns_at}
 use Rattle.pglogical.specs.Columns.{columns_read, IsRead}

@@ -4,7 +4,7 @@
 
 ghost use Rattle.std.specs.Prelude.{◌≡◌, List, length, IfOk, IfErr};
 ghost use Rattle.pglogical.specs.declared.message.Column.{Column};
-ghost use Rattle.pglogical.specs.LentColumns.{column_value};
+ghost use Rattle.pglogical.specs.BorrowedColumns.{column_value};
 ghost use Rattle.pglogical.specs.Answers.{out_of_memory};
 
 use crate::decoding;
@@ -130,7 +130,7 @@ impl<'a> ColumnRefs<'a> {
 
 impl<'a> Iterator for ColumnRefs<'a> {
     ghost use Rattle.std.specs.Iterator.{YieldsFirstBy, item_count};
-    ghost use Rattle.pglogical.specs.LentColumns.{column_value};
+    ghost use Rattle.pglogical.specs.BorrowedColumns.{column_value};
 
     type Item = ColumnRef<'a>;
 
@@ -174,7 +174,7 @@ impl<'a> SpelledColumns<'a> {
     ghost use Rattle.std.specs.Iterator.{YieldsFirstBy};
     ghost use Rattle.pglogical.specs.Reading.{columns_at};
     ghost use Rattle.pglogical.specs.Columns.{columns_read, IsRead};
-    ghost use Rattle.pglogical.specs.LentColumns.{column_value};
+    ghost use Rattle.pglogical.specs.BorrowedColumns.{column_value};
 
     /// So many columns, the first of which is where the reader is.
     pub(crate) fn of(left: u16, reader: Reader<'a>) -> SpelledColumns<'a>

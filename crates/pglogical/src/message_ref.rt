@@ -8,9 +8,9 @@ ghost use Rattle.std.specs.Prelude.{IfErr};
 ghost use Rattle.std.specs.Str.{is_utf8};
 ghost use Rattle.pgtuple.specs.Limits.{IsWireTuple};
 ghost use Rattle.pglogical.specs.Named.{named};
-ghost use Rattle.pglogical.specs.Lent.{message_value};
-ghost use Rattle.pglogical.specs.LentColumns.{column_value};
-ghost use Rattle.pglogical.specs.LentItems.{def_value, item_value};
+ghost use Rattle.pglogical.specs.Borrowed.{message_value};
+ghost use Rattle.pglogical.specs.BorrowedColumns.{column_value};
+ghost use Rattle.pglogical.specs.BorrowedItems.{def_value, item_value};
 ghost use Rattle.pglogical.specs.Answers.{out_of_memory};
 ghost use Rattle.pglogical.specs.Spelling.{IsSpellable, IsWire};
 ghost use Rattle.pglogical.specs.Typed.{IsTypedColumn, AreTypedColumns, AreNumbers};
@@ -186,7 +186,7 @@ pub struct ItemRef<'a> {
 
 impl<'a> Model for ItemRef<'a> {
     ghost use Rattle.pglogical.specs.declared.message.Item.{Item};
-    ghost use Rattle.pglogical.specs.LentItems.{item_value};
+    ghost use Rattle.pglogical.specs.BorrowedItems.{item_value};
 
     ghost Value = { Item };
 

@@ -1,7 +1,7 @@
 //! The order of messages: how far a stream has come, and what the next message means there.
 ghost use Rattle.std.specs.Prelude.{◌≡◌, ◌≢◌, IfOk, IfErr, IsOk, OnErr, Err, IsTrue};
 ghost use Rattle.pglogical.specs.Spelling.{IsMessageFor};
-ghost use Rattle.pglogical.specs.Lent.{message_value};
+ghost use Rattle.pglogical.specs.Borrowed.{message_value};
 ghost use Rattle.pgorder.specs.Steps.{Outside, initial_order, order_step, in_version_2, step_inner};
 ghost use Rattle.pgorder.specs.Steps.{step_item, step_begin, step_commit, step_stream_start};
 ghost use Rattle.pgorder.specs.Steps.{step_stream_stop, step_stream_commit, step_stream_abort};

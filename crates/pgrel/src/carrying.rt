@@ -3,7 +3,7 @@
 //! PostgreSQL documentation, Logical Replication Message Formats, Relation.
 
 ghost use Rattle.std.specs.Prelude.{◌≡◌, length, map, IfOk, IfErr};
-ghost use Rattle.pgtuple.specs.Lent.{cell_value};
+ghost use Rattle.pgtuple.specs.Borrowed.{cell_value};
 ghost use Rattle.pglogical.specs.Spelling.{IsDefinition};
 ghost use Rattle.pgrel.specs.Carried.{carried, place_of, placed_cell, placed_cells, places};
 

@@ -7,7 +7,7 @@ ghost use Rattle.std.specs.Prelude.{◌≡◌, ◌⊎◌, ◌++◌, ◌∷◌, L
 ghost use Rattle.std.specs.Prelude.{option_map};
 ghost use Rattle.std.specs.Option.{option_to_list};
 ghost use Rattle.pgrel.specs.Steps.{sent_cell};
-ghost use Rattle.pgtuple.specs.Lent.{cell_value};
+ghost use Rattle.pgtuple.specs.Borrowed.{cell_value};
 ghost use Rattle.std.specs.Cmp.Lexicographic.{pointwise};
 ghost use Rattle.std.specs.List.{list_any};
 ghost use Rattle.pglogical.specs.declared.message.Column.{Column};

@@ -5,7 +5,7 @@ use Rattle.sqlite_trees.specs.Tree.{IsTable, IsIndex}
 use Rattle.sqlite_trees.specs.declared.store.Shape.TheVariants as shape
 use Rattle.sqlite_trees.specs.Objects.{catalog_tree, IsListed}
 use Rattle.sqlite_trees.specs.View.{View, IsOrdered, IsShaped}
-use Rattle.sqlite_sql.specs.declared.query.Index as lent
+use Rattle.sqlite_sql.specs.declared.query.Index as borrowed
 use Rattle.sqlite_sql.specs.Catalog.{IsIndexOf}
 use Rattle.sqlite_exec.specs.Calls.{IsReady}
 use Rattle.sqlite_schema.specs.Catalog.{IsCatalogOf}
@@ -17,7 +17,7 @@ use Rattle.pgtables.specs.Schema.{store_schema}
 use Rattle.pgrows.specs.Rows.{IsGood}
 
 -- the index, as the library's lemmas ask for it
-abbrev pub the_catalog : List lent.Index
+abbrev pub the_catalog : List borrowed.Index
 the_catalog = record { tree = 2; table = 1; columns = record { ref_ptr = (0, 0); now = 1 ∷ 2 ∷ [] }; order = plain } ∷ []
 
 pub lists_it : IsCatalogOf store_schema the_catalog
@@ -51,8 +51,8 @@ module _ {v : View} (good : IsGood v) (listed : IsListed (v.trees catalog_tree) 
   pub indexed : IsIndexOf (1 ∷ 2 ∷ []) (v.trees 1) (v.trees 2)
   indexed = good.kept.sound.obeys.indexed.0
 
-  pub set_up : (catalog : List lent.Index) → IsCatalogOf store_schema catalog → IsSetUp v store_schema catalog
+  pub set_up : (catalog : List borrowed.Index) → IsCatalogOf store_schema catalog → IsSetUp v store_schema catalog
   set_up catalog lists = record { sound = good.unbroken; laid_out = laid; lists = lists }
 
-  pub is_ready : (catalog : List lent.Index) → IsCatalogOf store_schema catalog → IsReady v catalog
+  pub is_ready : (catalog : List borrowed.Index) → IsCatalogOf store_schema catalog → IsReady v catalog
   is_ready catalog lists = ready v store_schema catalog (set_up catalog lists) good.kept.sound.obeys.indexed

@@ -4,9 +4,9 @@
 //! Protocol.
 
 ghost use Rattle.std.specs.Prelude.{IfErr, IfOk, string_bytes};
-ghost use Rattle.pglogical.specs.Lent.{message_value};
+ghost use Rattle.pglogical.specs.Borrowed.{message_value};
 ghost use Rattle.pgwire.specs.Frames.{CopyData};
-ghost use Rattle.pgwire.specs.Lent.{frame_value};
+ghost use Rattle.pgwire.specs.Borrowed.{frame_value};
 ghost use Rattle.pgshow.specs.Steps.{RefusesBody, RefusesFrame, RefusesPayload, TakesBody};
 ghost use Rattle.pgshow.specs.Steps.{TakesData, TakesFrame};
 

@@ -1,7 +1,7 @@
 //! The items of one open transaction, as the bytes that encode them.
 ghost use Rattle.std.specs.Prelude.{◌≡◌, option_map, slice_get, slice_range, length, None, false};
 ghost use Rattle.std.specs.Prelude.{◌≤◌};
-ghost use Rattle.pglogical.specs.Lent.{message_value};
+ghost use Rattle.pglogical.specs.Borrowed.{message_value};
 ghost use Rattle.pglogical.specs.Reading.{message_at};
 ghost use Rattle.pglogical.specs.Spelling.{IsWire, item_spelling};
 ghost use Rattle.pgspool.specs.Marks.{start_or, item_part, item_at_all, IsReadable};

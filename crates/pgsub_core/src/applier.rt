@@ -8,7 +8,7 @@
 ghost use Rattle.std.specs.Prelude.{◌≡◌, ◌<◌, ◌≤◌, ◌⊎◌, ◌∷◌, ◌++◌, [], ℕ, ℤ, max, if◌then◌else◌};
 ghost use Rattle.std.specs.Prelude.{false, true, Ok, Err, OnOk, OnErr, IfOk, IfErr};
 ghost use Rattle.std.specs.FinMap as map;
-ghost use Rattle.pglogical.specs.Lent.{message_value};
+ghost use Rattle.pglogical.specs.Borrowed.{message_value};
 ghost use Rattle.pglogical.specs.Reading.{message_at};
 ghost use Rattle.pglogical.specs.declared.message.Message.{Message};
 ghost use Rattle.pgwire.specs.Frames.{CopyData};

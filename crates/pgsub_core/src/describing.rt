@@ -8,7 +8,7 @@ ghost use Rattle.std.specs.Prelude.{OnOk, OnErr, IfOk, IfErr, slice_get, length}
 ghost use Rattle.std.specs.FinMap as map;
 ghost use Rattle.indexmap.specs.IndexMap.{get};
 ghost use Rattle.pglogical.specs.declared.message.Item.{Item};
-ghost use Rattle.pglogical.specs.LentItems.{def_value};
+ghost use Rattle.pglogical.specs.BorrowedItems.{def_value};
 ghost use Rattle.pglogical.specs.Spelling.{IsSpellable, IsDefinition};
 ghost use Rattle.pgspool.specs.Labels.{items_of, held_of};
 ghost use Rattle.pgsub_core.specs.Server.Described.{described_from};

@@ -1,4 +1,4 @@
--- What the bytes of a lent tuple give, cell by cell.
+-- What the bytes of a borrowed tuple give, cell by cell.
 use Rattle.std.proofs.Common.{◌≡◌, ◌≢◌, ℕ, zero, suc, ◌-◌, ◌≤◌, cond, leb, List, [], ◌∷◌, Result}
 use Rattle.std.proofs.Common.{length, take, drop, Ok, Err, refl, sym, ap, subst, ◌∙◌, arith}
 use Rattle.std.specs.Prelude.{MatchResult}
@@ -8,8 +8,8 @@ use Rattle.pgtuple.specs.declared.cell.Cell.{Cell}
 use Rattle.pgtuple.specs.declared.fault.TupleFault.{TupleFault}
 use Rattle.pgtuple.specs.declared.fault.TupleFault.TheVariants as fault
 use Rattle.pgtuple.specs.Limits.{IsWireTuple, IsBytes}
-use Rattle.pgtuple.specs.declared.lent.CellRef.{CellRef}
-use Rattle.pgtuple.specs.Lent.{cell_value}
+use Rattle.pgtuple.specs.declared.borrowed.CellRef.{CellRef}
+use Rattle.pgtuple.specs.Borrowed.{cell_value}
 use Rattle.pgtuple.specs.Cells.{tuple_spelling}
 use Rattle.pgtuple.specs.Reading.{◌>>=◌, Fails, At, Read, number_at, cell_at, cells_at, tuple_from}
 use Rattle.pgtuple.specs.Reading.{tuple_at}

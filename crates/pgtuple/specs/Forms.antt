@@ -2,10 +2,10 @@
 -- PostgreSQL documentation, Logical Replication Message Formats, TupleData.
 use Rattle.std.specs.Prelude.{List}
 use Rattle.pgtuple.specs.declared.cell.Cell.{Cell}
-use Rattle.pgtuple.specs.declared.lent.Form.{Form}
-use Rattle.pgtuple.specs.declared.lent.Form.TheVariants as form
-use Rattle.pgtuple.specs.declared.lent.Rest.{Rest}
-use Rattle.pgtuple.specs.declared.lent.Rest.TheVariants as rest
+use Rattle.pgtuple.specs.declared.borrowed.Form.{Form}
+use Rattle.pgtuple.specs.declared.borrowed.Form.TheVariants as form
+use Rattle.pgtuple.specs.declared.borrowed.Rest.{Rest}
+use Rattle.pgtuple.specs.declared.borrowed.Rest.TheVariants as rest
 use Rattle.pgtuple.specs.Limits.{IsTuple}
 use Rattle.pgtuple.specs.Spelled.{spelled_cells, IsSpelledTuple}
 

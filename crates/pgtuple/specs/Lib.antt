@@ -1,6 +1,6 @@
 pub mod Limits
 pub mod Cells
-pub mod Lent
+pub mod Borrowed
 pub mod Reading
 pub mod Spelled
 pub mod Forms

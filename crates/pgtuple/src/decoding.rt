@@ -6,16 +6,16 @@ ghost use Rattle.std.specs.Prelude.{◌≡◌, ◌≢◌, ◌++◌, ℕ, List, l
 ghost use Rattle.std.specs.Prelude.{Err, drop};
 ghost use Rattle.pgtuple.specs.declared.cell.Cell.{Cell};
 ghost use Rattle.pgtuple.specs.Limits.{IsWireTuple};
-ghost use Rattle.pgtuple.specs.Lent.{cell_value};
+ghost use Rattle.pgtuple.specs.Borrowed.{cell_value};
 ghost use Rattle.pgtuple.specs.Spelled.{IsReadTo};
 ghost use Rattle.pgtuple.specs.Cells.{tuple_spelling};
 ghost use Rattle.pgtuple.specs.Laws.{BeginsWithTuple};
 ghost use Rattle.pgtuple.specs.Faults.{HasTupleFault};
 ghost use Rattle.pgtuple.specs.Reading.{Fails, cell_at, cells_at, tuple_from, tuple_at};
 
+use crate::borrowed::{CellRef, TupleRef};
 use crate::cell::Tuple;
 use crate::fault::TupleFault;
-use crate::lent::{CellRef, TupleRef};
 use crate::limits::MAX_COLUMNS;
 use crate::reader::Reader;
 use std::alloc::Global;
@@ -115,6 +115,6 @@ pub fn decode(alloc: Global, bytes: &[u8]) -> Result<(Tuple, usize), TupleFault>
     ensures exact { MatchResult result (λ x. tuple_at bytes.now
         ≡ Ok (x.0, (x.1, drop x.1 bytes.now))) (λ f. Fails f (tuple_at bytes.now)) }
 {
-    let (lent, len) = decode_ref(bytes)?;
-    Ok((lent.to_tuple(alloc)?, len))
+    let (borrowed, len) = decode_ref(bytes)?;
+    Ok((borrowed.to_tuple(alloc)?, len))
 }

@@ -10,9 +10,9 @@ ghost use Rattle.pgtuple.specs.Cells.{cell_spelling, tuple_spelling};
 ghost use Rattle.pgtuple.specs.Writing.{Keeps};
 ghost use Rattle.pgtuple.specs.Forms.{form_cells, IsForm};
 
+use crate::borrowed::{Form, TupleRef};
 use crate::cell::Cell;
 use crate::fault::TupleFault;
-use crate::lent::{Form, TupleRef};
 use std::alloc::AllocError;
 
 /// The kind of a cell, the number of its bytes, and the bytes.

@@ -5,8 +5,8 @@
 ghost use Rattle.std.specs.Prelude.{◌≡◌, List, length};
 ghost use Rattle.pgtuple.specs.declared.cell.Cell.{Cell};
 
+use crate::borrowed::CellRef;
 use crate::decoding;
-use crate::lent::CellRef;
 use crate::reader::Reader;
 use std::marker::Model;
 
@@ -32,7 +32,7 @@ impl<'a> Model for SpelledCells<'a> {
 
 impl<'a> SpelledCells<'a> {
     ghost use Rattle.std.specs.Iterator.{YieldsFirstBy};
-    ghost use Rattle.pgtuple.specs.Lent.{cell_value};
+    ghost use Rattle.pgtuple.specs.Borrowed.{cell_value};
     ghost use Rattle.pgtuple.specs.Spelled.{IsSpelledTuple, spelled_cells};
 
     /// The cells of a tuple that these bytes encode.

@@ -19,7 +19,7 @@ use Rattle.pgwire.specs.declared.fault.WireFault.TheVariants.{Short, Trailing, B
 use Rattle.pgwire.specs.Payloads.{ServerMessage, XLogData, Keepalive, flag_byte, payload}
 use Rattle.pgwire.specs.Payloads.{IsServerMessage, HasPayloadFault, payload_at, keepalive_at}
 use Rattle.pgwire.specs.declared.message.ServerMsg.{ServerMsg}
-use Rattle.pgwire.specs.Lent.{message_value, Gives}
+use Rattle.pgwire.specs.Borrowed.{message_value, Gives}
 use Rattle.std.specs.Prelude.{IfOk, IfErr, IsOkAnd, IsErrOf}
 use Rattle.pgwire.proofs.Headers.{IsBytes, IsBytes-drop}
 use Rattle.pgwire.proofs.Decoding.{empty_at, data_gives, as_data, as_keepalive, as_unknown}

@@ -4,7 +4,7 @@ ghost use Rattle.std.specs.Prelude.{◌≡◌, ◌+◌, ◌*◌, ◌^◌, ◌<�
 ghost use Rattle.std.specs.Prelude.{vec_len, vec_capacity, MatchResult, MatchOption, IfErr, OnOk};
 ghost use Rattle.std.specs.Prelude.{OnErr, if◌then◌else◌, [], None};
 ghost use Rattle.pgwire.specs.Frames.{IsFramingFault, HasPayloadLen, max_length};
-ghost use Rattle.pgwire.specs.Lent.{frame_value};
+ghost use Rattle.pgwire.specs.Borrowed.{frame_value};
 ghost use Rattle.pgwire.specs.Deframed.{fresh, Stands, Waits, IsFed, IsReleased, payload_come};
 ghost use Rattle.pgwire.specs.Held.{come, IsHeaderWith};
 

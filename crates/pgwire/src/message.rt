@@ -4,7 +4,7 @@ ghost use Rattle.std.specs.Prelude.{◌≡◌, MatchResult, IfOk, IfErr, IsOkAnd
 ghost use Rattle.pgwire.specs.Payloads.{ServerMessage, payload, data_at, keepalive_at};
 ghost use Rattle.pgwire.specs.Payloads.{IsServerMessage, HasPayloadFault};
 ghost use Rattle.pgwire.specs.declared.fault.WireFault.{WireFault};
-ghost use Rattle.pgwire.specs.Lent.{message_value, Gives};
+ghost use Rattle.pgwire.specs.Borrowed.{message_value, Gives};
 
 use crate::WireFault;
 use byteorder::{BigEndian, ByteOrder};

@@ -122,11 +122,11 @@ fn is_cell(found: Option<CellRef<'_>>, cell: &CellRef<'_>) -> bool {
 fn gives(answer: Result<Tuple, RelFault>, cells: &[CellRef<'_>]) -> Result<bool, RelFault> {
     match answer {
         Ok(tuple) => {
-            let lent = tuple.borrowed();
+            let borrowed = tuple.borrowed();
             let same = cells
                 .iter()
                 .enumerate()
-                .all(|(k, cell)| is_cell(lent.get(k), cell));
+                .all(|(k, cell)| is_cell(borrowed.get(k), cell));
             Ok(same && tuple.width() == cells.len())
         }
         Err(RelFault::Memory) => Err(RelFault::Memory),

@@ -1,7 +1,7 @@
 use Rattle.std.proofs.Common.{◌≡◌, ℕ, ℤ, List, Bool, subst}
 use Rattle.std.proofs.lemmas.Result.{IfErr-weaker}
 use Rattle.pgwire.specs.declared.message.ServerMsg.{ServerMsg}
-use Rattle.pgwire.specs.Lent.{message_value}
+use Rattle.pgwire.specs.Borrowed.{message_value}
 use Rattle.pgwire.specs.Payloads.{XLogData, payload}
 use Rattle.pgshow.specs.declared.fault.Fault.{Fault}
 use Rattle.pgshow.specs.declared.fault.Fault.TheVariants.{Wire, Decode, Order, Memory}

@@ -1,6 +1,6 @@
 use Rattle.std.proofs.Common.{◌≡◌, rules}
 use Rattle.serde_json.specs.View.{view}
-use Rattle.pglogical.specs.Lent.{message_value}
+use Rattle.pglogical.specs.Borrowed.{message_value}
 use Rattle.pgjson.specs.Lines.{data_data}
 use Rattle.pgjson.proofs.Plain.{data_plain, line_as}
 use Rattle.pgjson.proofs.lines.data_line.Goals as goal

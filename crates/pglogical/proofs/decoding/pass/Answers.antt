@@ -1,6 +1,6 @@
 use Rattle.std.proofs.Common.{◌++◌, ◌∷◌, []}
 use Rattle.std.proofs.lemmas.Result.{err_from_is_err_and}
-use Rattle.pglogical.specs.LentColumns.{column_value}
+use Rattle.pglogical.specs.BorrowedColumns.{column_value}
 use Rattle.pglogical.specs.Reading.{columns_at}
 use Rattle.pglogical.proofs.Columns.{one_more, stops_at, all_read}
 use Rattle.pglogical.proofs.decoding.pass.Goals as goal

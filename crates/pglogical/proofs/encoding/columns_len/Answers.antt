@@ -1,7 +1,7 @@
 use Rattle.std.proofs.Common.{length, ap, ◌∙◌, arith}
 use Rattle.std.specs.List.{flat_map}
 use Rattle.pglogical.specs.Spelling.{column_spelling}
-use Rattle.pglogical.specs.LentColumns.{column_value}
+use Rattle.pglogical.specs.BorrowedColumns.{column_value}
 use Rattle.pglogical.proofs.SpelledLengths.{length-first_column}
 use Rattle.pglogical.proofs.encoding.columns_len.Goals as goal
 

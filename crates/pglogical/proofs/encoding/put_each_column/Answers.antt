@@ -1,6 +1,6 @@
 use Rattle.std.proofs.Common.{◌∙◌}
 use Rattle.pglogical.specs.Spelling.{column_spelling}
-use Rattle.pglogical.specs.LentColumns.{column_value}
+use Rattle.pglogical.specs.BorrowedColumns.{column_value}
 use Rattle.pglogical.proofs.Appended.{one_appended, all_appended, Keeps-trans, Keeps-appended}
 use Rattle.pgtuple.proofs.Appending.{on_err}
 use Rattle.pglogical.proofs.encoding.put_each_column.Goals as goal

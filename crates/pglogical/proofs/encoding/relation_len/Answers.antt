@@ -1,5 +1,5 @@
 use Rattle.std.proofs.Common.{arith}
-use Rattle.pglogical.specs.LentItems.{def_value}
+use Rattle.pglogical.specs.BorrowedItems.{def_value}
 use Rattle.pglogical.proofs.SpelledLengths.{length-relation}
 use Rattle.pglogical.proofs.encoding.relation_len.Goals as goal
 

@@ -1,5 +1,5 @@
 use Rattle.std.proofs.Common.{length, None, ap, ◌∙◌, sym, arith}
-use Rattle.pglogical.specs.LentItems.{item_value}
+use Rattle.pglogical.specs.BorrowedItems.{item_value}
 use Rattle.pglogical.specs.Spelling.{item_spelling}
 use Rattle.pglogical.proofs.SpelledLengths.{length-insert, length-update, length-delete}
 use Rattle.pglogical.proofs.SpelledLengths.{length-truncate}

@@ -1,5 +1,5 @@
 use Rattle.std.proofs.Common.{◌≡◌, ◌++◌, map}
-use Rattle.pgtuple.specs.Lent.{cell_value}
+use Rattle.pgtuple.specs.Borrowed.{cell_value}
 use Rattle.pgrel.proofs.carrying.cells_of.Given as goal
 
 abbrev pub invariant-loop-cell : goal.invariant-loop-cell

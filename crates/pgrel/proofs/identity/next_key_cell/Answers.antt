@@ -1,7 +1,7 @@
 use Rattle.std.proofs.Common.{◌≡◌, ◌∷◌, ◌++◌, [], ap, sym, ◌∙◌, rules}
 use Rattle.std.specs.Prelude.{option_map}
 use Rattle.std.specs.Option.{option_to_list}
-use Rattle.pgtuple.specs.Lent.{cell_value}
+use Rattle.pgtuple.specs.Borrowed.{cell_value}
 use Rattle.pgrel.specs.Identity.{key_cells}
 use Rattle.pgrel.proofs.Loops.{key_cells_none}
 use Rattle.pgrel.proofs.identity.next_key_cell.Goals as goal

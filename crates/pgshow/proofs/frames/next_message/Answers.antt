@@ -1,4 +1,4 @@
-use Rattle.pglogical.specs.Lent.{message_value}
+use Rattle.pglogical.specs.Borrowed.{message_value}
 use Rattle.pgshow.proofs.Messages.{on_told, refuses_message, takes_body, unreadable}
 use Rattle.pgshow.proofs.frames.next_message.Goals as goal
 

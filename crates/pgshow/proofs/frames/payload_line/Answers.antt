@@ -3,7 +3,7 @@ use Rattle.std.specs.Int.{w64}
 use Rattle.std.proofs.lemmas.Int.{to_z-of_z}
 use Rattle.std.proofs.lemmas.Result.{IfOk-weaker}
 use Rattle.pgwire.specs.declared.message.ServerMsg.{ServerMsg}
-use Rattle.pgwire.specs.Lent.{message_value}
+use Rattle.pgwire.specs.Borrowed.{message_value}
 use Rattle.pgwire.specs.Payloads.{payload, IsServerMessage}
 use Rattle.pgjson.specs.Lines.{keepalive_data, line}
 use Rattle.pgshow.specs.Steps.{TakesData}

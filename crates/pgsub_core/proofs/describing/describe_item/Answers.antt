@@ -1,6 +1,6 @@
 use Rattle.std.proofs.Common.{◌∷◌, ap, sym, subst, ◌∙◌}
 use Rattle.pglogical.specs.declared.message.Item.{Item}
-use Rattle.pglogical.specs.LentItems.{def_value, item_value}
+use Rattle.pglogical.specs.BorrowedItems.{def_value, item_value}
 use Rattle.std.specs.Prelude.{nat_eq}
 use Rattle.indexmap.specs.IndexMap.{get}
 use Rattle.pgsub_core.specs.Server.Described.{described_from}

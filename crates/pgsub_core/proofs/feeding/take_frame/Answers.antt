@@ -1,7 +1,7 @@
 use Rattle.std.proofs.Common.{◌∷◌, [], ℤ, refl, subst}
 use Rattle.std.specs.Int.{w64}
 use Rattle.std.proofs.lemmas.Int.{to_z-of_z}
-use Rattle.pgwire.specs.Lent.{frame_value}
+use Rattle.pgwire.specs.Borrowed.{frame_value}
 use Rattle.pgsub_core.specs.Calls.Framing.{FramesGo, IsStopped, StopsAt}
 use Rattle.pgsub_core.proofs.DescribedChanges.{on_ok, if_err}
 use Rattle.pgsub_core.proofs.feeding.take_frame.Goals as goal

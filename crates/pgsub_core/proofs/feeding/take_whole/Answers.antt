@@ -3,7 +3,7 @@ use Rattle.std.specs.Int.{w64}
 use Rattle.std.proofs.lemmas.Int.{to_z-of_z}
 use Rattle.pgwire.specs.Deframed.{Deframed, Stands}
 use Rattle.pgwire.specs.Frames.{Frame}
-use Rattle.pgwire.specs.Lent.{frame_value}
+use Rattle.pgwire.specs.Borrowed.{frame_value}
 use Rattle.pgsub_core.specs.Machine.Counted.{frame_counted, CountsBy}
 use Rattle.pgsub_core.specs.Calls.Framing.{FramesGo, IsStopped, StopsAt}
 use Rattle.pgsub_core.proofs.DescribedChanges.{on_residual}

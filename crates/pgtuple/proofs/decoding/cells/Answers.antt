@@ -1,6 +1,6 @@
 use Rattle.std.proofs.Common.{◌++◌, ◌∷◌, []}
 use Rattle.std.proofs.lemmas.Result.{err_from_is_err_and}
-use Rattle.pgtuple.specs.Lent.{cell_value}
+use Rattle.pgtuple.specs.Borrowed.{cell_value}
 use Rattle.pgtuple.specs.Reading.{cells_at}
 use Rattle.pgtuple.proofs.Loop.{goes_on, ends_at, is_done}
 use Rattle.pgtuple.proofs.decoding.cells.Goals as goal

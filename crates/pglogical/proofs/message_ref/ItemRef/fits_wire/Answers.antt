@@ -1,6 +1,6 @@
 use Rattle.std.proofs.Common.{◌∙◌, sym, ap, subst}
 use Rattle.pglogical.specs.declared.message.Item.{Item}
-use Rattle.pglogical.specs.LentItems.{def_value, item_value}
+use Rattle.pglogical.specs.BorrowedItems.{def_value, item_value}
 use Rattle.pglogical.specs.Spelling.{IsSpellable, IsWire}
 use Rattle.pglogical.proofs.TypedItems.{columns_fit}
 use Rattle.pglogical.proofs.message_ref.ItemRef.fits_wire.Goals as goal

@@ -1,7 +1,7 @@
 use Rattle.std.proofs.Common.{◌∙◌, sym, ap, subst}
 use Rattle.std.specs.Prelude.{IsTrue}
 use Rattle.pglogical.specs.declared.message.Item.{Item}
-use Rattle.pglogical.specs.LentItems.{def_value, item_value}
+use Rattle.pglogical.specs.BorrowedItems.{def_value, item_value}
 use Rattle.pglogical.specs.Spelling.{IsSpellable}
 use Rattle.pglogical.proofs.SpellableLaws.{definition_from_test, test_from_definition}
 use Rattle.pglogical.proofs.message_ref.ItemRef.spellable.Goals as goal

@@ -1,6 +1,6 @@
 use Rattle.std.proofs.Common.{◌≡◌, inr, Bool, Ok, Err, refl, ap, subst, ◌∙◌}
 use Rattle.pglogical.specs.Reading.{message_at}
-use Rattle.pglogical.specs.Lent.{message_value}
+use Rattle.pglogical.specs.Borrowed.{message_value}
 use Rattle.pgorder.specs.States.{is_in_block}
 use Rattle.pgsub_core.specs.Machine.Faults.{fault_of_decode}
 use Rattle.pgsub_core.specs.Subscriber.Applied.{Applied}

@@ -1,7 +1,7 @@
 use Rattle.std.proofs.Common.{◌≡◌, inl, inr, true, not, ◌||◌, ◌&&◌, [], refl, sym, ap, subst, ◌∙◌}
 use Rattle.std.specs.Prelude.{◌==◌}
 use Rattle.std.specs.FinMap as map
-use Rattle.pglogical.specs.Lent.{message_value}
+use Rattle.pglogical.specs.Borrowed.{message_value}
 use Rattle.pgspool.specs.Labels.{HeldMap, cut, held_of}
 use Rattle.pgorder.specs.declared.Event.{Event}
 use Rattle.pgsub_core.specs.Server.Stream.{kind}

@@ -1,5 +1,5 @@
 use Rattle.std.proofs.Common.{◌≡◌, max, refl, sym, ap, subst, ◌∙◌}
-use Rattle.pglogical.specs.Lent.{message_value}
+use Rattle.pglogical.specs.Borrowed.{message_value}
 use Rattle.pgsub_core.specs.Server.Stream.{Data}
 use Rattle.pgsub_core.specs.Subscriber.Applied.{Applied, Stops}
 use Rattle.pgsub_core.specs.Machine.Faults.{fault_of_order}

@@ -2,7 +2,7 @@ use Rattle.std.proofs.Common.{ℤ, Ok, refl, ap, subst, ◌∙◌}
 use Rattle.std.specs.Int.{w64}
 use Rattle.std.proofs.lemmas.Int.{to_z-of_z}
 use Rattle.pgwire.specs.declared.message.ServerMsg.{ServerMsg}
-use Rattle.pgwire.specs.Lent.{message_value}
+use Rattle.pgwire.specs.Borrowed.{message_value}
 use Rattle.pgsub_core.specs.Server.Stream.{Keepalive}
 use Rattle.pgsub_core.specs.Machine.Taking.{take}
 use Rattle.pgsub_core.specs.Subscriber.Applied.{Goes}

@@ -1,6 +1,6 @@
 use Rattle.std.proofs.lemmas.Iterator.Consumers.{nth_from_yields_List, YieldsList-from_first}
-use Rattle.pgtuple.specs.Lent.{cell_value}
-use Rattle.pgtuple.proofs.lent.TupleRef.get.Goals as goal
+use Rattle.pgtuple.specs.Borrowed.{cell_value}
+use Rattle.pgtuple.proofs.borrowed.TupleRef.get.Goals as goal
 
 pub returns-in-Spelled : goal.returns-in-Spelled
 returns-in-Spelled c =

@@ -29,7 +29,7 @@ pub enum CellRef<'a> {
 }
 
 impl<'a> CellRef<'a> {
-    ghost use Rattle.pgtuple.specs.Lent.{cell_value};
+    ghost use Rattle.pgtuple.specs.Borrowed.{cell_value};
 
     /// The same cell with memory of its own. Its only error is out of memory.
     pub fn to_cell(&self, alloc: Global) -> Result<Cell, TupleFault>
@@ -52,7 +52,7 @@ impl<'a> CellRef<'a> {
 }
 
 impl Cell {
-    ghost use Rattle.pgtuple.specs.Lent.{cell_value};
+    ghost use Rattle.pgtuple.specs.Borrowed.{cell_value};
 
     /// The cell, borrowed. It asks for no memory.
     pub fn borrowed(&self) -> CellRef<'_>
@@ -95,7 +95,7 @@ impl<'a> Model for TupleRef<'a> {
 }
 
 impl<'a> TupleRef<'a> {
-    ghost use Rattle.pgtuple.specs.Lent.{cell_value};
+    ghost use Rattle.pgtuple.specs.Borrowed.{cell_value};
     ghost use Rattle.pgtuple.specs.Limits.{IsTuple, IsWireTuple};
     ghost use Rattle.pgtuple.specs.Spelled.{IsSpelledTuple, spelled_cells};
     ghost use Rattle.pgtuple.specs.Forms.{form_cells, IsForm};
@@ -250,7 +250,7 @@ impl<'a> Cells<'a> {
 
 impl<'a> Iterator for Cells<'a> {
     ghost use Rattle.std.specs.Iterator.{YieldsFirstBy, item_count};
-    ghost use Rattle.pgtuple.specs.Lent.{cell_value};
+    ghost use Rattle.pgtuple.specs.Borrowed.{cell_value};
 
     type Item = CellRef<'a>;
 

@@ -2,7 +2,7 @@ use Rattle.std.proofs.Common.{◌≡◌, ap, subst, sym, ◌∙◌, arith}
 use Rattle.pgtuple.specs.Cells.{tuple_spelling}
 use Rattle.pgtuple.specs.Forms.{form_cells, IsForm}
 use Rattle.pgtuple.proofs.Lengths.{tuple_bounded}
-use Rattle.pgtuple.proofs.lent.TupleRef.spelled_len.Goals as goal
+use Rattle.pgtuple.proofs.borrowed.TupleRef.spelled_len.Goals as goal
 
 pub overflow_add-result : goal.overflow_add-result
 overflow_add-result c = omega

@@ -3,7 +3,7 @@ use Rattle.std.proofs.lemmas.List.Elements.{recursion_from_All}
 use Rattle.pgtuple.specs.declared.cell.Cell.{Cell}
 use Rattle.pgtuple.specs.Limits.{IsTextCell, IsWireTuple}
 use Rattle.pgtuple.specs.Forms.{form_cells, IsForm}
-use Rattle.pgtuple.proofs.lent.TupleRef.fits_wire.Goals as goal
+use Rattle.pgtuple.proofs.borrowed.TupleRef.fits_wire.Goals as goal
 
 pub returns-in-Owned : goal.returns-in-Owned
 returns-in-Owned c =
