@@ -60,7 +60,7 @@ pub(crate) fn columns_json(alloc: Global, columns: &ColumnRefs<'_>) -> Result<Va
     ensures { IfOk result (λ value. view value ≡ columns_data columns.now) }
 {
     let mut values = Vec::with_capacity(alloc, columns.len())?;
-    for column in columns.lend() {
+    for column in columns.reborrow() {
         values.push(column_json(alloc, &column)?)?;
     }
     Ok(Value::Array(values))
@@ -71,7 +71,7 @@ pub(crate) fn oids_json(alloc: Global, oids: &OidRefs<'_>) -> Result<Value, Allo
     ensures { IfOk result (λ value. view value ≡ oids_data oids.now) }
 {
     let mut values = Vec::with_capacity(alloc, oids.len())?;
-    for oid in oids.lend() {
+    for oid in oids.reborrow() {
         values.push(Value::from(oid))?;
     }
     Ok(Value::Array(values))

@@ -91,7 +91,7 @@ impl<'a> ColumnRefs<'a> {
     }
 
     /// The same columns, borrowed once more.
-    pub fn lend(&self) -> ColumnRefs<'a>
+    pub fn reborrow(&self) -> ColumnRefs<'a>
         ensures { result ≡ self.now }
     {
         match &self.rest {
@@ -99,7 +99,7 @@ impl<'a> ColumnRefs<'a> {
                 rest: Columns::Owned(columns),
             },
             Columns::Spelled(columns) => ColumnRefs {
-                rest: Columns::Spelled(columns.lend()),
+                rest: Columns::Spelled(columns.reborrow()),
             },
         }
     }
@@ -121,7 +121,7 @@ impl<'a> ColumnRefs<'a> {
         ensures memory { IfErr result (λ fault. fault ≡ out_of_memory) }
     {
         let mut columns = Vec::with_capacity(alloc, self.len())?;
-        for column in self.lend() {
+        for column in self.reborrow() {
             columns.push(column.to_column(alloc)?)?;
         }
         Ok(Seq::from_vec(columns))
@@ -184,12 +184,12 @@ impl<'a> SpelledColumns<'a> {
         SpelledColumns { left, reader }
     }
 
-    pub(crate) fn lend(&self) -> SpelledColumns<'a>
+    pub(crate) fn reborrow(&self) -> SpelledColumns<'a>
         ensures { result ≡ self.now }
     {
         SpelledColumns {
             left: self.left,
-            reader: self.reader.lend(),
+            reader: self.reader.reborrow(),
         }
     }
 

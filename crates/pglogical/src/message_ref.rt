@@ -217,7 +217,7 @@ impl<'a> ItemRef<'a> {
     pub fn parts(&self) -> ItemParts<'a>
         ensures { item_value result ≡ self.now }
     {
-        self.parts.lend()
+        self.parts.reborrow()
     }
 
     /// The OID that a change names, of a Truncate the first; None for a relation and for a Truncate
@@ -368,28 +368,28 @@ impl<'a> ItemParts<'a> {
     }
 
     /// The same parts, borrowed once more.
-    pub fn lend(&self) -> ItemParts<'a>
+    pub fn reborrow(&self) -> ItemParts<'a>
         ensures { item_value result ≡ item_value self.now }
     {
         match self {
-            ItemParts::Relation(def) => ItemParts::Relation(def.lend()),
+            ItemParts::Relation(def) => ItemParts::Relation(def.reborrow()),
             ItemParts::Insert { oid, row } => ItemParts::Insert {
                 oid: *oid,
-                row: row.lend(),
+                row: row.reborrow(),
             },
             ItemParts::Update { oid, prior, row } => ItemParts::Update {
                 oid: *oid,
-                prior: lend_prior(prior),
-                row: row.lend(),
+                prior: reborrow_prior(prior),
+                row: row.reborrow(),
             },
             ItemParts::Delete { oid, kind, row } => ItemParts::Delete {
                 oid: *oid,
                 kind: *kind,
-                row: row.lend(),
+                row: row.reborrow(),
             },
             ItemParts::Truncate { options, oids } => ItemParts::Truncate {
                 options: *options,
-                oids: oids.lend(),
+                oids: oids.reborrow(),
             },
         }
     }
@@ -446,7 +446,7 @@ pub struct DefRef<'a> {
 
 impl<'a> DefRef<'a> {
     /// The same definition, borrowed once more.
-    pub fn lend(&self) -> DefRef<'a>
+    pub fn reborrow(&self) -> DefRef<'a>
         ensures { def_value result ≡ def_value self.now }
     {
         DefRef {
@@ -454,7 +454,7 @@ impl<'a> DefRef<'a> {
             namespace: self.namespace,
             name: self.name,
             letter: self.letter,
-            columns: self.columns.lend(),
+            columns: self.columns.reborrow(),
         }
     }
 
@@ -492,12 +492,12 @@ fn tuple(alloc: Global, row: &TupleRef<'_>) -> Result<Tuple, DecodeFault>
         .map_err(|_| DecodeFault::out_of_memory())
 }
 
-fn lend_prior<'a>(prior: &Option<(OldKind, TupleRef<'a>)>) -> Option<(OldKind, TupleRef<'a>)>
+fn reborrow_prior<'a>(prior: &Option<(OldKind, TupleRef<'a>)>) -> Option<(OldKind, TupleRef<'a>)>
     ensures { result ≡ prior.now }
 {
     match prior {
         None => None,
-        Some((kind, row)) => Some((*kind, row.lend())),
+        Some((kind, row)) => Some((*kind, row.reborrow())),
     }
 }
 
@@ -542,7 +542,7 @@ fn show_column(column: &ColumnRef<'_>)
 fn show_columns(columns: &ColumnRefs<'_>)
     ensures { AreTypedColumns columns.now }
 {
-    for each in columns.lend() {
+    for each in columns.reborrow() {
         show_column(&each);
     }
 }
@@ -550,7 +550,7 @@ fn show_columns(columns: &ColumnRefs<'_>)
 fn show_oids(oids: &OidRefs<'_>)
     ensures { AreNumbers oids.now }
 {
-    for oid in oids.lend() {
+    for oid in oids.reborrow() {
         show_number(oid);
     }
 }

@@ -57,7 +57,7 @@ impl<'a> OidRefs<'a> {
     }
 
     /// The same OIDs, borrowed once more.
-    pub fn lend(&self) -> OidRefs<'a>
+    pub fn reborrow(&self) -> OidRefs<'a>
         ensures { result ≡ self.now }
     {
         OidRefs { rest: self.rest }
@@ -80,7 +80,7 @@ impl<'a> OidRefs<'a> {
         ensures memory { IfErr result (λ fault. fault ≡ out_of_memory) }
     {
         let mut oids = Vec::with_capacity(alloc, self.len())?;
-        for oid in self.lend() {
+        for oid in self.reborrow() {
             oids.push(oid)?;
         }
         Ok(Seq::from_vec(oids))

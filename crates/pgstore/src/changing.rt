@@ -17,7 +17,7 @@ ghost use Rattle.pgstore.specs.Acts.{IsNewRow, Adds, Changes, Goes, Refuses, Mov
 ghost use Rattle.pgstore.specs.Acts.{Replaces, RefusesToReplace, AddsCopy, RefusesCopy, StaysWhole};
 ghost use Rattle.pgstore.specs.Acts.{TellsMissing, taken_row};
 
-use crate::encoded::{encode, encode_identity, encode_searched, lend_prior, read_tuple};
+use crate::encoded::{encode, encode_identity, encode_searched, read_tuple, reborrow_prior};
 use crate::fault::Refusal;
 use pgapply::{Op, StoreFault};
 use pglogical::{OldKind, RelationDef};
@@ -253,7 +253,7 @@ fn update<S: Alter>(
         (rows_after def.now (op.Update prior.now row.now))) }
     ensures goes { Goes S.Store rows.old rows.new }
 {
-    let identity = encode_searched(alloc, def, lend_prior(prior), Some(row.lend()))?;
+    let identity = encode_searched(alloc, def, reborrow_prior(prior), Some(row.reborrow()))?;
     let place = identity.as_slice();
     if stays_whole(def, prior, row) {
         return set_row(rows, alloc, def.oid, place, row);
@@ -286,7 +286,7 @@ fn delete<S: Alter>(
         (rows_after def.now (op.Delete kind row.now))) }
     ensures goes { Goes S.Store rows.old rows.new }
 {
-    let identity = encode_searched(alloc, def, Some((kind, row.lend())), None)?;
+    let identity = encode_searched(alloc, def, Some((kind, row.reborrow())), None)?;
     let place = identity.as_slice();
     if keyed(def) {
         // One copy is stored there at most.

@@ -123,13 +123,13 @@ pub(crate) fn encode_searched(
 }
 
 /// The same old tuple, borrowed once more.
-pub(crate) fn lend_prior<'a>(
+pub(crate) fn reborrow_prior<'a>(
     prior: &Option<(OldKind, TupleRef<'a>)>,
 ) -> Option<(OldKind, TupleRef<'a>)>
     ensures { result ≡ prior.now }
 {
     match prior {
         None => None,
-        Some((kind, row)) => Some((*kind, row.lend())),
+        Some((kind, row)) => Some((*kind, row.reborrow())),
     }
 }

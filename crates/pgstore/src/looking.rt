@@ -18,7 +18,7 @@ ghost use Rattle.pgstore.specs.Acts.{Goes, IfOpened, Refuses};
 ghost use Rattle.pgstore.specs.Looks.{FindsRow, IsImage, RefusesToFind, StaysOpen, Tells};
 ghost use Rattle.pgstore.specs.Looks.{begun_telling};
 
-use crate::encoded::{encode_searched, lend_prior, read_tuple};
+use crate::encoded::{encode_searched, read_tuple, reborrow_prior};
 use crate::fault::Refusal;
 use pgapply::{Op, StoreFault};
 use pgledger::Image;
@@ -164,10 +164,16 @@ fn look_at_update<'a, S: Alter>(
         (rows_after def.now (op.Update prior.now row.now))) }
     ensures goes { Goes S.Store rows.old rows.new }
 {
-    match find_before(rows, alloc, def, lend_prior(prior), Some(row.lend()))? {
+    match find_before(
+        rows,
+        alloc,
+        def,
+        reborrow_prior(prior),
+        Some(row.reborrow()),
+    )? {
         None => Ok(Image::Missed {
-            old: lend_prior(prior),
-            new: Some(row.lend()),
+            old: reborrow_prior(prior),
+            new: Some(row.reborrow()),
         }),
         Some(there) => updated_image(alloc, &there, row),
     }
@@ -190,9 +196,9 @@ fn look_at_delete<'a, S: Alter>(
         (rows_after def.now (op.Delete kind row.now))) }
     ensures goes { Goes S.Store rows.old rows.new }
 {
-    match find_before(rows, alloc, def, Some((kind, row.lend())), None)? {
+    match find_before(rows, alloc, def, Some((kind, row.reborrow())), None)? {
         None => Ok(Image::Missed {
-            old: Some((kind, row.lend())),
+            old: Some((kind, row.reborrow())),
             new: None,
         }),
         Some(there) => Ok(Image::Deleted {
@@ -217,7 +223,9 @@ fn look_at<'a, S: Alter>(
     ensures goes { Goes S.Store rows.old rows.new }
 {
     match op {
-        Op::Insert { row } => Ok(Image::Inserted { row: row.lend() }),
+        Op::Insert { row } => Ok(Image::Inserted {
+            row: row.reborrow(),
+        }),
         Op::Update { prior, row } => look_at_update(rows, alloc, def, prior, row),
         Op::Delete { kind, row } => look_at_delete(rows, alloc, def, *kind, row),
         Op::Truncate => Ok(Image::Truncated),

@@ -111,7 +111,7 @@ fn describe_truncate(
     ensures refused { IfErr result (λ fault. (fault ≡ Fault.Memory)
         ⊎ LacksDefinition (truncated (known_to book.now) oids.now) fault) }
 {
-    for oid in oids.lend() {
+    for oid in oids.reborrow() {
         describe_change(alloc, book, draft, oid, Op::Truncate)?;
     }
     Ok(())

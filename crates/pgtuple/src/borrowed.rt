@@ -163,7 +163,7 @@ impl<'a> TupleRef<'a> {
     }
 
     /// The same tuple, borrowed once more.
-    pub fn lend(&self) -> TupleRef<'a>
+    pub fn reborrow(&self) -> TupleRef<'a>
         ensures { result ≡ self.now }
     {
         TupleRef { form: self.form }

@@ -196,7 +196,7 @@ fn are_samples(rt: &impl Abort, alloc: Global, held: &[Item], left: &[Sample]) -
 }
 
 /// Stops unless each item up to this number is returned, and none after.
-fn lends<P: Spools>(rt: &impl Abort, spools: &P, xid: u32, count: usize) {
+fn has_items<P: Spools>(rt: &impl Abort, spools: &P, xid: u32, count: usize) {
     for index in 0..count {
         assert!(rt; spools.item(xid, index).is_some());
     }
@@ -211,7 +211,7 @@ fn holds<P: Spools>(
     xid: u32,
     left: &[Sample],
 ) -> Result<(), Fail> {
-    lends(rt, spools, xid, left.len());
+    has_items(rt, spools, xid, left.len());
     let held = copy_items(alloc, spools, xid)?;
     are_samples(rt, alloc, &held, left)
 }

@@ -205,7 +205,7 @@ fn cells_of_rows(rt: HostRuntime) -> Result<(), Fail> {
     for (bytes, cells) in CELLS {
         let (row, _) = decode_ref(bytes)?;
         has_cells(&rt, &row, cells);
-        has_cells(&rt, &row.lend(), cells);
+        has_cells(&rt, &row.reborrow(), cells);
         let (tuple, _) = decode(rt.alloc(), bytes)?;
         has_cells(&rt, &tuple.borrowed(), cells);
     }

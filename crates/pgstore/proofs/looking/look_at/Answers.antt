@@ -6,7 +6,7 @@ use Rattle.pgstore.proofs.looking.look_at.Goals as goal
 
 pub returns-in-Insert-clause-image : goal.returns-in-Insert-clause-image
 returns-in-Insert-clause-image g c clean v rows h =
-    ap Inserted c.lend.ensures ∙ insert_is c.args.def.now _ rows ∙ sym (ap (λ o. image_of c.args.def.now o rows) c.in-Insert.is)
+    ap Inserted c.reborrow.ensures ∙ insert_is c.args.def.now _ rows ∙ sym (ap (λ o. image_of c.args.def.now o rows) c.in-Insert.is)
 
 pub returns-in-Truncate-clause-image : goal.returns-in-Truncate-clause-image
 returns-in-Truncate-clause-image g c clean v rows h =
