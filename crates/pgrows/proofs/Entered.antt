@@ -16,7 +16,7 @@ use Rattle.sqlite_exec.proofs.WriteLemmas as writes
 use Rattle.pgtables.specs.Kept.{Copies, IsKept, held_row, tables_in, with_row, without_row}
 use Rattle.pgtables.proofs.Edits.{has_own_rowid, rowid_is}
 use Rattle.pgtables.proofs.Sorted.{one_of}
-use Rattle.pgrows.specs.Rows.{AreBelow, IsFree, IsGood, Stands, database, index_row}
+use Rattle.pgrows.specs.Rows.{AreBelow, IsFree, IsGood, IsStored, database, index_row}
 use Rattle.pgrows.proofs.SetUp.{the_catalog, lists_it, index_shape, is_ready, rises, table_shape}
 use Rattle.pgrows.proofs.Placed.{none_with, placed_row, still_below}
 use Rattle.pgrows.proofs.Edited.{deleted_by, deleted_below}
@@ -69,7 +69,7 @@ module _ {old : View} (good : IsGood old) (listed : IsListed (old.trees catalog_
       )
 
   -- the row that has a key goes, with its entry
-  pub row_goes : (o : ℕ) (i : List ℕ) (id : ℤ) (mid new : View) (entry : Row) → entry ≡ index_row o i id → Stands o i (old.trees 1) id
+  pub row_goes : (o : ℕ) (i : List ℕ) (id : ℤ) (mid new : View) (entry : Row) → entry ≡ index_row o i id → IsStored o i (old.trees 1) id
       → SetsTree old mid 2 (remove_entry (order_of (old.shape 2)) entry) → SetsTree mid new 1 (without_rowid id)
       → (IsKept (database new.trees) × (tables_in new.trees ≡ without_row o i (tables_in old.trees)))
       × ((n : ℤ) → AreBelow n (old.trees 1) → AreBelow n (new.trees 1))

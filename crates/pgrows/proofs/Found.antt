@@ -25,7 +25,8 @@ use Rattle.pgtables.specs.Kept.{AreHeld, copies_in, key_in, IsKept}
 use Rattle.pgtables.proofs.Maps.{row_got, row_missing}
 use Rattle.pgtables.proofs.HeldRows.{the_map}
 use Rattle.pgrows.specs.Rows.{AreBehind, AreBelow, AreLow, IsAt, IsBehind, IsFree, IsGood, IsSaved}
-use Rattle.pgrows.specs.Rows.{IsUnder, Keeps, Stands, database, key_of, saved_in, shown_mark, state}
+use Rattle.pgrows.specs.Rows.{IsStored, IsUnder, Keeps, database, key_of, saved_in, shown_mark}
+use Rattle.pgrows.specs.Rows.{state}
 use Rattle.pgrows.proofs.SetUp.{index_shape, indexed, entries_rise}
 use Rattle.pgrows.proofs.Seek.{none_left, first_other, first_there}
 
@@ -57,7 +58,7 @@ module _ {old mid : View} (good : IsGood old) (listed : IsListed (old.trees cata
       (entries_rise good listed ordered) (given [] h.0)
 
   pub met : (row : Row) (new : View) → Advances mid new 0 row true → (r : Option ℤ)
-      → MatchOption r ((id : ℤ) → ¬ IsAt o i row id) (IsAt o i row) → MatchOption r (IsFree o i (old.trees 1)) (Stands o i (old.trees 1))
+      → MatchOption r ((id : ℤ) → ¬ IsAt o i row id) (IsAt o i row) → MatchOption r (IsFree o i (old.trees 1)) (IsStored o i (old.trees 1))
   met row new h r = matched r _ _ _ _
       (first_other o i (old.trees 1) (old.trees 2) good.kept.held (indexed good listed ordered) (entries_rise good listed ordered) row h.0
       (given (row ∷ h.0) h.1))
@@ -70,13 +71,14 @@ pub free_is : (o : ℕ) (i : List ℕ) (rows : List Row) → IsFree o i rows →
 free_is o i rows free = row_missing nat_list_cmp_total (slice_cmp-IsAntisymmetric nat_cmp-IsAntisymmetric) key_in copies_in rows (o ∷ i)
     free
 
-pub stands_is : (o : ℕ) (i : List ℕ) (rows : List Row) (id : ℤ) → AreHeld rows → (s : Stands o i rows id)
+pub stored_is : (o : ℕ) (i : List ℕ) (rows : List Row) (id : ℤ) → AreHeld rows → (s : IsStored o i rows id)
     → get (the_map rows) (o ∷ i) ≡ Some s.0
-stands_is o i rows id held s =
+stored_is o i rows id held s =
     row_got nat_list_cmp_total (slice_cmp-IsAntisymmetric nat_cmp-IsAntisymmetric) key_in copies_in rows _ held.keyed s.1
 
-pub stands_some : (o : ℕ) (i : List ℕ) (rows : List Row) (id : ℤ) → AreHeld rows → Stands o i rows id → IsSome (get (the_map rows) (o ∷ i))
-stands_some o i rows id held s = subst IsSome (sym (stands_is o i rows id held s)) refl
+pub stored_some : (o : ℕ) (i : List ℕ) (rows : List Row) (id : ℤ) → AreHeld rows → IsStored o i rows id
+    → IsSome (get (the_map rows) (o ∷ i))
+stored_some o i rows id held s = subst IsSome (sym (stored_is o i rows id held s)) refl
 
 -- ---- views that differ in cursors or in trees alone
 
@@ -153,14 +155,14 @@ grew_on a b c n m above same under wrote kept below =
 pub free_before : (a b : View) (o : ℕ) (i : List ℕ) → OnlyReads a b → IsFree o i (b.trees 1) → IsFree o i (a.trees 1)
 free_before a b o i same = subst (λ (db : Trees). IsFree o i (db 1)) (ap (λ (v : View). v.trees) same)
 
-pub stands_before : (a b : View) (o : ℕ) (i : List ℕ) (id : ℤ) → OnlyReads a b → Stands o i (b.trees 1) id → Stands o i (a.trees 1) id
-stands_before a b o i id same = subst (λ (db : Trees). Stands o i (db 1) id) (ap (λ (v : View). v.trees) same)
+pub stored_before : (a b : View) (o : ℕ) (i : List ℕ) (id : ℤ) → OnlyReads a b → IsStored o i (b.trees 1) id → IsStored o i (a.trees 1) id
+stored_before a b o i id same = subst (λ (db : Trees). IsStored o i (db 1) id) (ap (λ (v : View). v.trees) same)
 
 pub free_after : (a b : View) (o : ℕ) (i : List ℕ) → OnlyReads a b → IsFree o i (a.trees 1) → IsFree o i (b.trees 1)
 free_after a b o i same = subst (λ (db : Trees). IsFree o i (db 1)) (sym (ap (λ (v : View). v.trees) same))
 
-pub stands_after : (a b : View) (o : ℕ) (i : List ℕ) (id : ℤ) → OnlyReads a b → Stands o i (a.trees 1) id → Stands o i (b.trees 1) id
-stands_after a b o i id same = subst (λ (db : Trees). Stands o i (db 1) id) (sym (ap (λ (v : View). v.trees) same))
+pub stored_after : (a b : View) (o : ℕ) (i : List ℕ) (id : ℤ) → OnlyReads a b → IsStored o i (a.trees 1) id → IsStored o i (b.trees 1) id
+stored_after a b o i id same = subst (λ (db : Trees). IsStored o i (db 1) id) (sym (ap (λ (v : View). v.trees) same))
 
 pub opened : (a b : View) → OnlyReads a b → IsTrue a.is_open → IsTrue b.is_open
 opened a b same up = subst IsTrue (sym (ap (λ (v : View). v.is_open) same)) up

@@ -25,7 +25,7 @@ use Rattle.sqlite_rules.proofs.ListLemmas.{all_has, has_filtered, has_kept, has_
 use Rattle.sqlite_rules.proofs.ListLemmas.{contains_had}
 use Rattle.sqlite_rules.proofs.ProbeLemmas.{mapped_has, has_mapped}
 use Rattle.pgtables.specs.Kept.{AreHeld, copies_in, key_in, number_in}
-use Rattle.pgrows.specs.Rows.{IsAt, IsFree, Stands, key_of}
+use Rattle.pgrows.specs.Rows.{IsAt, IsFree, IsStored, key_of}
 
 abbrev pub entry : Row → Row
 entry = entry_of (1 ∷ 2 ∷ [])
@@ -117,7 +117,7 @@ module _ (o : ℕ) (i : List ℕ) (rows entries : List Row) (held : AreHeld rows
           other (id_in (rowid s.0)) (subst (λ e. IsAt o i e (id_in (rowid s.0))) (sym s.2) (entry_at s.0 s.1 has_key))
     ]
 
-    pub first_there : (id : ℤ) → IsAt o i first id → Stands o i rows id
+    pub first_there : (id : ℤ) → IsAt o i first id → IsStored o i rows id
     first_there id at =
         let s = entry_row first first_in.0 in
         let r = s.0 in

@@ -75,8 +75,8 @@ abbrev pub IsFree : ℕ → List ℕ → List Row → Type 0
 IsFree o i rows = (x : Row) → Has rows x → key_in x ≢ o ∷ i
 
 -- this row has it
-abbrev pub Stands : ℕ → List ℕ → List Row → ℤ → Type 0
-Stands o i rows id = (k : Copies) × Has rows (held_row (Int id) o i k)
+abbrev pub IsStored : ℕ → List ℕ → List Row → ℤ → Type 0
+IsStored o i rows id = (k : Copies) × Has rows (held_row (Int id) o i k)
 
 -- where the keys of a relation begin
 abbrev pub front_of : ℕ → Row
@@ -92,7 +92,7 @@ HasNone o rows = (x : Row) → Has rows x → number_in (column x 1) ≢ o
 
 -- the entry is that of a row of the relation, with this rowid
 abbrev pub IsFirst : ℕ → Row → List Row → ℤ → Type 0
-IsFirst o e rows id = (i : List ℕ) × (e ≡ index_row o i id) × Stands o i rows id
+IsFirst o e rows id = (i : List ℕ) × (e ≡ index_row o i id) × IsStored o i rows id
 
 -- the row stands in the place of the one that has its key, if there is one
 abbrev pub with_row_if_there : ℕ → List ℕ → Copies → Tables → Tables

@@ -5,7 +5,7 @@ ghost use Rattle.sqlite.specs.State.{HasCleanDisk};
 ghost use Rattle.sqlite_trees.specs.View.{IsClean, IsQuiet, OnlyWrites};
 ghost use Rattle.pgtables.specs.Kept.{IsKept, is_there, tables_in, with_place, with_row};
 ghost use Rattle.pgtables.specs.Kept.{without_row};
-ghost use Rattle.pgrows.specs.Rows.{AreBelow, AreRows, IsGood, Keeps, Makes, Stands, database};
+ghost use Rattle.pgrows.specs.Rows.{AreBelow, AreRows, IsGood, IsStored, Keeps, Makes, database};
 ghost use Rattle.pgrows.specs.Rows.{state, tables_of, with_row_if_there};
 
 use crate::entry::{write_entry, write_place, write_row};
@@ -24,8 +24,8 @@ pub(crate) fn take_out<S: Alter>(
     ident: &[u8],
 ) -> Result<(), StoreError>
     requires good { IsClean (S.Store.view store.old) → IsGood (S.Store.view store.old) }
-    requires stands { IsClean (S.Store.view store.old) →
-        Stands oid ident.now ((S.Store.view store.old).trees 1) id }
+    requires stored { IsClean (S.Store.view store.old) →
+        IsStored oid ident.now ((S.Store.view store.old).trees 1) id }
     ensures kept { IsClean (S.Store.view store.new) → OnOk result
         (IsKept (database (S.Store.view store.new).trees)
         × (tables_of S.Store store.new
@@ -56,8 +56,8 @@ pub(crate) fn put_over<S: Alter>(
     copies: u32,
 ) -> Result<(), StoreError>
     requires good { IsClean (S.Store.view store.old) → IsGood (S.Store.view store.old) }
-    requires stands { IsClean (S.Store.view store.old) →
-        Stands oid ident.now ((S.Store.view store.old).trees 1) id }
+    requires stored { IsClean (S.Store.view store.old) →
+        IsStored oid ident.now ((S.Store.view store.old).trees 1) id }
     ensures kept { IsClean (S.Store.view store.new) → OnOk result
         (IsKept (database (S.Store.view store.new).trees)
         × (tables_of S.Store store.new ≡ with_row oid ident.now

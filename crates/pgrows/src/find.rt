@@ -4,7 +4,7 @@ ghost use Rattle.std.specs.Prelude.{◌≡◌, false, MatchOption, IfOk, OnOk, O
 ghost use Rattle.sqlite_trees.specs.View.{IsClean, IsQuiet};
 ghost use Rattle.sqlite_exec.specs.Calls.{OnlyReads};
 ghost use Rattle.pgrows.specs.Gap.{IsNext};
-ghost use Rattle.pgrows.specs.Rows.{IsFree, IsGood, Keeps, Stands, key_of, state, tables_of};
+ghost use Rattle.pgrows.specs.Rows.{IsFree, IsGood, IsStored, Keeps, key_of, state, tables_of};
 
 use crate::entry::{id_at, write_key};
 use sqlite_trees::error::StoreError;
@@ -31,7 +31,7 @@ pub(crate) fn find<S: Alter>(
     requires { IsClean (S.Store.view store.old) → IsGood (S.Store.view store.old) }
     ensures found { IsClean (S.Store.view store.new) → IfOk result (λ id. MatchOption id
         (IsFree oid ident.now ((S.Store.view store.old).trees 1))
-        (Stands oid ident.now ((S.Store.view store.old).trees 1))) }
+        (IsStored oid ident.now ((S.Store.view store.old).trees 1))) }
     ensures next { IsClean (S.Store.view store.new) → OnOk result
         (IsNext oid ident.now found.new (tables_of S.Store store.old).rows) }
     ensures key { OnOk result (key.new ≡ key_of oid ident.now) }

@@ -9,7 +9,7 @@ ghost use Rattle.sqlite_exec.specs.Calls.{OnlyReads};
 ghost use Rattle.pgtables.specs.Kept.{IsKept, tables_in, with_row};
 ghost use Rattle.pgrows.specs.Gap.{IsGap, IsNext};
 ghost use Rattle.pgrows.specs.Rows.{AreBelow, AreRows, HasGap, IsFree, IsGood, IsUnder, Keeps};
-ghost use Rattle.pgrows.specs.Rows.{Makes, Stands, database, index_row, state, tables_of};
+ghost use Rattle.pgrows.specs.Rows.{IsStored, Makes, database, index_row, state, tables_of};
 
 use crate::entry::{write_entry, write_row};
 use crate::find::{INDEX, TABLE, find};
@@ -155,7 +155,7 @@ fn is_missing<S: Alter>(
     ensures free { IsClean (S.Store.view store.new) → IfOk result (λ missing. missing ≡ true →
         IsFree oid ident.now ((S.Store.view store.old).trees 1)) }
     ensures there { IsClean (S.Store.view store.new) → IfOk result (λ missing. missing ≡ false →
-        (id : ℤ) × Stands oid ident.now ((S.Store.view store.old).trees 1) id) }
+        (id : ℤ) × IsStored oid ident.now ((S.Store.view store.old).trees 1) id) }
     ensures next { IsClean (S.Store.view store.new) → OnOk result
         (IsNext oid ident.now high.new (tables_of S.Store store.old).rows) }
     ensures same { IsClean (S.Store.view store.new) →

@@ -1,4 +1,4 @@
--- The batch that drops the tables that stand.
+-- The batch that drops the tables that are present.
 use Rattle.std.proofs.Common.{◌≡◌, inl, inr, ◌≤◌, ℕ, Bool, true, false, List, [], ◌++◌, length}
 use Rattle.std.proofs.Common.{take, drop, slice_get, codes, Some, None, Ok, Err, Result, OnOk, refl}
 use Rattle.std.proofs.Common.{sym, ap, subst, subst₂, ◌∙◌, arith}
@@ -27,7 +27,7 @@ use Rattle.pgtables.specs.Schema.{no_schema, rel, held_table, pos_at}
 use Rattle.pgtables.specs.Kept.{IfServing, IsBare}
 use Rattle.pgtables.specs.Remains.{IsOver}
 use Rattle.pgtables.proofs.Made.{past, turn}
-use Rattle.pgtables.proofs.Standing.{over}
+use Rattle.pgtables.proofs.Remaining.{over}
 use Rattle.pgtables.proofs.Upserts.{went, same_value}
 
 -- ---- the batch and its statements

@@ -28,8 +28,8 @@ use Rattle.sqlite_sql.specs.Ops.{is_null}
 use Rattle.sqlite.specs.Schema.{Schema}
 use Rattle.pgtables.specs.Schema.{rel}
 use Rattle.pgtables.specs.declared.remains.Remains.{Remains}
-use Rattle.pgtables.specs.Remains.{Stands, remaining}
-use Rattle.pgtables.proofs.Standing.{over}
+use Rattle.pgtables.specs.Remains.{IsPresent, remaining}
+use Rattle.pgtables.proofs.Remaining.{over}
 use Rattle.pgtables.specs.Kept.{AreDefined, AreKeyed, Definition, definition_in, oid_in, rel_row}
 use Rattle.pgtables.specs.Kept.{tables_in}
 use Rattle.pgtables.specs.Opened.{AreDefinitionsRead, IsDefinitionRead, ListsDefinitions}
@@ -226,27 +226,27 @@ module _ (schema : Schema) (db : Trees) (listed : Has schema.tables rel) (sound 
       as_pairs [] = refl
       as_pairs (e ∷ all) = ap (λ l. e ∷ l) (as_pairs all)
 
--- ---- the query, where the table stands
+-- ---- the query, where the table is present
 
 shown_found : (d h p : Bool) → d ≡ true → (old new : State) (rows : List Row) (all : List Entry) → old.now.schema ≡ over d h p
     → IsDatabase old.now → Shown definitions_text [] old new rows → AreDefinitionsRead rows all
     → AreDefined (old.now.trees 0) × ListsDefinitions (tables_in old.now.trees) all
-shown_found false h p stands old new rows all ours sound shown read = absurd (true≢false (sym stands))
-shown_found true h p stands old new rows all ours sound shown read =
+shown_found false h p present old new rows all ours sound shown read = absurd (true≢false (sym present))
+shown_found true h p present old new rows all ours sound shown read =
     let plan = definitions_read h p in
     let answered = answers definitions_text definitions_read_only (over true h p) definitions_command plan.0 plan.1.0 plan.1.1 old new rows
     ours shown in
     let answer = subst (λ t. IsAnswer (by_rowid 0 definitions_shown) t [] rows) (bare old.now.trees) (answered.answer Null) in
     definitions_found (over true h p) old.now.trees (inl refl) (subst (λ s. IsSound s old.now.trees) ours sound) rows answer all read
 
-pub all_found : (old new : State) (rows : List Row) (all : List Entry) → Stands (λ left. left.has_definitions) old.now.schema
+pub all_found : (old new : State) (rows : List Row) (all : List Entry) → IsPresent (λ left. left.has_definitions) old.now.schema
     → IsDatabase old.now → Shown definitions_text [] old new rows → AreDefinitionsRead rows all
     → AreDefined (old.now.trees 0) × ListsDefinitions (tables_in old.now.trees) all
 all_found old new rows all stood sound shown read =
-    shown_found stood.left.has_definitions stood.left.has_rows stood.left.has_position stood.stands old new rows all stood.is sound shown
+    shown_found stood.left.has_definitions stood.left.has_rows stood.left.has_position stood.present old new rows all stood.is sound shown
     read
 
--- where `rel` doesn't stand, there are none
+-- where `rel` isn't present, there are none
 none_at : (d h p : Bool) → d ≡ false → (db : Trees) → let t =
     remaining (record { has_definitions = d; has_rows = h; has_position = p }) db in AreDefined (t 0) × ListsDefinitions (tables_in t) []
 none_at true h p gone db = absurd (true≢false gone)

@@ -33,8 +33,8 @@ use Rattle.sqlite_value.specs.Keys.{plain}
 use Rattle.sqlite.specs.Schema.{Schema}
 use Rattle.pgtables.specs.Schema.{held_table}
 use Rattle.pgtables.specs.declared.remains.Remains.{Remains}
-use Rattle.pgtables.specs.Remains.{Stands, remaining}
-use Rattle.pgtables.proofs.Standing.{over, held_listed}
+use Rattle.pgtables.specs.Remains.{IsPresent, remaining}
+use Rattle.pgtables.proofs.Remaining.{over, held_listed}
 use Rattle.pgtables.specs.Kept.{AreHeld, AreKeyed, Copies, IfServing, held_row, key_in, copies_in}
 use Rattle.pgtables.specs.Kept.{number_in, tables_in, tables_of}
 use Rattle.pgtables.specs.Opened.{AreAccepted, IsRowAccepted}
@@ -179,15 +179,15 @@ module _ {C : Type 0} (accepts : C → ℕ → List ℕ → Copies → Type 0) (
     },
   )
 
--- ---- the query, where the table stands
+-- ---- the query, where the table is present
 
 module _ {C : Type 0} (accepts : C → ℕ → List ℕ → Copies → Type 0) (check : C) where
   shown_found : (d h p : Bool) → h ≡ true → (old new : State) (rows : List Row) → old.now.schema ≡ over d h p → IsDatabase old.now
       → Shown rows_text [] old new rows
       → ((x : Row) → Has rows x → (id : ℤ) × IsRowAccepted accepts check x id) → IsRising rows
       → AreHeld (old.now.trees 1) × AreAccepted accepts check (tables_in old.now.trees)
-  shown_found d false p stands old new rows ours sound shown each up = absurd (true≢false (sym stands))
-  shown_found d true p stands old new rows ours sound shown each up =
+  shown_found d false p present old new rows ours sound shown each up = absurd (true≢false (sym present))
+  shown_found d true p present old new rows ours sound shown each up =
       let plan = rows_read d p in
       let read = answers rows_text rows_read_only (over d true p) rows_command plan.0 plan.1.0 plan.1.1 old new rows ours shown in
       let answer = subst (λ t. IsAnswer (by_rowid 1 rows_shown) t [] rows) (bare old.now.trees) (read.answer Null) in
@@ -198,7 +198,8 @@ module _ {C : Type 0} (accepts : C → ℕ → List ℕ → Copies → Type 0) (
     pub rows_found : (old : Held S) (mid new : Rows S g) (last : Option ℤ)
         (so_far : HasRead rows_text rows_read_only g (ArePassed accepts check last) old mid.conn.now)
         (result : Result (Option (Bor Row)) Error) (moved : HasMoved g mid result new)
-        → result ≡ Ok None → HasCleanDisk (state g new.conn.now) → IfServing g old (Stands (λ left. left.has_rows) (state g old).now.schema)
+        → result ≡ Ok None → HasCleanDisk (state g new.conn.now)
+        → IfServing g old (IsPresent (λ left. left.has_rows) (state g old).now.schema)
         → (IsTrue (state g old).is_open → IsDatabase (state g old).now)
         → AreHeld ((state g old).now.trees 1) × AreAccepted accepts check (tables_of g old)
     rows_found old mid new last so_far result moved is clean ours sound =
@@ -209,11 +210,11 @@ module _ {C : Type 0} (accepts : C → ℕ → List ℕ → Copies → Type 0) (
         let left = stood.left in
         let now : (state g mid.conn.now).now ≡ (state g old).now = it.3.0.now_is in
         let schema = ap (λ (d : Database). d.schema) now ∙ stood.is in
-        let found = shown_found left.has_definitions left.has_rows left.has_position stood.stands (state g mid.conn.now)
+        let found = shown_found left.has_definitions left.has_rows left.has_position stood.present (state g mid.conn.now)
         (state g new.conn.now) it.0 schema (subst IsDatabase (sym now) (sound was_open)) it.1 it.2.each it.2.rises in
         subst (λ (d : Database). AreHeld (d.trees 1) × AreAccepted accepts check (tables_in d.trees)) now found
 
--- where `held` doesn't stand, there are none
+-- where `held` isn't present, there are none
 module _ {C : Type 0} (accepts : C → ℕ → List ℕ → Copies → Type 0) (check : C) where
   no_row : (q : List ℕ) → get (the_map []) q ≡ None
   no_row q = row_missing nat_list_cmp_total (slice_cmp-IsAntisymmetric nat_cmp-IsAntisymmetric) key_in copies_in [] q

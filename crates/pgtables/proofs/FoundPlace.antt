@@ -19,8 +19,8 @@ use Rattle.sqlite_schema.specs.Rules.{are_typed, are_present, is_of}
 use Rattle.sqlite_sql.specs.Ops.{is_null}
 use Rattle.sqlite.specs.Schema.{Schema}
 use Rattle.pgtables.specs.Schema.{pos_at}
-use Rattle.pgtables.specs.Remains.{Stands}
-use Rattle.pgtables.proofs.Standing.{over, pos_listed}
+use Rattle.pgtables.specs.Remains.{IsPresent}
+use Rattle.pgtables.proofs.Remaining.{over, pos_listed}
 use Rattle.pgtables.specs.declared.opened.FoundPosition.{FoundPosition}
 use Rattle.pgtables.specs.declared.opened.FoundPosition.TheVariants.{Missing, At, Malformed}
 use Rattle.pgtables.specs.Opened.{ArePlacesRead, IsFoundPosition}
@@ -77,19 +77,19 @@ module _ (schema : Schema) (db : Trees) (listed : Has schema.tables pos_at) (sou
       )
   position_found Malformed read = tt
 
--- ---- the query, where the table stands
+-- ---- the query, where the table is present
 
 shown_found : (d h p : Bool) → p ≡ true → (old new : State) (rows : List Row) → old.now.schema ≡ over d h p → IsDatabase old.now
     → Shown place_text [] old new rows → (found : FoundPosition) → ArePlacesRead rows found → IsFoundPosition (old.now.trees 3) found
-shown_found d h false stands old new rows ours sound shown found read = absurd (true≢false (sym stands))
-shown_found d h true stands old new rows ours sound shown found read =
+shown_found d h false present old new rows ours sound shown found read = absurd (true≢false (sym present))
+shown_found d h true present old new rows ours sound shown found read =
     let plan = place_read d h in
     let answered = answers place_text place_read_only (over d h true) place_command plan.0 plan.1.0 plan.1.1 old new rows ours shown in
     let answer = subst (λ t. IsAnswer (by_rowid 3 place_shown) t [] rows) (bare old.now.trees) (answered.answer Null) in
     position_found (over d h true) old.now.trees (pos_listed d h) (subst (λ s. IsSound s old.now.trees) ours sound) rows answer found read
 
-pub place_found : (old new : State) (rows : List Row) → Stands (λ left. left.has_position) old.now.schema → IsDatabase old.now
+pub place_found : (old new : State) (rows : List Row) → IsPresent (λ left. left.has_position) old.now.schema → IsDatabase old.now
     → Shown place_text [] old new rows → (found : FoundPosition) → ArePlacesRead rows found → IsFoundPosition (old.now.trees 3) found
 place_found old new rows stood sound shown found read =
-    shown_found stood.left.has_definitions stood.left.has_rows stood.left.has_position stood.stands old new rows stood.is sound shown found
+    shown_found stood.left.has_definitions stood.left.has_rows stood.left.has_position stood.present old new rows stood.is sound shown found
     read

@@ -14,7 +14,7 @@ use Rattle.sqlite.proofs.Callers.{command_of}
 use Rattle.sqlite_value.specs.Keys.{ascending}
 use Rattle.sqlite.specs.Schema.{Schema}
 use Rattle.pgtables.proofs.ReadSteps.{IsReadOnly}
-use Rattle.pgtables.proofs.Standing.{over}
+use Rattle.pgtables.proofs.Remaining.{over}
 
 -- under this schema the text is understood so, returns nothing of a write, and doesn't read the
 -- listing of the tables
@@ -50,7 +50,7 @@ pub definitions_read_only : IsReadOnly definitions_text
 unfolding understood everything
 definitions_read_only schema base = refl
 
--- whichever other tables stand
+-- whichever other tables are present
 pub definitions_read : (h p : Bool) → IsReadAs (over true h p) definitions_text definitions_command
 unfolding understood everything
 definitions_read true true = (refl, ((refl, refl), refl))
@@ -72,7 +72,7 @@ pub rows_read_only : IsReadOnly rows_text
 unfolding understood everything
 rows_read_only schema base = refl
 
--- whichever other tables stand
+-- whichever other tables are present
 pub rows_read : (d p : Bool) → IsReadAs (over d true p) rows_text rows_command
 unfolding understood everything
 rows_read true true = (refl, ((refl, refl), refl))
@@ -93,7 +93,7 @@ pub place_read_only : IsReadOnly place_text
 unfolding understood everything
 place_read_only schema base = refl
 
--- whichever other tables stand
+-- whichever other tables are present
 pub place_read : (d h : Bool) → IsReadAs (over d h true) place_text place_command
 unfolding understood everything
 place_read true true = (refl, ((refl, refl), refl))

@@ -9,7 +9,7 @@ use Rattle.sqlite_schema.specs.declared.schema.Index.{Index}
 use Rattle.pgtables.specs.declared.remains.Remains.{Remains}
 use Rattle.pgtables.specs.Schema.{rel, held_table, held_index, pos_at}
 
--- the element stands before the list, if it stands at all
+-- the element comes before the list, if it is there at all
 abbrev pub listed : {X : Type 0} → Bool → X → List X → List X
 listed true x xs = x ∷ xs
 listed false x xs = xs
@@ -26,7 +26,7 @@ abbrev pub rows_if : Bool → List Row → List Row
 rows_if true rows = rows
 rows_if false rows = []
 
--- the rows of a table that doesn't stand are none
+-- the rows of a table that isn't present are none
 abbrev pub remaining : Remains → Trees → Trees
 remaining left db tree =
     if tree == 0 then rows_if left.has_definitions (db 0)
@@ -36,7 +36,7 @@ abbrev pub IsIndexOfRows : List Index → Bool → Type 0
 IsIndexOfRows indexes true = (index : Index) × (indexes ≡ index ∷ []) × (index.tree ≡ 2)
 IsIndexOfRows indexes false = indexes ≡ []
 
--- these are the tables, and an index of the second tree where its table stands
+-- these are the tables, and an index of the second tree where its table is present
 pub record AreRemains (schema : Schema) (left : Remains) : Type 0 where
   pub tables : schema.tables ≡ listed left.has_definitions rel (listed left.has_rows held_table (listed left.has_position pos_at []))
   pub indexes : IsIndexOfRows schema.indexes left.has_rows
@@ -47,11 +47,11 @@ pub record AreOurs (schema : Schema) : Type 0 where
   pub left : Remains
   pub is : schema ≡ schema_of left
 
--- so they are, and this one stands
-pub record Stands (has : Remains → Bool) (schema : Schema) : Type 0 where
+-- so they are, and this one is present
+pub record IsPresent (has : Remains → Bool) (schema : Schema) : Type 0 where
   pub left : Remains
   pub is : schema ≡ schema_of left
-  pub stands : has left ≡ true
+  pub present : has left ≡ true
 
 -- a transaction is under way over them
 pub record IsOver {S : Type 0} (g : Ghosts S) (h : Held S) : Type 0 where

@@ -8,7 +8,7 @@ ghost use Rattle.sqlite.specs.Held.{state};
 ghost use Rattle.sqlite.specs.State.{HasCleanDisk, Survives};
 ghost use Rattle.sqlite.specs.View.{doubt};
 ghost use Rattle.pgtables.specs.Kept.{AreDefined, AreHeld, IfServing, tables_of};
-ghost use Rattle.pgtables.specs.Remains.{Stands};
+ghost use Rattle.pgtables.specs.Remains.{IsPresent};
 ghost use Rattle.pgtables.specs.Opened.{AreAccepted, AreDefinitionsRead, ArePlacesRead};
 ghost use Rattle.pgtables.specs.Opened.{IsDefinitionRead, IsFoundPosition, IsPlaceRead};
 ghost use Rattle.pgtables.specs.Opened.{IsRowAccepted, ListsDefinitions};
@@ -46,13 +46,13 @@ pub enum FoundPosition {
 
 /// The definitions by rising OID, or `None` where a row of `rel` isn't one of a definition. `rel`
 /// is present, and nothing changes.
-pub(crate) fn read_standing_definitions<S: Alter>(
+pub(crate) fn read_stored_definitions<S: Alter>(
     conn: &mut Connection<S>,
     alloc: Global,
 ) -> Result<Option<Vec<(u32, StoredDefinition)>>, Error>
     requires settled { (state S.Store conn.old).in_transaction ≡ false }
-    requires stands { IfServing S.Store conn.old
-        (Stands (λ left. left.has_definitions) (state S.Store conn.old).now.schema) }
+    requires present { IfServing S.Store conn.old
+        (IsPresent (λ left. left.has_definitions) (state S.Store conn.old).now.schema) }
     ensures settled { (state S.Store conn.new).in_transaction ≡ false }
     ensures clean { doubt (state S.Store conn.old).is_clean ≤ doubt
         (state S.Store conn.new).is_clean }
@@ -78,13 +78,13 @@ pub(crate) fn read_standing_definitions<S: Alter>(
 
 /// Whether each row of `held` is accepted. It reads each once, in the memory of one row. The table
 /// is present, and nothing changes.
-pub(crate) fn check_standing_rows<S: Alter, C: RowCheck>(
+pub(crate) fn check_stored_rows<S: Alter, C: RowCheck>(
     conn: &mut Connection<S>,
     check: &C,
 ) -> Result<bool, Error>
     requires settled { (state S.Store conn.old).in_transaction ≡ false }
-    requires stands { IfServing S.Store conn.old
-        (Stands (λ left. left.has_rows) (state S.Store conn.old).now.schema) }
+    requires present { IfServing S.Store conn.old
+        (IsPresent (λ left. left.has_rows) (state S.Store conn.old).now.schema) }
     ensures settled { (state S.Store conn.new).in_transaction ≡ false }
     ensures clean { doubt (state S.Store conn.old).is_clean ≤ doubt
         (state S.Store conn.new).is_clean }
@@ -120,12 +120,12 @@ pub(crate) fn check_standing_rows<S: Alter, C: RowCheck>(
 }
 
 /// What `pos` has. It is present, and nothing changes.
-pub(crate) fn read_standing_position<S: Alter>(
+pub(crate) fn read_stored_position<S: Alter>(
     conn: &mut Connection<S>,
 ) -> Result<FoundPosition, Error>
     requires settled { (state S.Store conn.old).in_transaction ≡ false }
-    requires stands { IfServing S.Store conn.old
-        (Stands (λ left. left.has_position) (state S.Store conn.old).now.schema) }
+    requires present { IfServing S.Store conn.old
+        (IsPresent (λ left. left.has_position) (state S.Store conn.old).now.schema) }
     ensures settled { (state S.Store conn.new).in_transaction ≡ false }
     ensures clean { doubt (state S.Store conn.old).is_clean ≤ doubt
         (state S.Store conn.new).is_clean }

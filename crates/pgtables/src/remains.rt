@@ -13,7 +13,7 @@ ghost use Rattle.pgtables.specs.Remains.{schema_of};
 
 use crate::found::{is_held, is_pos, is_rel};
 use crate::opened::{
-    FoundPosition, RowCheck, check_standing_rows, read_standing_definitions, read_standing_position,
+    FoundPosition, RowCheck, check_stored_rows, read_stored_definitions, read_stored_position,
 };
 use crate::rows::StoredDefinition;
 use sqlite::{Alter, Connection, Error, Transaction};
@@ -128,7 +128,7 @@ pub fn read_remaining_definitions<S: Alter>(
     ensures crash { Survives (state S.Store conn.old) (state S.Store conn.new) (λ _. ⊥) }
 {
     if left.has_definitions {
-        read_standing_definitions(conn, alloc)
+        read_stored_definitions(conn, alloc)
     } else {
         Ok(Some(Vec::new(alloc)))
     }
@@ -159,7 +159,7 @@ pub fn check_remaining_rows<S: Alter, C: RowCheck>(
     ensures crash { Survives (state S.Store conn.old) (state S.Store conn.new) (λ _. ⊥) }
 {
     if left.has_rows {
-        check_standing_rows(conn, check)
+        check_stored_rows(conn, check)
     } else {
         Ok(true)
     }
@@ -186,7 +186,7 @@ pub fn read_remaining_position<S: Alter>(
     ensures crash { Survives (state S.Store conn.old) (state S.Store conn.new) (λ _. ⊥) }
 {
     if left.has_position {
-        read_standing_position(conn)
+        read_stored_position(conn)
     } else {
         Ok(FoundPosition::Missing)
     }

@@ -13,7 +13,7 @@ use Rattle.sqlite_catalog.specs.Listing.{Lists}
 use Rattle.pgtables.specs.Schema.{store_schema}
 use Rattle.pgtables.specs.declared.remains.Remains.{Remains}
 use Rattle.pgtables.specs.Remains.{AreRemains, schema_of}
-use Rattle.pgtables.proofs.Standing.{standing}
+use Rattle.pgtables.proofs.Remaining.{is_schema_of}
 use Rattle.pgverify.specs.Verified.{ListsStore}
 
 whole_schema : (d h p : Bool) → (d && (h && p)) ≡ true
@@ -28,7 +28,7 @@ pub lists_it : (v : View) (schema : Schema) (left : Remains) → v.is_broken ≡
 lists_it v schema left unbroken lists are whole = record {
   unbroken = unbroken;
   lists = subst (Lists (v.trees catalog_tree))
-      (standing schema left are lists.guarded ∙ whole_schema left.has_definitions left.has_rows left.has_position whole) lists;
+      (is_schema_of schema left are lists.guarded ∙ whole_schema left.has_definitions left.has_rows left.has_position whole) lists;
 }
 
 module _ {v : View} (store : ListsStore v) (listed : IsListed (v.trees catalog_tree) v.shape v.reals)

@@ -2,7 +2,7 @@ use Rattle.std.proofs.Common.{ap, ◌∙◌, Some, arith, rules, to_z-of_z, SFit
 use Rattle.sqlite_trees.specs.View.{View, IsClean}
 use Rattle.sqlite_rules.proofs.ViewLemmas.{reads_again}
 use Rattle.pgtables.specs.Kept.{tables_in, without_row}
-use Rattle.pgrows.proofs.Found.{open_of, opened, free_before, stands_before, stands_after}
+use Rattle.pgrows.proofs.Found.{open_of, opened, free_before, stored_before, stored_after}
 use Rattle.pgrows.proofs.Found.{reads_good, reads_under, wrote_on, keeps_reads, keeps_writes}
 use Rattle.pgrows.proofs.Found.{keeps_then}
 use Rattle.pgrows.proofs.Edited.{told_none, told_some, none_removed}
@@ -52,10 +52,10 @@ take_out-requires-clause-good g c mid =
     (reads_again (g.S.Store.view c.args.store.now) (g.S.Store.view c.top_of.new.store) (g.S.Store.view c.find.new.store)
     (c.in_ok-top.ensures.same top) (c.in_ok-find.ensures.same mid)) (c.in_ok-top.ensures.under top).good
 
-pub take_out-requires-clause-stands : goal.take_out-requires-clause-stands
-take_out-requires-clause-stands g c mid =
+pub take_out-requires-clause-stored : goal.take_out-requires-clause-stored
+take_out-requires-clause-stored g c mid =
     let fits : SFits w64 c.in-Some.id = search rules in
-    simp to_z-of_z (stands_after (g.S.Store.view c.top_of.new.store) (g.S.Store.view c.find.new.store) c.args.oid c.args.ident.now
+    simp to_z-of_z (stored_after (g.S.Store.view c.top_of.new.store) (g.S.Store.view c.find.new.store) c.args.oid c.args.ident.now
     c.in-Some.id (c.in_ok-find.ensures.same mid) (rw c.in-Some.is at (c.in_ok-find.ensures.found mid)))
 
 pub returns-in_ok-take_out-in-Some-clause-told : goal.returns-in_ok-take_out-in-Some-clause-told
@@ -64,7 +64,7 @@ returns-in_ok-take_out-in-Some-clause-told g c clean =
     let top : IsClean (g.S.Store.view c.top_of.new.store) = omega (arith, c.find.ensures.quiet.clean, c.take_out.ensures.quiet.clean) in
     told_some c.args.oid c.args.ident.now (g.S.Store.view c.args.store.now).trees c.in-Some.id
     (c.in_ok-top.ensures.under top).good.kept.held
-    (stands_before (g.S.Store.view c.args.store.now) (g.S.Store.view c.top_of.new.store) c.args.oid c.args.ident.now c.in-Some.id
+    (stored_before (g.S.Store.view c.args.store.now) (g.S.Store.view c.top_of.new.store) c.args.oid c.args.ident.now c.in-Some.id
     (c.in_ok-top.ensures.same top) (rw c.in-Some.is at (c.in_ok-find.ensures.found mid)))
 
 pub returns-in_ok-take_out-in-Some-clause-made : goal.returns-in_ok-take_out-in-Some-clause-made

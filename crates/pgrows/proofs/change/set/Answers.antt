@@ -2,7 +2,7 @@ use Rattle.std.proofs.Common.{ap, ◌∙◌, Some, arith, rules, to_z-of_z, SFit
 use Rattle.sqlite_trees.specs.View.{View, IsClean}
 use Rattle.sqlite_rules.proofs.ViewLemmas.{reads_again}
 use Rattle.pgtables.specs.Kept.{tables_in, with_row}
-use Rattle.pgrows.proofs.Found.{open_of, opened, free_before, stands_before, stands_after}
+use Rattle.pgrows.proofs.Found.{open_of, opened, free_before, stored_before, stored_after}
 use Rattle.pgrows.proofs.Found.{reads_good, reads_under, wrote_on, keeps_reads, keeps_writes}
 use Rattle.pgrows.proofs.Found.{keeps_then}
 use Rattle.pgrows.proofs.Edited.{told_none, told_some, none_set, some_set}
@@ -53,10 +53,10 @@ put_over-requires-clause-good g c mid =
     (reads_again (g.S.Store.view c.args.store.now) (g.S.Store.view c.top_of.new.store) (g.S.Store.view c.find.new.store)
     (c.in_ok-top.ensures.same top) (c.in_ok-find.ensures.same mid)) (c.in_ok-top.ensures.under top).good
 
-pub put_over-requires-clause-stands : goal.put_over-requires-clause-stands
-put_over-requires-clause-stands g c mid =
+pub put_over-requires-clause-stored : goal.put_over-requires-clause-stored
+put_over-requires-clause-stored g c mid =
     let fits : SFits w64 c.in-Some.id = search rules in
-    simp to_z-of_z (stands_after (g.S.Store.view c.top_of.new.store) (g.S.Store.view c.find.new.store) c.args.oid c.args.ident.now
+    simp to_z-of_z (stored_after (g.S.Store.view c.top_of.new.store) (g.S.Store.view c.find.new.store) c.args.oid c.args.ident.now
     c.in-Some.id (c.in_ok-find.ensures.same mid) (rw c.in-Some.is at (c.in_ok-find.ensures.found mid)))
 
 pub returns-in_ok-put_over-in-Some-clause-told : goal.returns-in_ok-put_over-in-Some-clause-told
@@ -65,7 +65,7 @@ returns-in_ok-put_over-in-Some-clause-told g c clean =
     let top : IsClean (g.S.Store.view c.top_of.new.store) = omega (arith, c.find.ensures.quiet.clean, c.put_over.ensures.quiet.clean) in
     told_some c.args.oid c.args.ident.now (g.S.Store.view c.args.store.now).trees c.in-Some.id
     (c.in_ok-top.ensures.under top).good.kept.held
-    (stands_before (g.S.Store.view c.args.store.now) (g.S.Store.view c.top_of.new.store) c.args.oid c.args.ident.now c.in-Some.id
+    (stored_before (g.S.Store.view c.args.store.now) (g.S.Store.view c.top_of.new.store) c.args.oid c.args.ident.now c.in-Some.id
     (c.in_ok-top.ensures.same top) (rw c.in-Some.is at (c.in_ok-find.ensures.found mid)))
 
 pub returns-in_ok-put_over-in-Some-clause-made : goal.returns-in_ok-put_over-in-Some-clause-made
@@ -76,7 +76,7 @@ returns-in_ok-put_over-in-Some-clause-made g c clean =
     (c.in_ok-top.ensures.same top) (c.in_ok-find.ensures.same mid) in
     let under = c.in_ok-top.ensures.under top in
     let up = open_of (g.S.Store.view c.args.store.now) (g.met.S.Store.broken_if_shut c.args.store.now) under.good.unbroken in
-    let there = stands_before (g.S.Store.view c.args.store.now) (g.S.Store.view c.top_of.new.store) c.args.oid c.args.ident.now c.in-Some.id
+    let there = stored_before (g.S.Store.view c.args.store.now) (g.S.Store.view c.top_of.new.store) c.args.oid c.args.ident.now c.in-Some.id
     (c.in_ok-top.ensures.same top) (rw c.in-Some.is at (c.in_ok-find.ensures.found mid)) in
     record {
       was_open = up;

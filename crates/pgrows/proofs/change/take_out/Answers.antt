@@ -30,7 +30,7 @@ returns-clause-kept g c clean =
     let gone = simp to_z-of_z at (done clean) in
     (row_goes good (g.met.S.Alter.listed store good.unbroken) (g.met.S.Store.ordered store good.unbroken) c.args.oid c.args.ident.now
     c.args.id (g.S.Store.view c.remove.new.self) (g.S.Store.view c.delete.new.self)
-    c.write_entry.new.entry entry (c.requires.stands was) (c.in_ok-remove.ensures.ok mid) gone).0) c.delete.ensures.ok
+    c.write_entry.new.entry entry (c.requires.stored was) (c.in_ok-remove.ensures.ok mid) gone).0) c.delete.ensures.ok
 
 pub returns-clause-below : goal.returns-clause-below
 returns-clause-below g c clean =
@@ -44,4 +44,4 @@ returns-clause-below g c clean =
     let gone = simp to_z-of_z at (done clean) in
     (row_goes good (g.met.S.Alter.listed store good.unbroken) (g.met.S.Store.ordered store good.unbroken) c.args.oid c.args.ident.now
     c.args.id (g.S.Store.view c.remove.new.self) (g.S.Store.view c.delete.new.self)
-    c.write_entry.new.entry entry (c.requires.stands was) (c.in_ok-remove.ensures.ok mid) gone).1) c.delete.ensures.ok
+    c.write_entry.new.entry entry (c.requires.stored was) (c.in_ok-remove.ensures.ok mid) gone).1) c.delete.ensures.ok

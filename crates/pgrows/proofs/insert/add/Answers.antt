@@ -3,8 +3,8 @@ use Rattle.std.proofs.Common.{w64}
 use Rattle.sqlite_trees.specs.View.{View, IsClean}
 use Rattle.sqlite_rules.proofs.ViewLemmas.{reads_again, still_quiet}
 use Rattle.pgtables.specs.Kept.{tables_in, with_row}
-use Rattle.pgrows.proofs.Found.{open_of, opened, free_is, stands_some, free_before, free_after}
-use Rattle.pgrows.proofs.Found.{stands_before, reads_good, reads_under, grew_on, keeps_reads}
+use Rattle.pgrows.proofs.Found.{open_of, opened, free_is, stored_some, free_before, free_after}
+use Rattle.pgrows.proofs.Found.{stored_before, reads_good, reads_under, grew_on, keeps_reads}
 use Rattle.pgrows.proofs.Found.{keeps_writes, keeps_then}
 use Rattle.pgrows.specs.Gap.{IsGap, IsNext}
 use Rattle.pgrows.specs.Rows.{tables_of}
@@ -27,8 +27,8 @@ returns-then-not-branch-clause-there g c mid _ =
     let under = c.in_ok-top.ensures.under top in
     let up = open_of (g.S.Store.view c.args.store.now) (g.met.S.Store.broken_if_shut c.args.store.now) under.good.unbroken in
     let s = c.in_ok-is_missing.ensures.there mid c.if-not-branch.true in (
-      stands_some c.args.oid c.args.ident.now _ s.0 under.good.kept.held
-          (stands_before (g.S.Store.view c.args.store.now) (g.S.Store.view c.top_of.new.store) c.args.oid c.args.ident.now s.0
+      stored_some c.args.oid c.args.ident.now _ s.0 under.good.kept.held
+          (stored_before (g.S.Store.view c.args.store.now) (g.S.Store.view c.top_of.new.store) c.args.oid c.args.ident.now s.0
           (c.in_ok-top.ensures.same top) s.1),
       record {
         was_open = up;

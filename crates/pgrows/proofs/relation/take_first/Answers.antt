@@ -3,8 +3,8 @@ use Rattle.std.proofs.Common.{SFits, w64}
 use Rattle.sqlite_value.specs.Order.{column}
 use Rattle.sqlite_trees.specs.View.{View, IsClean}
 use Rattle.pgtables.specs.Kept.{tables_in, without_rows}
-use Rattle.pgrows.specs.Rows.{Stands}
-use Rattle.pgrows.proofs.Found.{stands_after, reads_good, reads_under, wrote_on, keeps_reads}
+use Rattle.pgrows.specs.Rows.{IsStored}
+use Rattle.pgrows.proofs.Found.{stored_after, reads_good, reads_under, wrote_on, keeps_reads}
 use Rattle.pgrows.proofs.Found.{keeps_writes, keeps_then}
 use Rattle.pgrows.proofs.Emptied.{one_less, none_of_it}
 use Rattle.pgrows.proofs.relation.take_first.Goals as goal
@@ -34,13 +34,13 @@ take_out-requires-clause-good g c mid =
     reads_good (g.S.Store.view c.args.store.now) (g.S.Store.view c.first_of.new.store) (c.in_ok-first_of.ensures.same mid)
     (c.requires was).good
 
-pub take_out-requires-clause-stands : goal.take_out-requires-clause-stands
-take_out-requires-clause-stands g c mid =
+pub take_out-requires-clause-stored : goal.take_out-requires-clause-stored
+take_out-requires-clause-stored g c mid =
     let first = rw c.in-Some.is at (c.in_ok-first_of.ensures.found mid) in
     let ident : c.blob_in.result.now ≡ first.0 = c.blob_in.ensures first.0 (c.get.ensures ∙ ap (λ e. column e 1) first.1) in
     let fits : SFits w64 c.in-Some.id = search rules in
-    simp to_z-of_z (subst (λ i. Stands c.args.oid i ((g.S.Store.view c.first_of.new.store).trees 1) c.in-Some.id) (sym ident)
-    (stands_after (g.S.Store.view c.args.store.now) (g.S.Store.view c.first_of.new.store) c.args.oid first.0 c.in-Some.id
+    simp to_z-of_z (subst (λ i. IsStored c.args.oid i ((g.S.Store.view c.first_of.new.store).trees 1) c.in-Some.id) (sym ident)
+    (stored_after (g.S.Store.view c.args.store.now) (g.S.Store.view c.first_of.new.store) c.args.oid first.0 c.in-Some.id
     (c.in_ok-first_of.ensures.same mid) first.2))
 
 pub returns-in_ok-take_out-in-Some-clause-one : goal.returns-in_ok-take_out-in-Some-clause-one

@@ -2,7 +2,7 @@ use Rattle.std.proofs.Common.{ap, ◌∙◌, Some, arith, rules, to_z-of_z, SFit
 use Rattle.sqlite_trees.specs.View.{View, IsClean}
 use Rattle.sqlite_rules.proofs.ViewLemmas.{reads_again, still_quiet}
 use Rattle.pgtables.specs.Kept.{tables_in, with_row}
-use Rattle.pgrows.proofs.Found.{open_of, opened, free_after, stands_after, reads_good, reads_under}
+use Rattle.pgrows.proofs.Found.{open_of, opened, free_after, stored_after, reads_good, reads_under}
 use Rattle.pgrows.proofs.Found.{wrote_on, grew_on, keeps_reads, keeps_writes, keeps_then}
 use Rattle.pgrows.proofs.whole.put.Goals as goal
 
@@ -18,10 +18,10 @@ put_over-requires-clause-good g c mid =
     (reads_again (g.S.Store.view c.args.store.now) (g.S.Store.view c.top_of.new.store) (g.S.Store.view c.find.new.store)
     (c.in_ok-top.ensures.same top) (c.in_ok-id.ensures.same mid)) (c.in_ok-top.ensures.under top).good
 
-pub put_over-requires-clause-stands : goal.put_over-requires-clause-stands
-put_over-requires-clause-stands g c mid =
+pub put_over-requires-clause-stored : goal.put_over-requires-clause-stored
+put_over-requires-clause-stored g c mid =
     let fits : SFits w64 c.in-Some.id = search rules in
-    simp to_z-of_z (stands_after (g.S.Store.view c.top_of.new.store) (g.S.Store.view c.find.new.store) c.args.oid c.args.ident.now
+    simp to_z-of_z (stored_after (g.S.Store.view c.top_of.new.store) (g.S.Store.view c.find.new.store) c.args.oid c.args.ident.now
     c.in-Some.id (c.in_ok-id.ensures.same mid) (rw c.in-Some.is at (c.in_ok-id.ensures.found mid)))
 
 pub returns-in_ok-put_over-in-Some-clause-made : goal.returns-in_ok-put_over-in-Some-clause-made

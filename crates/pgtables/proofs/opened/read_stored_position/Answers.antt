@@ -3,7 +3,7 @@ use Rattle.pgtables.specs.Opened.{ArePlacesRead}
 use Rattle.pgtables.proofs.FoundTexts.{place_text, place_read_only}
 use Rattle.pgtables.proofs.FoundPlace.{place_found}
 use Rattle.pgtables.proofs.ReadSteps.{all_open, all_stays, all_told, commits_nothing, if_ok, on_ok}
-use Rattle.pgtables.proofs.opened.read_standing_position.Goals as goal
+use Rattle.pgtables.proofs.opened.read_stored_position.Goals as goal
 
 pub returns-in_err-rows-clause-unchanged : goal.returns-in_err-rows-clause-unchanged
 returns-in_err-rows-clause-unchanged g c =
@@ -16,7 +16,7 @@ returns-in_err-rows-clause-crash g c = commits_nothing place_text place_read_onl
 pub returns-clause-found : goal.returns-clause-found
 returns-clause-found g c clean =
     let it = all_told place_text place_read_only g.S.Store c.args.conn.now c.query_all.new.self c.query_all.result c.query_all.ensures.ok _
-    c.in_ok-rows.rows c.in_ok-rows.was c.query_all.ensures.survives.clean c.requires.stands c.see_sound.ensures clean in
+    c.in_ok-rows.rows c.in_ok-rows.was c.query_all.ensures.survives.clean c.requires.present c.see_sound.ensures clean in
     if_ok c.read_one_place.result _ _ (place_found _ _ c.in_ok-rows.rows.items it.0 it.1 it.2)
     (subst (λ l. IfOk c.read_one_place.result (ArePlacesRead l)) c.as_slice.ensures.value c.read_one_place.ensures)
 

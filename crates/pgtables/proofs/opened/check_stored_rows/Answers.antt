@@ -4,7 +4,7 @@ use Rattle.sqlite.specs.State.{HasCleanDisk}
 use Rattle.pgtables.proofs.FoundTexts.{rows_text, rows_read_only}
 use Rattle.pgtables.proofs.ReadSteps.{begins, refused_stays, refused_survives, one_more}
 use Rattle.pgtables.proofs.FoundHeld.{ArePassed, none_passed, found_on, rows_found}
-use Rattle.pgtables.proofs.opened.check_standing_rows.Goals as goal
+use Rattle.pgtables.proofs.opened.check_stored_rows.Goals as goal
 
 pub returns-in_err-rows-clause-unchanged : goal.returns-in_err-rows-clause-unchanged
 returns-in_err-rows-clause-unchanged g c =
@@ -42,4 +42,4 @@ returns-in_default-clause-held g c clean is =
     let new = c.next.follows.lender-at-none in
     let late : HasCleanDisk (state g.S.Store new.conn.now) = search rules in
     rows_found g.C.RowCheck.accepts c.args.check.now g.S.Store c.args.conn.now c.loop.rows new c.loop.last c.loop.invariant.1 c.next.result
-    c.next.follows.holds-at-none (c.in_ok-row.was ∙ ap Ok c.in_default.is) late c.requires.stands c.see_sound.ensures
+    c.next.follows.holds-at-none (c.in_ok-row.was ∙ ap Ok c.in_default.is) late c.requires.present c.see_sound.ensures

@@ -4,7 +4,7 @@ use Rattle.pgtables.proofs.FoundTexts.{definitions_text, definitions_read_only}
 use Rattle.pgtables.proofs.FoundDefinitions.{all_found}
 use Rattle.pgtables.proofs.ReadSteps.{all_open, all_stays, all_told, commits_nothing, if_ok}
 use Rattle.pgtables.proofs.ReadSteps.{if_some, on_ok}
-use Rattle.pgtables.proofs.opened.read_standing_definitions.Goals as goal
+use Rattle.pgtables.proofs.opened.read_stored_definitions.Goals as goal
 
 pub returns-in_err-rows-clause-unchanged : goal.returns-in_err-rows-clause-unchanged
 returns-in_err-rows-clause-unchanged g c =
@@ -17,7 +17,7 @@ returns-in_err-rows-clause-crash g c = commits_nothing definitions_text definiti
 pub returns-clause-found : goal.returns-clause-found
 returns-clause-found g c clean =
     let it = all_told definitions_text definitions_read_only g.S.Store c.args.conn.now c.query_all.new.self c.query_all.result
-    c.query_all.ensures.ok _ c.in_ok-rows.rows c.in_ok-rows.was c.query_all.ensures.survives.clean c.requires.stands c.see_sound.ensures
+    c.query_all.ensures.ok _ c.in_ok-rows.rows c.in_ok-rows.was c.query_all.ensures.survives.clean c.requires.present c.see_sound.ensures
     clean in
     if_ok c.read_rising.result _ _
     (λ found. if_some found _ _ (λ all read. all_found _ _ c.in_ok-rows.rows.items all.items it.0 it.1 it.2 read))

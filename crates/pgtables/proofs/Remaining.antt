@@ -44,9 +44,9 @@ indexed d true p schema tables (index, is, place) guarded =
     let there = subst (λ is. Has is (automatic held_table 0 (1 ∷ 2 ∷ []) found.0)) is found.1 in
     is ∙ ap (λ i. i ∷ []) (our_index index found.0 there place)
 
-pub standing : (schema : Schema) (left : Remains) → AreRemains schema left → AllByRecursion (IsGuarded schema.indexes) schema.tables
+pub is_schema_of : (schema : Schema) (left : Remains) → AreRemains schema left → AllByRecursion (IsGuarded schema.indexes) schema.tables
     → schema ≡ schema_of left
-standing schema left is guarded =
+is_schema_of schema left is guarded =
     let d = left.has_definitions in
     let h = left.has_rows in
     let p = left.has_position in
