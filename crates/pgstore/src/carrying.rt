@@ -28,13 +28,13 @@ use std::alloc::Global;
 fn join_copies<S: Alter>(
     rows: &mut Rows<S>,
     def: &RelationDef,
-    place: &[u8],
+    identity: &[u8],
     body: &[u8],
     copies: u32,
     there: &StoredRow,
 ) -> Result<(), Refusal>
     ensures made { HasCleanDisk (state S.Store rows.new) →
-        OnOk result (JoinsCopies S.Store def.now place.now body.now copies there.now rows.old
+        OnOk result (JoinsCopies S.Store def.now identity.now body.now copies there.now rows.old
         rows.new) }
     ensures fault { IfErr result (RefusesCopies def.now copies there.now) }
     ensures goes { Goes S.Store rows.old rows.new }
@@ -46,7 +46,7 @@ fn join_copies<S: Alter>(
     if copies > MOST_COPIES || others > MOST_COPIES - copies {
         return Err(Refusal::new(StoreFault::TooManyCopies));
     }
-    rows.put_row(def.oid, place, body, others + copies)?;
+    rows.put_row(def.oid, identity, body, others + copies)?;
     Ok(())
 }
 
@@ -61,26 +61,26 @@ fn clashes(def: &RelationDef, copies: u32) -> bool
 fn add_carried<S: Alter>(
     rows: &mut Rows<S>,
     def: &RelationDef,
-    place: &[u8],
+    identity: &[u8],
     body: &[u8],
     copies: u32,
 ) -> Result<(), Refusal>
     ensures made { HasCleanDisk (state S.Store rows.new) →
-        OnOk result (Joins S.Store rows.old rows.new def.now place.now body.now
+        OnOk result (Joins S.Store rows.old rows.new def.now identity.now body.now
         copies) }
     ensures fault { HasCleanDisk (state S.Store rows.new) →
-        IfErr result (RefusesToJoin S.Store rows.old def.now place.now body.now copies) }
+        IfErr result (RefusesToJoin S.Store rows.old def.now identity.now body.now copies) }
     ensures goes { Goes S.Store rows.old rows.new }
 {
     if clashes(def, copies) {
         return Err(Refusal::new(StoreFault::Clash));
     }
-    match rows.find_row(def.oid, place)? {
+    match rows.find_row(def.oid, identity)? {
         None => {
-            rows.put_row(def.oid, place, body, copies)?;
+            rows.put_row(def.oid, identity, body, copies)?;
             Ok(())
         }
-        Some(there) => join_copies(rows, def, place, body, copies, &there),
+        Some(there) => join_copies(rows, def, identity, body, copies, &there),
     }
 }
 
@@ -108,9 +108,15 @@ fn carry_row<S: Alter>(
     }
     let next = carrying.carry(alloc, &was)?;
     let row = next.borrowed();
-    let place = encode_identity(alloc, def, &row)?;
+    let identity = encode_identity(alloc, def, &row)?;
     let body = encode(alloc, &row)?;
-    add_carried(rows, def, place.as_slice(), body.as_slice(), kept.copies())
+    add_carried(
+        rows,
+        def,
+        identity.as_slice(),
+        body.as_slice(),
+        kept.copies(),
+    )
 }
 
 /// The rows in their order, up to the first that is rejected.

@@ -35,20 +35,20 @@ pub(crate) const MOST_COPIES: u32 = 2147483647;
 fn take_row<S: Alter>(
     rows: &mut Rows<S>,
     oid: u32,
-    place: &[u8],
+    identity: &[u8],
     row: &StoredRow,
 ) -> Result<(), Refusal>
     ensures made { HasCleanDisk (state S.Store rows.new) →
-        OnOk result (Makes S.Store (taken_row oid place.now row.now) rows.old
+        OnOk result (Makes S.Store (taken_row oid identity.now row.now) rows.old
         rows.new) }
     ensures fault { IfErr result IsOwnFault }
     ensures goes { Goes S.Store rows.old rows.new }
 {
     let copies = row.copies();
     if copies > 1 {
-        rows.put_row(oid, place, row.body(), copies - 1)?;
+        rows.put_row(oid, identity, row.body(), copies - 1)?;
     } else {
-        let _was_there = rows.delete_row(oid, place)?;
+        let _was_there = rows.delete_row(oid, identity)?;
     }
     Ok(())
 }
@@ -57,12 +57,12 @@ fn take_row<S: Alter>(
 fn add_copy<S: Alter>(
     rows: &mut Rows<S>,
     def: &RelationDef,
-    place: &[u8],
+    identity: &[u8],
     body: &[u8],
     there: &StoredRow,
 ) -> Result<(), Refusal>
     ensures made { HasCleanDisk (state S.Store rows.new) →
-        OnOk result (AddsCopy S.Store def.now place.now body.now there.now rows.old
+        OnOk result (AddsCopy S.Store def.now identity.now body.now there.now rows.old
         rows.new) }
     ensures fault { IfErr result (RefusesCopy def.now there.now) }
     ensures goes { Goes S.Store rows.old rows.new }
@@ -74,7 +74,7 @@ fn add_copy<S: Alter>(
     if copies >= MOST_COPIES {
         return Err(Refusal::new(StoreFault::TooManyCopies));
     }
-    rows.put_row(def.oid, place, body, copies + 1)?;
+    rows.put_row(def.oid, identity, body, copies + 1)?;
     Ok(())
 }
 
@@ -82,19 +82,19 @@ fn add_copy<S: Alter>(
 fn add_again<S: Alter>(
     rows: &mut Rows<S>,
     def: &RelationDef,
-    place: &[u8],
+    identity: &[u8],
     body: &[u8],
 ) -> Result<(), Refusal>
     ensures made { HasCleanDisk (state S.Store rows.new) →
-        OnOk result (Adds S.Store rows.old rows.new def.now place.now body.now) }
+        OnOk result (Adds S.Store rows.old rows.new def.now identity.now body.now) }
     ensures fault { HasCleanDisk (state S.Store rows.new) →
-        IfErr result (λ fault. (cells : List Cell) → IsNewRow def.now cells place.now body.now →
+        IfErr result (λ fault. (cells : List Cell) → IsNewRow def.now cells identity.now body.now →
         Refuses S.Store rows.old def.now (with_row def.now cells) fault) }
     ensures goes { Goes S.Store rows.old rows.new }
 {
-    match rows.find_row(def.oid, place)? {
+    match rows.find_row(def.oid, identity)? {
         None => Err(Refusal::new(StoreFault::Refused)),
-        Some(there) => add_copy(rows, def, place, body, &there),
+        Some(there) => add_copy(rows, def, identity, body, &there),
     }
 }
 
@@ -102,20 +102,20 @@ fn add_again<S: Alter>(
 fn add_row<S: Alter>(
     rows: &mut Rows<S>,
     def: &RelationDef,
-    place: &[u8],
+    identity: &[u8],
     body: &[u8],
 ) -> Result<(), Refusal>
     ensures made { HasCleanDisk (state S.Store rows.new) →
-        OnOk result (Adds S.Store rows.old rows.new def.now place.now body.now) }
+        OnOk result (Adds S.Store rows.old rows.new def.now identity.now body.now) }
     ensures fault { HasCleanDisk (state S.Store rows.new) →
-        IfErr result (λ fault. (cells : List Cell) → IsNewRow def.now cells place.now body.now →
+        IfErr result (λ fault. (cells : List Cell) → IsNewRow def.now cells identity.now body.now →
         Refuses S.Store rows.old def.now (with_row def.now cells) fault) }
     ensures goes { Goes S.Store rows.old rows.new }
 {
-    if rows.add_row(def.oid, place, body, 1)? {
+    if rows.add_row(def.oid, identity, body, 1)? {
         return Ok(());
     }
-    add_again(rows, def, place, body)
+    add_again(rows, def, identity, body)
 }
 
 /// A row replaces the one that was found: that one goes, or one copy of it, and the new one comes.
@@ -123,25 +123,25 @@ fn move_row<S: Alter>(
     rows: &mut Rows<S>,
     alloc: Global,
     def: &RelationDef,
-    place: &[u8],
+    identity: &[u8],
     there: &StoredRow,
     row: &TupleRef<'_>,
 ) -> Result<(), Refusal>
     requires width { length row.now ≡ length def.now.columns }
     ensures made { HasCleanDisk (state S.Store rows.new) →
-        OnOk result (Moves S.Store rows.old rows.new def.now place.now there.now
+        OnOk result (Moves S.Store rows.old rows.new def.now identity.now there.now
         row.now) }
     ensures fault { HasCleanDisk (state S.Store rows.new) →
-        IfErr result (RefusesToMove S.Store rows.old def.now place.now there.now row.now) }
+        IfErr result (RefusesToMove S.Store rows.old def.now identity.now there.now row.now) }
     ensures goes { Goes S.Store rows.old rows.new }
 {
     let next = encode_identity(alloc, def, row)?;
     let body = encode(alloc, row)?;
-    if next.as_slice() == place {
-        rows.put_row(def.oid, place, body.as_slice(), there.copies())?;
+    if next.as_slice() == identity {
+        rows.put_row(def.oid, identity, body.as_slice(), there.copies())?;
         return Ok(());
     }
-    take_row(rows, def.oid, place, there)?;
+    take_row(rows, def.oid, identity, there)?;
     add_row(rows, def, next.as_slice(), body.as_slice())
 }
 
@@ -150,16 +150,16 @@ fn replace_row<S: Alter>(
     rows: &mut Rows<S>,
     alloc: Global,
     def: &RelationDef,
-    place: &[u8],
+    identity: &[u8],
     there: &StoredRow,
     row: &TupleRef<'_>,
 ) -> Result<(), Refusal>
     requires width { length row.now ≡ length def.now.columns }
     ensures made { HasCleanDisk (state S.Store rows.new) →
-        OnOk result (Replaces S.Store rows.old rows.new def.now place.now there.now
+        OnOk result (Replaces S.Store rows.old rows.new def.now identity.now there.now
         row.now) }
     ensures fault { HasCleanDisk (state S.Store rows.new) →
-        IfErr result (RefusesToReplace S.Store rows.old def.now place.now there.now
+        IfErr result (RefusesToReplace S.Store rows.old def.now identity.now there.now
         row.now) }
     ensures goes { Goes S.Store rows.old rows.new }
 {
@@ -168,7 +168,7 @@ fn replace_row<S: Alter>(
         return Err(Refusal::new(StoreFault::NotAStore));
     }
     let next = resolve(alloc, row, &was)?;
-    move_row(rows, alloc, def, place, there, &next.borrowed())
+    move_row(rows, alloc, def, identity, there, &next.borrowed())
 }
 
 /// Whether a row of a keyed table was sent whole, and no old row with it. Then its identity is the
@@ -195,21 +195,21 @@ fn set_row<S: Alter>(
     rows: &mut Rows<S>,
     alloc: Global,
     oid: u32,
-    place: &[u8],
+    identity: &[u8],
     row: &TupleRef<'_>,
 ) -> Result<bool, Refusal>
     ensures made { HasCleanDisk (state S.Store rows.new) →
-        OnOk result (Makes S.Store (with_row_if_there oid place.now
+        OnOk result (Makes S.Store (with_row_if_there oid identity.now
         (record { body = tuple_spelling row.now; copies = 1 })) rows.old rows.new) }
     ensures missed { HasCleanDisk (state S.Store rows.new) → IfOk result (λ missed.
-        missed ≡ not (is_there oid place.now (tables_of S.Store rows.old))) }
+        missed ≡ not (is_there oid identity.now (tables_of S.Store rows.old))) }
     ensures tuple { IsWireTuple row.now }
     ensures fault { IfErr result IsOwnFault }
     ensures goes { Goes S.Store rows.old rows.new }
 {
     let body = encode(alloc, row)?;
     // A keyed row is stored once. Where none has the identity, an update does nothing.
-    let was_there = rows.set_row(oid, place, body.as_slice(), 1)?;
+    let was_there = rows.set_row(oid, identity, body.as_slice(), 1)?;
     Ok(!was_there)
 }
 
@@ -229,9 +229,9 @@ fn insert<S: Alter>(
     ensures goes { Goes S.Store rows.old rows.new }
 {
     check_insert(def, row)?;
-    let place = encode_identity(alloc, def, row)?;
+    let identity = encode_identity(alloc, def, row)?;
     let body = encode(alloc, row)?;
-    add_row(rows, def, place.as_slice(), body.as_slice())
+    add_row(rows, def, identity.as_slice(), body.as_slice())
 }
 
 /// An updated row, which was sent with its old key or its whole old row where that is needed. It
@@ -254,14 +254,14 @@ fn update<S: Alter>(
     ensures goes { Goes S.Store rows.old rows.new }
 {
     let identity = encode_searched(alloc, def, reborrow_prior(prior), Some(row.reborrow()))?;
-    let place = identity.as_slice();
+    let bytes = identity.as_slice();
     if stays_whole(def, prior, row) {
-        return set_row(rows, alloc, def.oid, place, row);
+        return set_row(rows, alloc, def.oid, bytes, row);
     }
-    match rows.find_row(def.oid, place)? {
+    match rows.find_row(def.oid, bytes)? {
         None => Ok(true),
         Some(there) => {
-            replace_row(rows, alloc, def, place, &there, row)?;
+            replace_row(rows, alloc, def, bytes, &there, row)?;
             Ok(false)
         }
     }
@@ -287,16 +287,16 @@ fn delete<S: Alter>(
     ensures goes { Goes S.Store rows.old rows.new }
 {
     let identity = encode_searched(alloc, def, Some((kind, row.reborrow())), None)?;
-    let place = identity.as_slice();
+    let bytes = identity.as_slice();
     if keyed(def) {
         // One copy is stored there at most.
-        let was_there = rows.delete_row(def.oid, place)?;
+        let was_there = rows.delete_row(def.oid, bytes)?;
         return Ok(!was_there);
     }
-    match rows.find_row(def.oid, place)? {
+    match rows.find_row(def.oid, bytes)? {
         None => Ok(true),
         Some(there) => {
-            take_row(rows, def.oid, place, &there)?;
+            take_row(rows, def.oid, bytes, &there)?;
             Ok(false)
         }
     }

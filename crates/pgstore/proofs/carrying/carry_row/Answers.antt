@@ -15,7 +15,7 @@ returns-clause-made g c clean = on_ok c.add_carried.result (c.add_carried.ensure
       joins.1 (moved c.args.old.now c.args.def.now row)
       (carried_row_is c.args.old.now c.args.def.now row c.args.kept.now _ _ _ _ _ kept read
       (c.borrowed-row.ensures ∙ c.in_ok-next.ensures.ok ∙ ap (placed_cells _) c.requires.carrying
-      ∙ carried_by_places c.args.old.now.columns c.args.def.now.columns _) (c.as_slice.ensures ∙ c.in_ok-place.ensures.ok)
+      ∙ carried_by_places c.args.old.now.columns c.args.def.now.columns _) (c.as_slice.ensures ∙ c.in_ok-identity.ensures.ok)
       (c.as_slice-2.ensures ∙ c.in_ok-body.ensures.ok) c.copies.ensures c.encode.ensures.limits)
       v rows h,
 ))
@@ -26,6 +26,6 @@ returns-clause-fault g c clean = if_err c.add_carried.result (c.add_carried.ensu
     refuses (moved c.args.old.now c.args.def.now row)
     (carried_row_is c.args.old.now c.args.def.now row c.args.kept.now _ _ _ _ _ kept read
     (c.borrowed-row.ensures ∙ c.in_ok-next.ensures.ok ∙ ap (placed_cells _) c.requires.carrying
-    ∙ carried_by_places c.args.old.now.columns c.args.def.now.columns _) (c.as_slice.ensures ∙ c.in_ok-place.ensures.ok)
+    ∙ carried_by_places c.args.old.now.columns c.args.def.now.columns _) (c.as_slice.ensures ∙ c.in_ok-identity.ensures.ok)
     (c.as_slice-2.ensures ∙ c.in_ok-body.ensures.ok) c.copies.ensures c.encode.ensures.limits)
     v rows h)
