@@ -18,7 +18,6 @@ use crate::dump::{line_text, position_text};
 use crate::fault::{Ending, RunFault};
 use crate::files::Output;
 use crate::running::{status, tell};
-use crate::storing::store_fault;
 use pgapply::{DumpRow, DumpSink, ReplicaStore, StoreFault};
 use pglsn::Lsn;
 use pgsub_core::Fault;
@@ -139,7 +138,7 @@ impl<W: Output + Drop> LineSink<W> {
             (Some(fault), _) => Err(fault),
             (None, Ok(true)) => self.lines.finish(position),
             (None, Ok(false)) => Err(RunFault::Stream(Fault::Memory)),
-            (None, Err(fault)) => Err(RunFault::Stream(store_fault(fault))),
+            (None, Err(fault)) => Err(RunFault::Stream(Fault::from(fault))),
         }
     }
 }

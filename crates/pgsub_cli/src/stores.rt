@@ -17,7 +17,7 @@ use crate::dump::resume_text;
 use crate::files::Input;
 use crate::limits::{CLOCK, Limits};
 use crate::printed::Printed;
-use crate::storing::{Incoming, apply_over, store_fault, subscriber_over};
+use crate::storing::{Incoming, apply_over, subscriber_over};
 use pgmemory::MemoryDisk;
 use pgorder::Version;
 use pgspool::ByteSpools;
@@ -34,10 +34,8 @@ pub(crate) fn new_store(alloc: Global) -> Result<MemoryStore, Fault>
     ensures empty { IfOk result IsEmpty }
     ensures fault { IfErr result IsReadFault }
 {
-    match Store::on_memory_disks(alloc) {
-        Ok(store) => Ok(store),
-        Err(fault) => Err(store_fault(fault)),
-    }
+    let store = Store::on_memory_disks(alloc)?;
+    Ok(store)
 }
 
 // Below, a store is of any kind, since the proof that one over given disks is a store gets too

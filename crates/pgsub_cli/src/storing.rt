@@ -4,7 +4,7 @@ ghost use Rattle.std.specs.Prelude.{◌≡◌, ◌≤◌, [], Option, Result, Er
 ghost use Rattle.std.specs.Prelude.{string_bytes};
 ghost use Rattle.pgapply.specs.Taken.{Stays};
 ghost use Rattle.pgapply.specs.Value.{Tables};
-ghost use Rattle.pgsub_core.specs.Machine.Faults.{IsReadFault, fault_of_store};
+ghost use Rattle.pgsub_core.specs.Machine.Faults.{IsReadFault};
 ghost use Rattle.pgsub_core.specs.Subscriber.Handled.{fault_in};
 ghost use Rattle.pgsub_core.specs.Subscriber.SubscriberValue.{seen};
 ghost use Rattle.pgsub_cli.specs.declared.fault.Ending.{Ending};
@@ -107,16 +107,6 @@ pub(crate) fn subscriber_over<C: ReplicaStore + Drop>(
     Subscriber::new(alloc, store, spools, version, max_frame(limits))
 }
 
-/// A fault of a store, as that of following.
-pub fn store_fault(fault: StoreFault) -> Fault
-    ensures { result ≡ fault_of_store fault }
-{
-    match fault {
-        StoreFault::Memory => Fault::Memory,
-        _ => Fault::Store(fault),
-    }
-}
-
 /// Feeds what comes, if anything does, to a subscriber over a store. Returns the fault that stopped
 /// it, and the store.
 fn feed_over<R: Input + Drop, C: ReplicaStore + Drop>(
@@ -163,10 +153,7 @@ fn held_lines<C: ReplicaStore>(
     ensures honest { C.is_honest store.new → C.is_honest store.old }
 {
     let position = store.position();
-    let rows = match store.rows() {
-        Ok(rows) => rows,
-        Err(fault) => return Err(store_fault(fault)),
-    };
+    let rows = store.rows()?;
     match dump_text(alloc, rows.as_slice(), position) {
         Ok(lines) => Ok(Printed { lines, stopped }),
         Err(AllocError) => Err(Fault::Memory),

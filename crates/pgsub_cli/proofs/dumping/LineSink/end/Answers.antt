@@ -26,5 +26,5 @@ returns-in-None-Err g c old bytes more writing own last =
     let lines = c.args.self.now.lines in
     unread g.W.Output.takes g.W.Output.failed
     (subst (λ f. IsWriting g.W.Output.takes g.W.Output.failed old bytes lines.out (string_bytes lines.text) f) c.in-None-Err.is-0
-    writing) more c.store_fault.result
-    (subst IsReadFault (sym c.store_fault.ensures) (own_read c.in-None-Err.fault (subst (λ r. IfErr r IsOwnFault) c.in-None-Err.is-1 own)))
+    writing) more c.from.result
+    (subst IsReadFault (sym c.from.ensures.0) (own_read c.in-None-Err.fault (subst (λ r. IfErr r IsOwnFault) c.in-None-Err.is-1 own)))
