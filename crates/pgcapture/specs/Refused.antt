@@ -1,6 +1,6 @@
 -- When a recording is rejected.
 use Rattle.std.specs.Prelude.{◌≡◌, List, Result, Err, IsOk, ℕ}
-use Rattle.pgsub_core.specs.declared.session.Session.{Session}
+use Rattle.pgwire.specs.declared.session.Session.{Session}
 use Rattle.pgcapture.specs.declared.fault.CaptureFault.{CaptureFault}
 use Rattle.pgcapture.specs.declared.fault.CaptureFault.TheVariants.{NotHexadecimal, Memory}
 

@@ -29,8 +29,8 @@ mod fault;
 
 pub use fault::CaptureFault;
 use hex::FromHexError;
-use pgsub_core::Session;
 use pgtuple::{Bytes, Seq};
+use pgwire::Session;
 use std::alloc::Global;
 use std::mem;
 

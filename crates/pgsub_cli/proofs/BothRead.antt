@@ -4,7 +4,7 @@ use Rattle.std.proofs.Common.{◌≡◌, inl, inr, List, ℕ, true, false, Optio
 use Rattle.std.proofs.Common.{Err, refl, sym, ap, subst}
 use Rattle.pgsub_core.specs.declared.converging.Side.TheVariants.{Right}
 use Rattle.pgorder.specs.declared.Version.{Version}
-use Rattle.pgsub_core.specs.declared.session.Session.{Session}
+use Rattle.pgwire.specs.declared.session.Session.{Session}
 use Rattle.pgsub_cli.specs.declared.fault.Ending.{Ending}
 use Rattle.pgsub_cli.specs.declared.fault.RunFault.{RunFault}
 use Rattle.pgsub_cli.specs.declared.fault.RunFault.TheVariants as run

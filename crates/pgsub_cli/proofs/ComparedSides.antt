@@ -8,7 +8,7 @@ use Rattle.pgsub_core.specs.declared.converging.Side.{Side}
 use Rattle.pgsub_core.specs.declared.converging.Side.TheVariants.{Left, Right}
 use Rattle.pgsub_core.specs.declared.converging.Verdict.{Verdict}
 use Rattle.pgsub_core.specs.declared.fault.Fault.{Fault}
-use Rattle.pgsub_core.specs.declared.session.Session.{Session}
+use Rattle.pgwire.specs.declared.session.Session.{Session}
 use Rattle.pgsub_core.specs.Subscriber.Converging.{Converges, FollowsLeft, FollowsRight}
 use Rattle.pgsub_core.specs.Subscriber.Converging.{OnceLeftIsRead}
 use Rattle.pgsub_core.specs.Machine.Faults.{IsReadFault}

@@ -9,7 +9,7 @@ use Rattle.pgorder.specs.declared.Version.{Version}
 use Rattle.pgshow.specs.declared.fault.Fault as show
 use Rattle.pgshow.specs.Shown.{IsShownAs, fault_in}
 use Rattle.pgsub_core.specs.declared.fault.Fault.{Fault}
-use Rattle.pgsub_core.specs.declared.session.Session.{Session}
+use Rattle.pgwire.specs.declared.session.Session.{Session}
 use Rattle.pgsub_core.specs.Subscriber.Subscribed.{bytes_of, session_bytes}
 use Rattle.pgsub_cli.specs.Limits.{longest_payload}
 use Rattle.pgsub_cli.specs.Shown.{AreShown, AreShownLater, IsShown, disconnection_line}

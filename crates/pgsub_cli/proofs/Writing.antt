@@ -2,7 +2,7 @@
 use Rattle.std.proofs.Common.{◌≡◌, ℕ, List, Option, Result, Ok, Err, IfOk, IfErr, inl, inr, sym}
 use Rattle.std.proofs.Common.{subst, string_bytes, None, Some}
 use Rattle.pgsub_core.specs.declared.fault.Fault.{Fault}
-use Rattle.pgsub_core.specs.declared.session.Session.{Session}
+use Rattle.pgwire.specs.declared.session.Session.{Session}
 use Rattle.pgsub_cli.specs.declared.fault.Ending.{Ending}
 use Rattle.pgsub_cli.specs.declared.fault.Ending.TheVariants.{Done, Differs}
 use Rattle.pgsub_cli.specs.declared.fault.RunFault.{RunFault}

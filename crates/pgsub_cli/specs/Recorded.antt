@@ -2,7 +2,7 @@
 use Rattle.std.specs.Prelude.{◌≡◌, ◌≤◌, ◌<◌, ℕ, Bool, true, false, List, length, Ok, Err, Option}
 use Rattle.std.specs.Prelude.{None, Some, IfSome, IsSome}
 use Rattle.pgsub_core.specs.declared.fault.Fault.TheVariants as fault
-use Rattle.pgsub_core.specs.declared.session.Session.{Session}
+use Rattle.pgwire.specs.declared.session.Session.{Session}
 use Rattle.pgsub_core.specs.declared.converging.Side.{Side}
 use Rattle.pgsub_core.specs.declared.converging.Side.TheVariants.{Left}
 use Rattle.pgcapture.specs.Capture.{sessions_of}

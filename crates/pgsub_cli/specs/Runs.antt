@@ -19,7 +19,7 @@ use Rattle.pgsub_core.specs.declared.converging.Verdict.{Verdict}
 use Rattle.pgsub_core.specs.declared.converging.Verdict.TheVariants as verdict
 use Rattle.pgsub_core.specs.declared.fault.Fault.{Fault}
 use Rattle.pgsub_core.specs.declared.fault.Fault.TheVariants as fault
-use Rattle.pgsub_core.specs.declared.session.Session.{Session}
+use Rattle.pgwire.specs.declared.session.Session.{Session}
 use Rattle.pgsub_core.specs.Machine.Faults.{IsReadFault}
 use Rattle.pgsub_core.specs.Subscriber.Subscribed.{Subscribed, bytes_of}
 use Rattle.pgsub_core.specs.Subscriber.Verdicts.{IsVerdict}

@@ -4,7 +4,7 @@ use Rattle.std.proofs.Common.{get_or, length, refl, sym, subst, arith}
 use Rattle.std.specs.List.{flat_map}
 use Rattle.pgapply.specs.declared.misses.Misses.{Misses}
 use Rattle.pgapply.specs.Value.{Tables}
-use Rattle.pgsub_core.specs.declared.session.Session.{Session}
+use Rattle.pgwire.specs.declared.session.Session.{Session}
 use Rattle.pgsub_core.specs.Subscriber.Subscribed.{Subscribed, disconnect, session_bytes, bytes_of}
 use Rattle.pgsub_core.specs.Machine.Feeding.{IsFedWhole}
 use Rattle.pgsub_core.specs.Subscriber.SubscriberValue.{SubscriberValue, seen}

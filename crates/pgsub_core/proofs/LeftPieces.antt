@@ -8,7 +8,7 @@ use Rattle.pgapply.specs.Value.{Tables}
 use Rattle.pgapply.specs.Taken as held
 use Rattle.pgsub_core.specs.declared.fault.Fault.{Fault}
 use Rattle.pgsub_core.specs.declared.fault.Fault.TheVariants as fault
-use Rattle.pgsub_core.specs.declared.session.Session.{Session}
+use Rattle.pgwire.specs.declared.session.Session.{Session}
 use Rattle.pgsub_core.specs.Subscriber.Applied.{Applied}
 use Rattle.pgsub_core.specs.Calls.Framing.{framing_of, IsTakenTo, FeedStops}
 use Rattle.pgsub_core.specs.Subscriber.Subscribed.{session_bytes, bytes_of}

@@ -23,6 +23,7 @@ mod frame;
 mod header;
 mod laws;
 mod message;
+mod session;
 mod status;
 
 pub use deframer::Deframer;
@@ -34,4 +35,5 @@ pub use laws::{
     stream_has_one_reading,
 };
 pub use message::{ServerMsg, decode_server};
+pub use session::Session;
 pub use status::{Status, encode_status};

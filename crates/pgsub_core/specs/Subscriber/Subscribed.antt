@@ -9,7 +9,7 @@ use Rattle.pgspool.specs.Labels.{HeldMap}
 use Rattle.pgapply.specs.Value.{Tables}
 use Rattle.pgwire.specs.Statuses.{status_frame}
 use Rattle.pgwire.specs.declared.status.Status.{Status}
-use Rattle.pgsub_core.specs.declared.session.Session.{Session}
+use Rattle.pgwire.specs.declared.session.Session.{Session}
 use Rattle.pgsub_core.specs.Server.History.{Transaction}
 use Rattle.pgsub_core.specs.Server.Reached.{Progress}
 use Rattle.pgsub_core.specs.Machine.Replica.{Replica, RelationCache}

@@ -1,6 +1,6 @@
 use Rattle.std.proofs.Common.{[], ◌++◌, List, None, refl, sym, subst, append-nil, take_all}
 use Rattle.std.proofs.Common.{string_bytes}
-use Rattle.pgsub_core.specs.declared.session.Session.{Session}
+use Rattle.pgwire.specs.declared.session.Session.{Session}
 use Rattle.pgsub_core.specs.Subscriber.Subscribed.{bytes_of}
 use Rattle.pgsub_cli.specs.Shown.{AreShownLater}
 use Rattle.pgsub_cli.proofs.ShownLines.{more_shown, more_stops, then_lines}

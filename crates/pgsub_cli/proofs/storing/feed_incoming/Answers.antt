@@ -1,6 +1,6 @@
 use Rattle.std.proofs.Common.{◌≡◌, List, Some, sym, subst}
 use Rattle.pgsub_core.specs.declared.fault.Fault.TheVariants as fault
-use Rattle.pgsub_core.specs.declared.session.Session.{Session}
+use Rattle.pgwire.specs.declared.session.Session.{Session}
 use Rattle.pgsub_core.specs.Subscriber.Crashing.{FedOver, LeavesHistory, LeavesOldOr}
 use Rattle.pgsub_core.specs.Subscriber.Following.{FeedsSessions}
 use Rattle.pgsub_core.specs.Subscriber.Handled.{fault_in}
