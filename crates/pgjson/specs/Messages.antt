@@ -62,12 +62,25 @@ relation_data xid def =
     list (string (codes "Relation") ∷ xid_data xid ∷ natural def.oid ∷ string def.namespace ∷ string def.name ∷ letter_data def.letter
     ∷ columns_data def.columns ∷ [])
 
+abbrev pub insert_data : Option ℕ → ℕ → List Cell → Data
+insert_data xid oid row = list (string (codes "Insert") ∷ xid_data xid ∷ natural oid ∷ cells_data row ∷ [])
+
+abbrev pub update_data : Option ℕ → ℕ → Option (OldKind × List Cell) → List Cell → Data
+update_data xid oid prior row =
+    list (string (codes "Update") ∷ xid_data xid ∷ natural oid ∷ prior_data prior ∷ cells_data row ∷ [])
+
+abbrev pub delete_data : Option ℕ → ℕ → OldKind → List Cell → Data
+delete_data xid oid kind row = list (string (codes "Delete") ∷ xid_data xid ∷ natural oid ∷ old_data kind row ∷ [])
+
+abbrev pub truncate_data : Option ℕ → ℕ → List ℕ → Data
+truncate_data xid options oids = list (string (codes "Truncate") ∷ xid_data xid ∷ natural options ∷ oids_data oids ∷ [])
+
 abbrev pub item_data : Option ℕ → Item → Data
 item_data xid (Relation def) = relation_data xid def
-item_data xid (Insert oid row) = list (string (codes "Insert") ∷ xid_data xid ∷ natural oid ∷ cells_data row ∷ [])
-item_data xid (Update oid prior row) = list (string (codes "Update") ∷ xid_data xid ∷ natural oid ∷ prior_data prior ∷ cells_data row ∷ [])
-item_data xid (Delete oid kind row) = list (string (codes "Delete") ∷ xid_data xid ∷ natural oid ∷ old_data kind row ∷ [])
-item_data xid (Truncate options oids) = list (string (codes "Truncate") ∷ xid_data xid ∷ natural options ∷ oids_data oids ∷ [])
+item_data xid (Insert oid row) = insert_data xid oid row
+item_data xid (Update oid prior row) = update_data xid oid prior row
+item_data xid (Delete oid kind row) = delete_data xid oid kind row
+item_data xid (Truncate options oids) = truncate_data xid options oids
 
 abbrev pub begin_data : ℕ → ℤ → ℕ → Data
 begin_data lsn time xid = list (string (codes "Begin") ∷ lsn_data lsn ∷ integer time ∷ natural xid ∷ [])
@@ -85,6 +98,12 @@ abbrev pub logical_data : Option ℕ → Bool → ℕ → List ℕ → List ℕ 
 logical_data xid transactional lsn prefix content =
     list (string (codes "Message") ∷ xid_data xid ∷ natural (bit transactional) ∷ lsn_data lsn ∷ string prefix ∷ hex_data content ∷ [])
 
+abbrev pub stream_start_data : ℕ → Bool → Data
+stream_start_data xid first = list (string (codes "StreamStart") ∷ natural xid ∷ natural (bit first) ∷ [])
+
+abbrev pub stream_abort_data : ℕ → ℕ → Data
+stream_abort_data xid subxid = list (string (codes "StreamAbort") ∷ natural xid ∷ natural subxid ∷ [])
+
 abbrev pub stream_commit_data : ℕ → ℕ → ℕ → ℤ → Data
 stream_commit_data xid lsn end time = list (string (codes "StreamCommit") ∷ natural xid ∷ lsn_data lsn ∷ lsn_data end ∷ integer time ∷ [])
 
@@ -95,7 +114,7 @@ message_data (message.Origin lsn name) = origin_data lsn name
 message_data (message.TypeName xid oid namespace name) = type_data xid oid namespace name
 message_data (message.Logical xid transactional lsn prefix content) = logical_data xid transactional lsn prefix content
 message_data (message.Item xid item) = item_data xid item
-message_data (message.StreamStart xid first) = list (string (codes "StreamStart") ∷ natural xid ∷ natural (bit first) ∷ [])
+message_data (message.StreamStart xid first) = stream_start_data xid first
 message_data message.StreamStop = list (string (codes "StreamStop") ∷ [])
 message_data (message.StreamCommit xid lsn end time) = stream_commit_data xid lsn end time
-message_data (message.StreamAbort xid subxid) = list (string (codes "StreamAbort") ∷ natural xid ∷ natural subxid ∷ [])
+message_data (message.StreamAbort xid subxid) = stream_abort_data xid subxid

@@ -6,11 +6,12 @@
 ghost use Rattle.std.specs.Prelude.{◌≡◌, Option, IfOk};
 ghost use Rattle.serde_json.specs.View.{view};
 ghost use Rattle.pglogical.specs.BorrowedItems.{def_value, item_value};
-ghost use Rattle.pgjson.specs.Messages.{item_data, prior_data, relation_data};
+ghost use Rattle.pgjson.specs.Messages.{delete_data, insert_data, item_data, prior_data};
+ghost use Rattle.pgjson.specs.Messages.{relation_data, truncate_data, update_data};
 
 use crate::cells::cells_json;
 use crate::parts::{columns_json, letter_json, oids_json, old_tuple_json, xid_json};
-use pglogical::{DefRef, ItemParts, OldKind};
+use pglogical::{DefRef, ItemParts, OidRefs, OldKind};
 use pgtuple::TupleRef;
 use serde_json::{Value, json};
 use std::alloc::{AllocError, Global};
@@ -34,6 +35,61 @@ fn prior_json(alloc: Global, prior: &Option<(OldKind, TupleRef<'_>)>) -> Result<
     }
 }
 
+fn insert_json(
+    alloc: Global,
+    xid: Option<u32>,
+    oid: u32,
+    row: &TupleRef<'_>,
+) -> Result<Value, AllocError>
+    ensures { IfOk result (λ value. view value ≡ insert_data xid oid row.now) }
+{
+    let xid = xid_json(xid);
+    let cells = cells_json(alloc, row)?;
+    json!(in alloc; ["Insert", xid, oid, cells])
+}
+
+fn update_json(
+    alloc: Global,
+    xid: Option<u32>,
+    oid: u32,
+    prior: &Option<(OldKind, TupleRef<'_>)>,
+    row: &TupleRef<'_>,
+) -> Result<Value, AllocError>
+    ensures { IfOk result (λ value. view value ≡ update_data xid oid prior.now row.now) }
+{
+    let xid = xid_json(xid);
+    let old = prior_json(alloc, prior)?;
+    let cells = cells_json(alloc, row)?;
+    json!(in alloc; ["Update", xid, oid, old, cells])
+}
+
+fn delete_json(
+    alloc: Global,
+    xid: Option<u32>,
+    oid: u32,
+    kind: OldKind,
+    row: &TupleRef<'_>,
+) -> Result<Value, AllocError>
+    ensures { IfOk result (λ value. view value ≡ delete_data xid oid kind row.now) }
+{
+    let xid = xid_json(xid);
+    let old = old_tuple_json(alloc, kind, row)?;
+    json!(in alloc; ["Delete", xid, oid, old])
+}
+
+fn truncate_json(
+    alloc: Global,
+    xid: Option<u32>,
+    options: u8,
+    oids: &OidRefs<'_>,
+) -> Result<Value, AllocError>
+    ensures { IfOk result (λ value. view value ≡ truncate_data xid options oids.now) }
+{
+    let xid = xid_json(xid);
+    let oids = oids_json(alloc, oids)?;
+    json!(in alloc; ["Truncate", xid, options, oids])
+}
+
 /// A relation or a change in JSON, with the xid of its message.
 pub(crate) fn item_json(
     alloc: Global,
@@ -44,22 +100,9 @@ pub(crate) fn item_json(
 {
     match item {
         ItemParts::Relation(def) => relation_json(alloc, xid, def),
-        ItemParts::Insert { oid, row } => {
-            let cells = cells_json(alloc, row)?;
-            json!(in alloc; ["Insert", xid_json(xid), *oid, cells])
-        }
-        ItemParts::Update { oid, prior, row } => {
-            let old = prior_json(alloc, prior)?;
-            let cells = cells_json(alloc, row)?;
-            json!(in alloc; ["Update", xid_json(xid), *oid, old, cells])
-        }
-        ItemParts::Delete { oid, kind, row } => {
-            let old = old_tuple_json(alloc, *kind, row)?;
-            json!(in alloc; ["Delete", xid_json(xid), *oid, old])
-        }
-        ItemParts::Truncate { options, oids } => {
-            let oids = oids_json(alloc, oids)?;
-            json!(in alloc; ["Truncate", xid_json(xid), *options, oids])
-        }
+        ItemParts::Insert { oid, row } => insert_json(alloc, xid, *oid, row),
+        ItemParts::Update { oid, prior, row } => update_json(alloc, xid, *oid, prior, row),
+        ItemParts::Delete { oid, kind, row } => delete_json(alloc, xid, *oid, *kind, row),
+        ItemParts::Truncate { options, oids } => truncate_json(alloc, xid, *options, oids),
     }
 }

@@ -6,7 +6,8 @@ ghost use Rattle.std.specs.Prelude.{◌≡◌, IfOk};
 ghost use Rattle.serde_json.specs.View.{view};
 ghost use Rattle.pglogical.specs.Borrowed.{message_value};
 ghost use Rattle.pgjson.specs.Messages.{begin_data, commit_data, logical_data, message_data};
-ghost use Rattle.pgjson.specs.Messages.{origin_data, stream_commit_data, type_data};
+ghost use Rattle.pgjson.specs.Messages.{origin_data, stream_abort_data, stream_commit_data};
+ghost use Rattle.pgjson.specs.Messages.{stream_start_data, type_data};
 
 use crate::items::item_json;
 use crate::parts::{flag, lsn_json, xid_json};
@@ -37,6 +38,19 @@ fn origin_json(alloc: Global, lsn: Lsn, name: &str) -> Result<Value, AllocError>
     json!(in alloc; ["Origin", lsn, name])
 }
 
+fn type_json(
+    alloc: Global,
+    xid: Option<u32>,
+    oid: u32,
+    namespace: &str,
+    name: &str,
+) -> Result<Value, AllocError>
+    ensures { IfOk result (λ value. view value ≡ type_data xid oid namespace.now name.now) }
+{
+    let xid = xid_json(xid);
+    json!(in alloc; ["Type", xid, oid, namespace, name])
+}
+
 fn logical_json(
     alloc: Global,
     xid: Option<u32>,
@@ -52,6 +66,18 @@ fn logical_json(
     let digits = hex::encode(alloc, content)?;
     let content = json!(in alloc; {"hex": digits})?;
     json!(in alloc; ["Message", xid_json(xid), flag(transactional), lsn, prefix, content])
+}
+
+fn stream_start_json(alloc: Global, xid: u32, first: bool) -> Result<Value, AllocError>
+    ensures { IfOk result (λ value. view value ≡ stream_start_data xid first) }
+{
+    json!(in alloc; ["StreamStart", xid, flag(first)])
+}
+
+fn stream_abort_json(alloc: Global, xid: u32, subxid: u32) -> Result<Value, AllocError>
+    ensures { IfOk result (λ value. view value ≡ stream_abort_data xid subxid) }
+{
+    json!(in alloc; ["StreamAbort", xid, subxid])
 }
 
 fn stream_commit_json(
@@ -89,7 +115,7 @@ pub fn message_json(alloc: Global, message: &MessageRef<'_>) -> Result<Value, Al
             oid,
             namespace,
             name,
-        } => json!(in alloc; ["Type", xid_json(*xid), *oid, *namespace, *name]),
+        } => type_json(alloc, *xid, *oid, namespace, name),
         MessageRef::Logical {
             xid,
             transactional,
@@ -99,7 +125,7 @@ pub fn message_json(alloc: Global, message: &MessageRef<'_>) -> Result<Value, Al
         } => logical_json(alloc, *xid, *transactional, *lsn, prefix, content),
         MessageRef::Item { xid, item } => item_json(alloc, *xid, &item.parts()),
         MessageRef::StreamStart { xid, first_segment } => {
-            json!(in alloc; ["StreamStart", *xid, flag(*first_segment)])
+            stream_start_json(alloc, *xid, *first_segment)
         }
         MessageRef::StreamStop => json!(in alloc; ["StreamStop"]),
         MessageRef::StreamCommit {
@@ -108,8 +134,6 @@ pub fn message_json(alloc: Global, message: &MessageRef<'_>) -> Result<Value, Al
             end_lsn,
             commit_time,
         } => stream_commit_json(alloc, *xid, *commit_lsn, *end_lsn, *commit_time),
-        MessageRef::StreamAbort { xid, subxid } => {
-            json!(in alloc; ["StreamAbort", *xid, *subxid])
-        }
+        MessageRef::StreamAbort { xid, subxid } => stream_abort_json(alloc, *xid, *subxid),
     }
 }

@@ -86,8 +86,9 @@ pub(crate) fn old_tuple_json(
     ensures { IfOk result (λ value. view value ≡ old_data kind row.now) }
 {
     let cells = cells_json(alloc, row)?;
-    match kind {
-        OldKind::Key => json!(in alloc; ["K", cells]),
-        OldKind::Full => json!(in alloc; ["O", cells]),
-    }
+    let letter = match kind {
+        OldKind::Key => "K",
+        OldKind::Full => "O",
+    };
+    json!(in alloc; [letter, cells])
 }
