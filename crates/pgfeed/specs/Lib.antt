@@ -6,3 +6,4 @@ pub mod Whole
 pub mod Naming
 pub mod Feeds
 pub mod Cutting
+pub mod Told

@@ -34,9 +34,11 @@ impl From<AllocError> for FeedFault {
 
 /// What a store is told of a segment that isn't made.
 impl From<FeedFault> for StoreFault {
+    ghost use Rattle.std.specs.Prelude.{◌≡◌};
     ghost use Rattle.pgapply.specs.Stored.{IsOwnFault};
+    ghost use Rattle.pgfeed.specs.Told.{told_of};
 
-    ghost from_gives = { λ _ fault. IsOwnFault fault };
+    ghost from_gives = { λ fault of. (of ≡ told_of fault) × IsOwnFault of };
 
     fn from(fault: FeedFault) -> StoreFault {
         match fault {
