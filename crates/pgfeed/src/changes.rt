@@ -151,7 +151,15 @@ pub(crate) fn push_image(
         ≡ string_bytes out.old ++ image_line oid n image.now) }
 {
     match image {
-        Image::Inserted { row } => push_change(alloc, "c", oid, n, &None, &Some(row.reborrow()), out),
+        Image::Inserted { row } => push_change(
+            alloc,
+            "c",
+            oid,
+            n,
+            &None,
+            &Some(row.reborrow()),
+            out,
+        ),
         Image::Updated { old, new } => {
             let (before, after) = (Some(old.borrowed()), Some(new.borrowed()));
             push_change(alloc, "u", oid, n, &before, &after, out)
