@@ -113,9 +113,13 @@ fn read_tables<S: Alter>(
 }
 
 /// What is read of the tables with a case's rows.
-fn check_case(rt: &impl Abort, alloc: Global, case: &Case) -> Result<(), Fail> {
+fn check_case<S: Alter + Drop>(
+    rt: &impl Abort,
+    alloc: Global,
+    mut conn: Connection<S>,
+    case: &Case,
+) -> Result<(), Fail> {
     let (rows, oids, accepted, position) = case;
-    let mut conn = Connection::open_in_memory(alloc)?;
     conn.execute_batch(TABLES)?;
     conn.execute_batch(rows)?;
     let (found, is_accepted, at) = read_tables(&mut conn, ALL, alloc, 7)?;
@@ -129,14 +133,18 @@ fn check_case(rt: &impl Abort, alloc: Global, case: &Case) -> Result<(), Fail> {
 #[test]
 fn each_table_is_read(rt: HostRuntime) -> Result<(), Fail> {
     for case in CASES {
-        check_case(&rt, rt.alloc(), case)?;
+        let conn = Connection::open_in_memory(rt.alloc())?;
+        check_case(&rt, rt.alloc(), conn, case)?;
     }
     Ok(())
 }
 
-#[test]
-fn no_second_position_is_taken(rt: HostRuntime) -> Result<(), Fail> {
-    let mut conn = Connection::open_in_memory(rt.alloc())?;
+/// A second position is refused, and the first one stays.
+fn check_second<S: Alter + Drop>(
+    rt: &impl Abort,
+    alloc: Global,
+    mut conn: Connection<S>,
+) -> Result<(), Fail> {
     conn.execute_batch(TABLES)?;
     conn.execute_batch("INSERT INTO pos (id, lsn) VALUES (0, x'0000000000000130')")?;
     let refused = conn.execute(
@@ -149,9 +157,15 @@ fn no_second_position_is_taken(rt: HostRuntime) -> Result<(), Fail> {
             Err(Error::SqliteFailure(ErrorCode::ConstraintViolation(_)))
         )
     );
-    let (_, _, position) = read_tables(&mut conn, ALL, rt.alloc(), 0)?;
+    let (_, _, position) = read_tables(&mut conn, ALL, alloc, 0)?;
     assert!(rt; position == FoundPosition::At(0x130));
     Ok(())
+}
+
+#[test]
+fn no_second_position_is_taken(rt: HostRuntime) -> Result<(), Fail> {
+    let conn = Connection::open_in_memory(rt.alloc())?;
+    check_second(&rt, rt.alloc(), conn)
 }
 
 /// Tables to be dropped, and whether `rel`, `held` and `pos` are present then.
@@ -196,8 +210,13 @@ fn position_left(left: Remains) -> FoundPosition {
 }
 
 /// What is left of the tables once some are dropped, and what is made in its place.
-fn check_drops(rt: &impl Abort, alloc: Global, drops: &str, left: Remains) -> Result<(), Fail> {
-    let mut conn = Connection::open_in_memory(alloc)?;
+fn check_drops<S: Alter + Drop>(
+    rt: &impl Abort,
+    alloc: Global,
+    mut conn: Connection<S>,
+    drops: &str,
+    left: Remains,
+) -> Result<(), Fail> {
     conn.execute_batch(TABLES)?;
     conn.execute_batch(ROWS)?;
     conn.execute_batch(drops)?;
@@ -223,16 +242,22 @@ fn what_was_dropped_is_told(rt: HostRuntime) -> Result<(), Fail> {
             has_rows: *has_rows,
             has_position: *has_position,
         };
-        check_drops(&rt, rt.alloc(), drops, left)?;
+        let conn = Connection::open_in_memory(rt.alloc())?;
+        check_drops(&rt, rt.alloc(), conn, drops, left)?;
     }
     Ok(())
 }
 
-#[test]
-fn other_tables_are_no_remains(rt: HostRuntime) -> Result<(), Fail> {
-    let mut conn = Connection::open_in_memory(rt.alloc())?;
+/// Whether one table of another shape is left.
+fn has_another<S: Alter + Drop>(mut conn: Connection<S>) -> Result<bool, Error> {
     conn.execute_batch(TABLES)?;
     conn.execute_batch("DROP TABLE rel; CREATE TABLE rel (oid INTEGER PRIMARY KEY)")?;
-    assert!(rt; find_remains(&conn).is_none());
+    Ok(find_remains(&conn).is_none())
+}
+
+#[test]
+fn other_tables_are_no_remains(rt: HostRuntime) -> Result<(), Fail> {
+    let conn = Connection::open_in_memory(rt.alloc())?;
+    assert!(rt; has_another(conn)?);
     Ok(())
 }

@@ -72,18 +72,21 @@ const SCHEMAS: &[Made] = &[
     ),
 ];
 
-fn make_schema<S: Alter>(conn: &mut Connection<S>, more: &str) -> Result<bool, Error> {
+/// Whether the schema is that of a store, in a connection without tables.
+fn makes_ours<S: Alter + Drop>(mut conn: Connection<S>, more: &str) -> Result<bool, Error> {
+    if find_remains(&conn) != Some(NONE) {
+        return Err(Error::InvalidQuery);
+    }
     conn.execute_batch(REL)?;
     conn.execute_batch(more)?;
-    Ok(find_remains(conn) == Some(ALL))
+    Ok(find_remains(&conn) == Some(ALL))
 }
 
 #[test]
 fn schemas_are_told_apart(rt: HostRuntime) -> Result<(), Fail> {
     for (more, is_ours) in SCHEMAS {
-        let mut conn = Connection::open_in_memory(rt.alloc())?;
-        assert!(rt; find_remains(&conn) == Some(NONE));
-        assert!(rt; make_schema(&mut conn, more)? == *is_ours, "{more}");
+        let conn = Connection::open_in_memory(rt.alloc())?;
+        assert!(rt; makes_ours(conn, more)? == *is_ours, "{more}");
     }
     Ok(())
 }
@@ -98,6 +101,15 @@ fn make<S: Alter>(conn: &mut Connection<S>) -> Result<(), Error>
     tx.commit()
 }
 
+/// Whether what is made is told, with the position.
+fn tells_made<S: Alter + Drop>(mut conn: Connection<S>) -> Result<bool, Error>
+    requires settled { (state S.Store conn).in_transaction ≡ false }
+    requires bare { IfServing S.Store conn ((state S.Store conn).now.schema ≡ no_schema) }
+{
+    make(&mut conn)?;
+    Ok(find_remains(&conn) == Some(ALL) && is_at(&mut conn, &[0, 0, 0, 0, 0, 0, 1, 0x30])?)
+}
+
 /// Whether the stored position has these bytes.
 fn is_at<S: Alter>(conn: &mut Connection<S>, position: &[u8]) -> Result<bool, Error> {
     let stored: Vec<u8> = conn
@@ -108,9 +120,7 @@ fn is_at<S: Alter>(conn: &mut Connection<S>, position: &[u8]) -> Result<bool, Er
 
 #[test]
 fn what_is_made_is_told(rt: HostRuntime) -> Result<(), Fail> {
-    let mut conn = Connection::open_in_memory(rt.alloc())?;
-    make(&mut conn)?;
-    assert!(rt; find_remains(&conn) == Some(ALL));
-    assert!(rt; is_at(&mut conn, &[0, 0, 0, 0, 0, 0, 1, 0x30])?);
+    let conn = Connection::open_in_memory(rt.alloc())?;
+    assert!(rt; tells_made(conn)?);
     Ok(())
 }
