@@ -5,7 +5,7 @@
 #
 #   CRATE/WORD  only the tests whose names have the word
 #   --all       each test runs once with all its requests refused, and has to pass all the same; for tests of calls that take no memory,
-#               as tests_messages/first_faults and tests_messages/without_memory
+#               as tests_parts/first_faults and tests_parts/without_memory
 #   --built     the tests are those that an earlier `rt test` has built; else they are proved and built first, which can take minutes
 #
 # Each runs once for each request that it makes, with this one refused in place of the C library's answer. A line for each tells its

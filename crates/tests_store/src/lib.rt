@@ -1,8 +1,13 @@
-//! Tests of the SQL store by its public calls, and no code: commits with what each returns and the
-//! rows that are stored after it, and stores over connections that others have filled, in memory
-//! and on disks in memory; and such a disk by its calls.
+//! Tests of the SQL store by its public calls, and no code.
 //!
-//! They are apart from `pgstore` so that it isn't proved once more with them.
+//! - Commits with what each returns and the rows that are stored after it, and stores over
+//!   connections that others have filled, in memory and on disks in memory; such a disk by its
+//!   calls; and the store's SQL tables as others make and fill them.
+//! - A disk that stops in the middle of its work: a store on two disks in memory follows a
+//!   recording, and one of them passes so many calls on and fails each one after. What was written
+//!   by then is adopted again: it must be the store as of one of the commits, or whole groups of
+//!   them where they were settled together, and following once more must reach the end. That is
+//!   tried for each number of calls until a run meets no stop.
 #![tactic(auto)]
 
 #[cfg(test)]
@@ -14,7 +19,21 @@ mod disks;
 #[cfg(test)]
 mod lines;
 #[cfg(test)]
+mod made_tables;
+#[cfg(test)]
+mod opened_tables;
+#[cfg(test)]
+mod recordings;
+#[cfg(test)]
+mod staged_groups;
+#[cfg(test)]
 mod staging;
+#[cfg(test)]
+mod stopped_runs;
+#[cfg(test)]
+mod stopped_tests;
+#[cfg(test)]
+mod stopping_disks;
 #[cfg(test)]
 mod stores;
 #[cfg(test)]

@@ -1,11 +1,11 @@
 //! Runs over a store that is opened again for each.
 
-use crate::disks::{new_disks, run_on};
-use crate::fault::Wrong;
-use crate::rows::{
+use crate::lasting_disks::{new_disks, run_on};
+use crate::lasting_fault::Wrong;
+use crate::lasting_rows::{
     CLASHES, GOES_ON_AFTER_A_KEEPALIVE, LOST_BETWEEN_BLOCKS, LOST_IN_A_STREAM, SENT_AGAIN,
 };
-use crate::runs::Run;
+use crate::lasting_runs::Run;
 use std::alloc::Global;
 use std::test::Fail;
 

@@ -2,7 +2,7 @@
 //!
 //! A line of a recording is a CopyData frame in hexadecimal.
 
-use crate::runs::Run;
+use crate::lasting_runs::Run;
 
 const BEGIN_100: &str =
     "64000000327700000000000000000000000000000000000000000000000042000000000000010000000000000000000000000a";

@@ -2,7 +2,7 @@
 
 ghost use Rattle.std.specs.Prelude.{◌≤◌};
 
-use crate::tests::ALL;
+use crate::made_tables::ALL;
 use pgtables::{
     FoundPosition, Remains, RowCheck, check_remaining_rows, create_tables, drop_remains,
     find_remains, read_remaining_definitions, read_remaining_position,

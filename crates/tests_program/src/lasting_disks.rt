@@ -1,7 +1,7 @@
 //! Two disks in memory that outlast the runs over them.
 
-use crate::fault::Wrong;
-use crate::runs::{Input, Run, check_dump, check_run, input_of};
+use crate::lasting_fault::Wrong;
+use crate::lasting_runs::{Input, Run, check_dump, check_run, input_of};
 use pgstore::Store;
 use sqlite::{Alter, Connection, FileStore, Files, Options};
 use sqlite_disk::{Disk, Memory};

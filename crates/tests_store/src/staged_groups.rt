@@ -1,6 +1,6 @@
 //! Commits that are staged and settled in groups.
 
-use crate::runs::Trial;
+use crate::stopped_runs::Trial;
 use pgapply::{Commit, Op, ReplicaStore, StoreFault, Work};
 use pglogical::{Column, RelationDef};
 use pglsn::Lsn;

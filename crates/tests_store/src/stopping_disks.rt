@@ -1,6 +1,6 @@
 //! Stores on disks that stop.
 
-use crate::runs::Trial;
+use crate::stopped_runs::Trial;
 use pgmemory::stop;
 use pgstore::{Store, StoreFault};
 use sqlite::{Alter, Connection, Files, Options};

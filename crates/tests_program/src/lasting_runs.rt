@@ -1,6 +1,6 @@
 //! One run over a store.
 
-use crate::fault::Wrong;
+use crate::lasting_fault::Wrong;
 use pgapply::ReplicaStore;
 use pgorder::Version;
 use pgsub_cli::storing::{Incoming, read_input};

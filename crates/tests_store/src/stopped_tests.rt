@@ -1,9 +1,9 @@
 //! Each number of calls that a disk passes on before it stops.
 
-use crate::disks::{Calls, Left, NEVER, nothing, try_in_files, try_over};
 use crate::recordings::{CARRIED, IN_BLOCKS, Recording, bytes_of};
-use crate::runs::{GoesOn, Stops};
-use crate::staged::{GROUPS, Puts, PutsMore, end_of};
+use crate::staged_groups::{GROUPS, Puts, PutsMore, end_of};
+use crate::stopped_runs::{GoesOn, Stops};
+use crate::stopping_disks::{Calls, Left, NEVER, nothing, try_in_files, try_over};
 use sqlite::Files;
 use sqlite_disk::Memory;
 use std::alloc::Global;
