@@ -1,5 +1,5 @@
-//! Tests of what stands below the subscriber, and no code: LSNs, tuples, frames, server messages and
-//! statuses, logical messages, their order, spools, and the relation cache with identities.
+//! Tests of what stands below the subscriber, and no code: LSNs, tuples, frames, server messages
+//! and statuses, logical messages, their order, spools, and the relation cache with identities.
 //!
 //! A row is a few bytes, messages, items or tuples in turn, with what each call returns and the
 //! state after it. A vector is the body of a logical message, byte for byte: both decoders must
