@@ -51,6 +51,10 @@ class Replay:
         """A definition: the rows of another shape are carried by the names of the columns, and a new one is null."""
         oid = definition["oid"]
         old, rows = self.definitions.get(oid, definition), self.rows.get(oid, Counter())
+        if [name for name, _, _ in old["columns"]] == [name for name, _, _ in definition["columns"]]:
+            # (each segment tells all definitions once more)
+            self.begin(definition, rows)
+            return
         places = {name: at for at, (name, _, _) in reversed(list(enumerate(old["columns"])))}
         chosen = [places.get(name) for name, _, _ in definition["columns"]]
         carried = Counter[Row]()
