@@ -4,6 +4,7 @@ use denote.RattleType.{RattleType}
 use Rattle.sqlite.specs.Files.{over_files}
 use Rattle.sqlite_store.specs.contracts.store.FileStore as file_store
 use Rattle.sqlite_store.specs.contracts.store.FileStoreStore.TheImpl as file_trees
+use Rattle.sqlite_store.specs.contracts.store.alter.FileStoreAlter.TheImpl as file_tables
 use Rattle.pgmemory.specs.contracts.disk.MemoryDisk as memory_disk
 use Rattle.pgmemory.specs.contracts.disk.MemoryDiskDisk.TheImpl as memory
 use Rattle.pgorder.specs.declared.Version.{Version}
@@ -18,6 +19,7 @@ use Rattle.pgembed.specs.Passed.{IsPassed}
 
 abbrev pub in_memory_row : RattleType
 in_memory_row = embedded.the_row (file_store.the_row memory_disk.the_row memory.ghosts)
+    (file_tables.ghosts memory_disk.the_row memory.ghosts file_tables.no_dict)
     (file_trees.ghosts memory_disk.the_row memory.ghosts file_trees.no_dict)
 
 abbrev pub InMemory : Type 0
