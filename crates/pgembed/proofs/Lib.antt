@@ -1,1 +1,2 @@
+mod DumpLines
 mod Memory

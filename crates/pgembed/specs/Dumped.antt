@@ -10,7 +10,7 @@ use Rattle.pgjson.specs.Cells.{cells_data}
 use Rattle.pgsub_core.specs.declared.fault.Fault.{Fault}
 use Rattle.pgstore.specs.StoreValue.{StoreValue}
 use Rattle.pgembed.specs.Fed.{Copies, stream_number_of}
-use Rattle.pgembed.specs.Passed.{IsPassed, PassesNothing, PassesText}
+use Rattle.pgembed.specs.Passed.{IsPassed, PassesNothing}
 
 -- namespace, name, cells and copies
 abbrev pub row_data : DumpRow → Data
