@@ -1,4 +1,4 @@
-"""The decoder as a library for Python.
+"""The decoder and the subscriber as a library for Python.
 
 It loads a shared object that is linked from the static library of crates/pgsub_c, whose header `pgsub.h` tells what each call does:
 
@@ -8,6 +8,14 @@ A recording's sessions, each as its bytes, have the lines that `pgsub show` prin
 
     for line in Library("./libpgsub.so").show(sessions):
         print(line)
+
+A subscriber keeps its rows in memory:
+
+    with Subscriber(Library("./libpgsub.so")) as copy:
+        for chunk in chunks:
+            copy.feed(chunk, clock)
+            send(copy.replies())
+        print("\\n".join(copy.rows()))
 """
 
 from __future__ import annotations
@@ -18,7 +26,10 @@ from collections.abc import Callable, Iterable, Iterator
 ROOM = 10
 # what the text of a fault has at most
 TEXT = 256
-NAMES = {1: "wire", 2: "decode", 3: "order", 9: "memory", 11: "no such protocol version"}
+NAMES = {
+    1: "wire", 2: "decode", 3: "order", 4: "relation", 5: "spool", 6: "store", 8: "closed", 9: "memory", 11: "no such protocol version",
+    12: "the subscriber is closed", 13: "the subscriber is open",
+}
 
 
 class Fault(Exception):
@@ -46,16 +57,38 @@ class Room:
         return self.bytes.raw[:length].decode() if length <= len(self.bytes) else ""
 
 
+class Handle(ctypes.Structure):
+    """`pgsub_handle`, closed at first."""
+
+    _fields_ = [("at", ctypes.c_void_p), ("is_open", ctypes.c_bool)]
+
+
 class Library:
     """The calls of the shared object at a path."""
 
     def __init__(self, path: str) -> None:
-        calls = ctypes.CDLL(path)
+        self.calls = calls = ctypes.CDLL(path)
         size, number = ctypes.c_size_t, ctypes.c_uint32
         bytes_, room = (ctypes.c_char_p, size), (ctypes.c_void_p, size, ctypes.POINTER(size))
         self._decode, self._show = calls.pgsub_decode, calls.pgsub_show
         self._decode.argtypes, self._decode.restype = (*bytes_, ctypes.c_bool, *room), number
         self._show.argtypes, self._show.restype = (number, *bytes_, *room, *room), number
+        handle, clock, lsn = ctypes.POINTER(Handle), ctypes.c_int64, ctypes.POINTER(ctypes.c_uint64)
+        for name, *words in (
+            ("open", number, handle), ("feed", handle, *bytes_, clock, *room), ("status", handle, clock, ctypes.c_bool),
+            ("replies", handle, *room), ("rows", handle, *room), ("position", handle, lsn, lsn), ("disconnect", handle),
+        ):
+            call = getattr(calls, f"pgsub_{name}")
+            call.argtypes, call.restype = words, number
+        calls.pgsub_close.argtypes, calls.pgsub_close.restype = [handle], None
+
+    def call(self, name: str, *words: object) -> int:
+        """The number that a call of a handle returns."""
+        return int(getattr(self.calls, f"pgsub_{name}")(*words))
+
+    def close(self, handle: Handle) -> None:
+        """Frees what a handle holds."""
+        self.calls.pgsub_close(handle)
 
     def decode(self, payload: bytes, in_block: bool = False) -> str:
         """The line of a payload of CopyData, without its line feed. `in_block`: between Stream Start and Stream Stop."""
@@ -80,6 +113,64 @@ class Library:
             yield from lines
             if fault:
                 raise fault
+
+
+class Subscriber:
+    """A subscriber whose rows are in memory. It isn't for several threads."""
+
+    def __init__(self, library: Library, version: int = 2) -> None:
+        self.library, self.handle = library, Handle()
+        self.check(library.call("open", version, self.handle))
+
+    def check(self, number: int, room: Room | None = None) -> None:
+        """Raises the fault with this number, with the text that was written."""
+        if number:
+            raise Fault(number, room.text() if room else "")
+
+    def feed(self, piece: bytes, clock: int = 0) -> None:
+        """Feeds a chunk of a session's bytes. `clock`: microseconds since 2000-01-01 00:00 UTC. Raises the first fault, up to which all
+        is applied; from then on each chunk is rejected, until `disconnect`."""
+        text = Room(TEXT)
+        self.check(self.library.call("feed", self.handle, piece, len(piece), clock, *text.words()), text)
+
+    def status(self, clock: int = 0, ask: bool = False) -> None:
+        """Appends a Standby status update to the replies. `ask` asks the server for a reply."""
+        self.check(self.library.call("status", self.handle, clock, ask))
+
+    def replies(self) -> bytes:
+        """The frames that wait to be sent to the server, which then wait no longer."""
+        return self.written("replies")
+
+    def rows(self) -> list[str]:
+        """The lines that `pgsub dump` prints of the rows."""
+        # (a text has line feeds only where a line ends)
+        return self.written("rows").decode().split("\n")[:-1]
+
+    def written(self, name: str) -> bytes:
+        """What a call writes."""
+        number, room = with_room(lambda room: self.library.call(name, self.handle, *room.words()))
+        self.check(number)
+        return room.bytes.raw[: room.length.value]
+
+    def position(self) -> tuple[int, int]:
+        """The LSN up to which the rows are complete, and the LSN up to which the server may forget."""
+        position, confirmed = ctypes.c_uint64(), ctypes.c_uint64()
+        self.check(self.library.call("position", self.handle, position, confirmed))
+        return position.value, confirmed.value
+
+    def disconnect(self) -> None:
+        """Forgets the session. The rows and the position stay."""
+        self.check(self.library.call("disconnect", self.handle))
+
+    def close(self) -> None:
+        """Frees it. Each call but this one is a fault from then on."""
+        self.library.close(self.handle)
+
+    def __enter__(self) -> Subscriber:
+        return self
+
+    def __exit__(self, *_: object) -> None:
+        self.close()
 
 
 def with_room(call: Callable[[Room], int], size: int = 1 << 12) -> tuple[int, Room]:

@@ -1,10 +1,11 @@
-"""The decoder as a library, without one: room for what a call writes, and a recording's sessions."""
+"""The decoder and the subscriber as a library, without one: room for what a call writes, a recording's sessions, and a subscriber's calls."""
 
 from __future__ import annotations
 
 import unittest
+from collections.abc import Callable
 
-from pgsub_connect.embedded import ROOM, Fault, Library, Room, with_room
+from pgsub_connect.embedded import ROOM, Fault, Library, Room, Subscriber, with_room
 
 
 class Rooms(unittest.TestCase):
@@ -59,3 +60,61 @@ class Sessions(unittest.TestCase):
     def test_fault_without_text_is_named(self) -> None:
         self.assertEqual(str(Fault(9, "")), "memory")
         self.assertEqual(str(Fault(77, "")), "77")
+
+
+class Answers(Library):
+    """Calls that are noted, and answered with a number and, where there is room, with bytes."""
+
+    def __init__(self, numbers: dict[str, int] | None = None, written: bytes = b"") -> None:
+        """Loads nothing."""
+        self.numbers, self.given = numbers or {}, written
+        self.noted: list[tuple[object, ...]] = []
+
+    def call(self, name: str, *words: object) -> int:
+        self.noted.append((name, *(it for it in words[1:] if isinstance(it, (int, bytes)))))
+        if name in ("feed", "replies", "rows"):
+            return self.write(words[-3], words[-1]) or self.numbers.get(name, 0)
+        return self.numbers.get(name, 0)
+
+    def write(self, room: object, length: object) -> int:
+        """Writes to a room as a call does."""
+        length._obj.value = len(self.given)  # type: ignore[attr-defined]
+        if len(self.given) > len(room):  # type: ignore[arg-type]
+            return ROOM
+        room[: len(self.given)] = self.given  # type: ignore[index]
+        return 0
+
+    def close(self, handle: object) -> None:
+        """Notes that it is freed."""
+        self.noted.append(("close",))
+
+
+class Subscribers(unittest.TestCase):
+    def fault_of(self, call: Callable[[], object]) -> tuple[int, str]:
+        with self.assertRaises(Fault) as raised:
+            call()
+        return raised.exception.number, str(raised.exception)
+
+    def test_calls_are_passed(self) -> None:
+        library = Answers()
+        with Subscriber(library, 1) as copy:
+            copy.feed(b"ab", 7)
+            copy.status(8, True)
+            copy.disconnect()
+            self.assertEqual(copy.position(), (0, 0))
+        self.assertEqual([it[0] for it in library.noted], ["open", "feed", "status", "disconnect", "position", "close"])
+        self.assertEqual(library.noted[1:3], [("feed", b"ab", 2, 7, 256), ("status", 8, True)])
+
+    def test_lines_and_replies_are_what_is_written(self) -> None:
+        copy = Subscriber(Answers(written=b"[1]\n[2]\n"))
+        self.assertEqual((copy.rows(), copy.replies()), (["[1]", "[2]"], b"[1]\n[2]\n"))
+        self.assertEqual(Subscriber(Answers()).rows(), [])
+        long = b"x" * 5000
+        self.assertEqual(Subscriber(Answers(written=long)).replies(), long)
+
+    def test_numbers_are_faults(self) -> None:
+        self.assertEqual(self.fault_of(lambda: Subscriber(Answers({"open": 11}), 3)), (11, "no such protocol version"))
+        copy = Subscriber(Answers({"feed": 3, "rows": 12, "status": 9}, b"order 1"))
+        self.assertEqual(self.fault_of(lambda: copy.feed(b"")), (3, "order 1"))
+        self.assertEqual(self.fault_of(copy.rows), (12, "the subscriber is closed"))
+        self.assertEqual(self.fault_of(copy.status), (9, "memory"))

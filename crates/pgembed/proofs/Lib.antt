@@ -1,1 +1,3 @@
+mod Clocks
+mod DumpLines
 mod Memory

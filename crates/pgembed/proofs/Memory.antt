@@ -1,5 +1,5 @@
 -- Where memory runs out before the first frame no line is shown.
-use Rattle.std.proofs.Common.{◌≡◌, List, [], ◌++◌, ℕ, refl, sym, append-nil}
+use Rattle.std.proofs.Common.{List, [], ℕ, refl, sym, append-nil}
 use Rattle.std.specs.Prelude.{Some, Err}
 use Rattle.pgorder.specs.declared.Version.{Version}
 use Rattle.pgshow.specs.declared.fault.Fault.TheVariants.{Memory}

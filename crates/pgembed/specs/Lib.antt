@@ -1,3 +1,6 @@
 pub mod Decoded
+pub mod Dumped
+pub mod Fed
+pub mod InMemory
 pub mod Passed
 pub mod Shown

@@ -10,15 +10,21 @@
 //! ```
 //!
 //! `pass_line` and `pass_lines` are for callers that aren't Rust: a fault is a number with a text,
-//! and bytes go into room that the caller has.
+//! and bytes go into room that the caller has. `InMemory` is a subscriber for them, whose rows are
+//! in memory.
 #![tactic(auto)]
 
 mod decoding;
+mod dumped;
+mod embedded;
 mod passing;
 mod showing;
 mod subscribing;
 
 pub use decoding::decode;
-pub use passing::{ROOM, number, pass, pass_fault, pass_line, pass_lines};
+pub use embedded::{Embedded, InMemory};
+pub use passing::{
+    MEMORY, ROOM, number, pass, pass_fault, pass_line, pass_lines, pass_stream_fault, stream_number,
+};
 pub use showing::show;
 pub use subscribing::{MAX_BUFFERED, MAX_FRAME, subscriber_over};

@@ -1,16 +1,22 @@
 //! Faults and bytes for callers that aren't Rust.
 
-ghost use Rattle.std.specs.Prelude.{◌≡◌};
+ghost use Rattle.std.specs.Prelude.{◌≡◌, ◌≤◌};
+ghost use Rattle.pgembed.specs.Fed.{stream_number_of};
 ghost use Rattle.pgembed.specs.Passed.{IsPassed, PassesLine, PassesLines, PassesText, number_of};
 
 use crate::decoding::decode;
 use crate::showing::show;
 use pgorder::Version;
 use pgshow::Fault;
+use pgsub_core::Fault as StreamFault;
 use std::alloc::Global;
+use std::fmt;
 
 /// The number that says that what is passed doesn't fit.
 pub const ROOM: u32 = 10;
+
+/// The number that says that memory has run out.
+pub const MEMORY: u32 = 9;
 
 /// The number of a fault.
 pub fn number(fault: Fault) -> u32
@@ -20,7 +26,25 @@ pub fn number(fault: Fault) -> u32
         Fault::Wire(_) => 1,
         Fault::Decode(_) => 2,
         Fault::Order(_) => 3,
-        Fault::Memory => 9,
+        Fault::Memory => MEMORY,
+    }
+}
+
+/// The number of a fault of a subscriber.
+pub fn stream_number(fault: StreamFault) -> u32
+    ensures number { result ≡ stream_number_of fault }
+    ensures some { 1 ≤ result }
+{
+    match fault {
+        StreamFault::Wire(_) => 1,
+        StreamFault::Decode(_) => 2,
+        StreamFault::Order(_) => 3,
+        StreamFault::Relation(_) => 4,
+        StreamFault::Spool(_) => 5,
+        StreamFault::Store(_) => 6,
+        StreamFault::Read => 7,
+        StreamFault::Closed => 8,
+        StreamFault::Memory => MEMORY,
     }
 }
 
@@ -38,6 +62,18 @@ pub fn pass(bytes: &[u8], room: &mut [u8], length: &mut usize) -> u32
     0
 }
 
+/// Writes what is displayed of a value, where there is room and memory for it. How many bytes that
+/// has goes to `length`: more than there is room for where it isn't written, and 0 where memory is
+/// short.
+fn pass_text<T: fmt::Display>(alloc: Global, value: &T, room: &mut [u8], length: &mut usize)
+    ensures { PassesText room.old room.new length.new }
+{
+    *length = 0;
+    if let Ok(text) = format!(in alloc; "{value}") {
+        pass(text.as_bytes(), room, length);
+    }
+}
+
 /// Writes the text of a fault, where there is room and memory for it, and returns its number. How
 /// many bytes the text has goes to `length`: more than there is room for where it isn't written,
 /// and 0 where memory is short.
@@ -45,11 +81,23 @@ pub fn pass_fault(alloc: Global, fault: Fault, room: &mut [u8], length: &mut usi
     ensures number { result ≡ number_of fault }
     ensures text { PassesText room.old room.new length.new }
 {
-    *length = 0;
-    if let Ok(text) = format!(in alloc; "{fault}") {
-        pass(text.as_bytes(), room, length);
-    }
+    pass_text(alloc, &fault, room, length);
     number(fault)
+}
+
+/// As `pass_fault`, of a fault of a subscriber.
+pub fn pass_stream_fault(
+    alloc: Global,
+    fault: StreamFault,
+    room: &mut [u8],
+    length: &mut usize,
+) -> u32
+    ensures number { result ≡ stream_number_of fault }
+    ensures some { 1 ≤ result }
+    ensures text { PassesText room.old room.new length.new }
+{
+    pass_text(alloc, &fault, room, length);
+    stream_number(fault)
 }
 
 /// Passes the line of a payload, as `decode` makes it, or its fault.

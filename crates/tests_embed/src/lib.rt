@@ -4,6 +4,8 @@
 #![tactic(auto)]
 
 #[cfg(test)]
+mod embedded;
+#[cfg(test)]
 mod passed;
 #[cfg(test)]
 mod rows;

@@ -1,0 +1,61 @@
+-- `of` keeps the pointer.
+use Rattle.std.proofs.Common.{◌≡◌, List, [], ◌∷◌, ◌++◌, refl, sym, subst, Some}
+use mir.Val.{Val, vptr}
+use base.Logic.{SProp, ent, emp, id⊢}
+use prog.Wp.{WpFn}
+use types.Kit.{‵, raw, ◌⊛◌, ◌$◌, ◌∵◌, !, qed, by, move, keep, drop, split, fsplit, fjoin, suffices}
+use types.Kit.{use0, use1}
+use types.Run.{stop, fld, of_opd, no_more, and_then, returns, enter}
+use types.ByLocal.{alloc_all, pass_all, free_all, look_at, get, get_in, sets}
+use types.Part.{agg, sub, whole}
+use contract.Monad.{fact, fact_i}
+use contract.Running.{tables}
+use denote.Exit.{yes}
+use denote.RattleType.{RattleType, owns}
+use denote.Signature.{types_at, plain}
+use denote.RawPtr.{block_ptr}
+use denote.Steps.{nothing}
+use denote.Param.{layout}
+use denote.Triple.Entry.{alive}
+use denote.Triple.Walked.{Stays, stay_dropped, walk_of}
+use Rattle.core.proofs.alloc.Calls.{Goes-blank}
+use Rattle.core.proofs.cell.Inside.{Good}
+use Rattle.std_alloc.specs.Box.Ownership.{box_owns}
+use Rattle.std.specs.contracts.alloc.Global as heap
+use Rattle.std.proofs.alloc.Global.TheLaws as heap_laws
+use Rattle.std.specs.contracts.impls.GlobalAllocator.TheImpl.{ghosts}
+use Rattle.std.proofs.raw_atomic.Walks.{proved_at, leaves}
+use Rattle.pgsub_c.specs.Held.{heap_block, held}
+use Rattle.pgembed.specs.InMemory.{in_memory_row}
+use Rattle.pgsub_c.specs.contracts.pointer.Pointer as pointer
+use Rattle.pgsub_c.proofs.Steps.{both, word, Loose, loose_good, loose_out, pointer_in}
+use Rattle.pgsub_c.specs.contracts.pointer.Pointer.of.{ended, clauses}
+use Rattle.pgsub_c.specs.contracts.pointer.Pointer.of.Key.{name as #self}
+use Rattle.pgsub_c.proofs.pointer.Pointer.of.Statement.{statement}
+use Rattle.pgsub_c.proofs.pointer.Pointer.of.Code as code
+
+pub of_spec : {M : Type 1} → statement M
+of_spec 𝓤 𝓛 𝓜 𝓡 wired =
+    let H = 𝓛.H in let 𝓣 = tables 𝓤 H 𝓜 𝓡 𝓡.env in let R : RattleType = in_memory_row in let Z : RattleType = heap.the_row in
+    let LZ = heap_laws.the_row_laws in let c = clauses 𝓛 𝓜.mem 𝓡.returns in
+    let fn = code.function in let P : RattleType = Loose R Z LZ ghosts in
+    let hs : Stays ended.signature.params ended.kept = (stay_dropped (plain (λ _. P)) yes, tt) in
+    proved_at 𝓛 ended hs c 𝓜 𝓡 (Goes-blank 𝓛 0 (plain (λ _. P)) yes (λ κs x f. tt), tt) #self fn (code.unfolded 𝓤 H 𝓜 𝓡 wired) (λ z are.
+    let κs = z.0.0 in let v = z.0.3.0 in let Post : Val → SProp 𝓤 = (walk_of 𝓛 ended hs c).post z in
+    let Run : List Val → SProp 𝓤 = λ ws. WpFn 𝓤 H 𝓣.C 𝓣.Λ fn ws Post in
+    qed 𝓛 ((raw (alive 𝓛 ended.signature κs z.0.1) ⊛ ‵ (owns (types_at ended.signature.params κs) z.0.3 z.0.4)) ∷ raw
+    ((c κs z.0.3).requires z.1) ∷ []) ∵ move ! (1 ∷ []) $
+    drop ! $ split ! $ move ! (1 ∷ []) $ fsplit ! $ loose_out R Z LZ ghosts ! v z.0.4.0 (λ b o h e ws fits.
+    move ! (1 ∷ []) $ drop ! $
+    let w : Val = both (vptr b o) h in let typed = loose_good R Z LZ ghosts b o h fits in let p = block_ptr b o in
+    let good : Good (layout pointer.the_row) (word p) = (tt, (tt, tt)) in
+    suffices ! (Run (w ∷ [])) (subst (λ (us : List Val). ent 𝓤 (Run (w ∷ [])) (Run us)) (sym (λ i. ws i ++ [])) (id⊢ 𝓤 (Run (w ∷ [])))) $
+    enter ! 𝓣.C 𝓣.Λ fn (w ∷ []) Post $ alloc_all ! (λ l. pass_all ! refl (typed, tt) $
+    sets ! (of_opd ! (get_in ! (fld ! refl (stop !)) (sub ! 0 refl (whole !)))) refl (tt, tt) $
+    sets ! (of_opd ! (get_in ! (fld ! refl (stop !)) (sub ! 1 refl (whole !)))) refl fits $
+    sets ! (of_opd ! (get ! refl)) refl (tt, tt) $ sets ! (agg ! (and_then ! (get ! refl) (no_more !))) refl good $
+    use1 𝓛 (‵ (held (box_owns heap_block R p) (Some v.value))) (id⊢ 𝓤 _) $ pointer_in ! p (Some v.value) $
+    use0 𝓛 (raw (fact 𝓤 (Some v.value ≡ Some v.value))) (fact_i 𝓤 (Some v.value ≡ Some v.value) (emp 𝓤) refl) $ nothing ! $ nothing ! $
+    fjoin ! $
+    returns ! (look_at ! 0 refl) $ free_all ! refl $ keep ! (4 ∷ 0 ∷ 2 ∷ 1 ∷ []) $
+    by ! (leaves 𝓛 ended hs c z (word p) (record { at = p; value = Some v.value }) (tt, tt) (tt, tt)))))
