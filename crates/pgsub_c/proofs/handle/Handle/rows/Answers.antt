@@ -1,0 +1,9 @@
+use Rattle.std.proofs.Common.{Some, ap, sym, ◌∙◌}
+use Rattle.pgsub_c.proofs.Called.{called}
+use Rattle.pgsub_c.proofs.handle.Handle.rows.Goals as goal
+
+pub returns : goal.returns
+returns c =
+    let was = c.in-Some.ensures.some ∙ ap Some (sym c.deref_mut.ensures.value) in
+    called _ _ c.deref_mut.result.now c.rows-number.new.self was c.put.ensures
+    (λ serves. (c.rows-number.ensures.rows serves, c.rows-number.ensures.stays serves))
