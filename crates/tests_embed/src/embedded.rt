@@ -1,69 +1,69 @@
 //! A subscriber whose rows are in memory, with what its calls pass.
+//!
+//! Each is told over a store of any kind, since the proof over a given one gets too large.
 
 use crate::rows::SESSION;
-use pgembed::InMemory;
+use pgembed::{Embedded, InMemory};
 use pgorder::Version;
+use sqlite::Alter;
+use std::alloc::Global;
 use std::test::Fail;
 
 /// The line of the row that the session inserts.
 const LINE: &[u8] = b"[\"public\",\"t\",[\"1\",\"a\"],1]\n";
 
-/// The text of a fault of a closed subscriber.
-const CLOSED: &[u8] = b"closed";
+/// Whether a session is fed, and its row passed where there is room.
+fn is_fed<S: Alter + Drop>(alloc: Global, mut held: Embedded<S>, session: &[u8]) -> bool {
+    let (mut room, mut length) = ([b'.'; 64], 1);
+    let fed = held.feed(alloc, session, 7, &mut room, &mut length);
+    let is_placed = (length, held.position(), held.confirmed()) == (0, 0x130, 0x130);
+    let passed = held.rows(alloc, &mut room, &mut length);
+    let is_line = room.starts_with(LINE) && length == LINE.len();
+    let refused = held.rows(alloc, &mut room[..8], &mut length);
+    is_placed && is_line && (fed, passed, refused, length) == (0, 0, 10, LINE.len())
+}
+
+/// Whether a fault closes it until the next session.
+fn closes<S: Alter + Drop>(alloc: Global, mut held: Embedded<S>) -> bool {
+    let (mut room, mut length) = ([b'.'; 64], 0);
+    let rejected = held.feed(alloc, b"e", 7, &mut room, &mut length);
+    let is_told = room.starts_with(b"wire ");
+    let closed = held.feed(alloc, b"", 7, &mut room, &mut length);
+    let is_closed = room.starts_with(b"closed") && length == 6;
+    held.disconnect();
+    let fed = held.feed(alloc, b"", 7, &mut room, &mut length);
+    is_told && is_closed && (rejected, closed, fed, length) == (1, 8, 0, 0)
+}
+
+/// Whether a status is passed once there is room, and then no more.
+fn replies<S: Alter + Drop>(mut held: Embedded<S>) -> bool {
+    let (mut room, mut length, mut none) = ([0; 64], 0, 1);
+    let asked = held.status(7, true);
+    let refused = held.take_replies(&mut [], &mut length);
+    let passed = held.take_replies(&mut room, &mut length);
+    let is_status = room.starts_with(b"d\0\0\0\x26r") && room[38] == 1;
+    let again = held.take_replies(&mut room, &mut none);
+    is_status && (asked, refused, passed, again) == (0, 10, 0, 0) && (length, none) == (39, 0)
+}
 
 #[test]
 fn a_session_is_fed(rt: HostRuntime) -> Result<(), Fail> {
-    let alloc = rt.alloc();
-    let session = hex::decode(alloc, SESSION.as_bytes())?;
-    let mut held = InMemory::new(alloc, Version::Two)?;
-    let (mut room, mut length) = ([b'.'; 64], 1);
-    assert_eq!(rt; held.feed(alloc, &session, 7, &mut room, &mut length), 0);
-    assert_eq!(rt;
-        (length, held.position(), held.confirmed()),
-        (0, 0x130, 0x130)
-    );
-    assert_eq!(rt; held.rows(alloc, &mut room, &mut length), 0);
-    assert!(rt; &room[..length] == LINE);
-    assert_eq!(rt;
-        (held.rows(alloc, &mut room[..8], &mut length), length),
-        (10, LINE.len())
-    );
+    let session = hex::decode(rt.alloc(), SESSION.as_bytes())?;
+    let held = InMemory::new(rt.alloc(), Version::Two)?;
+    assert!(rt; is_fed(rt.alloc(), held, &session));
     Ok(())
 }
 
 #[test]
 fn a_fault_closes_until_the_next_session(rt: HostRuntime) -> Result<(), Fail> {
-    let alloc = rt.alloc();
-    let mut held = InMemory::new(alloc, Version::One)?;
-    let (mut room, mut length) = ([b'.'; 64], 0);
-    assert_eq!(rt; held.feed(alloc, b"e", 7, &mut room, &mut length), 1);
-    assert!(rt; room.starts_with(b"wire "));
-    assert_eq!(rt; held.feed(alloc, b"", 7, &mut room, &mut length), 8);
-    assert!(rt; &room[..length] == CLOSED);
-    held.disconnect();
-    assert_eq!(rt;
-        (held.feed(alloc, b"", 7, &mut room, &mut length), length),
-        (0, 0)
-    );
+    let held = InMemory::new(rt.alloc(), Version::One)?;
+    assert!(rt; closes(rt.alloc(), held));
     Ok(())
 }
 
 #[test]
 fn replies_are_passed_once(rt: HostRuntime) -> Result<(), Fail> {
-    let mut held = InMemory::new(rt.alloc(), Version::Two)?;
-    let (mut room, mut length) = ([0; 64], 0);
-    assert_eq!(rt;
-        (
-            held.status(7, true),
-            held.take_replies(&mut [], &mut length)
-        ),
-        (0, 10)
-    );
-    assert_eq!(rt;
-        (held.take_replies(&mut room, &mut length), length),
-        (0, 39)
-    );
-    assert!(rt; room.starts_with(b"d\0\0\0\x26r") && room[38] == 1);
-    assert_eq!(rt; (held.take_replies(&mut room, &mut length), length), (0, 0));
+    let held = InMemory::new(rt.alloc(), Version::Two)?;
+    assert!(rt; replies(held));
     Ok(())
 }
