@@ -2,7 +2,7 @@
 
 It loads a shared object that is linked from the static library of crates/pgsub_c, whose header `pgsub.h` tells what each call does:
 
-    cc -shared -o libpgsub.so -Wl,--whole-archive libpgsub_c.a -Wl,--no-whole-archive liblibc_c.a
+    cc -shared -o libpgsub.so -Wl,--whole-archive libpgsub_c.a -Wl,--no-whole-archive libos_c.a liblibc_c.a
 
 A recording's sessions, each as its bytes, have the lines that `pgsub show` prints:
 

@@ -1,5 +1,5 @@
 /* The decoder and the subscriber of PostgreSQL logical replication (pgoutput, protocol versions 1 and 2), for C. `rt lib` makes
- * out/libpgsub_c.a, which is linked with c/liblibc_c.a of the toolchain (`rt doc` tells where that is).
+ * out/libpgsub_c.a, which is linked with c/libos_c.a and c/liblibc_c.a of the toolchain (`rt doc` tells where that is).
  *
  *     uint8_t room[65536];
  *     size_t length;
