@@ -14,12 +14,12 @@ const LINE: &[u8] = b"[\"public\",\"t\",[\"1\",\"a\"],1]\n";
 
 /// Whether a session is fed, and its row passed where there is room.
 fn is_fed<S: Alter + Drop>(alloc: Global, mut held: Embedded<S>, session: &[u8]) -> bool {
-    let (mut room, mut length) = ([b'.'; 64], 1);
+    let (mut room, mut small, mut length) = ([b'.'; 64], [b'.'; 8], 1);
     let fed = held.feed(alloc, session, 7, &mut room, &mut length);
     let is_placed = (length, held.position(), held.confirmed()) == (0, 0x130, 0x130);
     let passed = held.rows(alloc, &mut room, &mut length);
     let is_line = room.starts_with(LINE) && length == LINE.len();
-    let refused = held.rows(alloc, &mut room[..8], &mut length);
+    let refused = held.rows(alloc, &mut small, &mut length);
     is_placed && is_line && (fed, passed, refused, length) == (0, 0, 10, LINE.len())
 }
 
