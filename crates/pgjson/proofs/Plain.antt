@@ -22,6 +22,7 @@ use Rattle.pgjson.specs.Cells.{cell_data}
 use Rattle.pgjson.specs.Messages.{column_data, item_data, message_data, natural, old_data}
 use Rattle.pgjson.specs.Messages.{prior_data, xid_data}
 use Rattle.pgjson.specs.Lines.{data_data, keepalive_data, line}
+use Rattle.pgjson.specs.Rows.{row_data}
 
 integer_plain : (n : ℤ) → is_float (of_integer n) ≡ false
 integer_plain (pos n) = refl
@@ -81,6 +82,9 @@ data_plain start end clock m = rw (integer_plain clock, message_plain m)
 
 pub keepalive_plain : (end : ℕ) (clock : ℤ) (reply : Bool) → has_float (keepalive_data end clock reply) ≡ false
 keepalive_plain end clock reply = rw (integer_plain clock)
+
+pub row_plain : (namespace name : List ℕ) (cells : List Cell) (copies : ℕ) → has_float (row_data namespace name cells copies) ≡ false
+row_plain namespace name cells copies = rw (cells_plain cells)
 
 -- the line of a value that stands for data without floats
 pub line_as : (text : Result (String Global) AllocError) (value : Value) (d : Data) → view value ≡ d → has_float d ≡ false

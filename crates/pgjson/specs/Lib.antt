@@ -1,3 +1,4 @@
 pub mod Cells
 pub mod Lines
 pub mod Messages
+pub mod Rows

@@ -101,6 +101,9 @@ logical_data xid transactional lsn prefix content =
 abbrev pub stream_start_data : ℕ → Bool → Data
 stream_start_data xid first = list (string (codes "StreamStart") ∷ natural xid ∷ natural (bit first) ∷ [])
 
+abbrev pub stream_stop_data : Data
+stream_stop_data = list (string (codes "StreamStop") ∷ [])
+
 abbrev pub stream_abort_data : ℕ → ℕ → Data
 stream_abort_data xid subxid = list (string (codes "StreamAbort") ∷ natural xid ∷ natural subxid ∷ [])
 
@@ -115,6 +118,6 @@ message_data (message.TypeName xid oid namespace name) = type_data xid oid names
 message_data (message.Logical xid transactional lsn prefix content) = logical_data xid transactional lsn prefix content
 message_data (message.Item xid item) = item_data xid item
 message_data (message.StreamStart xid first) = stream_start_data xid first
-message_data message.StreamStop = list (string (codes "StreamStop") ∷ [])
+message_data message.StreamStop = stream_stop_data
 message_data (message.StreamCommit xid lsn end time) = stream_commit_data xid lsn end time
 message_data (message.StreamAbort xid subxid) = stream_abort_data xid subxid

@@ -13,16 +13,19 @@ use crate::cells::cells_json;
 use crate::parts::{columns_json, letter_json, oids_json, old_tuple_json, xid_json};
 use pglogical::{DefRef, ItemParts, OidRefs, OldKind};
 use pgtuple::TupleRef;
-use serde_json::{Value, json};
+use serde_json::Value;
 use std::alloc::{AllocError, Global};
 
 fn relation_json(alloc: Global, xid: Option<u32>, def: &DefRef<'_>) -> Result<Value, AllocError>
     ensures { IfOk result (λ value. view value ≡ relation_data xid (def_value def.now)) }
 {
-    let xid = xid_json(xid);
+    let tag = Value::try_from_str(alloc, "Relation")?;
+    let namespace = Value::try_from_str(alloc, def.namespace)?;
+    let name = Value::try_from_str(alloc, def.name)?;
     let letter = letter_json(alloc, def.letter)?;
     let columns = columns_json(alloc, &def.columns)?;
-    json!(in alloc; ["Relation", xid, def.oid, def.namespace, def.name, letter, columns])
+    let (xid, oid) = (xid_json(xid), Value::from(def.oid));
+    Ok(Value::Array(vec![in alloc; tag, xid, oid, namespace, name, letter, columns]?))
 }
 
 /// The old tuple of an update, or null.
@@ -43,9 +46,9 @@ fn insert_json(
 ) -> Result<Value, AllocError>
     ensures { IfOk result (λ value. view value ≡ insert_data xid oid row.now) }
 {
-    let xid = xid_json(xid);
+    let tag = Value::try_from_str(alloc, "Insert")?;
     let cells = cells_json(alloc, row)?;
-    json!(in alloc; ["Insert", xid, oid, cells])
+    Ok(Value::Array(vec![in alloc; tag, xid_json(xid), Value::from(oid), cells]?))
 }
 
 fn update_json(
@@ -57,10 +60,10 @@ fn update_json(
 ) -> Result<Value, AllocError>
     ensures { IfOk result (λ value. view value ≡ update_data xid oid prior.now row.now) }
 {
-    let xid = xid_json(xid);
+    let tag = Value::try_from_str(alloc, "Update")?;
     let old = prior_json(alloc, prior)?;
     let cells = cells_json(alloc, row)?;
-    json!(in alloc; ["Update", xid, oid, old, cells])
+    Ok(Value::Array(vec![in alloc; tag, xid_json(xid), Value::from(oid), old, cells]?))
 }
 
 fn delete_json(
@@ -72,9 +75,9 @@ fn delete_json(
 ) -> Result<Value, AllocError>
     ensures { IfOk result (λ value. view value ≡ delete_data xid oid kind row.now) }
 {
-    let xid = xid_json(xid);
+    let tag = Value::try_from_str(alloc, "Delete")?;
     let old = old_tuple_json(alloc, kind, row)?;
-    json!(in alloc; ["Delete", xid, oid, old])
+    Ok(Value::Array(vec![in alloc; tag, xid_json(xid), Value::from(oid), old]?))
 }
 
 fn truncate_json(
@@ -85,9 +88,9 @@ fn truncate_json(
 ) -> Result<Value, AllocError>
     ensures { IfOk result (λ value. view value ≡ truncate_data xid options oids.now) }
 {
-    let xid = xid_json(xid);
+    let tag = Value::try_from_str(alloc, "Truncate")?;
     let oids = oids_json(alloc, oids)?;
-    json!(in alloc; ["Truncate", xid, options, oids])
+    Ok(Value::Array(vec![in alloc; tag, xid_json(xid), Value::from(options), oids]?))
 }
 
 /// A relation or a change in JSON, with the xid of its message.

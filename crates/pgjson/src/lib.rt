@@ -1,4 +1,5 @@
-//! Replicated values in JSON: cells, logical messages, and one line for each frame of a session.
+//! Replicated values in JSON: cells, logical messages, and one line for each frame of a session and
+//! each row of a dump.
 //!
 //! ```text
 //! let value = cells_json(alloc, &row.cells.borrowed())?;     // ["1",null,{"hex":"00ff"}]
@@ -12,7 +13,9 @@ mod items;
 mod lines;
 mod messages;
 mod parts;
+mod rows;
 
 pub use cells::{cell_json, cells_json};
 pub use lines::{data_line, done_line, keepalive_line};
 pub use messages::message_json;
+pub use rows::row_line;

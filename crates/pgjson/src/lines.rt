@@ -13,11 +13,11 @@ use crate::messages::message_json;
 use crate::parts::{flag, lsn_json};
 use pglogical::MessageRef;
 use pglsn::Lsn;
-use serde_json::{Value, json};
+use serde_json::Value;
 use std::alloc::{AllocError, Global};
 
 /// The compact text of a value, and a line feed.
-fn line_of(alloc: Global, value: &Value) -> Result<String, AllocError>
+pub(crate) fn line_of(alloc: Global, value: &Value) -> Result<String, AllocError>
     ensures { IfOk result (λ text. has_float (view value.now) ≡ false →
         string_bytes text ≡ line (view value.now)) }
 {
@@ -36,23 +36,27 @@ fn data_json(
     ensures { IfOk result (λ value. view value
         ≡ data_data start end clock (message_value message.now)) }
 {
+    let tag = Value::try_from_str(alloc, "data")?;
     let start = lsn_json(alloc, start)?;
     let end = lsn_json(alloc, end)?;
     let message = message_json(alloc, message)?;
-    json!(in alloc; ["data", start, end, clock, message])
+    Ok(Value::Array(vec![in alloc; tag, start, end, Value::from(clock), message]?))
 }
 
 fn keepalive_json(alloc: Global, end: Lsn, clock: i64, reply: bool) -> Result<Value, AllocError>
     ensures { IfOk result (λ value. view value ≡ keepalive_data end clock reply) }
 {
+    let tag = Value::try_from_str(alloc, "keepalive")?;
     let end = lsn_json(alloc, end)?;
-    json!(in alloc; ["keepalive", end, clock, flag(reply)])
+    let reply = Value::from(flag(reply));
+    Ok(Value::Array(vec![in alloc; tag, end, Value::from(clock), reply]?))
 }
 
 fn done_json(alloc: Global) -> Result<Value, AllocError>
     ensures { IfOk result (λ value. view value ≡ done_data) }
 {
-    json!(in alloc; ["done"])
+    let tag = Value::try_from_str(alloc, "done")?;
+    Ok(Value::Array(vec![in alloc; tag]?))
 }
 
 /// The line of XLogData, with the logical message in it.

@@ -7,35 +7,40 @@ ghost use Rattle.serde_json.specs.View.{view};
 ghost use Rattle.pglogical.specs.Borrowed.{message_value};
 ghost use Rattle.pgjson.specs.Messages.{begin_data, commit_data, logical_data, message_data};
 ghost use Rattle.pgjson.specs.Messages.{origin_data, stream_abort_data, stream_commit_data};
-ghost use Rattle.pgjson.specs.Messages.{stream_start_data, type_data};
+ghost use Rattle.pgjson.specs.Messages.{stream_start_data, stream_stop_data, type_data};
 
+use crate::cells::bytes_json;
 use crate::items::item_json;
 use crate::parts::{flag, lsn_json, xid_json};
 use pglogical::MessageRef;
 use pglsn::Lsn;
-use serde_json::{Value, json};
+use serde_json::Value;
 use std::alloc::{AllocError, Global};
 
 fn begin_json(alloc: Global, lsn: Lsn, time: i64, xid: u32) -> Result<Value, AllocError>
     ensures { IfOk result (λ value. view value ≡ begin_data lsn time xid) }
 {
+    let tag = Value::try_from_str(alloc, "Begin")?;
     let lsn = lsn_json(alloc, lsn)?;
-    json!(in alloc; ["Begin", lsn, time, xid])
+    Ok(Value::Array(vec![in alloc; tag, lsn, Value::from(time), Value::from(xid)]?))
 }
 
 fn commit_json(alloc: Global, lsn: Lsn, end: Lsn, time: i64) -> Result<Value, AllocError>
     ensures { IfOk result (λ value. view value ≡ commit_data lsn end time) }
 {
+    let tag = Value::try_from_str(alloc, "Commit")?;
     let lsn = lsn_json(alloc, lsn)?;
     let end = lsn_json(alloc, end)?;
-    json!(in alloc; ["Commit", lsn, end, time])
+    Ok(Value::Array(vec![in alloc; tag, lsn, end, Value::from(time)]?))
 }
 
 fn origin_json(alloc: Global, lsn: Lsn, name: &str) -> Result<Value, AllocError>
     ensures { IfOk result (λ value. view value ≡ origin_data lsn name.now) }
 {
+    let tag = Value::try_from_str(alloc, "Origin")?;
     let lsn = lsn_json(alloc, lsn)?;
-    json!(in alloc; ["Origin", lsn, name])
+    let name = Value::try_from_str(alloc, name)?;
+    Ok(Value::Array(vec![in alloc; tag, lsn, name]?))
 }
 
 fn type_json(
@@ -47,8 +52,10 @@ fn type_json(
 ) -> Result<Value, AllocError>
     ensures { IfOk result (λ value. view value ≡ type_data xid oid namespace.now name.now) }
 {
-    let xid = xid_json(xid);
-    json!(in alloc; ["Type", xid, oid, namespace, name])
+    let tag = Value::try_from_str(alloc, "Type")?;
+    let namespace = Value::try_from_str(alloc, namespace)?;
+    let name = Value::try_from_str(alloc, name)?;
+    Ok(Value::Array(vec![in alloc; tag, xid_json(xid), Value::from(oid), namespace, name]?))
 }
 
 fn logical_json(
@@ -62,22 +69,33 @@ fn logical_json(
     ensures { IfOk result (λ value. view value
         ≡ logical_data xid transactional lsn prefix.now content.now) }
 {
+    let tag = Value::try_from_str(alloc, "Message")?;
     let lsn = lsn_json(alloc, lsn)?;
-    let digits = hex::encode(alloc, content)?;
-    let content = json!(in alloc; {"hex": digits})?;
-    json!(in alloc; ["Message", xid_json(xid), flag(transactional), lsn, prefix, content])
+    let prefix = Value::try_from_str(alloc, prefix)?;
+    let content = bytes_json(alloc, content)?;
+    let (xid, flag) = (xid_json(xid), Value::from(flag(transactional)));
+    Ok(Value::Array(vec![in alloc; tag, xid, flag, lsn, prefix, content]?))
 }
 
 fn stream_start_json(alloc: Global, xid: u32, first: bool) -> Result<Value, AllocError>
     ensures { IfOk result (λ value. view value ≡ stream_start_data xid first) }
 {
-    json!(in alloc; ["StreamStart", xid, flag(first)])
+    let tag = Value::try_from_str(alloc, "StreamStart")?;
+    Ok(Value::Array(vec![in alloc; tag, Value::from(xid), Value::from(flag(first))]?))
+}
+
+fn stream_stop_json(alloc: Global) -> Result<Value, AllocError>
+    ensures { IfOk result (λ value. view value ≡ stream_stop_data) }
+{
+    let tag = Value::try_from_str(alloc, "StreamStop")?;
+    Ok(Value::Array(vec![in alloc; tag]?))
 }
 
 fn stream_abort_json(alloc: Global, xid: u32, subxid: u32) -> Result<Value, AllocError>
     ensures { IfOk result (λ value. view value ≡ stream_abort_data xid subxid) }
 {
-    json!(in alloc; ["StreamAbort", xid, subxid])
+    let tag = Value::try_from_str(alloc, "StreamAbort")?;
+    Ok(Value::Array(vec![in alloc; tag, Value::from(xid), Value::from(subxid)]?))
 }
 
 fn stream_commit_json(
@@ -89,9 +107,10 @@ fn stream_commit_json(
 ) -> Result<Value, AllocError>
     ensures { IfOk result (λ value. view value ≡ stream_commit_data xid lsn end time) }
 {
+    let tag = Value::try_from_str(alloc, "StreamCommit")?;
     let lsn = lsn_json(alloc, lsn)?;
     let end = lsn_json(alloc, end)?;
-    json!(in alloc; ["StreamCommit", xid, lsn, end, time])
+    Ok(Value::Array(vec![in alloc; tag, Value::from(xid), lsn, end, Value::from(time)]?))
 }
 
 /// A logical message in JSON: an array of its name and its fields.
@@ -127,7 +146,7 @@ pub fn message_json(alloc: Global, message: &MessageRef<'_>) -> Result<Value, Al
         MessageRef::StreamStart { xid, first_segment } => {
             stream_start_json(alloc, *xid, *first_segment)
         }
-        MessageRef::StreamStop => json!(in alloc; ["StreamStop"]),
+        MessageRef::StreamStop => stream_stop_json(alloc),
         MessageRef::StreamCommit {
             xid,
             commit_lsn,

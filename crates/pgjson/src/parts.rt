@@ -13,7 +13,7 @@ use crate::cells::cells_json;
 use pglogical::{ColumnRef, ColumnRefs, OidRefs, OldKind};
 use pglsn::Lsn;
 use pgtuple::TupleRef;
-use serde_json::{Value, json};
+use serde_json::Value;
 use std::alloc::{AllocError, Global};
 
 /// A flag as a number, 0 or 1.
@@ -52,7 +52,9 @@ pub(crate) fn letter_json(alloc: Global, letter: u8) -> Result<Value, AllocError
 fn column_json(alloc: Global, column: &ColumnRef<'_>) -> Result<Value, AllocError>
     ensures { IfOk result (λ value. view value ≡ column_data (column_value column.now)) }
 {
-    json!(in alloc; [flag(column.key), column.name, column.type_oid, column.modifier])
+    let name = Value::try_from_str(alloc, column.name)?;
+    let (flag, oid) = (Value::from(flag(column.key)), Value::from(column.type_oid));
+    Ok(Value::Array(vec![in alloc; flag, name, oid, Value::from(column.modifier)]?))
 }
 
 /// The columns of a relation, each as an array of its flag, name, type and modifier.
@@ -85,10 +87,11 @@ pub(crate) fn old_tuple_json(
 ) -> Result<Value, AllocError>
     ensures { IfOk result (λ value. view value ≡ old_data kind row.now) }
 {
-    let cells = cells_json(alloc, row)?;
     let letter = match kind {
         OldKind::Key => "K",
         OldKind::Full => "O",
     };
-    json!(in alloc; [letter, cells])
+    let letter = Value::try_from_str(alloc, letter)?;
+    let cells = cells_json(alloc, row)?;
+    Ok(Value::Array(vec![in alloc; letter, cells]?))
 }

@@ -1,5 +1,4 @@
 pub mod Came
-pub mod DumpLines
 pub mod FedBytes
 pub mod Reading
 pub mod Writing

@@ -1,19 +1,13 @@
 -- How a dump is printed: a line a row, in JSON, and the position behind them.
 use Rattle.std.specs.Prelude.{ℕ, List, [], ◌∷◌, ◌++◌, codes}
 use Rattle.std.specs.List.{flat_map}
-use Rattle.serde_json.specs.Data.{Data, number, unsigned, string, array, item, no_items}
-use Rattle.serde_json.specs.Written.{compact_text}
 use Rattle.pglsn.specs.Texts.{lsn_text}
 use Rattle.pgapply.specs.declared.rows.DumpRow.{DumpRow}
-use Rattle.pgjson.specs.Cells.{cells_data}
-
--- namespace, name, cells and copies
-abbrev pub row_data : DumpRow → Data
-row_data row = array (item (string row.namespace)
-    (item (string row.name) (item (cells_data row.cells) (item (number (unsigned row.copies)) no_items))))
+use Rattle.pgjson.specs.Lines.{line}
+use Rattle.pgjson.specs.Rows.{row_data}
 
 abbrev pub row_line : DumpRow → List ℕ
-row_line row = compact_text (row_data row) ++ 10 ∷ []
+row_line row = line (row_data row.namespace row.name row.cells row.copies)
 
 abbrev pub position_line : ℕ → List ℕ
 position_line lsn = codes "position " ++ (lsn_text lsn ++ 10 ∷ [])

@@ -1,50 +1,26 @@
 //! The printed form of rows and position.
 ghost use Rattle.std.specs.Prelude.{◌≡◌, ◌++◌, IfOk, OnOk, string_bytes};
-ghost use Rattle.serde_json.specs.View.{view};
-ghost use Rattle.serde_json.specs.Written.{compact_text};
-ghost use Rattle.pgsub_cli.specs.DumpText.{row_data, row_line, position_line, dump_of, resumed_of};
+ghost use Rattle.pgsub_cli.specs.DumpText.{row_line, position_line, dump_of, resumed_of};
 
 use pgapply::DumpRow;
-use pgjson::cells_json;
 use pglsn::Lsn;
-use serde_json::{Value, json};
 use std::alloc::{AllocError, Global};
 use std::fmt::Write;
-
-/// A row in JSON: namespace, name, cells and copies.
-fn row_json(alloc: Global, row: &DumpRow) -> Result<Value, AllocError>
-    ensures { IfOk result (λ value. view value ≡ row_data row.now) }
-{
-    let cells = cells_json(alloc, &row.cells.borrowed())?;
-    let namespace = String::from_str(alloc, row.namespace.as_str())?;
-    let name = String::from_str(alloc, row.name.as_str())?;
-    json!(in alloc; [namespace, name, cells, row.copies])
-}
-
-/// A row's line, without the line feed.
-fn row_text(alloc: Global, row: &DumpRow) -> Result<String, AllocError>
-    ensures { IfOk result (λ text. string_bytes text ≡ compact_text (row_data row.now)) }
-{
-    let value = row_json(alloc, row)?;
-    value.to_string(alloc)
-}
 
 /// A row's line.
 pub(crate) fn line_text(alloc: Global, row: &DumpRow) -> Result<String, AllocError>
     ensures { IfOk result (λ line. string_bytes line ≡ row_line row.now) }
 {
-    let mut line = row_text(alloc, row)?;
-    line.push('\n')?;
-    Ok(line)
+    let (namespace, name) = (row.namespace.as_str(), row.name.as_str());
+    pgjson::row_line(alloc, namespace, name, &row.cells.borrowed(), row.copies)
 }
 
 /// Appends a row's line.
 fn write_row(alloc: Global, row: &DumpRow, out: &mut String) -> Result<(), AllocError>
     ensures { OnOk result (string_bytes out.new ≡ string_bytes out.old ++ row_line row.now) }
 {
-    let line = row_text(alloc, row)?;
-    out.push_str(line.as_str())?;
-    out.push('\n')
+    let line = line_text(alloc, row)?;
+    out.push_str(line.as_str())
 }
 
 /// Appends the line of the position.
