@@ -1,3 +1,2 @@
 mod Clocks
-mod DumpLines
 mod Memory

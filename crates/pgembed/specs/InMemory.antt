@@ -1,5 +1,5 @@
 -- A subscriber whose rows are on disks in memory, and what its calls do.
-use Rattle.std.specs.Prelude.{◌≡◌, ℕ, ℤ, List, Bool}
+use Rattle.std.specs.Prelude.{◌≡◌, ◌≢◌, ℕ, ℤ, List, Bool, true}
 use denote.RattleType.{RattleType}
 use Rattle.sqlite.specs.Files.{over_files}
 use Rattle.sqlite_store.specs.contracts.store.FileStore as file_store
@@ -10,7 +10,7 @@ use Rattle.pgmemory.specs.contracts.disk.MemoryDiskDisk.TheImpl as memory
 use Rattle.pgorder.specs.declared.Version.{Version}
 use Rattle.pgapply.specs.Taken.{Stays}
 use Rattle.pgapply.specs.Value.{Tables}
-use Rattle.pgstore.specs.StoreValue.{HasTables, Holds, Serves, nothing_stored}
+use Rattle.pgstore.specs.StoreValue.{HasTables, Holds, IsHonest, Serves, nothing_stored}
 use Rattle.pgsub_core.specs.Subscriber.Subscribed.{disconnect, newly}
 use Rattle.pgembed.specs.contracts.embedded.Embedded as embedded
 use Rattle.pgembed.specs.Dumped.{PassesRows}
@@ -35,11 +35,16 @@ IsNew version held =
     × Holds over_files held.subscriber.applied.store nothing_stored
     × ((tables : Tables) → seen_of held.subscriber tables ≡ newly tables (place_of held) version 16777216 67108864)
 
--- while the store serves, it was fed this
-abbrev pub HasFed : ℤ → InMemory → List ℕ → InMemory → List ℕ → List ℕ → ℕ → ℕ → Type 0
-HasFed clock old piece new old_text new_text told result =
-    Serves over_files new.subscriber.applied.store
-    → PassesFed (HasTables over_files) clock old.subscriber piece new.subscriber old_text new_text told result
+-- While the store serves, it was fed this. A fault closes it; a closed one takes nothing, and stays
+-- as it was. After 0 the store serves if it did, as long as the disk has returned what was written.
+pub record HasFed (clock : ℤ) (old : InMemory) (piece : List ℕ) (new : InMemory) (old_text new_text : List ℕ)
+    (told result : ℕ) : Type 0 where
+  pub fed : Serves over_files new.subscriber.applied.store
+      → PassesFed (HasTables over_files) clock old.subscriber piece new.subscriber old_text new_text told result
+  pub closed : old.subscriber.framing.closed ≡ true → (result ≡ 8) × (new ≡ old)
+  pub closes : result ≢ 0 → new.subscriber.framing.closed ≡ true
+  pub serves : IsHonest over_files new.subscriber.applied.store → Serves over_files old.subscriber.applied.store → result ≡ 0
+      → Serves over_files new.subscriber.applied.store
 
 -- a status was appended, or memory was short
 abbrev pub HasAsked : ℤ → Bool → InMemory → InMemory → ℕ → Type 0
@@ -47,18 +52,21 @@ HasAsked clock ask old new result =
     (new.subscriber.applied.store ≡ old.subscriber.applied.store)
     × AsksOrStays clock ask old.subscriber new.subscriber result
 
--- the replies were passed, and dropped where there was room
-abbrev pub HasReplied : InMemory → InMemory → List ℕ → List ℕ → ℕ → ℕ → Type 0
-HasReplied old new old_room new_room told result =
-    IsPassed old.subscriber.applied.replies old_room new_room told result
-    × (result ≡ 0 → DropsReplies old.subscriber new.subscriber)
+-- the replies were passed and dropped, or there was no room and they go on waiting
+pub record HasReplied (old new : InMemory) (old_room new_room : List ℕ) (told result : ℕ) : Type 0 where
+  pub passed : IsPassed old.subscriber.applied.replies old_room new_room told result
+  pub taken : result ≡ 0 → DropsReplies old.subscriber new.subscriber
+  pub kept : result ≢ 0 → new ≡ old
 
--- while the store serves, its rows were passed, or why not
-abbrev pub HasShown : InMemory → InMemory → List ℕ → List ℕ → ℕ → ℕ → Type 0
-HasShown old new old_room new_room told result =
-    Serves over_files new.subscriber.applied.store
-    → PassesRows (HasTables over_files) old.subscriber old_room new_room told result
-    × Stays (HasTables over_files) old.subscriber.applied.store new.subscriber.applied.store
+-- While the store serves, its rows were passed, or why not, and they stay. Nothing else changes.
+-- After 0 the store serves, as long as the disk has returned what was written.
+pub record HasShown (old new : InMemory) (old_room new_room : List ℕ) (told result : ℕ) : Type 0 where
+  pub shown : Serves over_files new.subscriber.applied.store
+      → PassesRows (HasTables over_files) old.subscriber old_room new_room told result
+  pub stays : Serves over_files new.subscriber.applied.store
+      → Stays (HasTables over_files) old.subscriber.applied.store new.subscriber.applied.store
+  pub same : (tables : Tables) → seen_of new.subscriber tables ≡ seen_of old.subscriber tables
+  pub serves : IsHonest over_files new.subscriber.applied.store → result ≡ 0 → Serves over_files new.subscriber.applied.store
 
 abbrev pub HasDisconnected : InMemory → InMemory → Type 0
 HasDisconnected old new =

@@ -2,7 +2,7 @@
 //!
 //! PostgreSQL documentation, Streaming Replication Protocol.
 
-ghost use Rattle.std.specs.Prelude.{◌≡◌, ◌≢◌, true, IfOk};
+ghost use Rattle.std.specs.Prelude.{◌≡◌, ◌≢◌, ◌⊎◌, true, IfErr, IfOk};
 ghost use Rattle.sqlite.specs.Files.{over_files};
 ghost use Rattle.pgapply.specs.Taken.{Stays};
 ghost use Rattle.pgapply.specs.Value.{Tables};
@@ -15,6 +15,7 @@ ghost use Rattle.pgembed.specs.Passed.{IsPassed};
 use crate::dumped::rows_text;
 use crate::passing::{MEMORY, pass, pass_stream_fault, stream_number};
 use crate::subscribing::subscriber_over;
+use pgapply::StoreFault;
 use pgmemory::MemoryDisk;
 use pgorder::Version;
 use pgspool::ByteSpools;
@@ -116,6 +117,8 @@ impl<S: Alter + Drop> Embedded<S> {
         ensures stays { Serves S.Store self.new.subscriber.applied.store →
             Stays (HasTables S.Store) self.old.subscriber.applied.store
             self.new.subscriber.applied.store }
+        ensures serves { IsHonest S.Store self.new.subscriber.applied.store → result ≡ 0 →
+            Serves S.Store self.new.subscriber.applied.store }
     {
         *length = 0;
         let rows = match self.subscriber.rows() {
@@ -163,6 +166,8 @@ impl InMemory {
             × Holds over_files held.subscriber.applied.store nothing_stored) }
         ensures state { IfOk result (λ held. (tables : Tables) → seen_of held.subscriber tables
             ≡ newly tables (position_of held.subscriber.applied.store) version 16777216 67108864) }
+        ensures fault { IfErr result
+            (λ f. (f ≡ Fault.Memory) ⊎ (f ≡ Fault.Store StoreFault.Refused)) }
     {
         let store = Store::on_memory_disks(alloc)?;
         Ok(Embedded::over(alloc, store, version))

@@ -1,6 +1,6 @@
 //! A subscriber's handle, and what is done with it.
 
-ghost use Rattle.std.specs.Prelude.{◌≡◌, ◌≢◌, Some, None, IfSome, is_some, true};
+ghost use Rattle.std.specs.Prelude.{◌≡◌, ◌≢◌, ◌⊎◌, Some, None, IfSome, is_some, true};
 ghost use Rattle.pgembed.specs.InMemory.{HasAsked, HasDisconnected, HasFed, HasReplied, HasShown};
 ghost use Rattle.pgembed.specs.InMemory.{IsNew, place_of};
 ghost use Rattle.pgembed.specs.Passed.{PassesNothing};
@@ -85,6 +85,9 @@ impl Handle {
         ensures was_closed { result ≡ 0 → self.old.pointer.value ≡ None }
         ensures is_open { result ≡ 0 → is_some self.new.pointer.value ≡ true }
         ensures refused { result ≢ 0 → self.new.pointer.value ≡ self.old.pointer.value }
+        ensures already { is_some self.old.pointer.value ≡ true → result ≡ 13 }
+        ensures number { (result ≡ 0) ⊎ (result ≡ 6) ⊎ (result ≡ 9)
+            ⊎ ((result ≡ 13) × (is_some self.old.pointer.value ≡ true)) }
     {
         if let Some(held) = self.take(alloc) {
             self.put(held);

@@ -7,7 +7,7 @@
 //! that a handle is as the last call left it; nor the C compiler, the linker and malloc.
 #![tactic(auto)]
 
-ghost use Rattle.std.specs.Prelude.{◌≡◌, ◌≢◌, None, IfSome, is_some, true};
+ghost use Rattle.std.specs.Prelude.{◌≡◌, ◌≢◌, ◌⊎◌, None, IfSome, is_some, true};
 ghost use Rattle.pgorder.specs.declared.Version.TheVariants as of;
 ghost use Rattle.pgembed.specs.InMemory.{HasAsked, HasDisconnected, HasFed, HasReplied, HasShown};
 ghost use Rattle.pgembed.specs.InMemory.{IsNew, place_of};
@@ -80,6 +80,10 @@ pub extern "C" fn pgsub_open(alloc: Global, version: u32, handle: &mut Handle) -
     ensures was_closed { result ≡ 0 → handle.old.pointer.value ≡ None }
     ensures is_open { result ≡ 0 → is_some handle.new.pointer.value ≡ true }
     ensures refused { result ≢ 0 → handle.new.pointer.value ≡ handle.old.pointer.value }
+    ensures already { result ≢ 11 → is_some handle.old.pointer.value ≡ true → result ≡ 13 }
+    ensures number { (result ≡ 0) ⊎ (result ≡ 6) ⊎ (result ≡ 9)
+        ⊎ ((result ≡ 11) × (version ≢ 1) × (version ≢ 2))
+        ⊎ ((result ≡ 13) × (is_some handle.old.pointer.value ≡ true)) }
 {
     match version {
         1 => handle.open(alloc, Version::One),

@@ -5,5 +5,6 @@ use Rattle.pgsub_c.proofs.handle.Handle.rows.Goals as goal
 pub returns : goal.returns
 returns c =
     let was = c.in-Some.ensures.some ∙ ap Some (sym c.deref_mut.ensures.value) in
+    let told = c.rows-number.ensures in
     called _ _ c.deref_mut.result.now c.rows-number.new.self was c.put.ensures
-    (λ serves. (c.rows-number.ensures.rows serves, c.rows-number.ensures.stays serves))
+    (record { shown = told.rows; stays = told.stays; same = told.same; serves = told.serves })
