@@ -44,6 +44,8 @@ fn read(
                     deframer.reset();
                     assert!(rt; deframer.feed(&[b'c', 0, 0, 0, 4]) == Ok(5));
                     assert!(rt; deframer.whole() == Some(Frame::Done));
+                    deframer.release();
+                    assert!(rt; deframer.is_done());
                     return Ok((log, Some(fault)));
                 }
             }
@@ -65,13 +67,6 @@ fn check(
         assert!(rt; found == fault, "fault of {bytes:?} by {step}");
     }
     Ok(())
-}
-
-// The fault of a header of a frame.
-fn header_fault(alloc: Global, max_frame: u32, header: &[u8]) -> Option<WireFault>
-    requires { max_frame + 4 ≤ max_length }
-{
-    Deframer::new(alloc, max_frame).feed(header).err()
 }
 
 #[test]
@@ -163,58 +158,4 @@ fn refused_memory_changes_nothing(rt: HostRuntime) -> Result<(), AllocError> {
         assert!(rt; log.as_slice() == frames.as_slice());
     }
     Ok(())
-}
-
-/// The length of the first frame, the most that a payload may have, and the fault of the header.
-static LIMITS: [(u32, u32, Option<WireFault>); 6] = [
-    (16777220, 16777216, None),
-    (16777221, 16777216, Some(WireFault::TooLarge)),
-    (2147483647, 2147483643, None),
-    (2147483648, 2147483643, Some(WireFault::BadLength)),
-    (4294967295, 2147483643, Some(WireFault::BadLength)),
-    (3, 2147483643, Some(WireFault::BadLength)),
-];
-
-#[test]
-fn lengths_at_the_limits(rt: HostRuntime) {
-    for &(length, max_frame, fault) in &LIMITS {
-        let [a, b, c, d] = length.to_be_bytes();
-        let found = header_fault(rt.alloc(), max_frame.min(2147483643), &[b'd', a, b, c, d]);
-        assert!(rt; found == fault, "{length}");
-    }
-}
-
-// Whatever payload a header claims, there is room for twice the bytes that have come at most.
-#[test]
-fn room_for_what_has_come(rt: HostRuntime) {
-    let mut deframer = Deframer::new(rt.alloc(), 16777216);
-    assert_eq!(rt; deframer.feed(&[b'd', 1, 0, 0, 4]), Ok(5));
-    assert!(rt; deframer.room() == 0);
-    for come in 1..10usize {
-        assert_eq!(rt; deframer.feed(&[7]), Ok(1));
-        assert!(rt; deframer.room() <= come.saturating_mul(2));
-    }
-    deframer.reset();
-    assert!(rt; deframer.room() == 0);
-}
-
-#[test]
-fn takes_no_more_than_a_frame(rt: HostRuntime) {
-    let mut deframer = Deframer::new(rt.alloc(), 64);
-    assert_eq!(rt; deframer.feed(&[b'c', 0, 0, 0, 4, b'x']), Ok(5));
-    assert_eq!(rt; deframer.feed(b"x"), Ok(0));
-    assert!(rt; deframer.whole() == Some(Frame::Done));
-    assert!(rt; !deframer.is_done());
-    deframer.release();
-    deframer.release();
-    assert!(rt; deframer.is_done());
-    assert_eq!(rt; deframer.feed(&[]), Ok(0));
-    assert_eq!(rt; deframer.feed(&[b'd']), Err(WireFault::AfterDone));
-    assert_eq!(rt; deframer.feed(&[]), Err(WireFault::AfterDone));
-    deframer.reset();
-    assert!(rt; !deframer.is_done());
-    assert_eq!(rt; deframer.feed(&[b'd', 0, 0, 0, 0x44]), Ok(5));
-    assert!(rt; deframer.whole().is_none());
-    assert_eq!(rt; deframer.feed(&[7; 70]), Ok(64));
-    assert!(rt; deframer.whole() == Some(Frame::Data(&[7; 64])));
 }

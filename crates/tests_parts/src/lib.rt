@@ -18,6 +18,8 @@ mod orders;
 #[cfg(test)]
 mod relations;
 #[cfg(test)]
+mod samples;
+#[cfg(test)]
 mod server_messages;
 #[cfg(test)]
 mod spools;

@@ -1,22 +1,16 @@
 //! Identities, shapes and definitions of a few tables.
 ghost use Rattle.std.specs.Prelude.{◌≡◌, IfOk};
 
+use crate::samples::{Columns, relation, row};
 use pglogical::OldKind;
 use pgrel::{
-    Book, Column, RelFault, RelationDef, carry, check_insert, keyed, resolve, row_identity,
-    same_shape, search_identity,
+    Book, RelFault, RelationDef, carry, check_insert, keyed, resolve, row_identity, same_shape,
+    search_identity,
 };
-use pgtuple::{CellRef, Seq, Text, Tuple};
+use pgtuple::{CellRef, Tuple};
 use std::alloc::{AllocError, Global};
 use std::process::Abort;
 use std::test::Fail;
-
-fn text(alloc: Global, text: &str) -> Result<Text, AllocError> {
-    Ok(Text::from_string(String::from_str(alloc, text)?))
-}
-
-/// Columns: of each its key flag, its name and its type's OID.
-type Columns = &'static [(bool, &'static str, u32)];
 
 /// A relation of the schema public.
 #[derive(Clone, Copy)]
@@ -78,33 +72,17 @@ const BY_INDEX: Table = Table {
 };
 
 /// What a Relation message says of the table.
-fn relation(alloc: Global, table: &Table) -> Result<RelationDef, AllocError>
+fn described(alloc: Global, table: &Table) -> Result<RelationDef, AllocError>
     ensures { IfOk result (λ def. def.oid ≡ table.now.oid) }
 {
-    let mut columns = Vec::new(alloc);
-    for &(key, name, type_oid) in table.columns {
-        columns.push(Column {
-            key,
-            name: text(alloc, name)?,
-            type_oid,
-            modifier: -1,
-        })?;
-    }
-    Ok(RelationDef {
-        oid: table.oid,
-        namespace: text(alloc, "public")?,
-        name: text(alloc, table.name)?,
-        letter: table.letter,
-        columns: Seq::from_vec(columns),
-    })
-}
-
-fn row(alloc: Global, cells: &[CellRef<'_>]) -> Result<Tuple, Fail> {
-    let mut owned = Vec::new(alloc);
-    for cell in cells {
-        owned.push(cell.to_cell(alloc)?)?;
-    }
-    Ok(Tuple::from_cells(owned).ok_or("beyond the limits of a tuple")?)
+    relation(
+        alloc,
+        table.oid,
+        "public",
+        table.name,
+        table.letter,
+        table.columns,
+    )
 }
 
 /// Whether the cell is this one.
@@ -202,7 +180,7 @@ enum Sent {
 
 /// The identity that the change searches.
 fn searched(alloc: Global, table: &Table, sent: Sent) -> Result<Result<Tuple, RelFault>, Fail> {
-    let def = relation(alloc, table)?;
+    let def = described(alloc, table)?;
     match sent {
         Sent::New(new) => of_new(alloc, &def, new),
         Sent::OldAndNew(kind, old, new) => of_old(alloc, &def, kind, old, new),
@@ -221,7 +199,7 @@ fn is_keyed(alloc: Global, letter: u8, columns: Columns) -> Result<bool, AllocEr
         letter,
         columns,
     };
-    Ok(keyed(&relation(alloc, &table)?))
+    Ok(keyed(&described(alloc, &table)?))
 }
 
 static KEYED: [(u8, Columns, bool); 8] = [
@@ -255,8 +233,8 @@ fn has_shape_of_t(alloc: Global, letter: u8, columns: Columns) -> Result<(bool, 
         letter,
         columns,
     };
-    let t = relation(alloc, &T)?;
-    let other = relation(alloc, &table)?;
+    let t = described(alloc, &T)?;
+    let other = described(alloc, &table)?;
     Ok((same_shape(&t, &other), same_shape(&other, &t)))
 }
 
@@ -360,7 +338,7 @@ fn identity_of(
     table: &Table,
     cells: Cells,
 ) -> Result<Result<Tuple, RelFault>, Fail> {
-    let def = relation(alloc, table)?;
+    let def = described(alloc, table)?;
     let row = row(alloc, cells)?;
     Ok(row_identity(alloc, &def, &row.borrowed()))
 }
@@ -391,7 +369,7 @@ fn identities_of_rows(rt: HostRuntime) -> Result<(), Fail> {
 
 /// Whether a row may be inserted into the table t.
 fn inserted(alloc: Global, cells: Cells) -> Result<Result<(), RelFault>, Fail> {
-    let def = relation(alloc, &T)?;
+    let def = described(alloc, &T)?;
     let row = row(alloc, cells)?;
     Ok(check_insert(&def, &row.borrowed()))
 }
@@ -460,8 +438,8 @@ fn carried_between(
     new: &Table,
     cells: Cells,
 ) -> Result<Result<Tuple, RelFault>, Fail> {
-    let old = relation(alloc, old)?;
-    let new = relation(alloc, new)?;
+    let old = described(alloc, old)?;
+    let new = described(alloc, new)?;
     carried(rt, alloc, &old, &new, cells)
 }
 
@@ -501,7 +479,7 @@ fn rows_carried_to_another_shape(rt: HostRuntime) -> Result<(), Fail> {
 
 /// Puts the table's definition, which can be encoded.
 fn put(rt: &impl Abort, alloc: Global, book: &mut Book, table: &Table) -> Result<(), RelFault> {
-    let def = relation(alloc, table)?;
+    let def = described(alloc, table)?;
     assert!(rt; def.spellable());
     book.set(def)
 }
@@ -567,25 +545,5 @@ fn book_is_a_map(rt: HostRuntime) -> Result<(), Fail> {
         put_or_clear(&rt, rt.alloc(), &mut book, table)?;
         knows(&rt, &book, *t, *f);
     }
-    Ok(())
-}
-
-#[test]
-fn many_relations(rt: HostRuntime) -> Result<(), Fail> {
-    let alloc = rt.alloc();
-    let mut book = Book::new(alloc);
-    for oid in 0..300 {
-        let table = Table {
-            oid,
-            name: "r",
-            letter: b'n',
-            columns: &[],
-        };
-        put(&rt, alloc, &mut book, &table)?;
-    }
-    for oid in 0..300 {
-        has_columns(&rt, &book, oid, Some(0));
-    }
-    has_columns(&rt, &book, 300, None);
     Ok(())
 }

@@ -1,20 +1,18 @@
 //! Both spools over the same tables of steps.
 
-use pglogical::{Column, Item, RelationDef};
+use crate::samples::{Columns, relation, row};
+use pglogical::Item;
 use pgspool::{ByteSpools, ListSpools, SpoolFault, Spools, copy_items, hold_one};
-use pgtuple::{Cell, Seq, Text, Tuple};
-use std::alloc::{AllocError, Global};
+use pgtuple::{CellRef, Seq};
+use std::alloc::Global;
 use std::process::Abort;
 use std::test::Fail;
-
-/// Columns: of each its key flag, its name and its type's OID.
-type Columns = &'static [(bool, &'static str, u32)];
 
 /// An item of the tables t (id integer key, v text) and w (id integer key, v text, w text).
 #[derive(Clone, Copy)]
 enum Sample {
     Relation(u32, &'static str, Columns),
-    Insert(u32, &'static [&'static str]),
+    Insert(u32, &'static [CellRef<'static>]),
     Truncate(u32),
 }
 
@@ -26,41 +24,10 @@ const REL_W: Sample = Sample::Relation(
     &[(true, "id", 23), (false, "v", 25), (false, "w", 25)],
 );
 
-fn text(alloc: Global, bytes: &str) -> Result<Text, AllocError> {
-    Ok(Text::from_string(String::from_str(alloc, bytes)?))
-}
-
-fn relation(alloc: Global, oid: u32, name: &str, table: Columns) -> Result<RelationDef, Fail> {
-    let mut columns = Vec::new(alloc);
-    for &(key, name, type_oid) in table {
-        columns.push(Column {
-            key,
-            name: text(alloc, name)?,
-            type_oid,
-            modifier: -1,
-        })?;
-    }
-    Ok(RelationDef {
-        oid,
-        namespace: text(alloc, "public")?,
-        name: text(alloc, name)?,
-        letter: b'd',
-        columns: Seq::from_vec(columns),
-    })
-}
-
-fn row(alloc: Global, cells: &[&str]) -> Result<Tuple, Fail> {
-    let mut row = Vec::new(alloc);
-    for cell in cells {
-        row.push(Cell::Text(text(alloc, cell)?))?;
-    }
-    Ok(Tuple::from_cells(row).ok_or("within the limits")?)
-}
-
 fn item(alloc: Global, sample: Sample) -> Result<Item, Fail> {
     Ok(match sample {
         Sample::Relation(oid, name, columns) => {
-            Item::Relation(relation(alloc, oid, name, columns)?)
+            Item::Relation(relation(alloc, oid, "public", name, b'd', columns)?)
         }
         Sample::Insert(oid, cells) => Item::Insert {
             oid,
@@ -216,17 +183,23 @@ fn holds<P: Spools>(
     are_samples(rt, alloc, &held, left)
 }
 
-const T_1A: Sample = Sample::Insert(16384, &["1", "a"]);
+const T_1A: Sample = Sample::Insert(16384, &[CellRef::Text("1"), CellRef::Text("a")]);
 
-const T_2B: Sample = Sample::Insert(16384, &["2", "b"]);
+const T_2B: Sample = Sample::Insert(16384, &[CellRef::Text("2"), CellRef::Text("b")]);
 
-const T_3C: Sample = Sample::Insert(16384, &["3", "c"]);
+const T_3C: Sample = Sample::Insert(16384, &[CellRef::Text("3"), CellRef::Text("c")]);
 
-const T_4D: Sample = Sample::Insert(16384, &["4", "d"]);
+const T_4D: Sample = Sample::Insert(16384, &[CellRef::Text("4"), CellRef::Text("d")]);
 
-const W_1PQ: Sample = Sample::Insert(16385, &["1", "p", "q"]);
+const W_1PQ: Sample = Sample::Insert(
+    16385,
+    &[CellRef::Text("1"), CellRef::Text("p"), CellRef::Text("q")],
+);
 
-const W_2RS: Sample = Sample::Insert(16385, &["2", "r", "s"]);
+const W_2RS: Sample = Sample::Insert(
+    16385,
+    &[CellRef::Text("2"), CellRef::Text("r"), CellRef::Text("s")],
+);
 
 static ROLLED_BACK: [Row; 12] = [
     (Step::Open(20), 0, 0),
@@ -276,13 +249,6 @@ fn full_one_byte_below(rt: HostRuntime) -> Result<(), Fail> {
     both_hold(&rt, rt.alloc(), 252, 20, &FULL, &[])
 }
 
-static SMALL: [Row; 2] = [(Step::Open(20), 0, 0), (Step::Full(20, 20, T_1A), 0, 0)];
-
-#[test]
-fn full_below_one_overhead(rt: HostRuntime) -> Result<(), Fail> {
-    both_hold(&rt, rt.alloc(), 7, 20, &SMALL, &[])
-}
-
 static RETURNING: [Row; 12] = [
     (Step::Open(50), 0, 0),
     (Step::Push(50, 51, T_1A), 28, 1),
@@ -301,52 +267,6 @@ static RETURNING: [Row; 12] = [
 #[test]
 fn a_cut_starts_at_the_first_item_of_its_subtransaction(rt: HostRuntime) -> Result<(), Fail> {
     both_hold(&rt, rt.alloc(), 1000, 50, &RETURNING, &[T_2B])
-}
-
-static APART: [Row; 10] = [
-    (Step::Open(4294967295), 0, 0),
-    (Step::Open(0), 0, 0),
-    (Step::Push(0, 4294967294, T_1A), 28, 0),
-    (
-        Step::Push(4294967295, 4294967295, Sample::Truncate(4294967295)),
-        50,
-        1,
-    ),
-    (
-        Step::Push(4294967295, 4294967294, Sample::Insert(4294967295, &[])),
-        66,
-        2,
-    ),
-    (Step::Push(4294967295, 0, T_2B), 94, 3),
-    (Step::Full(0, 0, T_1A), 94, 3),
-    (Step::Cut(0, 4294967294), 66, 3),
-    (Step::DropXid(0), 66, 3),
-    (Step::Cut(4294967295, 0), 38, 2),
-];
-
-// Xids and OIDs up to the largest; the limit is over all transactions, and no transaction touches
-// another one's items.
-#[test]
-fn each_transaction_has_its_own_items(rt: HostRuntime) -> Result<(), Fail> {
-    let left: &[Sample] = &[
-        Sample::Truncate(4294967295),
-        Sample::Insert(4294967295, &[]),
-    ];
-    both_hold(&rt, rt.alloc(), 121, 4294967295, &APART, left)
-}
-
-static CLEARED: [Row; 6] = [
-    (Step::Open(1), 0, 0),
-    (Step::Push(1, 1, T_1A), 28, 1),
-    (Step::Open(2), 28, 1),
-    (Step::Clear, 0, 0),
-    (Step::Open(1), 0, 0),
-    (Step::Push(1, 1, T_1A), 28, 1),
-];
-
-#[test]
-fn clear_forgets_all(rt: HostRuntime) -> Result<(), Fail> {
-    both_hold(&rt, rt.alloc(), 56, 1, &CLEARED, &[T_1A])
 }
 
 /// Holds one item of a new transaction.

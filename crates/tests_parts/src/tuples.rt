@@ -124,32 +124,6 @@ fn vectors_go_both_ways(rt: HostRuntime) -> Result<(), Fail> {
     Ok(())
 }
 
-/// More bytes may follow a tuple.
-#[test]
-fn bytes_after_a_tuple(rt: HostRuntime) -> Result<(), Fail> {
-    for (bytes, width) in VECTORS {
-        let mut longer = bytes.to_vec(rt.alloc())?;
-        longer.extend_from_slice(b"more")?;
-        let (borrowed, len) = decode_ref(&longer)?;
-        assert!(rt; len == bytes.len());
-        assert!(rt; borrowed.cells().len() == width);
-        assert!(rt; borrowed.spelled() == Some(bytes));
-    }
-    Ok(())
-}
-
-/// 1600 columns, and a text of 1 MB.
-#[test]
-fn tuples_at_the_limits(rt: HostRuntime) -> Result<(), Fail> {
-    let alloc = rt.alloc();
-    let mut widest = [6u8, 64].to_vec(alloc)?;
-    widest.resize(1602, b'n')?;
-    goes_both_ways(&rt, alloc, &widest, 1600)?;
-    let mut longest = [0u8, 1, b't', 0, 16, 0, 0].to_vec(alloc)?;
-    longest.resize(1048583, b'a')?;
-    goes_both_ways(&rt, alloc, &longest, 1)
-}
-
 /// The fault that the bytes have by the decoder that borrows.
 fn borrowed_fault(bytes: &[u8]) -> Option<TupleFault> {
     match decode_ref(bytes) {

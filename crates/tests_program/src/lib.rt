@@ -2,8 +2,8 @@
 //!
 //! A row is a recording, the bytes of a session or a command line. It is run over readers and
 //! writers in memory, and what it prints, what it tells on standard error and its exit status are
-//! compared whole. A lasting row is a list of runs over the same two disks in memory: each opens
-//! them and adopts the store again, and closes them when it has ended.
+//! compared whole. Runs over a store that is opened again are made with the built program, by
+//! tools/sweeps.
 #![tactic(auto)]
 
 #[cfg(test)]
@@ -18,16 +18,6 @@ mod comparing_tests;
 mod fault_tests;
 #[cfg(test)]
 mod following_tests;
-#[cfg(test)]
-mod lasting_disks;
-#[cfg(test)]
-mod lasting_fault;
-#[cfg(test)]
-mod lasting_rows;
-#[cfg(test)]
-mod lasting_runs;
-#[cfg(test)]
-mod lasting_tests;
 #[cfg(test)]
 mod missing_tests;
 #[cfg(test)]

@@ -5,6 +5,7 @@ use pgapply::{ReplicaStore, StoreFault};
 use pgcommand::{DEFAULT_CACHE, Limits, Task};
 use pgorder::Version;
 use pgsub_cli::fault::RunFault;
+use pgsub_cli::run_dump;
 use pgsub_cli::storing::{
     Incoming, read_input, run_store, run_within, tell_stopped, tell_unopened,
 };
@@ -27,15 +28,25 @@ impl<R: Abort + AllocGlobal> Trial<R> for FeedsBytes {
         };
         let input = Some((Version::Two, Incoming::Raw(bytes)));
         let (mut out, mut err) = (Vec::new(alloc), Vec::new(alloc));
-        let (status, _) = run_store(alloc, store, input, &mut out, &mut err);
+        let (status, store) = run_store(alloc, store, input, &mut out, &mut err);
         assert_eq!(rt; out.as_slice(), b"position 0/0\n".as_slice());
         assert_eq!(rt;
             err.as_slice(),
             b"pgsub: wire 1 UnknownFrame 120\n".as_slice()
         );
         assert_eq!(rt; status, 1);
-        Ok(())
+        is_empty(rt, store)
     }
+}
+
+/// What is printed of a store at 0/0 without rows.
+fn is_empty<C: ReplicaStore + Drop>(rt: &(impl Abort + AllocGlobal), store: C) -> Result<(), Fail> {
+    let alloc = rt.alloc();
+    let mut err = Vec::new(alloc);
+    let (status, _, out) = run_dump(alloc, store, Vec::new(alloc), &mut err);
+    assert_eq!(rt; out.as_slice(), b"position 0/0\n".as_slice());
+    assert!(rt; err.is_empty() && status == 0);
+    Ok(())
 }
 
 #[test]

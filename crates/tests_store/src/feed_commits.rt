@@ -1,64 +1,12 @@
-//! Commits of a table of two texts, and their changes.
+//! Commits of the table t of `cases`, and their changes, for a feed.
 
-use pgapply::{About, Commit, Op, StoreFault, Work};
+use crate::works::{tuple, work_of_t};
+use pgapply::{About, Commit, Op, StoreFault};
 use pgfeed::entry_text;
 use pgledger::{Image, Ledger};
-use pglogical::{Column, OldKind, RelationDef};
+use pglogical::OldKind;
 use pglsn::Lsn;
-use pgtuple::{CellRef, Seq, Text, Tuple};
-use std::alloc::{AllocError, Global};
-
-fn text(alloc: Global, text: &str) -> Result<Text, AllocError> {
-    Ok(Text::from_string(String::from_str(alloc, text)?))
-}
-
-fn column(alloc: Global, key: bool, name: &str) -> Result<Column, AllocError> {
-    Ok(Column {
-        key,
-        name: text(alloc, name)?,
-        type_oid: 25,
-        modifier: -1,
-    })
-}
-
-/// The table `public.t`, whose key is its first column.
-fn definition(alloc: Global) -> Result<RelationDef, AllocError> {
-    let mut columns = Vec::new(alloc);
-    columns.push(column(alloc, true, "id")?)?;
-    columns.push(column(alloc, false, "v")?)?;
-    Ok(RelationDef {
-        oid: 16384,
-        namespace: text(alloc, "public")?,
-        name: text(alloc, "t")?,
-        letter: b'd',
-        columns: Seq::from_vec(columns),
-    })
-}
-
-/// A tuple of words, of which `null` and `unsent` are cells without a text.
-fn tuple(alloc: Global, words: &str) -> Result<Tuple, StoreFault> {
-    let mut cells = Vec::new(alloc);
-    for word in words.split_whitespace() {
-        let cell = match word {
-            "null" => CellRef::Null,
-            "unsent" => CellRef::Unchanged,
-            text => CellRef::Text(text),
-        };
-        cells.push(cell.to_cell(alloc).map_err(|_| StoreFault::Memory)?)?;
-    }
-    Tuple::from_cells(cells).ok_or(StoreFault::Width)
-}
-
-/// A work with the table's definition.
-fn work_of<'a>(alloc: Global) -> Result<Work<'a>, StoreFault> {
-    let def = definition(alloc)?;
-    if !def.spellable() {
-        return Err(StoreFault::Width);
-    }
-    let mut work = Work::new(alloc);
-    let _number = work.define(def)?;
-    Ok(work)
-}
+use std::alloc::Global;
 
 /// Appends a commit of one Insert, maybe of this time.
 pub(crate) fn append_at<L: Ledger>(
@@ -69,7 +17,7 @@ pub(crate) fn append_at<L: Ledger>(
     words: &str,
 ) -> Result<(), StoreFault> {
     let row = tuple(alloc, words)?;
-    let mut work = work_of(alloc)?;
+    let mut work = work_of_t(alloc)?;
     if work.definitions().is_empty() {
         return Err(StoreFault::Width);
     }
@@ -101,7 +49,7 @@ pub(crate) fn text_of_all(alloc: Global) -> Result<String, StoreFault> {
     let row = tuple(alloc, "1 a")?;
     let key = tuple(alloc, "9 null")?;
     let missing = tuple(alloc, "8 unsent")?;
-    let mut work = work_of(alloc)?;
+    let mut work = work_of_t(alloc)?;
     for _ in 0..5 {
         if work.definitions().is_empty() {
             return Err(StoreFault::Width);

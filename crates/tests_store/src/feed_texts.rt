@@ -1,6 +1,6 @@
-//! The text of a commit, and of a segment in memory.
+//! The text of a commit in a feed, and of a segment in memory.
 
-use crate::commits::{append_at, text_of_all};
+use crate::feed_commits::{append_at, text_of_all};
 use pgfeed::Segment;
 use pgledger::Ledger;
 use pglsn::Lsn;

@@ -1,7 +1,7 @@
 //! A feed of segments in memory.
 
-use crate::commits::append_at;
-use crate::folders::{MemoryFolder, Stop, Stored};
+use crate::feed_commits::append_at;
+use crate::feed_folders::{MemoryFolder, Stop, Stored};
 use pgapply::StoreFault;
 use pgfeed::{Feed, FeedFault, Origin, SegmentLimits};
 use pgledger::Ledger;

@@ -1,4 +1,4 @@
-//! Tests of the SQL store by its public calls, and no code.
+//! Tests of the SQL store and of a feed by their public calls, and no code.
 //!
 //! - Commits with what each returns and the rows that are stored after it, and stores over
 //!   connections that others have filled, in memory and on disks in memory; such a disk by its
@@ -8,6 +8,8 @@
 //!   by then is adopted again: it must be the store as of one of the commits, or whole groups of
 //!   them where they were settled together, and following once more must reach the end. That is
 //!   tried for each number of calls until a run meets no stop.
+//! - A feed: the text of a commit and of a segment, and feeds in memory that are written, stopped
+//!   at each of their calls, and opened again.
 #![tactic(auto)]
 
 #[cfg(test)]
@@ -16,6 +18,14 @@ mod adopting;
 mod cases;
 #[cfg(test)]
 mod disks;
+#[cfg(test)]
+mod feed_commits;
+#[cfg(test)]
+mod feed_folders;
+#[cfg(test)]
+mod feed_texts;
+#[cfg(test)]
+mod feeds;
 #[cfg(test)]
 mod lines;
 #[cfg(test)]

@@ -1,11 +1,11 @@
 //! Commits that are staged and settled in groups.
 
 use crate::stopped_runs::Trial;
+use crate::works::work_of_t;
 use pgapply::{Commit, Op, ReplicaStore, StoreFault, Work};
-use pglogical::{Column, RelationDef};
 use pglsn::Lsn;
-use pgtuple::{CellRef, Seq, Text, Tuple};
-use std::alloc::{AllocError, Global};
+use pgtuple::{CellRef, Tuple};
+use std::alloc::Global;
 use std::test::Fail;
 
 /// The groups, each by the end LSNs of its commits. The rows of the last don't fit into the pages
@@ -24,34 +24,6 @@ pub(crate) fn end_of(ends: &[u64]) -> u64 {
         Some(end) => *end,
         None => 0,
     }
-}
-
-fn text(alloc: Global, text: &str) -> Result<Text, AllocError> {
-    Ok(Text::from_string(String::from_str(alloc, text)?))
-}
-
-/// A column of type text.
-fn column(alloc: Global, key: bool, name: &str) -> Result<Column, AllocError> {
-    Ok(Column {
-        key,
-        name: text(alloc, name)?,
-        type_oid: 25,
-        modifier: -1,
-    })
-}
-
-/// The table t with a key and another column.
-fn definition(alloc: Global) -> Result<RelationDef, AllocError> {
-    let mut columns = Vec::new(alloc);
-    columns.push(column(alloc, true, "id")?)?;
-    columns.push(column(alloc, false, "v")?)?;
-    Ok(RelationDef {
-        oid: 16384,
-        namespace: text(alloc, "public")?,
-        name: text(alloc, "t")?,
-        letter: b'd',
-        columns: Seq::from_vec(columns),
-    })
 }
 
 /// One of the rows of a commit, longer than a page.
@@ -89,12 +61,7 @@ fn is_same(alloc: Global, left: &Tuple, right: &Tuple) -> Result<bool, StoreFaul
 
 /// A work that inserts these rows.
 fn work_of<'a>(alloc: Global, rows: &'a [Tuple]) -> Result<Work<'a>, StoreFault> {
-    let def = definition(alloc)?;
-    if !def.spellable() {
-        return Err(StoreFault::Width);
-    }
-    let mut work = Work::new(alloc);
-    let _number = work.define(def)?;
+    let mut work = work_of_t(alloc)?;
     for row in rows {
         if work.definitions().is_empty() {
             return Err(StoreFault::Width);

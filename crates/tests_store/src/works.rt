@@ -1,6 +1,6 @@
 //! The works of commits, of the relations and changes that the cases name.
 
-use crate::cases::{Change, RELATIONS, Relation};
+use crate::cases::{Change, RELATIONS, Relation, T};
 use crate::stores::Kept;
 use pgapply::{Commit, Op, StoreFault, Work};
 use pglogical::{Column, RelationDef};
@@ -49,7 +49,8 @@ fn cell(word: &str) -> CellRef<'_> {
     }
 }
 
-fn tuple(alloc: Global, words: &str) -> Result<Tuple, StoreFault> {
+/// A tuple of words, as those of a change.
+pub(crate) fn tuple(alloc: Global, words: &str) -> Result<Tuple, StoreFault> {
     let mut cells = Vec::new(alloc);
     for word in words.split_whitespace() {
         cells.push(cell(word).to_cell(alloc).map_err(|_| StoreFault::Memory)?)?;
@@ -112,6 +113,17 @@ fn work_of<'a>(
         assert!(rt; number < work.definitions().len());
         work.change(number, op(change, old, new))?;
     }
+    Ok(work)
+}
+
+/// A work that has the definition of the table t, and no change.
+pub(crate) fn work_of_t<'a>(alloc: Global) -> Result<Work<'a>, StoreFault> {
+    let def = definition(alloc, &RELATIONS[T])?;
+    if !def.spellable() {
+        return Err(StoreFault::Width);
+    }
+    let mut work = Work::new(alloc);
+    let _number = work.define(def)?;
     Ok(work)
 }
 

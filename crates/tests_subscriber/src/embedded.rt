@@ -2,7 +2,7 @@
 //!
 //! Each is told over a store of any kind, since the proof over a given one gets too large.
 
-use crate::rows::SESSION;
+use crate::steps::bytes_of;
 use pgembed::{Embedded, InMemory};
 use pgorder::Version;
 use sqlite::Alter;
@@ -48,7 +48,7 @@ fn replies<S: Alter + Drop>(mut held: Embedded<S>) -> bool {
 
 #[test]
 fn a_session_is_fed(rt: HostRuntime) -> Result<(), Fail> {
-    let session = hex::decode(rt.alloc(), SESSION.as_bytes())?;
+    let session = bytes_of(rt.alloc(), "t1")?;
     let held = InMemory::new(rt.alloc(), Version::Two)?;
     assert!(rt; is_fed(rt.alloc(), held, &session));
     Ok(())

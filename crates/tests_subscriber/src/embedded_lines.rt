@@ -1,6 +1,7 @@
-//! Lines and faults, as they are made and as they are passed.
+//! Lines and faults of the short forms, as they are made and as they are passed.
 
-use crate::rows::{Call, Row, rows};
+use crate::embedded_rows::{Call, Row, rows};
+use crate::steps::{BadSession, bytes_of, unhex};
 use pgembed::{ROOM, decode, number, pass_line, pass_lines, show};
 use std::alloc::Global;
 use std::test::Fail;
@@ -21,9 +22,17 @@ fn made(alloc: Global, call: Call, bytes: &[u8]) -> (u32, String) {
     (number(fault), lines)
 }
 
+/// The bytes of what is sent.
+fn bytes_sent(alloc: Global, row: &Row) -> Result<Vec<u8>, BadSession> {
+    match row.call {
+        Call::Line(_) => unhex(alloc, row.sent),
+        Call::Lines(_) => bytes_of(alloc, row.sent),
+    }
+}
+
 /// Whether the calls give what they must, and what is passed is what is made.
 fn holds(alloc: Global, row: &Row) -> Result<bool, Fail> {
-    let bytes = hex::decode(alloc, row.bytes.as_bytes())?;
+    let bytes = bytes_sent(alloc, row)?;
     let (fault, lines) = made(alloc, row.call, &bytes);
     let mut room = vec![in alloc; b'.'; row.room.1.len()]?;
     let mut text = vec![in alloc; b'.'; row.text.1.len()]?;

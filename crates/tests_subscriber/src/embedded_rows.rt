@@ -1,4 +1,4 @@
-//! The worked rows.
+//! The worked rows of the short forms.
 
 use pgorder::Version;
 
@@ -15,8 +15,8 @@ pub(crate) enum Call {
 pub(crate) struct Row {
     pub(crate) shows: &'static str,
     pub(crate) call: Call,
-    /// What is shown, in hexadecimal.
-    pub(crate) bytes: &'static str,
+    /// What is sent: a payload in hexadecimal, or a session in words of `messages`.
+    pub(crate) sent: &'static str,
     /// The number that is passed.
     pub(crate) number: u32,
     /// The length that is passed, and the whole room, which was all dots.
@@ -25,19 +25,11 @@ pub(crate) struct Row {
     pub(crate) text: (usize, &'static str),
 }
 
-/// A transaction that inserts a row into a table that it describes.
-pub(crate) const SESSION: &str =
-    "64000000327700000000000000000000000000000000000000000000000042000000000000010000000000000000000000000a64000000457700000000000000000000000000000000000000000000000052000040007075626c69630074006400020169640000000017ffffffff00760000000019ffffffff64000000317700000000000000000000000000000000000000000000000049000040004e00027400000001317400000001616400000037770000000000000000000000000000000000000000000000004300000000000000010000000000000001300000000000000000";
-
-/// Begin twice.
-const NESTED: &str =
-    "64000000327700000000000000000000000000000000000000000000000042000000000000010000000000000000000000000a64000000327700000000000000000000000000000000000000000000000042000000000000010000000000000000000000000a";
-
 static ROWS: [Row; 8] = [
     Row {
         shows: "a line, and room behind it",
         call: Call::Line(false),
-        bytes: "6b0000000000000180000000000000000001",
+        sent: "6b0000000000000180000000000000000001",
         number: 0,
         room: (
             26,
@@ -49,7 +41,7 @@ static ROWS: [Row; 8] = [
     Row {
         shows: "too little room for a line",
         call: Call::Line(false),
-        bytes: "6b0000000000000180000000000000000001",
+        sent: "6b0000000000000180000000000000000001",
         number: 10,
         room: (26, "........................."),
         text: (0, ".."),
@@ -57,7 +49,7 @@ static ROWS: [Row; 8] = [
     Row {
         shows: "a line of a block, and just the room for it",
         call: Call::Line(true),
-        bytes: "77000000000000000000000000000000000000000000000000550000000a000040004e000274000000013174000000016c",
+        sent: "77000000000000000000000000000000000000000000000000550000000a000040004e000274000000013174000000016c",
         number: 0,
         room: (
             58,
@@ -69,7 +61,7 @@ static ROWS: [Row; 8] = [
     Row {
         shows: "a fault of wire, and room behind its text",
         call: Call::Line(false),
-        bytes: "6b00000000000001800000000000000000",
+        sent: "6b00000000000001800000000000000000",
         number: 1,
         room: (12, "wire 6 Short.."),
         text: (0, ".."),
@@ -77,7 +69,7 @@ static ROWS: [Row; 8] = [
     Row {
         shows: "a fault of decode, and too little room for its text",
         call: Call::Line(false),
-        bytes: "7700000000000000000000000000000000000000000000000049",
+        sent: "7700000000000000000000000000000000000000000000000049",
         number: 2,
         room: (19, ".................."),
         text: (0, ".."),
@@ -85,7 +77,7 @@ static ROWS: [Row; 8] = [
     Row {
         shows: "the lines of a session",
         call: Call::Lines(Version::Two),
-        bytes: SESSION,
+        sent: "t1",
         number: 0,
         room: (
             248,
@@ -100,7 +92,7 @@ static ROWS: [Row; 8] = [
     Row {
         shows: "a fault of order, and just the room for its text",
         call: Call::Lines(Version::Two),
-        bytes: NESTED,
+        sent: "begin:100 begin:100",
         number: 3,
         room: (
             46,
@@ -112,7 +104,7 @@ static ROWS: [Row; 8] = [
     Row {
         shows: "too little room for the lines before a fault",
         call: Call::Lines(Version::Two),
-        bytes: NESTED,
+        sent: "begin:100 begin:100",
         number: 10,
         room: (46, "............................................."),
         text: (0, "...................."),

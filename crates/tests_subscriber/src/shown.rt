@@ -1,9 +1,9 @@
 //! Sessions with the lines that show them, up to the first fault.
 
+use crate::steps::chunks_of;
 use pglogical::{DecodeFault, Reason};
 use pgorder::{OrderFault, Version};
 use pgshow::{Fault, show_session};
-use pgtuple::Bytes;
 use pgwire::WireFault;
 use std::alloc::Global;
 use std::test::Fail;
@@ -243,22 +243,13 @@ fn bytes_of(alloc: Global, frames: &[&str]) -> Result<Vec<u8>, Fail> {
     Ok(bytes)
 }
 
-/// The bytes in chunks of this length.
-fn pieces_of(alloc: Global, bytes: &[u8], len: usize) -> Result<Vec<Bytes>, Fail> {
-    let mut pieces = Vec::new(alloc);
-    for piece in bytes.chunks(len.max(1)) {
-        pieces.push(Bytes::from_vec(Vec::from_slice(alloc, piece)?))?;
-    }
-    Ok(pieces)
-}
-
 #[test]
 fn shows_sessions_in_any_chunks(rt: HostRuntime) -> Result<(), Fail> {
     let alloc = rt.alloc();
     for example in &EXAMPLES {
         let bytes = bytes_of(alloc, example.frames)?;
         for len in [1usize, 7, 100000] {
-            let pieces = pieces_of(alloc, bytes.as_slice(), len)?;
+            let pieces = chunks_of(alloc, bytes.as_slice(), len)?;
             let mut lines = String::new(alloc);
             let answer = show_session(
                 alloc,

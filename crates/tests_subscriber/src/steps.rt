@@ -109,7 +109,11 @@ pub(crate) fn bytes_of(alloc: Global, session: &str) -> Result<Vec<u8>, BadSessi
 }
 
 /// Bytes in chunks of so many.
-fn chunks_of(alloc: Global, bytes: &[u8], chunk_len: usize) -> Result<Vec<Bytes>, BadSession> {
+pub(crate) fn chunks_of(
+    alloc: Global,
+    bytes: &[u8],
+    chunk_len: usize,
+) -> Result<Vec<Bytes>, BadSession> {
     let mut chunks = Vec::new(alloc);
     for chunk in bytes.chunks(chunk_len.max(1)) {
         chunks.push(Bytes::from_vec(Vec::from_slice(alloc, chunk)?))?;
