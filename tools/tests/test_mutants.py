@@ -1,0 +1,119 @@
+"""Which function a mutant changes, which mutants stand side by side, and what is known of those that were refused."""
+
+import importlib.machinery
+import importlib.util
+import os
+import tempfile
+import types
+import unittest
+from pathlib import Path
+from typing import Any
+from unittest import mock
+
+from built import TOP
+
+
+def loaded() -> Any:
+    """The script as a module."""
+    loader = importlib.machinery.SourceFileLoader("mutants_script", str(TOP / "tools/mutants"))
+    spec = importlib.util.spec_from_loader("mutants_script", loader)
+    assert spec
+    module = importlib.util.module_from_spec(spec)
+    loader.exec_module(module)
+    return module
+
+
+mutants = loaded()
+
+TEXT = """//! A module.
+
+/// A free function.
+pub fn free(count: usize) -> usize {
+    count + 1
+}
+
+impl<T: Drop> Held<T> {
+    pub fn push(&mut self) {
+        self.count += 2;
+    }
+}
+
+impl<T: Drop> Store for Held<T>
+where
+    T: Copy,
+{
+    fn push(&mut self) {
+        free(3);
+    }
+}
+"""
+
+
+def end_of_name(word: str) -> set[str]:
+    crate = types.SimpleNamespace(name="pgheld")
+    found: set[str] = mutants.end_of_name_at(crate, "src/parts/held.rt", TEXT, TEXT.index(word))
+    return found
+
+
+class Names(unittest.TestCase):
+    def test_a_free_function_has_its_whole_path(self) -> None:
+        self.assertEqual(end_of_name("count + 1"), {"pgheld::parts::held::free"})
+
+    def test_a_method_has_its_type_and_the_trait_of_its_impl(self) -> None:
+        self.assertEqual(end_of_name("self.count += 2"), {"Held::push"})
+        self.assertEqual(end_of_name("free(3)"), {"HeldStore::push"})
+
+    def test_what_stands_in_no_function_has_no_name(self) -> None:
+        self.assertEqual(end_of_name("A module"), set())
+
+
+class Groups(unittest.TestCase):
+    def mutant(self, name: str, start: int) -> Any:
+        made = mutants.Mutant.__new__(mutants.Mutant)
+        made.names, made.places = {name}, [("src/held.rt", start, 4, "new")]
+        return made
+
+    def test_a_caller_and_its_callee_are_tried_apart(self) -> None:
+        caller, callee = self.mutant("pgheld::all", 10), self.mutant("pgheld::one", 90)
+        self.assertFalse(caller.is_apart_from(callee, {"all": {"one"}}))
+        self.assertTrue(caller.is_apart_from(callee, {"all": {"other"}}))
+
+    def test_namesakes_are_tried_at_once_and_one_function_is_not(self) -> None:
+        self.assertTrue(self.mutant("Held::push", 10).is_apart_from(self.mutant("HeldStore::push", 90), {}))
+        self.assertFalse(self.mutant("Held::push", 10).is_apart_from(self.mutant("Held::push", 90), {}))
+
+    def test_places_that_overlap_are_tried_apart(self) -> None:
+        self.assertFalse(self.mutant("a", 10).is_apart_from(self.mutant("b", 13), {}))
+
+
+class Kept(unittest.TestCase):
+    def setUp(self) -> None:
+        self.folder = Path(self.enterContext(tempfile.TemporaryDirectory()))
+        self.enterContext(mock.patch.dict(os.environ, XDG_CACHE_HOME=str(self.folder / "cache")))
+        (self.folder / "KIT-ID").write_text("kit 1\n")
+        (self.folder / "low").write_text("fn low() {}\n")
+        (self.folder / "own").write_text("fn own() {}\n")
+        self.edit = self.folder / "what.edit"
+        self.edit.write_text("file: src/lib.rt\nold: a\nnew: b\n")
+
+    def refused(self) -> Any:
+        low = types.SimpleNamespace(name="low", folder=str(self.folder))
+        crate = types.SimpleNamespace(name="own", folder=str(self.folder), below=lambda: [low])
+        rtlib = types.SimpleNamespace(files_of=lambda folder: [f"{folder}/low", f"{folder}/own"])
+        return mutants.Refused(types.SimpleNamespace(KIT=str(self.folder), rtlib=rtlib), crate)
+
+    def test_what_was_refused_is_known_until_something_changes(self) -> None:
+        self.assertFalse(self.refused().has(self.edit))
+        self.refused().keep(self.edit)
+        self.assertTrue(self.refused().has(self.edit))
+        for name, text in (("low", "fn low() { }\n"), ("KIT-ID", "kit 2\n"), ("what.edit", "file: src/lib.rt\nold: a\nnew: c\n")):
+            with self.subTest(name):
+                before = (self.folder / name).read_text()
+                (self.folder / name).write_text(text)
+                self.assertFalse(self.refused().has(self.edit))
+                (self.folder / name).write_text(before)
+        self.assertTrue(self.refused().has(self.edit))
+
+
+if __name__ == "__main__":
+    unittest.main()
