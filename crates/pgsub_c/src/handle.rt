@@ -1,6 +1,6 @@
 //! A subscriber's handle, and what is done with it.
 
-ghost use Rattle.std.specs.Prelude.{◌≡◌, ◌≢◌, ◌⊎◌, Some, None, IfSome, is_some, true};
+ghost use Rattle.std.specs.Prelude.{◌≡◌, ◌≢◌, ◌⊎◌, Some, None, IfErr, IfOk, IfSome, is_some, true};
 ghost use Rattle.pgembed.specs.InMemory.{HasAsked, HasDisconnected, HasFed, HasReplied, HasShown};
 ghost use Rattle.pgembed.specs.InMemory.{IsNew, place_of};
 ghost use Rattle.pgembed.specs.Passed.{PassesNothing};
@@ -25,6 +25,21 @@ pub struct Handle {
     pub pointer: Pointer,
     pub is_open: bool,
     ghost known: { is_open ≡ is_some pointer.value },
+}
+
+/// A subscriber over no rows; or 9 where memory runs out, or 6 where the store refuses for want of
+/// it.
+fn new_subscriber(alloc: Global, version: Version) -> Result<Box<InMemory>, u32>
+    ensures new { IfOk result (λ held. IsNew version held.value) }
+    ensures number { IfErr result (λ number. (number ≡ 6) ⊎ (number ≡ 9)) }
+{
+    match InMemory::new(alloc, version) {
+        Ok(held) => match Box::new(alloc, held) {
+            Ok(held) => Ok(held),
+            Err(_) => Err(MEMORY),
+        },
+        Err(fault) => Err(stream_number(fault)),
+    }
 }
 
 impl Handle {
@@ -89,20 +104,15 @@ impl Handle {
         ensures number { (result ≡ 0) ⊎ (result ≡ 6) ⊎ (result ≡ 9)
             ⊎ ((result ≡ 13) × (is_some self.old.pointer.value ≡ true)) }
     {
-        if let Some(held) = self.take(alloc) {
-            self.put(held);
+        if self.is_open {
             return OPEN;
         }
-        let held = match InMemory::new(alloc, version) {
-            Ok(held) => held,
-            Err(fault) => return stream_number(fault),
-        };
-        match Box::new(alloc, held) {
+        match new_subscriber(alloc, version) {
             Ok(held) => {
                 self.put(held);
                 0
             }
-            Err(_) => MEMORY,
+            Err(number) => number,
         }
     }
 
