@@ -114,6 +114,11 @@ class Kept(unittest.TestCase):
                 (self.folder / name).write_text(before)
         self.assertTrue(self.refused().has(self.edit))
 
+    def test_a_cache_that_cannot_be_written_keeps_nothing(self) -> None:
+        (self.folder / "cache").write_text("no folder\n")
+        self.refused().keep(self.edit)
+        self.assertFalse(self.refused().has(self.edit))
+
 
 if __name__ == "__main__":
     unittest.main()
