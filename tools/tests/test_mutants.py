@@ -1,4 +1,4 @@
-"""Which function a mutant changes, which mutants stand side by side, and what is known of those that were refused."""
+"""Which function a mutant changes, which mutants stand side by side, what refuses them, and what is known of those that were refused."""
 
 import importlib.machinery
 import importlib.util
@@ -78,12 +78,57 @@ class Groups(unittest.TestCase):
         self.assertFalse(caller.is_apart_from(callee, {"all": {"one"}}))
         self.assertTrue(caller.is_apart_from(callee, {"all": {"other"}}))
 
+    def test_a_caller_and_its_callee_stand_beside_each_other(self) -> None:
+        caller, callee = self.mutant("pgheld::all", 10), self.mutant("pgheld::one", 90)
+        self.assertTrue(caller.is_beside(callee))
+        self.assertEqual(mutants.grouped([caller, callee], lambda it, other: it.is_beside(other), 2), [[caller, callee]])
+        self.assertEqual(mutants.grouped([caller, callee], lambda it, other: it.is_beside(other), 1), [[caller], [callee]])
+
     def test_namesakes_are_tried_at_once_and_one_function_is_not(self) -> None:
         self.assertTrue(self.mutant("Held::push", 10).is_apart_from(self.mutant("HeldStore::push", 90), {}))
         self.assertFalse(self.mutant("Held::push", 10).is_apart_from(self.mutant("Held::push", 90), {}))
 
     def test_places_that_overlap_are_tried_apart(self) -> None:
         self.assertFalse(self.mutant("a", 10).is_apart_from(self.mutant("b", 13), {}))
+
+
+class Refusals(unittest.TestCase):
+    """A check of `push` of `Held` and of `free`, which it calls."""
+
+    def refusal(self, name: str, *said: str) -> str:
+        run = mutants.Run.__new__(mutants.Run)
+        run.crate = types.SimpleNamespace(name="pgheld", folder="no folder")
+        run.texts, run.said = {"src/parts/held.rt": TEXT}, "\n".join(said)
+        run.lines = dict(mutants.re.findall(r"^fn (\S+): (.*)", run.said, mutants.re.M))
+        run.has_ended, run.is_unreadable = True, False
+        mutant = mutants.Mutant.__new__(mutants.Mutant)
+        mutant.names = {name}
+        refusal: str = run.refusal_of(mutant)
+        return refusal
+
+    WAITS = "fn pgheld::parts::held::Held::push: not proved; it calls `pgheld::parts::held::free`, which is not proved"
+    CALLEE = "fn pgheld::parts::held::free: no proof: expected answers"
+
+    def test_a_function_that_is_not_proved_refuses_its_mutant(self) -> None:
+        self.assertIn("no proof", self.refusal("pgheld::parts::held::free", self.CALLEE, self.WAITS))
+
+    def test_a_callee_that_is_not_proved_says_nothing(self) -> None:
+        self.assertEqual(self.refusal("Held::push", self.CALLEE, self.WAITS), "")
+
+    def test_an_open_goal_of_its_own_refuses_a_caller(self) -> None:
+        goal = "note: src/parts/held.rt:10:9: it is not proved that the sum fits"
+        self.assertIn("the sum fits", self.refusal("Held::push", self.CALLEE, goal, self.WAITS))
+        self.assertIn("the sum fits", self.refusal("pgheld::parts::held::Held::push", self.CALLEE, goal, self.WAITS))
+        self.assertEqual(self.refusal("HeldStore::push", self.CALLEE, goal, self.WAITS), "")
+
+    def test_a_wrong_answer_of_its_own_refuses_a_caller(self) -> None:
+        wrong = "./proofs/parts/held/Held/push/Answers.antt:3:5: error: `returns`: the two types differ"
+        self.assertIn("differ", self.refusal("Held::push", self.CALLEE, wrong, self.WAITS))
+        self.assertEqual(self.refusal("HeldStore::push", self.CALLEE, wrong, self.WAITS), "")
+
+    def test_an_answer_that_rests_on_the_callee_says_nothing(self) -> None:
+        wrong = "./proofs/parts/held/Held/push/Answers.antt:3:5: error: `returns`: `free_spec` was not admitted"
+        self.assertEqual(self.refusal("Held::push", self.CALLEE, wrong, self.WAITS), "")
 
 
 class Kept(unittest.TestCase):
