@@ -4,7 +4,9 @@
 
 ghost use Rattle.std.specs.Prelude.{OnOk};
 ghost use Rattle.sqlite.specs.Files.{over_files};
+ghost use Rattle.pgstore.specs.Reopened.{Reopens};
 ghost use Rattle.pgstore.specs.StoreValue.{IsHonest, Serves};
+ghost use Rattle.pgsub_core.specs.Subscriber.Crashing.{LeavesHistory};
 ghost use Rattle.pgsub_core.specs.Subscriber.Subscribed.{bytes_of};
 ghost use Rattle.pgsub_core.specs.Subscriber.Handled.{fault_in};
 ghost use Rattle.pgsub_core.specs.Subscriber.Following.{FollowsSessions};
@@ -13,8 +15,29 @@ ghost use Rattle.pgrecovery.specs.Recovered.{RecoversHistory, holds_tables, posi
 use pgspool::Spools;
 use pgstore::Store;
 use pgsub_core::{Fault, Session, Subscriber, follow};
-use sqlite::FileStore;
+use sqlite::{Alter, FileStore};
 use sqlite_disk::Disk;
+
+/// Follows sessions over a store of any kind, since the proof that one over given disks is a store
+/// gets too large.
+fn follow_over<P: Spools + Drop, S: Alter + Drop>(
+    subscriber: &mut Subscriber<P, Store<S>>,
+    sessions: &[Session],
+    now: i64,
+) -> Result<(), Fault>
+    ensures followed { Serves S.Store subscriber.new.applied.store →
+        FollowsSessions (holds_tables S.Store) position_of now subscriber.old
+        (bytes_of sessions.now) subscriber.new (fault_in result) }
+    ensures still_serves { IsHonest S.Store subscriber.new.applied.store →
+        Serves S.Store subscriber.old.applied.store →
+        OnOk result (Serves S.Store subscriber.new.applied.store) }
+    ensures left { IsHonest S.Store subscriber.new.applied.store →
+        Serves S.Store subscriber.old.applied.store →
+        LeavesHistory (holds_tables S.Store) position_of (Reopens S.Store S.Store) subscriber.old
+        (bytes_of sessions.now) subscriber.new }
+{
+    follow(subscriber, sessions, now)
+}
 
 /// Follows sessions as `pgsub_core::follow` does, over a store in two files.
 ///
@@ -44,5 +67,5 @@ pub fn follow_in_files<P: Spools + Drop, D: Disk + Drop>(
         Serves over_files subscriber.old.applied.store →
         RecoversHistory subscriber.old (bytes_of sessions.now) subscriber.new }
 {
-    follow(subscriber, sessions, now)
+    follow_over(subscriber, sessions, now)
 }
