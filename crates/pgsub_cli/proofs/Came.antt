@@ -16,6 +16,10 @@ pub if_ok : {T E : Type 0} (r : Result T E) (P Q : T → Type 0) → IfOk r P �
 if_ok (Ok x) P Q h go = go x h
 if_ok (Err e) P Q h go = tt
 
+pub if_both : {T E : Type 0} (r : Result T E) (P Q W : T → Type 0) → IfOk r P → IfOk r Q → ((x : T) → P x → Q x → W x) → IfOk r W
+if_both (Ok x) P Q W h k go = go x h k
+if_both (Err e) P Q W h k go = tt
+
 -- more is said of it
 pub for_sessions : {R : Type 0} (gives begins : R → List ℕ → Type 0) (failed : R → Type 0) (incoming : Incoming R) (stopped : Option Fault)
     (P Q : List (List ℕ) → Option Fault → Type 0)

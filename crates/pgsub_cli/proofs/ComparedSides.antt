@@ -1,6 +1,7 @@
 -- How the comparison of two subscribers ends, first over any stores and then over two new ones.
 use Rattle.std.proofs.Common.{◌≡◌, ◌⊎◌, inl, inr, List, ℕ, Option, Some, None, Result, Ok, Err}
-use Rattle.std.proofs.Common.{IfOk, IfErr, IsErrAnd, sym, subst}
+use Rattle.std.proofs.Common.{IfOk, IfErr, ap, sym, subst, ◌∙◌}
+use Rattle.std.specs.FinMap as map
 use Rattle.pgapply.specs.Value.{Tables}
 use Rattle.pgorder.specs.declared.Version.{Version}
 use Rattle.pgsub_core.specs.declared.converging.ConvergeFault.{ConvergeFault}
@@ -16,7 +17,7 @@ use Rattle.pgsub_core.specs.Subscriber.Subscribed.{Subscribed, bytes_of}
 use Rattle.pgsub_core.specs.Subscriber.SubscriberValue.{SubscriberValue, seen}
 use Rattle.pgsub_core.specs.Subscriber.Verdicts.{SideIsFollowed, SideFails}
 use Rattle.pgsub_cli.specs.Compared.{Stops, StopsAt, EndsWith, EndsOver}
-use Rattle.pgsub_cli.specs.Followed.{Leaves, new_subscriber}
+use Rattle.pgsub_cli.specs.Followed.{Leaves, new_subscriber, subscriber_over}
 use Rattle.pgsub_cli.specs.Limits.{clock, default_limits}
 use Rattle.pgsub_cli.specs.Runs.{AreComparedAs, SideStops, Uncompared, IsUncompared}
 
@@ -87,14 +88,20 @@ module _ (version : Version) where
   uncompared left right (Ok v) e = tt
   uncompared left right (Err f) e = stops_at left right f.side f.fault e
 
-  -- where the right one can't be made, neither was followed
-  pub unmade : (left right : Subscribed) (sessions others : List (List ℕ)) (r : Result Verdict ConvergeFault) (f : ConvergeFault)
-      → IsErrAnd r (λ y. y ≡ f)
-      → (f.side ≡ Left) × IsReadFault f.fault → EndsWith left sessions right others r
-  unmade left right sessions others (Ok v) f h is = absurd h
-  unmade left right sessions others (Err g) f h is =
-      subst (λ (e : ConvergeFault). StopsAt e.side left sessions right others e.fault) (sym h)
-      (subst (λ (s : Side). StopsAt s left sessions right others f.fault) (sym is.0) (inl is.1))
+  -- over an empty store a subscriber is a new one
+  pub is_new : (state : Subscribed) (position : ℕ) → state ≡ subscriber_over default_limits map.empty position version → position ≡ 0
+      → state ≡ new_subscriber default_limits version
+  is_new state position is zero = is ∙ ap (λ (n : ℕ). subscriber_over default_limits map.empty n version) zero
+
+  -- where a store can't be made, neither side was followed
+  pub ends_as_made : (left right : Subscribed) (sessions others : List (List ℕ)) (made : Result (Result Verdict ConvergeFault) Fault)
+      (r : Result Verdict ConvergeFault)
+      → IfOk made (λ c. r ≡ c) → IfErr made (λ f. r ≡ Err (record { side = Left; fault = f }))
+      → IfOk made (EndsWith left sessions right others) → IfErr made IsReadFault → EndsWith left sessions right others r
+  ends_as_made left right sessions others (Ok c) r is unmade ends read =
+      subst (λ (e : Result Verdict ConvergeFault). EndsWith left sessions right others e) (sym is) ends
+  ends_as_made left right sessions others (Err f) r is unmade ends read =
+      subst (λ (e : Result Verdict ConvergeFault). EndsWith left sessions right others e) (sym unmade) (inl read)
 
   pub ends_as_new : (left right : Subscribed) (sessions others : List (List ℕ)) (r : Result Verdict ConvergeFault)
       → right ≡ new_subscriber default_limits version → EndsWith left sessions right others r

@@ -16,9 +16,10 @@ use Rattle.pgsub_cli.specs.declared.fault.RunFault.{RunFault}
 use Rattle.pgsub_cli.specs.declared.fault.RunFault.TheVariants as run
 use Rattle.pgsub_cli.specs.declared.storing.Incoming.{Incoming}
 use Rattle.pgsub_cli.specs.declared.storing.Incoming.TheVariants.{Sessions, Raw}
+use Rattle.pgsub_cli.specs.Followed.{PrintsLed, lines_of, new_subscriber}
 use Rattle.pgsub_cli.specs.Limits.{clock}
 use Rattle.pgsub_cli.specs.Reports.{incoming_within, input_within}
-use Rattle.pgsub_cli.specs.Runs.{AreRead, ForSessions, Writes}
+use Rattle.pgsub_cli.specs.Runs.{AreRead, ForSessions, PrintsNew, Writes}
 use Rattle.pgsub_cli.specs.StoreAfter.{FeedsIncoming, HoldsAfter, HoldsFed, LeavesFronts}
 use Rattle.pgsub_cli.specs.StoreAfter.{LeavesIncomingHistory, LosesNothing, MayBeLeft}
 use Rattle.pgsub_cli.specs.Storing.{PrintsKept, PrintsOver}
@@ -48,6 +49,14 @@ module _ {R Q : Type 0} (reader : Q → R) (gives begins : R → List ℕ → Ty
       → ForSessions gives begins failed (incoming_within reader b) stopped P
   came_within (Sessions sessions) stopped P h = h
   came_within (Raw q) stopped P h = (h.0, read_within q h.0 stopped h.1, h.2)
+
+  -- from an empty store on
+  pub new_within : (limits : Limits) (b : Option (Version × Incoming Q)) (stopped : Option Fault) (lines : List ℕ)
+      → PrintsNew (λ q. gives (reader q)) (λ q. begins (reader q)) (λ q. failed (reader q)) limits b stopped lines
+      → PrintsNew gives begins failed limits (input_within reader b) stopped lines
+  new_within limits None stopped lines h = h
+  new_within limits (Some (version, b)) stopped lines h =
+      came_within b stopped (λ sessions f. PrintsLed lines_of (new_subscriber limits version) sessions f lines) h
 
 module _ {R Q C D : Type 0} (reader : Q → R) (inner : D → C) (gives begins : R → List ℕ → Type 0) (failed : R → Type 0)
     (holds : C → Tables → Type 0) (place : C → ℕ) where

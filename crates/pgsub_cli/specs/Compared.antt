@@ -39,6 +39,11 @@ abbrev pub EndsWith : Subscribed → List (List ℕ) → Subscribed → List (Li
 EndsWith left sessions right others (Ok v) = LeadTo left sessions right others v
 EndsWith left sessions right others (Err f) = StopsAt f.side left sessions right others f.fault
 
+-- so it ends of two new subscribers
+abbrev pub EndsOfNew : Version → List (List ℕ) → List (List ℕ) → Result Verdict ConvergeFault → Type 0
+EndsOfNew version sessions others answered =
+    EndsWith (new_subscriber default_limits version) sessions (new_subscriber default_limits version) others answered
+
 module _ {C : Type 0} (holds : C → Tables → Type 0) (place : C → ℕ) where
   -- so it ends beside a new subscriber, whatever tables the left one's store held
   abbrev pub EndsBesideNew : Version → SubscriberValue C → List (List ℕ) → List (List ℕ) → Result Verdict ConvergeFault → Type 0

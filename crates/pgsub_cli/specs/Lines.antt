@@ -1,6 +1,5 @@
 -- Lines on their way to an output, which are written some at a time.
 use Rattle.std.specs.Prelude.{◌≡◌, ◌++◌, ℕ, List, Option, None, Some}
-use Rattle.pgsub_core.specs.declared.fault.Fault.{Fault}
 use Rattle.pgsub_core.specs.declared.fault.Fault.TheVariants.{Memory}
 use Rattle.pgsub_cli.specs.declared.fault.RunFault.{RunFault}
 use Rattle.pgsub_cli.specs.declared.fault.RunFault.TheVariants as run

@@ -1,22 +1,19 @@
 //! Comparing what two recordings leave.
 
-ghost use Rattle.std.specs.Prelude.{◌≡◌, ◌⊎◌, IfOk, IfErr};
-ghost use Rattle.pgstore.specs.StoreValue.{HasTables, IsHonest, StoreValue};
+ghost use Rattle.std.specs.Prelude.{◌≡◌, ◌⊎◌, Err, IfOk, IfErr};
 ghost use Rattle.pgsub_core.specs.declared.converging.Side.TheVariants.{Left};
 ghost use Rattle.pgsub_core.specs.Machine.Faults.{IsReadFault};
 ghost use Rattle.pgsub_core.specs.Subscriber.Subscribed.{bytes_of};
-ghost use Rattle.pgsub_cli.specs.Compared.{EndsBesideNew, EndsOver};
+ghost use Rattle.pgsub_cli.specs.Compared.{EndsBesideNew, EndsOfNew, EndsOver};
 ghost use Rattle.pgsub_cli.specs.Runs.{AreComparedAs, IsUncompared};
-ghost use Rattle.pgsub_cli.specs.Stores.{IsNew, position_of};
 
 use crate::limits::{CLOCK, Limits};
-use crate::stores::{MemoryStore, new_store, subscriber_of};
+use crate::stores::{Job, in_new_store};
+use crate::storing::subscriber_over;
 use pgapply::ReplicaStore;
 use pgorder::Version;
 use pgspool::{ByteSpools, Spools};
-use pgstore::{Store, stores_on_memory_disks_are_honest};
 use pgsub_core::{ConvergeFault, Fault, Session, Side, Subscriber, Verdict, converge};
-use sqlite::Alter;
 use std::alloc::Global;
 
 /// The fault of a side, or, where its rows can't be read any more, the one of reading them. So what
@@ -34,61 +31,42 @@ fn confirmed_fault<P: Spools + Drop, C: ReplicaStore + Drop>(
     }
 }
 
-/// Compares two subscribers after these sessions, the left one's first. Both end with that.
+/// Compares two subscribers after these sessions, the left one's first.
 fn compare_subscribers<
     P: Spools + Drop,
     C: ReplicaStore + Drop,
     Q: Spools + Drop,
     D: ReplicaStore + Drop,
 >(
-    mut left: Subscriber<P, C>,
+    left: &mut Subscriber<P, C>,
     left_sessions: &[Session],
-    mut right: Subscriber<Q, D>,
+    right: &mut Subscriber<Q, D>,
     right_sessions: &[Session],
 ) -> Result<Verdict, ConvergeFault>
     ensures ends { ((s : C) → C.is_honest s) → ((s : D) → D.is_honest s) →
-        EndsOver C.holds C.place D.holds D.place left (bytes_of left_sessions.now) right
+        EndsOver C.holds C.place D.holds D.place left.old (bytes_of left_sessions.now) right.old
         (bytes_of right_sessions.now) result }
 {
-    let stopped = match converge(&mut left, left_sessions, &mut right, right_sessions, CLOCK) {
+    let stopped = match converge(left, left_sessions, right, right_sessions, CLOCK) {
         Ok(verdict) => return Ok(verdict),
         Err(stopped) => stopped,
     };
     let side = stopped.side;
     let fault = match side {
-        Side::Left => confirmed_fault(&mut left, stopped.fault),
-        Side::Right => confirmed_fault(&mut right, stopped.fault),
+        Side::Left => confirmed_fault(left, stopped.fault),
+        Side::Right => confirmed_fault(right, stopped.fault),
     };
     Err(ConvergeFault { side, fault })
 }
 
-/// The same, over stores of any kind, since the proof that one over given disks is a store gets too
-/// large.
-fn compare_stores<P: Spools + Drop, S: Alter + Drop, Q: Spools + Drop, T: Alter + Drop>(
-    left: Subscriber<P, Store<S>>,
-    left_sessions: &[Session],
-    right: Subscriber<Q, Store<T>>,
-    right_sessions: &[Session],
-) -> Result<Verdict, ConvergeFault>
-    ensures ends { ((s : StoreValue S) → IsHonest S.Store s) →
-        ((s : StoreValue T) → IsHonest T.Store s) →
-        EndsOver (HasTables S.Store) position_of (HasTables T.Store) position_of left
-        (bytes_of left_sessions.now) right (bytes_of right_sessions.now) result }
+/// How a comparison ends that needs a new store. Where there is no memory for one, nothing was
+/// followed yet, so the fault is the left one's.
+fn ended(compared: Result<Result<Verdict, ConvergeFault>, Fault>) -> Result<Verdict, ConvergeFault>
+    ensures compared { IfOk compared (λ c. result ≡ c) }
+    ensures unmade { IfErr compared (λ f. result ≡ Err (record { side = Left; fault = f })) }
 {
-    compare_subscribers(left, left_sessions, right, right_sessions)
-}
-
-/// The subscriber of a side. Where there is no memory for it, nothing was followed yet, so the
-/// fault is the left one's.
-fn new_side(
-    alloc: Global,
-    version: Version,
-) -> Result<Subscriber<ByteSpools, MemoryStore>, ConvergeFault>
-    ensures new { IfOk result (IsNew Limits.DEFAULT version) }
-    ensures fault { IfErr result (λ stopped. (stopped.side ≡ Left) × IsReadFault stopped.fault) }
-{
-    match new_store(alloc) {
-        Ok(store) => Ok(subscriber_of(alloc, store, Limits::DEFAULT, version)),
+    match compared {
+        Ok(compared) => compared,
         Err(fault) => Err(ConvergeFault {
             side: Side::Left,
             fault,
@@ -96,21 +74,54 @@ fn new_side(
     }
 }
 
-/// Compares a subscriber with a new one.
-fn compare_with_new<P: Spools + Drop, S: Alter + Drop>(
-    alloc: Global,
+/// Compares what the sessions of both sides leave.
+#[derive(Clone, Copy)]
+struct Comparing<'a> {
     version: Version,
-    left: Subscriber<P, Store<S>>,
-    left_sessions: &[Session],
-    right_sessions: &[Session],
-) -> Result<Verdict, ConvergeFault>
-    ensures { ((s : StoreValue S) → IsHonest S.Store s) → EndsBesideNew (HasTables S.Store)
-        position_of version left (bytes_of left_sessions.now) (bytes_of right_sessions.now)
-        result }
-{
-    stores_on_memory_disks_are_honest();
-    let right = new_side(alloc, version)?;
-    compare_stores(left, left_sessions, right, right_sessions)
+    left: &'a [Session],
+    right: &'a [Session],
+}
+
+impl Job for Comparing<'_> {
+    type Outcome = Result<Verdict, ConvergeFault>;
+
+    ghost ends = { λ job outcome. EndsOfNew job.version (bytes_of job.left.now)
+        (bytes_of job.right.now) outcome };
+
+    fn run<C: ReplicaStore + Drop>(
+        self,
+        alloc: Global,
+        store: C,
+    ) -> Result<Verdict, ConvergeFault> {
+        let left = subscriber_over(alloc, store, Limits::DEFAULT, self.version);
+        let sides = self;
+        ended(in_new_store(alloc, Beside { left, sides }))
+    }
+}
+
+/// The same, where there is the left one's subscriber.
+#[derive(Drop)]
+struct Beside<'a, D: ReplicaStore + Drop> {
+    left: Subscriber<ByteSpools, D>,
+    sides: Comparing<'a>,
+}
+
+impl<D: ReplicaStore + Drop> Job for Beside<'_, D> {
+    type Outcome = Result<Verdict, ConvergeFault>;
+
+    ghost ends = { λ job outcome. ((s : D) → D.is_honest s) →
+        EndsBesideNew D.holds D.place job.sides.version job.left (bytes_of job.sides.left.now)
+        (bytes_of job.sides.right.now) outcome };
+
+    fn run<C: ReplicaStore + Drop>(
+        self,
+        alloc: Global,
+        store: C,
+    ) -> Result<Verdict, ConvergeFault> {
+        let (mut left, sides) = (self.left, self.sides);
+        let mut right = subscriber_over(alloc, store, Limits::DEFAULT, sides.version);
+        compare_subscribers(&mut left, sides.left, &mut right, sides.right)
+    }
 }
 
 /// How the rows and positions compare that the sessions of two recordings leave of empty stores.
@@ -126,7 +137,10 @@ pub(crate) fn compare(
     ensures compared { IfOk result (AreComparedAs version left.now right.now) }
     ensures stopped { IfErr result (IsUncompared version left.now right.now) }
 {
-    stores_on_memory_disks_are_honest();
-    let subscriber = new_side(alloc, version)?;
-    compare_with_new(alloc, version, subscriber, left, right)
+    let sides = Comparing {
+        version,
+        left,
+        right,
+    };
+    ended(in_new_store(alloc, sides))
 }

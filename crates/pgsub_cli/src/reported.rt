@@ -3,6 +3,7 @@
 
 ghost use Rattle.std.specs.Prelude.{◌≡◌};
 
+use crate::files::Unheard;
 use pgapply::{Commit, DumpRow, DumpSink, Misses, ReplicaStore, StoreFault};
 use pglsn::Lsn;
 
@@ -23,6 +24,10 @@ pub struct Settling {
 pub trait Listener {
     /// These commits were stored together.
     fn hear(&mut self, settling: &Settling);
+}
+
+impl Listener for Unheard {
+    fn hear(&mut self, _settling: &Settling) {}
 }
 
 /// A store that tells a listener of each settling.

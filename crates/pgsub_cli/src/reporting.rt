@@ -2,7 +2,6 @@
 //! as without it.
 
 ghost use Rattle.std.specs.Prelude.{◌≡◌, ◌≤◌, ◌+◌, ◌⊎◌, [], Result, Some, IfOk};
-ghost use Rattle.pgstore.specs.StoreValue.{HasTables, IsHonest, StoreValue};
 ghost use Rattle.pgsub_core.specs.Machine.Faults.{IsReadFault};
 ghost use Rattle.pgsub_cli.specs.declared.fault.Ending.{Ending};
 ghost use Rattle.pgsub_cli.specs.declared.fault.RunFault.{RunFault};
@@ -10,23 +9,20 @@ ghost use Rattle.pgsub_cli.specs.Reports.{IsCounted, TellsProgress, bytes_text, 
 ghost use Rattle.pgsub_cli.specs.Reports.{nothing_of, progress_line, with_bytes, with_commits};
 ghost use Rattle.pgsub_cli.specs.Runs.{PrintsNew, Tells, Writes, status_of};
 ghost use Rattle.pgsub_cli.specs.StoreAfter.{HoldsAfter, MayBeLeft, LosesNothing};
-ghost use Rattle.pgsub_cli.specs.Stores.{position_of};
 ghost use Rattle.pgsub_cli.specs.Storing.{PrintsOver};
 
-use crate::fault::RunFault;
 use crate::files::{Input, Output, ReadListener};
 use crate::limits::Limits;
+use crate::printed::write_printed;
 use crate::reported::{Listener, Reported, Settling};
 use crate::running::{status, tell};
-use crate::stores::new_store;
+use crate::stores::apply_told;
 use crate::storing::{Incoming, run_within};
 use pgapply::ReplicaStore;
 use pglsn::Lsn;
 use pgorder::Version;
 use pgspool::Spools;
-use pgstore::{Store, stores_on_memory_disks_are_honest};
 use pgsub_core::{Fault, Subscriber};
-use sqlite::Alter;
 use std::alloc::Global;
 use std::cell::RefCell;
 use std::time::{Clock, Duration, Instant};
@@ -309,35 +305,6 @@ pub fn run_opened<
     (status, told.into_store())
 }
 
-/// As `run_opened`. The store ends with that. It is of any kind, since the proof that one over
-/// given disks is a store gets too large.
-fn run_ending<
-    R: Input + Drop,
-    S: Alter + Drop,
-    K: Clock + Drop,
-    P: Output + Drop,
-    W: Output,
-    E: Output,
->(
-    alloc: Global,
-    store: Store<S>,
-    limits: Limits,
-    input: Option<(Version, Incoming<R>)>,
-    reporter: Option<&RefCell<Reporter<K, P>>>,
-    out: &mut W,
-    err: &mut E,
-) -> u8
-    ensures status { result ≤ 4 }
-    ensures ends { ((s : StoreValue S) → IsHonest S.Store s) → (ended : Result Ending RunFault)
-        × (result ≡ status_of ended)
-        × Writes W.takes W.failed IsReadFault (λ stopped lines. (new : StoreValue S) ×
-        PrintsOver R.gives R.begins R.failed (HasTables S.Store) position_of limits input store new
-        stopped lines) out.old out.new ended × Tells E.takes E.failed [] [] ended err.old err.new }
-{
-    let (status, _) = run_opened(alloc, store, limits, input, reporter, out, err);
-    status
-}
-
 /// Runs a task over an empty store in memory, which ends with that, and tells a reporter meanwhile,
 /// where there is one. Returns the exit status. What is printed is as `run` says, and with nothing
 /// to apply the position 0/0.
@@ -354,13 +321,9 @@ pub fn run_in_memory<R: Input + Drop, K: Clock + Drop, P: Output + Drop, W: Outp
         × Writes W.takes W.failed IsReadFault (PrintsNew R.gives R.begins R.failed limits input)
         out.old out.new ended × Tells E.takes E.failed [] [] ended err.old err.new }
 {
-    stores_on_memory_disks_are_honest();
-    match new_store(alloc) {
-        Ok(store) => run_ending(alloc, store, limits, input, reporter, out, err),
-        Err(fault) => {
-            let ended = Err(RunFault::Stream(fault));
-            tell(alloc, ended, "", "", err);
-            status(ended)
-        }
-    }
+    let told = count_bytes(input, reporter);
+    let printed = apply_told(alloc, limits, told, Commits { reporter });
+    let ended = write_printed(printed, out);
+    tell(alloc, ended, "", "", err);
+    status(ended)
 }

@@ -1,97 +1,151 @@
 //! The program's store in memory. No other module knows how rows are stored there.
 
 ghost use Rattle.std.specs.Prelude.{◌≡◌, IfOk, IfErr, string_bytes};
-ghost use Rattle.pgorder.specs.declared.Version.TheVariants.{Two};
-ghost use Rattle.pgapply.specs.Value.{Tables};
 ghost use Rattle.pgstore.specs.StoreValue.{HasTables, IsHonest, Serves, StoreValue};
 ghost use Rattle.pgsub_core.specs.Machine.Faults.{IsReadFault};
+ghost use Rattle.pgsub_core.specs.Subscriber.Crashing.{StandsAsFed};
+ghost use Rattle.pgsub_core.specs.Subscriber.Following.{FeedsSessions};
 ghost use Rattle.pgsub_core.specs.Subscriber.Subscribed.{bytes_of};
-ghost use Rattle.pgsub_core.specs.Subscriber.SubscriberValue.{seen};
-ghost use Rattle.pgsub_cli.specs.Followed.{PrintsFrom, resumed_lines_of, subscriber_over};
-ghost use Rattle.pgsub_cli.specs.Limits.{default_limits};
-ghost use Rattle.pgsub_cli.specs.Runs.{PrintsApplied, PrintsResumed};
+ghost use Rattle.pgsub_cli.specs.DumpText.{resumed_of};
+ghost use Rattle.pgsub_cli.specs.Limits.{clock};
+ghost use Rattle.pgsub_cli.specs.Runs.{PrintsApplied, PrintsNew, PrintsResumed};
 ghost use Rattle.pgsub_cli.specs.Stores.{IsEmpty, position_of};
-ghost use Rattle.pgsub_cli.specs.Storing.{PrintsOver};
 
 use crate::dump::resume_text;
-use crate::files::Input;
+use crate::files::{Input, Unheard};
 use crate::limits::{CLOCK, Limits};
 use crate::printed::Printed;
+use crate::reported::{Listener, Reported};
 use crate::storing::{Incoming, apply_over, subscriber_over};
-use pgmemory::MemoryDisk;
+use pgapply::ReplicaStore;
 use pgorder::Version;
-use pgspool::ByteSpools;
+use pgspool::Spools;
 use pgstore::{Store, stores_on_memory_disks_are_honest};
 use pgsub_core::{Fault, Session, Subscriber, fed_sessions_are_followed, follow};
-use sqlite::{Alter, FileStore};
+use sqlite::Alter;
 use std::alloc::{AllocError, Global};
 
-/// Stored rows on disks in memory, which end with the process.
-pub(crate) type MemoryStore = Store<FileStore<MemoryDisk>>;
+/// What is done with an empty store, which ends with that.
+pub(crate) trait Job {
+    /// What comes of it.
+    type Outcome;
 
-/// An empty store at position 0/0.
-pub(crate) fn new_store(alloc: Global) -> Result<MemoryStore, Fault>
-    ensures empty { IfOk result IsEmpty }
+    /// That it may end so.
+    ghost ends: { Self → Self.Outcome → Type 0 };
+
+    /// Does it with a store of any kind.
+    fn run<C: ReplicaStore + Drop>(self, alloc: Global, store: C) -> Self::Outcome
+        ensures { ((s : C) → C.is_honest s) → IsEmpty C.serves C.holds C.place store →
+            ends self result };
+}
+
+/// Does a job with a store of any kind, since the proof that one over given disks is a store gets
+/// too large.
+fn run_job<S: Alter + Drop, J: Job + Drop>(alloc: Global, store: Store<S>, job: J) -> J::Outcome
+    ensures { ((s : StoreValue S) → IsHonest S.Store s) →
+        IsEmpty (Serves S.Store) (HasTables S.Store) position_of store → J.ends job result }
+{
+    job.run(alloc, store)
+}
+
+/// Does a job with an empty store in memory, at position 0/0, which ends with that. What is done is
+/// proved of any store, so that what a store over disks in memory is need be proved here alone.
+///
+/// It fails where there is no memory for a store.
+pub(crate) fn in_new_store<J: Job + Drop>(alloc: Global, job: J) -> Result<J::Outcome, Fault>
+    ensures ends { IfOk result (J.ends job) }
     ensures fault { IfErr result IsReadFault }
 {
+    stores_on_memory_disks_are_honest();
     let store = Store::on_memory_disks(alloc)?;
-    Ok(store)
+    Ok(run_job(alloc, store, job))
 }
 
-// Below, a store is of any kind, since the proof that one over given disks is a store gets too
-// large.
-
-/// A subscriber over a store.
-pub(crate) fn subscriber_of<S: Alter + Drop>(
-    alloc: Global,
-    store: Store<S>,
+/// Applies what comes, if anything does, and tells a listener of each settling.
+#[derive(Drop)]
+struct Applying<R: Input + Drop, L: Listener + Drop> {
     limits: Limits,
-    version: Version,
-) -> Subscriber<ByteSpools, Store<S>>
-    ensures store { result.applied.store ≡ store }
-    ensures state { (tables : Tables) → seen position_of result tables
-        ≡ subscriber_over limits tables (position_of store) version }
-{
-    subscriber_over(alloc, store, limits, version)
+    input: Option<(Version, Incoming<R>)>,
+    listener: L,
 }
 
-/// As `apply_over`. The store ends with that.
-fn apply_to<R: Input + Drop, S: Alter + Drop>(
-    alloc: Global,
-    store: Store<S>,
-    limits: Limits,
-    version: Version,
-    incoming: Incoming<R>,
-) -> Result<Printed, Fault>
-    ensures applied { ((s : StoreValue S) → IsHonest S.Store s) → IfOk result (λ printed.
-        (new : StoreValue S) × PrintsOver R.gives R.begins R.failed (HasTables S.Store) position_of
-        limits (Some (version, incoming)) store new printed.stopped (string_bytes printed.lines)) }
-    ensures fault { ((s : StoreValue S) → IsHonest S.Store s) → IfErr result IsReadFault }
-{
-    let (printed, _) = apply_over(alloc, store, limits, Some((version, incoming)));
-    printed
+impl<R: Input + Drop, L: Listener + Drop> Job for Applying<R, L> {
+    type Outcome = Result<Printed, Fault>;
+
+    ghost ends = { λ job outcome. IfOk outcome (λ printed.
+        PrintsNew R.gives R.begins R.failed job.limits job.input printed.stopped
+        (string_bytes printed.lines)) × IfErr outcome IsReadFault };
+
+    fn run<C: ReplicaStore + Drop>(self, alloc: Global, store: C) -> Result<Printed, Fault> {
+        let store = Reported::new(store, self.listener);
+        let (printed, _) = apply_over(alloc, store, self.limits, self.input);
+        printed
+    }
 }
 
-/// Follows sessions from what a store holds on, and tells what is reached then, whatever stopped
-/// them. The store ends with that.
-fn resume_over<S: Alter + Drop>(
+/// Follows sessions from where a subscriber stands, and tells what is reached then, whatever
+/// stopped them.
+fn resume_over<P: Spools + Drop, C: ReplicaStore + Drop>(
     alloc: Global,
-    store: Store<S>,
+    subscriber: &mut Subscriber<P, C>,
     sessions: &[Session],
 ) -> Result<Printed, Fault>
-    ensures resumed { ((s : StoreValue S) → IsHonest S.Store s) → Serves S.Store store →
-        IfOk result (λ printed. PrintsFrom (HasTables S.Store) position_of resumed_lines_of
-        default_limits Two store (bytes_of sessions.now) printed.stopped
-        (string_bytes printed.lines)) }
+    ensures stands { C.is_honest subscriber.new.applied.store →
+        C.serves subscriber.old.applied.store → IfOk result (λ printed. StandsAsFed C.place
+        (λ s. FeedsSessions C.holds C.place clock subscriber.old (bytes_of sessions.now) s
+        printed.stopped) subscriber.new) }
+    ensures lines { IfOk result (λ printed. string_bytes printed.lines ≡
+        resumed_of (C.place subscriber.new.applied.store) subscriber.new.applied.confirmed) }
     ensures fault { IfErr result IsReadFault }
 {
-    fed_sessions_are_followed();
-    let mut subscriber = subscriber_over(alloc, store, Limits::DEFAULT, Version::Two);
-    let stopped = follow(&mut subscriber, sessions, CLOCK).err();
+    let stopped = follow(subscriber, sessions, CLOCK).err();
     match resume_text(alloc, subscriber.position(), subscriber.confirmed()) {
         Ok(lines) => Ok(Printed { lines, stopped }),
         Err(AllocError) => Err(Fault::Memory),
     }
+}
+
+/// Follows sessions, and tells what is reached then, whatever stopped them.
+#[derive(Clone, Copy)]
+struct Resuming<'a> {
+    sessions: &'a [Session],
+}
+
+impl Job for Resuming<'_> {
+    type Outcome = Result<Printed, Fault>;
+
+    ghost ends = { λ job outcome. IfOk outcome (λ printed.
+        PrintsResumed job.sessions.now printed.stopped (string_bytes printed.lines))
+        × IfErr outcome IsReadFault };
+
+    fn run<C: ReplicaStore + Drop>(self, alloc: Global, store: C) -> Result<Printed, Fault> {
+        fed_sessions_are_followed();
+        let mut subscriber = subscriber_over(alloc, store, Limits::DEFAULT, Version::Two);
+        resume_over(alloc, &mut subscriber, self.sessions)
+    }
+}
+
+/// Applies what comes, if anything does, to an empty store, within these limits, and tells a
+/// listener of each settling. The lines are as `apply` says, and with nothing to apply those of no
+/// rows and of the position 0/0.
+///
+/// It fails where there is no memory for a store, or its rows can't be read.
+pub(crate) fn apply_told<R: Input + Drop, L: Listener + Drop>(
+    alloc: Global,
+    limits: Limits,
+    input: Option<(Version, Incoming<R>)>,
+    listener: L,
+) -> Result<Printed, Fault>
+    ensures applied { IfOk result (λ printed. PrintsNew R.gives R.begins R.failed limits input
+        printed.stopped (string_bytes printed.lines)) }
+    ensures fault { IfErr result IsReadFault }
+{
+    let job = Applying {
+        limits,
+        input,
+        listener,
+    };
+    in_new_store(alloc, job)?
 }
 
 /// Applies what comes to an empty store, within these limits. The lines are those of the rows and
@@ -110,9 +164,7 @@ pub(crate) fn apply<R: Input + Drop>(
         version incoming printed.stopped (string_bytes printed.lines)) }
     ensures fault { IfErr result IsReadFault }
 {
-    stores_on_memory_disks_are_honest();
-    let store = new_store(alloc)?;
-    apply_to(alloc, store, limits, version, incoming)
+    apply_told(alloc, limits, Some((version, incoming)), Unheard)
 }
 
 /// Follows sessions from an empty store on. The lines are the position that their bytes leave and
@@ -124,7 +176,5 @@ pub(crate) fn resume(alloc: Global, sessions: &[Session]) -> Result<Printed, Fau
         (string_bytes printed.lines)) }
     ensures fault { IfErr result IsReadFault }
 {
-    stores_on_memory_disks_are_honest();
-    let store = new_store(alloc)?;
-    resume_over(alloc, store, sessions)
+    in_new_store(alloc, Resuming { sessions })?
 }

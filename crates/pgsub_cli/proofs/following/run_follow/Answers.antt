@@ -1,4 +1,4 @@
-use Rattle.std.proofs.Common.{◌≡◌, [], sym, subst, Result}
+use Rattle.std.proofs.Common.{◌≡◌, sym, subst, Result}
 use Rattle.pgapply.specs.declared.misses.Misses.{Misses}
 use Rattle.pgfollow.specs.declared.fault.FollowFault.TheVariants as follow
 use Rattle.pgfollow.specs.Live.{IsOfFollowing, ended_by}

@@ -1,29 +1,27 @@
-use Rattle.std.proofs.Common.{Err, inl, refl}
+use Rattle.std.proofs.Common.{ℕ, List, subst, string_bytes}
 use Rattle.pgsub_core.specs.Machine.Faults.{IsReadFault}
-use Rattle.pgsub_cli.specs.declared.fault.RunFault.TheVariants.{Stream}
+use Rattle.pgsub_cli.specs.declared.reporting.Counted.{Counted}
 use Rattle.pgsub_cli.specs.Runs.{PrintsNew}
-use Rattle.pgsub_cli.specs.Stores.{InMemory, holds_tables, position_of}
-use Rattle.pgsub_cli.specs.Storing.{PrintsOver}
-use Rattle.pgsub_cli.proofs.PrintedOver.{prints_new}
-use Rattle.pgsub_cli.proofs.Within.{writes_weaker}
+use Rattle.pgsub_cli.proofs.Came.{if_ok}
+use Rattle.pgsub_cli.proofs.Within.{new_within}
+use Rattle.pgsub_cli.proofs.Writing.{writes_as}
 use Rattle.pgsub_cli.proofs.reporting.run_in_memory.Goals as goal
 
-pub returns-in-Ok-clause-ends : goal.returns-in-Ok-clause-ends
-returns-in-Ok-clause-ends g c =
-    let empty = c.in-Ok.ensures.empty in
-    let e = c.run_ending.ensures.ends c.stores_on_memory_disks_are_honest.ensures in
-    let prints = PrintsOver g.R.Input.gives g.R.Input.begins g.R.Input.failed holds_tables position_of c.args.limits c.args.input
-    c.in-Ok.store in (
-      e.0,
-      e.1,
-      writes_weaker g.W.Output.takes g.W.Output.failed IsReadFault IsReadFault
-          (λ stopped lines. (new : InMemory) × prints new stopped lines)
-          (PrintsNew g.R.Input.gives g.R.Input.begins g.R.Input.failed c.args.limits c.args.input) c.args.out.now
-          c.run_ending.new.out e.0 (λ fault lost. lost)
-          (λ stopped lines shows. prints_new g.R.Input.gives g.R.Input.begins g.R.Input.failed holds_tables position_of c.args.limits
-          c.args.input c.in-Ok.store shows.0 stopped lines empty.held empty.position shows.1) e.2,
-      e.3,
+pub returns-clause-ends : goal.returns-clause-ends
+returns-clause-ends g c =
+    let gives : g.row.R.Denot → List ℕ → Type 0 = g.R.Input.gives in
+    let begins : g.row.R.Denot → List ℕ → Type 0 = g.R.Input.begins in
+    let failed : g.row.R.Denot → Type 0 = g.R.Input.failed in
+    let reader : Counted g.row.R.Denot g.row.K.Denot g.row.P.Denot → g.row.R.Denot = λ q. q.file in
+    let told = c.count_bytes-told in
+    let printed = c.apply_told-printed in (
+      c.write_printed-ended.result,
+      c.status.ensures.status,
+      writes_as g.W.Output.takes g.W.Output.failed printed.result IsReadFault
+          (PrintsNew gives begins failed c.args.limits c.args.input)
+          (if_ok printed.result _ _ printed.ensures.applied (λ p shows.
+          subst (λ i. PrintsNew gives begins failed c.args.limits i p.stopped (string_bytes p.lines)) told.ensures
+          (new_within reader gives begins failed c.args.limits told.result p.stopped (string_bytes p.lines) shows)))
+          printed.ensures.fault c.args.out.now c.write_printed-ended.new.out c.write_printed-ended.result c.write_printed-ended.ensures,
+      c.tell.ensures,
     )
-
-pub returns-in-Err-clause-ends : goal.returns-in-Err-clause-ends
-returns-in-Err-clause-ends g c = (Err (Stream c.in-Err.fault), c.status.ensures.status, inl (c.in-Err.ensures.fault, refl), c.tell.ensures)
