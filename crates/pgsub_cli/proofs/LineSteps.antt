@@ -125,6 +125,23 @@ module _ {W : Type 0} (takes : W → List ℕ → W → Type 0) (failed : W → 
   unfinished old bytes out lines w new r f err is =
       subst (λ bs. PrintsLines takes failed bs old new r) (append-nil bytes) (stops_as r f err (stuck w new [] f is) [])
 
+  one_row_more : (rows : List DumpRow) (row : DumpRow) → flat_map row_line (rows ++ row ∷ []) ≡ flat_map row_line rows ++ row_line row
+  one_row_more rows row =
+      flat_map-append row_line rows (row ∷ []) ∙ ap (λ (l : List ℕ). flat_map row_line rows ++ l) (append-nil (row_line row))
+
+  -- the line of a row is kept after those of others
+  pub takes_row : (old : W) (text : List ℕ) (rows : List DumpRow) (row : DumpRow) (out : W) (lines : List ℕ) (fault : Option RunFault)
+      → fault ≡ None → (new : W) (next : List ℕ)
+      → ((before : W) (bytes : List ℕ) → Writing before bytes out lines None → Writing before (bytes ++ row_line row) new next None)
+      → Writing old (text ++ flat_map row_line rows) out lines fault
+      → Writing old (text ++ flat_map row_line (rows ++ row ∷ [])) new next fault
+  takes_row old text rows row out lines fault none new next added w =
+      subst (λ f. Writing old (text ++ flat_map row_line (rows ++ row ∷ [])) new next f) (sym none)
+      (subst (λ bytes. Writing old bytes new next None)
+      (append_assoc text (flat_map row_line rows) (row_line row) ∙ ap (λ (l : List ℕ). text ++ l) (sym (one_row_more rows row)))
+      (added old (text ++ flat_map row_line rows)
+      (subst (λ f. Writing old (text ++ flat_map row_line rows) out lines f) none w)))
+
   -- an empty text in front of the bytes
   pub unbegun : {old : W} {bytes : List ℕ} {out : W} {lines : List ℕ} {fault : Option RunFault} (text : List ℕ) → text ≡ []
       → Writing old (text ++ bytes) out lines fault → Writing old bytes out lines fault

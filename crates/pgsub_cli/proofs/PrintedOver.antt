@@ -59,6 +59,12 @@ module _ {R C : Type 0} (gives begins : R → List ℕ → Type 0) (failed : R �
       (λ sessions f kept. let a = kept map.empty empty in
       (a.0, subst (λ (n : ℕ). LeadsTo (subscriber_over limits map.empty n version) sessions f a.0) zero a.1, a.4)) prints
 
+  pub prints_all_new : (input : Option (Version × Incoming R)) (old new : C) (r : Result Printed Fault) → holds old map.empty → place old ≡ 0
+      → IfOk r (λ p. PrintsOver gives begins failed holds place limits input old new p.stopped (string_bytes p.lines))
+      → IfOk r (λ p. PrintsNew gives begins failed limits input p.stopped (string_bytes p.lines))
+  prints_all_new input old new (Ok p) empty zero prints = prints_new input old new p.stopped (string_bytes p.lines) empty zero prints
+  prints_all_new input old new (Err f) empty zero prints = tt
+
 module _ {C : Type 0} (holds : C → Tables → Type 0) (place : C → ℕ) where
   -- the position and what may be confirmed of a subscriber that stands as one that was fed
   pub prints_from : FedSessionsAreFollowed → (limits : Limits) (version : Version) (store : C) (old new : SubscriberValue C)

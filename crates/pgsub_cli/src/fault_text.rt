@@ -90,17 +90,20 @@ impl fmt::Display for StopText<'_> {
 fn write_wire<W: fmt::Write>(f: &mut fmt::Formatter<W>, fault: WireFault) -> fmt::Result
     ensures { DisplaysOnOk W.write_str_gives f.old result (Some (wire_text fault)) f.new }
 {
-    match fault {
-        WireFault::UnknownFrame(byte) => write!(f, "wire 1 UnknownFrame {byte}"),
-        WireFault::BadLength => f.write_str("wire 2 BadLength"),
-        WireFault::TooLarge => f.write_str("wire 3 TooLarge"),
-        WireFault::AfterDone => f.write_str("wire 4 AfterDone"),
-        WireFault::UnknownServerMessage(byte) => write!(f, "wire 5 UnknownServerMessage {byte}"),
-        WireFault::Short => f.write_str("wire 6 Short"),
-        WireFault::Trailing => f.write_str("wire 7 Trailing"),
-        WireFault::BadReplyByte => f.write_str("wire 8 BadReplyByte"),
-        WireFault::Memory => f.write_str("memory"),
-    }
+    let name = match fault {
+        WireFault::UnknownFrame(byte) => return write!(f, "wire 1 UnknownFrame {byte}"),
+        WireFault::BadLength => "wire 2 BadLength",
+        WireFault::TooLarge => "wire 3 TooLarge",
+        WireFault::AfterDone => "wire 4 AfterDone",
+        WireFault::UnknownServerMessage(byte) => {
+            return write!(f, "wire 5 UnknownServerMessage {byte}");
+        }
+        WireFault::Short => "wire 6 Short",
+        WireFault::Trailing => "wire 7 Trailing",
+        WireFault::BadReplyByte => "wire 8 BadReplyByte",
+        WireFault::Memory => "memory",
+    };
+    f.write_str(name)
 }
 
 fn write_decode<W: fmt::Write>(f: &mut fmt::Formatter<W>, fault: DecodeFault) -> fmt::Result
@@ -108,17 +111,18 @@ fn write_decode<W: fmt::Write>(f: &mut fmt::Formatter<W>, fault: DecodeFault) ->
         (Some (reason_text fault.reason fault.place)) f.new }
 {
     let place = fault.place;
-    match fault.reason {
-        Reason::UnknownMessage => write!(f, "decode 1 UnknownMessage at {place}"),
-        Reason::Short => write!(f, "decode 2 Short at {place}"),
-        Reason::Trailing => write!(f, "decode 3 Trailing at {place}"),
-        Reason::BadFlag => write!(f, "decode 4 BadFlag at {place}"),
-        Reason::BadLetter => write!(f, "decode 5 BadLetter at {place}"),
-        Reason::NotUtf8 => write!(f, "decode 6 NotUtf8 at {place}"),
-        Reason::BadCount => write!(f, "decode 7 BadCount at {place}"),
-        Reason::Tuple(inner) => write_tuple(f, inner, place),
-        Reason::Memory => f.write_str("memory"),
-    }
+    let name = match fault.reason {
+        Reason::UnknownMessage => "decode 1 UnknownMessage",
+        Reason::Short => "decode 2 Short",
+        Reason::Trailing => "decode 3 Trailing",
+        Reason::BadFlag => "decode 4 BadFlag",
+        Reason::BadLetter => "decode 5 BadLetter",
+        Reason::NotUtf8 => "decode 6 NotUtf8",
+        Reason::BadCount => "decode 7 BadCount",
+        Reason::Tuple(inner) => return write_tuple(f, inner, place),
+        Reason::Memory => return f.write_str("memory"),
+    };
+    write!(f, "{name} at {place}")
 }
 
 fn write_tuple<W: fmt::Write>(
@@ -128,14 +132,15 @@ fn write_tuple<W: fmt::Write>(
 ) -> fmt::Result
     ensures { DisplaysOnOk W.write_str_gives f.old result (Some (tuple_text fault place)) f.new }
 {
-    match fault {
-        TupleFault::Short(_) => write!(f, "decode 8 Tuple 1 Short at {place}"),
-        TupleFault::BadKind(_) => write!(f, "decode 8 Tuple 2 BadKind at {place}"),
-        TupleFault::BadLength(_) => write!(f, "decode 8 Tuple 3 BadLength at {place}"),
-        TupleFault::NotUtf8(_) => write!(f, "decode 8 Tuple 4 NotUtf8 at {place}"),
-        TupleFault::TooManyColumns(_) => write!(f, "decode 8 Tuple 5 TooManyColumns at {place}"),
-        TupleFault::Memory => f.write_str("memory"),
-    }
+    let name = match fault {
+        TupleFault::Short(_) => "decode 8 Tuple 1 Short",
+        TupleFault::BadKind(_) => "decode 8 Tuple 2 BadKind",
+        TupleFault::BadLength(_) => "decode 8 Tuple 3 BadLength",
+        TupleFault::NotUtf8(_) => "decode 8 Tuple 4 NotUtf8",
+        TupleFault::TooManyColumns(_) => "decode 8 Tuple 5 TooManyColumns",
+        TupleFault::Memory => return f.write_str("memory"),
+    };
+    write!(f, "{name} at {place}")
 }
 
 fn write_order<W: fmt::Write>(f: &mut fmt::Formatter<W>, fault: OrderFault) -> fmt::Result
