@@ -2,7 +2,7 @@
 
 ghost use Rattle.std.specs.Prelude.{◌≡◌, IfOk, codes, false};
 ghost use Rattle.clap.specs.Values.{kind_of};
-ghost use Rattle.clap.specs.Words.{App, new_app, rule_of, with_subcommand};
+ghost use Rattle.clap.specs.Words.{App, new_app, rule_of, with_rule, with_subcommand};
 ghost use Rattle.pgcommand.specs.Asked.{IsCommand, word_rule, proto_rule, raw_rule, progress_rule};
 ghost use Rattle.pgcommand.specs.Asked.{store_rule, cache_rule, max_buffered_rule, max_frame_rule};
 ghost use Rattle.pgcommand.specs.Asked.{feed_rule, feed_text_rule, feed_bytes_rule};
@@ -32,6 +32,10 @@ const FOLLOW_STATUSES: &str = "Exit statuses:
 const CACHE: &str =
     "Pages of the store's file that stay in memory, from 100 to all that a file can have: 20000 cost \
     20 MB, or 80 MB where another program made the file, and a large commit as much again";
+
+/// What the help of `apply` and `follow` says of `--store`.
+const STORE: &str =
+    "Keep rows and position in this file and go on from what it holds; it is made where it isn't there";
 
 /// The version of the program, as `--version` prints it.
 pub const VERSION: &str = "0.1.0";
@@ -191,6 +195,39 @@ fn with_feed<'a>(alloc: Global, command: Command<'a>) -> Result<Command<'a>, All
         .arg(feed_seconds(alloc))
 }
 
+/// Adds `--store FILE` and `--cache PAGES`.
+fn with_store<'a>(
+    alloc: Global,
+    command: Command<'a>,
+    required: bool,
+    help: &'a str,
+) -> Result<Command<'a>, AllocError>
+    ensures { (app : App) → IsCommand app command.entry →
+        IfOk result (IsCommand (with_rule (with_rule app (store_rule required)) cache_rule)) }
+{
+    command.arg(store(alloc, required, help))?.arg(cache(alloc))
+}
+
+/// Adds `--max-buffered BYTES` and `--max-frame BYTES`.
+fn with_limits<'a>(alloc: Global, command: Command<'a>) -> Result<Command<'a>, AllocError>
+    ensures { (app : App) → IsCommand app command.entry →
+        IfOk result (IsCommand (with_rule (with_rule app max_buffered_rule) max_frame_rule)) }
+{
+    command.arg(max_buffered(alloc))?.arg(max_frame(alloc))
+}
+
+/// Adds a subcommand, unless there was no memory for it.
+fn with_subcommand<'a>(
+    command: Command<'a>,
+    made: Result<Command<'a>, AllocError>,
+) -> Result<Command<'a>, AllocError>
+    ensures { (app sub : App) → IsCommand app command.entry → IfOk made.entry (IsCommand sub) →
+        IfOk result (IsCommand (with_subcommand app sub.top)) }
+{
+    let subcommand = made?;
+    command.subcommand(subcommand)
+}
+
 /// A command without arguments.
 fn named<'a>(alloc: Global, name: &'a str, about: &'a str) -> Command<'a>
     ensures { IsCommand (new_app name.entry.now) result }
@@ -220,28 +257,21 @@ fn apply_command<'a>(alloc: Global) -> Result<Command<'a>, AllocError>
     )
     .arg(proto(alloc))?
     .arg(raw(alloc))?
-    .arg(progress(alloc))?
-    .arg(store(
-        alloc,
-        false,
-        "Keep rows and position in this file and go on from what it holds; it is made where it isn't there",
-    ))?
-    .arg(cache(alloc))?
-    .arg(max_buffered(alloc))?
-    .arg(max_frame(alloc))?;
+    .arg(progress(alloc))?;
+    let command = with_limits(alloc, with_store(alloc, command, false, STORE)?)?;
     with_feed(alloc, command)?.arg(word(alloc, "FILE", "The recording"))
 }
 
 fn dump_command<'a>(alloc: Global) -> Result<Command<'a>, AllocError>
     ensures { IfOk result (IsCommand dump_app) }
 {
-    named(
+    let command = named(
         alloc,
         "dump",
         "Print the rows and the position that a file holds",
-    )
-    .arg(store(alloc, true, "The file in which `apply --store` keeps them"))?
-    .arg(cache(alloc))
+    );
+    let help = "The file in which `apply --store` keeps them";
+    with_store(alloc, command, true, help)
 }
 
 /// The command `follow` without arguments.
@@ -259,17 +289,8 @@ fn bare_follow<'a>(alloc: Global) -> Command<'a>
 fn follow_command<'a>(alloc: Global) -> Result<Command<'a>, AllocError>
     ensures { IfOk result (IsCommand follow_app) }
 {
-    let command = bare_follow(alloc)
-        .arg(proto(alloc))?
-        .arg(max_buffered(alloc))?
-        .arg(max_frame(alloc))?
-        .arg(store(
-            alloc,
-            true,
-            "Keep rows and position in this file and go on from what it holds; it is made where it isn't there",
-        ))?
-        .arg(cache(alloc))?;
-    with_feed(alloc, command)
+    let command = with_limits(alloc, bare_follow(alloc).arg(proto(alloc))?)?;
+    with_feed(alloc, with_store(alloc, command, true, STORE)?)
 }
 
 /// The usage of `apply` with a feed.
@@ -342,24 +363,15 @@ fn bare<'a>(alloc: Global) -> Command<'a>
     .subcommand_required(true)
 }
 
-/// The program with the subcommands that read a recording or a store.
-fn with_readers<'a>(alloc: Global) -> Result<Command<'a>, AllocError>
-    ensures { IfOk result (IsCommand (with_subcommand (with_subcommand (with_subcommand bare_app
-        show_app.top) apply_app.top) dump_app.top)) }
-{
-    bare(alloc)
-        .subcommand(show_command(alloc)?)?
-        .subcommand(apply_command(alloc)?)?
-        .subcommand(dump_command(alloc)?)
-}
-
 /// The command line of the program.
 pub(crate) fn program<'a>(alloc: Global) -> Result<Command<'a>, AllocError>
     ensures { IfOk result (IsCommand pgsub_app) }
 {
-    with_readers(alloc)?
-        .subcommand(follow_command(alloc)?)?
-        .subcommand(same_command(alloc)?)?
-        .subcommand(resume_command(alloc)?)?
-        .subcommand(lsn_command(alloc)?)
+    let program = with_subcommand(bare(alloc), show_command(alloc))?;
+    let program = with_subcommand(program, apply_command(alloc))?;
+    let program = with_subcommand(program, dump_command(alloc))?;
+    let program = with_subcommand(program, follow_command(alloc))?;
+    let program = with_subcommand(program, same_command(alloc))?;
+    let program = with_subcommand(program, resume_command(alloc))?;
+    with_subcommand(program, lsn_command(alloc))
 }

@@ -1,9 +1,4 @@
-use Rattle.std.proofs.lemmas.Result.{IfOk-weaker}
-use Rattle.pgcommand.proofs.Building.{with_arg}
 use Rattle.pgcommand.proofs.commands.dump_command.Goals as goal
 
 pub returns : goal.returns
-returns c =
-    IfOk-weaker c.arg-2.result _ _ (λ r h. with_arg _ r _ _ _
-    (with_arg _ _ _ _ _ c.named.ensures c.store.ensures.rule c.store.ensures.local c.in_ok-arg.ensures)
-    c.cache.ensures.rule c.cache.ensures.local h) c.arg-2.ensures
+returns c = c.with_store.ensures _ c.named-command.ensures

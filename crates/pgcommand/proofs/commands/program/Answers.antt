@@ -1,10 +1,11 @@
-use Rattle.std.proofs.lemmas.Result.{IfOk-weaker}
-use Rattle.pgcommand.proofs.Building.{with_sub}
 use Rattle.pgcommand.proofs.commands.program.Goals as goal
 
 pub returns : goal.returns
 returns c =
-    let one = with_sub _ _ _ _ _ c.in_ok-with_readers.ensures c.in_ok-follow_command.ensures c.in_ok-subcommand.ensures in
-    let two = with_sub _ _ _ _ _ one c.in_ok-same_command.ensures c.in_ok-subcommand-2.ensures in
-    let three = with_sub _ _ _ _ _ two c.in_ok-resume_command.ensures c.in_ok-subcommand-3.ensures in
-    IfOk-weaker c.subcommand-4.result _ _ (λ r h. with_sub _ r _ _ _ three c.in_ok-lsn_command.ensures h) c.subcommand-4.ensures
+    let shows = c.in_ok-program.ensures _ _ c.bare.ensures c.show_command.ensures in
+    let applies = c.in_ok-program-2.ensures _ _ shows c.apply_command.ensures in
+    let dumps = c.in_ok-program-3.ensures _ _ applies c.dump_command.ensures in
+    let follows = c.in_ok-program-4.ensures _ _ dumps c.follow_command.ensures in
+    let compares = c.in_ok-program-5.ensures _ _ follows c.same_command.ensures in
+    let resumes = c.in_ok-program-6.ensures _ _ compares c.resume_command.ensures in
+    c.with_subcommand-7.ensures _ _ resumes c.lsn_command.ensures

@@ -1,0 +1,8 @@
+use Rattle.std.proofs.lemmas.Result.{IfOk-weaker}
+use Rattle.pgcommand.proofs.Building.{with_arg}
+use Rattle.pgcommand.proofs.commands.with_limits.Goals as goal
+
+pub returns : goal.returns
+returns c app is =
+    let one = with_arg _ _ _ _ _ is c.max_buffered.ensures.rule c.max_buffered.ensures.local c.in_ok-arg.ensures in
+    IfOk-weaker c.arg-2.result _ _ (λ r h. with_arg _ r _ _ _ one c.max_frame.ensures.rule c.max_frame.ensures.local h) c.arg-2.ensures
