@@ -11,14 +11,15 @@ use pgfeed::{Folder, Origin, SegmentLimits};
 use pgfollow::{Clock, Link};
 use pgorder::Version;
 use pgruns::{
-    FeedPlan, FileFolder, apply_fed_to_file, apply_to_file, dump_file, follow_fed_file, follow_file,
+    FeedPlan, FileFolder, Filed, apply_fed_to_file, apply_to_file, dump_file, follow_fed_file,
+    follow_file,
 };
 use pgsub_cli::fault::RunFault;
 use pgsub_cli::reporting::{Reporter, run_in_memory};
 use pgsub_cli::storing::{Incoming, read_input, tell_stopped};
 use pgsub_cli::{MissedLines, run, store_path};
 use pgsub_core::Side;
-use sqlite::Unknown;
+use sqlite::{FileFrom, Start, Unknown};
 use std::alloc::AllocError;
 use std::cell::RefCell;
 use std::fs::File;
@@ -153,15 +154,16 @@ fn reporter_of<'r>(
     Some(RefCell::new(reporter))
 }
 
-/// The exit status of a run. What it leaves of the files ends here: it is of any type, since a
-/// proof over the store's own asks for what holds of each of its parts.
-fn status_of<T: Drop>(run: (u8, T)) -> u8 {
+/// The exit status of a run. What it leaves of the files ends here, and only here: a proof over it
+/// asks for what holds of each of its parts.
+fn status_of<F: Start>(run: (u8, Filed<FileFrom<F>>)) -> u8 {
     run.0
 }
 
 /// That of a run beside which a feed is kept.
-fn fed_status_of<T: Drop, L: Drop>(run: (u8, T, L)) -> u8 {
-    run.0
+fn fed_status_of<F: Start, L: Drop>(run: (u8, Filed<FileFrom<F>>, L)) -> u8 {
+    let (status, left, _ledger) = run;
+    status_of((status, left))
 }
 
 /// The feed that a task keeps beside its store, if it keeps one.
