@@ -59,7 +59,8 @@ module _ {R C : Type 0} (gives begins : R → List ℕ → Type 0) (failed : R �
       (λ sessions f kept. let a = kept map.empty empty in
       (a.0, subst (λ (n : ℕ). LeadsTo (subscriber_over limits map.empty n version) sessions f a.0) zero a.1, a.4)) prints
 
-  pub prints_all_new : (input : Option (Version × Incoming R)) (old new : C) (r : Result Printed Fault) → holds old map.empty → place old ≡ 0
+  pub prints_all_new : (input : Option (Version × Incoming R)) (old new : C) (r : Result Printed Fault) → holds old map.empty
+      → place old ≡ 0
       → IfOk r (λ p. PrintsOver gives begins failed holds place limits input old new p.stopped (string_bytes p.lines))
       → IfOk r (λ p. PrintsNew gives begins failed limits input p.stopped (string_bytes p.lines))
   prints_all_new input old new (Ok p) empty zero prints = prints_new input old new p.stopped (string_bytes p.lines) empty zero prints
