@@ -1,2 +1,3 @@
 mod Clocks
 mod Memory
+mod Wrapped

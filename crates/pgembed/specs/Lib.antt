@@ -1,3 +1,4 @@
+pub mod Called
 pub mod Decoded
 pub mod Dumped
 pub mod Fed

@@ -14,15 +14,18 @@
 //! in memory.
 #![tactic(auto)]
 
+mod calls;
 mod decoding;
 mod dumped;
 mod embedded;
 mod passing;
 mod showing;
+mod stored;
 mod subscribing;
 
+pub use calls::{append_status, feed_piece, pass_replies, pass_rows};
 pub use decoding::decode;
-pub use embedded::{Embedded, InMemory};
+pub use embedded::InMemory;
 pub use passing::{
     MEMORY, ROOM, number, pass, pass_fault, pass_line, pass_lines, pass_stream_fault, stream_number,
 };

@@ -27,6 +27,17 @@ pub struct Handle {
     ghost known: { is_open ≡ is_some pointer.value },
 }
 
+/// The box of this value; or 9 where memory runs out.
+fn boxed<T: Drop>(alloc: Global, value: T) -> Result<Box<T>, u32>
+    ensures value { IfOk result (λ held. held.value ≡ value) }
+    ensures number { IfErr result (λ number. number ≡ 9) }
+{
+    match Box::new(alloc, value) {
+        Ok(held) => Ok(held),
+        Err(_) => Err(MEMORY),
+    }
+}
+
 /// A subscriber over no rows; or 9 where memory runs out, or 6 where the store refuses for want of
 /// it.
 fn new_subscriber(alloc: Global, version: Version) -> Result<Box<InMemory>, u32>
@@ -34,10 +45,7 @@ fn new_subscriber(alloc: Global, version: Version) -> Result<Box<InMemory>, u32>
     ensures number { IfErr result (λ number. (number ≡ 6) ⊎ (number ≡ 9)) }
 {
     match InMemory::new(alloc, version) {
-        Ok(held) => match Box::new(alloc, held) {
-            Ok(held) => Ok(held),
-            Err(_) => Err(MEMORY),
-        },
+        Ok(held) => boxed(alloc, held),
         Err(fault) => Err(stream_number(fault)),
     }
 }
@@ -116,7 +124,7 @@ impl Handle {
         }
     }
 
-    /// Feeds a chunk, as `Embedded::feed` does. Returns 12 where the handle is closed.
+    /// Feeds a chunk, as `InMemory::feed` does. Returns 12 where the handle is closed.
     pub(crate) fn feed(
         &mut self,
         alloc: Global,
@@ -139,7 +147,7 @@ impl Handle {
         number
     }
 
-    /// Appends a status to the replies, as `Embedded::status` does. Returns 12 where the handle is
+    /// Appends a status to the replies, as `InMemory::status` does. Returns 12 where the handle is
     /// closed.
     pub(crate) fn status(&mut self, alloc: Global, clock: i64, ask: bool) -> u32
         ensures { Calls (λ old new. HasAsked clock ask old new result) (result ≡ 12)
@@ -153,7 +161,7 @@ impl Handle {
         number
     }
 
-    /// Passes the replies, as `Embedded::take_replies` does. Returns 12 where the handle is closed.
+    /// Passes the replies, as `InMemory::take_replies` does. Returns 12 where the handle is closed.
     pub(crate) fn take_replies(&mut self, alloc: Global, room: &mut [u8], length: &mut usize) -> u32
         ensures { Calls
             (λ old new. HasReplied old new room.old room.new length.new result)
@@ -169,7 +177,7 @@ impl Handle {
         number
     }
 
-    /// Passes the lines of the rows, as `Embedded::rows` does. Returns 12 where the handle is
+    /// Passes the lines of the rows, as `InMemory::rows` does. Returns 12 where the handle is
     /// closed.
     pub(crate) fn rows(&mut self, alloc: Global, room: &mut [u8], length: &mut usize) -> u32
         ensures { Calls
@@ -206,7 +214,7 @@ impl Handle {
         0
     }
 
-    /// Forgets the session, as `Embedded::disconnect` does. Returns 12 where the handle is closed.
+    /// Forgets the session, as `InMemory::disconnect` does. Returns 12 where the handle is closed.
     pub(crate) fn disconnect(&mut self, alloc: Global) -> u32
         ensures { Calls (λ old new. HasDisconnected old new × (result ≡ 0)) (result ≡ 12)
             self.old.pointer.value self.new.pointer.value }

@@ -1,11 +1,8 @@
 //! A subscriber whose rows are in memory, with what its calls pass.
-//!
-//! Each is told over a store of any kind, since the proof over a given one gets too large.
 
 use crate::steps::bytes_of;
-use pgembed::{Embedded, InMemory};
+use pgembed::InMemory;
 use pgorder::Version;
-use sqlite::Alter;
 use std::alloc::Global;
 use std::test::Fail;
 
@@ -13,7 +10,7 @@ use std::test::Fail;
 const LINE: &[u8] = b"[\"public\",\"t\",[\"1\",\"a\"],1]\n";
 
 /// Whether a session is fed, and its row passed where there is room.
-fn is_fed<S: Alter + Drop>(alloc: Global, mut held: Embedded<S>, session: &[u8]) -> bool {
+fn is_fed(alloc: Global, mut held: InMemory, session: &[u8]) -> bool {
     let (mut room, mut small, mut length) = ([b'.'; 64], [b'.'; 8], 1);
     let fed = held.feed(alloc, session, 7, &mut room, &mut length);
     let is_placed = (length, held.position(), held.confirmed()) == (0, 0x130, 0x130);
@@ -24,7 +21,7 @@ fn is_fed<S: Alter + Drop>(alloc: Global, mut held: Embedded<S>, session: &[u8])
 }
 
 /// Whether a fault closes it until the next session.
-fn closes<S: Alter + Drop>(alloc: Global, mut held: Embedded<S>) -> bool {
+fn closes(alloc: Global, mut held: InMemory) -> bool {
     let (mut room, mut length) = ([b'.'; 64], 0);
     let rejected = held.feed(alloc, b"e", 7, &mut room, &mut length);
     let is_told = room.starts_with(b"wire ");
@@ -36,7 +33,7 @@ fn closes<S: Alter + Drop>(alloc: Global, mut held: Embedded<S>) -> bool {
 }
 
 /// Whether a status is passed once there is room, and then no more.
-fn replies<S: Alter + Drop>(mut held: Embedded<S>) -> bool {
+fn replies(mut held: InMemory) -> bool {
     let (mut room, mut length, mut none) = ([0; 64], 0, 1);
     let asked = held.status(7, true);
     let refused = held.take_replies(&mut [], &mut length);

@@ -8,9 +8,7 @@ pub returns : goal.returns
 returns c =
     let was = c.in-Some.ensures.some ∙ ap Some (sym c.deref_mut.ensures.value) in
     let f = c.feed-number in
-    let told = f.ensures in
     let fed = subst (λ (z : ℤ).
     HasFed z c.deref_mut.result.now c.args.piece.now f.new.self c.args.text.now f.new.text f.new.text_length f.result)
-    (to_z-of_z w64 c.args.clock c.ranges.clock)
-    (record { fed = told.fed; closed = told.closed; closes = told.closes; serves = told.serves }) in
+    (to_z-of_z w64 c.args.clock c.ranges.clock) f.ensures in
     called _ _ c.deref_mut.result.now f.new.self was c.put.ensures fed

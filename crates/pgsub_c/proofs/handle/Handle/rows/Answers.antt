@@ -5,6 +5,4 @@ use Rattle.pgsub_c.proofs.handle.Handle.rows.Goals as goal
 pub returns : goal.returns
 returns c =
     let was = c.in-Some.ensures.some ∙ ap Some (sym c.deref_mut.ensures.value) in
-    let told = c.rows-number.ensures in
-    called _ _ c.deref_mut.result.now c.rows-number.new.self was c.put.ensures
-    (record { shown = told.rows; stays = told.stays; same = told.same; serves = told.serves })
+    called _ _ c.deref_mut.result.now c.rows-number.new.self was c.put.ensures c.rows-number.ensures

@@ -9,5 +9,5 @@ returns c =
     let was = c.in-Some.ensures.some ∙ ap Some (sym c.deref_mut.ensures.value) in
     let s = c.status-number in
     let asked = subst (λ (z : ℤ). HasAsked z c.args.ask c.deref_mut.result.now s.new.self s.result)
-    (to_z-of_z w64 c.args.clock c.ranges.clock) (s.ensures.store, s.ensures.asked) in
+    (to_z-of_z w64 c.args.clock c.ranges.clock) s.ensures in
     called _ _ c.deref_mut.result.now s.new.self was c.put.ensures asked

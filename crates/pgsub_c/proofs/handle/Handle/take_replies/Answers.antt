@@ -5,6 +5,4 @@ use Rattle.pgsub_c.proofs.handle.Handle.take_replies.Goals as goal
 pub returns : goal.returns
 returns c =
     let was = c.in-Some.ensures.some ∙ ap Some (sym c.deref_mut.ensures.value) in
-    let told = c.take_replies-number.ensures in
-    called _ _ c.deref_mut.result.now c.take_replies-number.new.self was c.put.ensures
-    (record { passed = told.passed; taken = told.taken; kept = told.kept })
+    called _ _ c.deref_mut.result.now c.take_replies-number.new.self was c.put.ensures c.take_replies-number.ensures
