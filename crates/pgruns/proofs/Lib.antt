@@ -1,3 +1,4 @@
 mod NewPage
 mod LiveRows
 mod Parts
+mod Unfed

@@ -1,4 +1,5 @@
 pub mod Filed
 pub mod NewFile
+pub mod Over
 pub mod Recorded
 pub mod Fed

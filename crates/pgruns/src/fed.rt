@@ -33,19 +33,20 @@ ghost use Rattle.pgruns.specs.Fed.{status_of_unfed};
 
 use crate::closing::{close_told, followed_status, run_status};
 use crate::filed::{Filed, open_file};
-use crate::recorded::{apply_fed, follow_fed};
+use crate::over::{apply_recorded, follow_recorded};
 use crate::telling::{tell_unapplied, tell_unfed};
 use pgfeed::{Feed, FeedFault, Folder, Origin, SegmentLimits};
 use pgfollow::{Clock, Link};
 use pglsn::Lsn;
 use pgorder::Version;
+use pgstore::Store;
 use pgsub_cli::Limits;
 use pgsub_cli::files::{Input, Output};
 use pgsub_cli::following::tell_unfollowed;
 use pgsub_cli::reported::Listener;
 use pgsub_cli::reporting::Reporter;
 use pgsub_cli::storing::{Incoming, tell_unopened};
-use sqlite::{FileFrom, Start};
+use sqlite::{Alter, FileFrom, Start};
 use std::alloc::Global;
 use std::cell::RefCell;
 use std::io::{Read, Write};
@@ -73,6 +74,105 @@ fn open_feed<D: Folder + Drop>(
     match Feed::open(alloc, plan.folder, &plan.origin, plan.limits, position) {
         Ok(feed) => Ok(feed),
         Err((fault, _folder)) => Err(fault),
+    }
+}
+
+/// Opens a feed beside an opened store of any kind, and follows a server over both. Returns the exit
+/// status, the store, and the feed, where it could be opened; where not, standard error gets why.
+fn follow_fed<
+    S: Alter + Drop,
+    D: Folder + Drop,
+    L: Listener + Drop,
+    R: Read + Drop,
+    W: Write + Drop,
+    K: Clock,
+    E: Output,
+>(
+    alloc: Global,
+    store: Store<S>,
+    plan: FeedPlan<'_, D>,
+    listener: L,
+    limits: Limits,
+    version: Version,
+    link: &mut Link<R, W>,
+    clock: &mut K,
+    err: &mut E,
+) -> (u8, Store<S>, Option<Feed<D>>)
+    requires readable { link.old.read_failed ≡ false }
+    requires writable { link.old.write_failed ≡ false }
+    ensures unfed { result.2 ≡ None → (f : FeedFault)
+        × (result.0 ≡ status_of_unfed f) × (result.1 ≡ store) × (link.new ≡ link.old)
+        × TellsUnfed E.takes E.failed f err.old err.new }
+    ensures ran { IfSome result.2 (λ feed. (why : Option FollowFault)
+        × (result.0 ≡ status_of_follow result.1.group.missed.count why)
+        × TellsCaused E.takes E.failed (ending_of why) err.old err.new
+        × ((why ≡ Some follow.Read) ↔ (link.new.read_failed ≡ true))
+        × ((why ≡ Some follow.Write) ↔ (link.new.write_failed ≡ true))
+        × IfSome why IsOfFollowing
+        × ((begun : Feed D D.File)
+        × IsOpenedAt D.File.seen D.File.may_leave D.File.is_clean store.position begun
+        × (IsHonest S.Store result.1 → Serves S.Store store →
+        FollowsRecorded S.Store feed_begins (FeedKeeps D.File.seen)
+        (FeedLasts D.File.may_leave) is_stuck_feed (FeedReopens D.File.seen D.File.may_leave) L
+        (R.remaining link.old.reader) (R.remaining link.new.reader) link.new.reads
+        (W.contents link.old.writer) (W.contents link.new.writer) limits version
+        store begun result.1 feed why))) }
+    ensures honest { IsHonest S.Store result.1 → IsHonest S.Store store }
+{
+    match open_feed(alloc, plan, store.position()) {
+        Ok(feed) => {
+            let (status, store, feed) = follow_recorded(
+                alloc, store, feed, listener, limits, version, link, clock, err,
+            );
+            (status, store, Some(feed))
+        }
+        Err(unfed) => (tell_unfed(unfed, err), store, None),
+    }
+}
+
+/// Opens a feed beside an opened store of any kind, applies to both what comes, and prints what the
+/// store holds then. Returns what `follow_fed` does.
+fn apply_fed<
+    S: Alter + Drop,
+    D: Folder + Drop,
+    R: Input + Drop,
+    K: Ticks + Drop,
+    P: Output + Drop,
+    W: Output,
+    E: Output,
+>(
+    alloc: Global,
+    store: Store<S>,
+    plan: FeedPlan<'_, D>,
+    limits: Limits,
+    input: Option<(Version, Incoming<R>)>,
+    reporter: Option<&RefCell<Reporter<K, P>>>,
+    out: &mut W,
+    err: &mut E,
+) -> (u8, Store<S>, Option<Feed<D>>)
+    ensures unfed { result.2 ≡ None → (f : FeedFault)
+        × (result.0 ≡ status_of_unapplied f) × (result.1 ≡ store) × (out.new ≡ out.old)
+        × TellsUnfed E.takes E.failed f err.old err.new }
+    ensures ran { IfSome result.2 (λ feed. (why : Result Ending RunFault)
+        × (result.0 ≡ status_of why)
+        × Tells E.takes E.failed [] [] why err.old err.new
+        × ((begun : Feed D D.File)
+        × IsOpenedAt D.File.seen D.File.may_leave D.File.is_clean store.position begun
+        × AppliesRecorded S.Store feed_begins (FeedKeeps D.File.seen)
+        (FeedLasts D.File.may_leave) is_stuck_feed (FeedReopens D.File.seen D.File.may_leave)
+        R.gives R.begins R.failed W.takes W.failed limits input
+        (record { store = store; ledger = begun }) (record { store = result.1; ledger = feed }) why
+        out.old out.new)) }
+    ensures honest { IsHonest S.Store result.1 → IsHonest S.Store store }
+{
+    match open_feed(alloc, plan, store.position()) {
+        Ok(feed) => {
+            let (status, store, feed) = apply_recorded(
+                alloc, store, feed, limits, input, reporter, out, err,
+            );
+            (status, store, Some(feed))
+        }
+        Err(unfed) => (tell_unapplied(unfed, err), store, None),
     }
 }
 
@@ -129,25 +229,17 @@ pub fn follow_fed_file<
         (W.contents link.old.writer) (W.contents link.new.writer) limits version
         opened begun ended feed why))) closing)) }
 {
-    let store = match open_file(alloc, rt, path, cache, start) {
-        Ok(store) => store,
-        Err((refusal, conn)) => {
-            let (fault, cause) = (refusal.fault(), refusal.cause());
-            return (tell_unfollowed(alloc, fault, cause, err), Err(conn), None);
-        }
-    };
-    match open_feed(alloc, plan, store.position()) {
-        Ok(feed) => {
+    match open_file(alloc, rt, path, cache, start) {
+        Ok(store) => {
             let (status, store, feed) = follow_fed(
-                alloc, store, feed, listener, limits, version, link, clock, err,
+                alloc, store, plan, listener, limits, version, link, clock, err,
             );
             let (fault, closing) = close_told(alloc, store, err);
-            (followed_status(status, fault), Ok(closing), Some(feed))
+            (followed_status(status, fault), Ok(closing), feed)
         }
-        Err(unfed) => {
-            let status = tell_unfed(unfed, err);
-            let (_fault, closing) = close_told(alloc, store, err);
-            (status, Ok(closing), None)
+        Err((refusal, conn)) => {
+            let (fault, cause) = (refusal.fault(), refusal.cause());
+            (tell_unfollowed(alloc, fault, cause, err), Err(conn), None)
         }
     }
 }
@@ -197,24 +289,14 @@ pub fn apply_fed_to_file<
         (record { store = opened; ledger = begun }) (record { store = ended; ledger = feed }) why
         out.old out.new) closing)) }
 {
-    let store = match open_file(alloc, rt, path, cache, start) {
-        Ok(store) => store,
-        Err((refusal, conn)) => {
-            return (tell_unopened(alloc, refusal.fault(), err), Err(conn), None);
-        }
-    };
-    match open_feed(alloc, plan, store.position()) {
-        Ok(feed) => {
+    match open_file(alloc, rt, path, cache, start) {
+        Ok(store) => {
             let (status, store, feed) = apply_fed(
-                alloc, store, feed, limits, input, reporter, out, err,
+                alloc, store, plan, limits, input, reporter, out, err,
             );
             let (fault, closing) = close_told(alloc, store, err);
-            (run_status(status, fault), Ok(closing), Some(feed))
+            (run_status(status, fault), Ok(closing), feed)
         }
-        Err(unfed) => {
-            let status = tell_unapplied(unfed, err);
-            let (_fault, closing) = close_told(alloc, store, err);
-            (status, Ok(closing), None)
-        }
+        Err((refusal, conn)) => (tell_unopened(alloc, refusal.fault(), err), Err(conn), None),
     }
 }

@@ -33,6 +33,7 @@ ghost use Rattle.pgsub_cli.specs.Storing.{PrintsOver, status_of_unopened};
 
 use crate::closing::{Closing, close_told, followed_status, run_status};
 use crate::new_file::make_file;
+use crate::over::follow_reported;
 use pgfollow::{Clock, Link};
 use pgorder::Version;
 use pgstore::{Refusal, Store};
@@ -41,7 +42,7 @@ use pgsub_cli::following::tell_unfollowed;
 use pgsub_cli::reported::Listener;
 use pgsub_cli::reporting::Reporter;
 use pgsub_cli::storing::{Incoming, tell_unopened};
-use pgsub_cli::{Limits, Reported, run_dump, run_follow, run_opened};
+use pgsub_cli::{Limits, run_dump, run_opened};
 use sqlite::{Alter, Connection, FileFrom, FileStore, Start};
 use std::alloc::Global;
 use std::cell::RefCell;
@@ -110,9 +111,7 @@ fn follow_store<
         store result.1 why) }
     ensures honest { IsHonest S.Store result.1 → IsHonest S.Store store }
 {
-    let reported = Reported::new(store, listener);
-    let (status, reported) = run_follow(alloc, reported, limits, version, link, clock, err);
-    (status, reported.into_store())
+    follow_reported(alloc, store, listener, limits, version, link, clock, err)
 }
 
 /// Applies to an opened store of any kind what comes, and prints what it holds then.

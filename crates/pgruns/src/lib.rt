@@ -12,7 +12,7 @@ mod file_folder;
 mod filed;
 mod laws;
 mod new_file;
-mod recorded;
+mod over;
 mod telling;
 
 pub use closing::Closing;

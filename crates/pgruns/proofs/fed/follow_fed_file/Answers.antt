@@ -1,63 +1,56 @@
-use Rattle.std.proofs.Common.{◌∙◌, [], ℕ, Option, ap₂, refl, subst}
+use Rattle.std.proofs.Common.{◌∙◌, [], ℕ, Option, ap, ap₂, subst}
+use Rattle.std.proofs.lemmas.Option.{IfSome_then}
 use Rattle.pgapply.specs.declared.fault.StoreFault.{StoreFault}
 use Rattle.pgsub_cli.specs.Runs.{Tells}
-use Rattle.pgruns.specs.Fed.{IsOpenedAt}
 use Rattle.pgruns.specs.Filed.{ending_of_closing, status_closed, status_of_unclosed}
+use Rattle.pgruns.proofs.Unfed.{unfed_stays}
 use Rattle.pgruns.proofs.fed.follow_fed_file.Goals as goal
 
-pub returns-in-Ok-open_feed-clause-ran : goal.returns-in-Ok-open_feed-clause-ran
-returns-in-Ok-open_feed-clause-ran g c =
-    let followed = c.follow_fed-status.ensures in
-    let e = followed.ends in (
+pub returns-in-Ok-clause-ran : goal.returns-in-Ok-clause-ran
+returns-in-Ok-clause-ran g c =
+    let followed = c.follow_fed-status in
+    let closed = c.close_told-fault in
+    let told = subst (λ (f : Option StoreFault).
+    Tells g.E.Output.takes g.E.Output.failed [] [] (ending_of_closing f) followed.new.err closed.new.err) closed.ensures.fault
+    closed.ensures.tells in
+    IfSome_then followed.result.2 followed.ensures.ran (λ feed e. (
       e.0,
-      (
-        c.follow_fed-status.new.err,
-        e.2,
-        subst (λ (f : Option StoreFault).
-            Tells g.E.Output.takes g.E.Output.failed [] [] (ending_of_closing f) c.follow_fed-status.new.err c.close_told-fault.new.err)
-            c.close_told-fault.ensures.fault c.close_told-fault.ensures.tells,
-      ),
+      (followed.new.err, e.2, told),
       e.3,
       e.4,
       e.5,
       record {
         opened = c.in-Ok.store;
-        ended = c.follow_fed-status.result.1;
-        found = λ honest. c.in-Ok.ensures.stood (followed.honest honest);
-        serves = λ honest. c.in-Ok.ensures.serves (followed.honest honest);
+        ended = followed.result.1;
+        found = λ honest. c.in-Ok.ensures.stood (followed.ensures.honest honest);
+        serves = λ honest. c.in-Ok.ensures.serves (followed.ensures.honest honest);
         run = (
-          c.followed_status.ensures ∙ ap₂ (status_closed status_of_unclosed) e.1 c.close_told-fault.ensures.fault,
-          (
-            c.in-Ok-open_feed.feed,
-            subst (λ (p : ℕ). IsOpenedAt g.D.File.Disk.seen g.D.File.Disk.may_leave g.D.File.Disk.is_clean p c.in-Ok-open_feed.feed)
-                c.position.ensures.position c.in-Ok-open_feed.ensures,
-            λ honest. e.6 honest (c.in-Ok.ensures.serves (followed.honest honest)),
-          ),
+          c.followed_status.ensures ∙ ap₂ (status_closed status_of_unclosed) e.1 closed.ensures.fault,
+          (e.6.0, e.6.1, λ honest. e.6.2 honest (c.in-Ok.ensures.serves (followed.ensures.honest honest))),
         );
-        closes = c.close_told-fault.ensures.closes;
+        closes = closed.ensures.closes;
       },
-    )
+    ))
 
-pub returns-in-Err-open_feed-clause-unfed : goal.returns-in-Err-open_feed-clause-unfed
-returns-in-Err-open_feed-clause-unfed g c none =
-    let told = c.tell_unfed-status in
-    let closed = c.close_told-fault-in-Err-open_feed in (
-      c.in-Err-open_feed.unfed,
-      told.ensures.status,
-      refl,
-      (
-        told.new.err,
-        told.ensures.tells,
-        subst (λ (f : Option StoreFault).
-            Tells g.E.Output.takes g.E.Output.failed [] [] (ending_of_closing f) told.new.err closed.new.err) closed.ensures.fault
-            closed.ensures.tells,
-      ),
+pub returns-in-Ok-clause-unfed : goal.returns-in-Ok-clause-unfed
+returns-in-Ok-clause-unfed g c none =
+    let followed = c.follow_fed-status in
+    let closed = c.close_told-fault in
+    let e = followed.ensures.unfed none in
+    let told = subst (λ (f : Option StoreFault).
+    Tells g.E.Output.takes g.E.Output.failed [] [] (ending_of_closing f) followed.new.err closed.new.err) closed.ensures.fault
+    closed.ensures.tells in (
+      e.0,
+      c.followed_status.ensures ∙ ap (λ (n : ℕ). status_closed status_of_unclosed n closed.result.0) e.1
+          ∙ unfed_stays e.0 closed.result.0,
+      e.3,
+      (followed.new.err, e.4, told),
       record {
         opened = c.in-Ok.store;
-        ended = c.in-Ok.store;
-        found = c.in-Ok.ensures.stood;
-        serves = c.in-Ok.ensures.serves;
-        run = refl;
+        ended = followed.result.1;
+        found = λ honest. c.in-Ok.ensures.stood (followed.ensures.honest honest);
+        serves = λ honest. c.in-Ok.ensures.serves (followed.ensures.honest honest);
+        run = e.2;
         closes = closed.ensures.closes;
       },
     )

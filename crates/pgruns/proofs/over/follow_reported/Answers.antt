@@ -1,13 +1,12 @@
 use Rattle.std.proofs.Common.{◌≡◌, subst, sym}
-use Rattle.pgstore.specs.StoreValue.{IsHonest, Serves, StoreValue}
 use Rattle.pgsub_cli.specs.FollowStatus.{status_of_follow}
-use Rattle.pgruns.proofs.filed.follow_store.Goals as goal
+use Rattle.pgruns.proofs.over.follow_reported.Goals as goal
 
 pub returns-clause-ends : goal.returns-clause-ends
 returns-clause-ends g c =
     let e = c.run_follow-status.ensures.ends in (
       e.0,
-      subst (λ (s : StoreValue g.row.S.Denot). c.run_follow-status.result.0 ≡ status_of_follow s.group.missed.count e.0)
+      subst (λ (s : g.row.C.Denot). c.run_follow-status.result.0 ≡ status_of_follow (g.C.ReplicaStore.missed s).count e.0)
           (sym c.into_store.ensures) e.1,
       e.2,
       e.3,
@@ -18,7 +17,7 @@ returns-clause-ends g c =
         c.run_follow-status.result.1,
         c.new-reported.ensures,
         sym c.into_store.ensures,
-        e.6 (subst (λ (s : StoreValue g.row.S.Denot). IsHonest g.S.Store s) c.into_store.ensures honest)
-            (subst (λ (s : StoreValue g.row.S.Denot). Serves g.S.Store s) (sym c.new-reported.ensures) serves),
+        e.6 (subst (λ (s : g.row.C.Denot). g.C.ReplicaStore.is_honest s) c.into_store.ensures honest)
+            (subst (λ (s : g.row.C.Denot). g.C.ReplicaStore.serves s) (sym c.new-reported.ensures) serves),
       ),
     )

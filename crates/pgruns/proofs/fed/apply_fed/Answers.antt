@@ -1,0 +1,17 @@
+use Rattle.std.proofs.Common.{ℕ, subst}
+use Rattle.pgruns.specs.Fed.{IsOpenedAt}
+use Rattle.pgruns.proofs.fed.apply_fed.Goals as goal
+
+pub returns-in-Ok-clause-ran : goal.returns-in-Ok-clause-ran
+returns-in-Ok-clause-ran g c =
+    let e = c.apply_recorded-status.ensures.ends in (
+      e.0,
+      e.1,
+      e.3,
+      (
+        c.in-Ok.feed,
+        subst (λ (p : ℕ). IsOpenedAt g.D.File.Disk.seen g.D.File.Disk.may_leave g.D.File.Disk.is_clean p c.in-Ok.feed)
+            c.position.ensures.position c.in-Ok.ensures,
+        record { writes = e.2.writes; kept = e.2.kept; left = e.2.left; crash = e.2.crash },
+      ),
+    )

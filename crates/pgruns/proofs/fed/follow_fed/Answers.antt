@@ -1,0 +1,31 @@
+use Rattle.std.proofs.Common.{ℕ, subst}
+use Rattle.pgruns.specs.Fed.{IsOpenedAt}
+use Rattle.pgruns.proofs.Parts.{ledger_of, store_of}
+use Rattle.pgruns.proofs.fed.follow_fed.Goals as goal
+
+pub returns-in-Ok-clause-ran : goal.returns-in-Ok-clause-ran
+returns-in-Ok-clause-ran g c =
+    let done = c.follow_recorded-status in
+    let e = done.ensures.ends in (
+      e.0,
+      e.1,
+      e.2,
+      e.3,
+      e.4,
+      e.5,
+      (
+        c.in-Ok.feed,
+        subst (λ (p : ℕ). IsOpenedAt g.D.File.Disk.seen g.D.File.Disk.may_leave g.D.File.Disk.is_clean p c.in-Ok.feed)
+            c.position.ensures.position c.in-Ok.ensures,
+        λ honest serves.
+            let f = e.6 honest serves in (
+              f.0,
+              f.1,
+              store_of f.0.store c.args.store c.in-Ok.feed f.2,
+              ledger_of f.0.store c.args.store c.in-Ok.feed f.2,
+              store_of f.1.store done.result.1 done.result.2 f.3,
+              ledger_of f.1.store done.result.1 done.result.2 f.3,
+              f.4,
+            ),
+      ),
+    )
