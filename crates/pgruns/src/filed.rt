@@ -75,8 +75,7 @@ pub(crate) fn open_file<F: Start>(
     Store::open_or_return(alloc, rt, path, cache, start)
 }
 
-/// Follows a server over an opened store. What is noted of each commit is put around the store
-/// here: today it tells the listener, and a feed's ledger belongs beside it.
+/// Follows a server over an opened store that tells a listener of each settling.
 ///
 /// It is over a store of any kind, since the proof that one over given disks is a store gets too
 /// large.
