@@ -7,7 +7,7 @@ use pgrel::{
     Book, RelFault, RelationDef, carry, check_insert, keyed, resolve, row_identity, same_shape,
     search_identity,
 };
-use pgtuple::{CellRef, Tuple};
+use pgtuple::{CellRef, Tuple, TupleRef};
 use std::alloc::{AllocError, Global};
 use std::process::Abort;
 use std::test::Fail;
@@ -30,6 +30,8 @@ const T: Table = Table {
     letter: b'd',
     columns: T_COLUMNS,
 };
+
+static TABLE_T: Table = T;
 
 const T_WITH_Z_COLUMNS: Columns = &[(true, "id", 23), (false, "v", 25), (false, "z", 25)];
 
@@ -96,16 +98,22 @@ fn is_cell(found: Option<CellRef<'_>>, cell: &CellRef<'_>) -> bool {
     }
 }
 
+/// Whether the row has these cells.
+fn has_cells(row: &TupleRef<'_>, cells: &[CellRef<'_>]) -> bool {
+    row.width() == cells.len()
+        && cells
+            .iter()
+            .enumerate()
+            .all(|(k, cell)| is_cell(row.get(k), cell))
+}
+
 /// Whether the call returned these cells. Out of memory is passed on as an error.
 fn gives(answer: Result<Tuple, RelFault>, cells: &[CellRef<'_>]) -> Result<bool, RelFault> {
     match answer {
         Ok(tuple) => {
-            let borrowed = tuple.borrowed();
-            let same = cells
-                .iter()
-                .enumerate()
-                .all(|(k, cell)| is_cell(borrowed.get(k), cell));
-            Ok(same && tuple.width() == cells.len())
+            let same = has_cells(&tuple.borrowed(), cells);
+            drop(tuple);
+            Ok(same)
         }
         Err(RelFault::Memory) => Err(RelFault::Memory),
         Err(_) => Ok(false),
@@ -181,11 +189,13 @@ enum Sent {
 /// The identity that the change searches.
 fn searched(alloc: Global, table: &Table, sent: Sent) -> Result<Result<Tuple, RelFault>, Fail> {
     let def = described(alloc, table)?;
-    match sent {
+    let answer = match sent {
         Sent::New(new) => of_new(alloc, &def, new),
         Sent::OldAndNew(kind, old, new) => of_old(alloc, &def, kind, old, new),
         Sent::Old(kind, old) => of_delete(alloc, &def, kind, old),
-    }
+    };
+    drop(def);
+    answer
 }
 
 /// A change of a table, and the identity that it searches or why there is none.
@@ -233,9 +243,12 @@ fn has_shape_of_t(alloc: Global, letter: u8, columns: Columns) -> Result<(bool, 
         letter,
         columns,
     };
-    let t = described(alloc, &T)?;
+    let t = described(alloc, &TABLE_T)?;
     let other = described(alloc, &table)?;
-    Ok((same_shape(&t, &other), same_shape(&other, &t)))
+    let same = (same_shape(&t, &other), same_shape(&other, &t));
+    drop(t);
+    drop(other);
+    Ok(same)
 }
 
 static SHAPES: [(u8, Columns, bool); 7] = [
@@ -340,7 +353,10 @@ fn identity_of(
 ) -> Result<Result<Tuple, RelFault>, Fail> {
     let def = described(alloc, table)?;
     let row = row(alloc, cells)?;
-    Ok(row_identity(alloc, &def, &row.borrowed()))
+    let identity = row_identity(alloc, &def, &row.borrowed());
+    drop(def);
+    drop(row);
+    Ok(identity)
 }
 
 /// Replica identity DEFAULT, without a key.
@@ -369,9 +385,12 @@ fn identities_of_rows(rt: HostRuntime) -> Result<(), Fail> {
 
 /// Whether a row may be inserted into the table t.
 fn inserted(alloc: Global, cells: Cells) -> Result<Result<(), RelFault>, Fail> {
-    let def = described(alloc, &T)?;
+    let def = described(alloc, &TABLE_T)?;
     let row = row(alloc, cells)?;
-    Ok(check_insert(&def, &row.borrowed()))
+    let checked = check_insert(&def, &row.borrowed());
+    drop(def);
+    drop(row);
+    Ok(checked)
 }
 
 static INSERTED: [(Cells, Result<(), RelFault>); 3] = [
@@ -398,7 +417,10 @@ fn resolved(
     let new = row(alloc, new)?;
     let old = row(alloc, old)?;
     assert!(rt; new.width() == old.width());
-    Ok(resolve(alloc, &new.borrowed(), &old.borrowed()))
+    let whole = resolve(alloc, &new.borrowed(), &old.borrowed());
+    drop(new);
+    drop(old);
+    Ok(whole)
 }
 
 static RESOLVED: [(Cells, Cells, Cells); 3] = [
@@ -440,7 +462,10 @@ fn carried_between(
 ) -> Result<Result<Tuple, RelFault>, Fail> {
     let old = described(alloc, old)?;
     let new = described(alloc, new)?;
-    carried(rt, alloc, &old, &new, cells)
+    let answer = carried(rt, alloc, &old, &new, cells);
+    drop(old);
+    drop(new);
+    answer
 }
 
 /// The table t with its two columns in the other order, of other types and under other flags.

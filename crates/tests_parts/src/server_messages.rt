@@ -26,24 +26,19 @@ fn reads_messages(rt: HostRuntime) {
     assert_eq!(rt; decode_server(keepalive), Ok(expected));
 }
 
+/// Payloads that say no message, and their faults.
+static OTHER_PAYLOADS: [(&[u8], WireFault); 6] = [
+    (b"", WireFault::Short),
+    (b"x", WireFault::UnknownServerMessage(120)),
+    (b"w01234567012345670123456", WireFault::Short),
+    (b"k0123456701234567", WireFault::Short),
+    (b"k0123456701234567\x02", WireFault::BadReplyByte),
+    (b"k0123456701234567\x02\0", WireFault::Trailing),
+];
+
 #[test]
 fn refuses_other_payloads(rt: HostRuntime) {
-    assert_eq!(rt; decode_server(b""), Err(WireFault::Short));
-    assert_eq!(rt;
-        decode_server(b"x"),
-        Err(WireFault::UnknownServerMessage(120))
-    );
-    assert_eq!(rt;
-        decode_server(b"w01234567012345670123456"),
-        Err(WireFault::Short)
-    );
-    assert_eq!(rt; decode_server(b"k0123456701234567"), Err(WireFault::Short));
-    assert_eq!(rt;
-        decode_server(b"k0123456701234567\x02"),
-        Err(WireFault::BadReplyByte)
-    );
-    assert_eq!(rt;
-        decode_server(b"k0123456701234567\x02\0"),
-        Err(WireFault::Trailing)
-    );
+    for &(payload, fault) in &OTHER_PAYLOADS {
+        assert_eq!(rt; decode_server(payload), Err(fault), "{payload:?}");
+    }
 }

@@ -79,7 +79,9 @@ fn pushed<P: Spools>(
     sample: Sample,
 ) -> Result<Result<(), SpoolFault>, Fail> {
     let item = item(alloc, sample)?;
-    Ok(push(rt, spools, xid, subxid, &item))
+    let pushed = push(rt, spools, xid, subxid, &item);
+    drop(item);
+    Ok(pushed)
 }
 
 fn take<P: Spools>(rt: &impl Abort, alloc: Global, spools: &mut P, step: Step) -> Result<(), Fail> {
@@ -121,16 +123,16 @@ fn take_all<P: Spools>(
 }
 
 /// Takes the steps, and stops where the spools then hold other items than these.
-fn holds_after<P: Spools>(
+fn holds_after<P: Spools + Drop>(
     rt: &impl Abort,
     alloc: Global,
-    spools: &mut P,
+    mut spools: P,
     xid: u32,
     steps: &[Row],
     left: &[Sample],
 ) -> Result<(), Fail> {
-    take_all(rt, alloc, spools, xid, steps)?;
-    holds(rt, alloc, spools, xid, left)
+    take_all(rt, alloc, &mut spools, xid, steps)?;
+    holds(rt, alloc, &spools, xid, left)
 }
 
 /// The same on both spools under one limit.
@@ -142,15 +144,17 @@ fn both_hold(
     steps: &[Row],
     left: &[Sample],
 ) -> Result<(), Fail> {
-    let mut lists = ListSpools::new(alloc, max_bytes);
-    holds_after(rt, alloc, &mut lists, xid, steps, left)?;
-    let mut bytes = ByteSpools::new(alloc, max_bytes);
-    holds_after(rt, alloc, &mut bytes, xid, steps, left)
+    let lists = ListSpools::new(alloc, max_bytes);
+    holds_after(rt, alloc, lists, xid, steps, left)?;
+    let bytes = ByteSpools::new(alloc, max_bytes);
+    holds_after(rt, alloc, bytes, xid, steps, left)
 }
 
 fn is_sample(alloc: Global, found: &Item, sample: Sample) -> Result<bool, Fail> {
     let item = item(alloc, sample)?;
-    Ok(*found == item)
+    let same = *found == item;
+    drop(item);
+    Ok(same)
 }
 
 /// Stops where these are other items than the samples'.
@@ -295,14 +299,23 @@ fn hold_once<P: Spools>(rt: &impl Abort, spools: &mut P, item: &Item) -> Result<
     Ok(())
 }
 
-fn hold_item_once<P: Spools>(rt: &impl Abort, alloc: Global, spools: &mut P) -> Result<(), Fail> {
-    let item = item(alloc, T_1A)?;
-    Ok(hold_once(rt, spools, &item)?)
+/// The item that is buffered over and over.
+static SAMPLE: Sample = T_1A;
+
+fn hold_item_once<P: Spools + Drop>(
+    rt: &impl Abort,
+    alloc: Global,
+    mut spools: P,
+) -> Result<(), Fail> {
+    let item = item(alloc, SAMPLE)?;
+    let held = hold_once(rt, &mut spools, &item);
+    drop(item);
+    Ok(held?)
 }
 
 #[test]
 fn one_item_opens_its_transaction(rt: HostRuntime) -> Result<(), Fail> {
-    hold_item_once(&rt, rt.alloc(), &mut ByteSpools::new(rt.alloc(), 28))
+    hold_item_once(&rt, rt.alloc(), ByteSpools::new(rt.alloc(), 28))
 }
 
 /// Pushes the item twice for each of 10,000 subtransactions.
@@ -338,15 +351,21 @@ fn fill_and_cut<P: Spools>(rt: &impl Abort, spools: &mut P, item: &Item) -> Resu
     Ok(())
 }
 
-fn roll_back_many<P: Spools>(rt: &impl Abort, alloc: Global, spools: &mut P) -> Result<(), Fail> {
-    let item = item(alloc, T_1A)?;
-    Ok(fill_and_cut(rt, spools, &item)?)
+fn roll_back_many<P: Spools + Drop>(
+    rt: &impl Abort,
+    alloc: Global,
+    mut spools: P,
+) -> Result<(), Fail> {
+    let item = item(alloc, SAMPLE)?;
+    let cut = fill_and_cut(rt, &mut spools, &item);
+    drop(item);
+    Ok(cut?)
 }
 
 #[test]
 fn many_subtransactions_are_cut(rt: HostRuntime) -> Result<(), Fail> {
-    roll_back_many(&rt, rt.alloc(), &mut ListSpools::new(rt.alloc(), 560000))?;
-    roll_back_many(&rt, rt.alloc(), &mut ByteSpools::new(rt.alloc(), 560000))
+    roll_back_many(&rt, rt.alloc(), ListSpools::new(rt.alloc(), 560000))?;
+    roll_back_many(&rt, rt.alloc(), ByteSpools::new(rt.alloc(), 560000))
 }
 
 /// Opens once more where memory ran out, which changes nothing.
@@ -367,19 +386,19 @@ fn push_in_the_end<P: Spools>(rt: &impl Abort, spools: &mut P, xid: u32, subxid:
 }
 
 /// Forty items in each of nine transactions, and then three.
-fn refuse_one<P: Spools>(rt: &impl Abort, spools: &mut P, item: &Item) {
+fn refuse_one<P: Spools + Drop>(rt: &impl Abort, mut spools: P, item: &Item) {
     for xid in 1..10u32 {
-        open_in_the_end(rt, spools, xid);
+        open_in_the_end(rt, &mut spools, xid);
     }
     for round in 0..40u32 {
         for xid in 1..10u32 {
-            push_in_the_end(rt, spools, xid, xid + round, item);
+            push_in_the_end(rt, &mut spools, xid, xid + round, item);
         }
     }
     assert!(rt; spools.bytes() == 40 * 9 * 28);
     for xid in 1..10u32 {
         spools.cut(xid, xid + 3);
-        push_in_the_end(rt, spools, xid, xid + 3, item);
+        push_in_the_end(rt, &mut spools, xid, xid + 3, item);
         spools.cut(xid, xid + 3);
         assert!(rt; spools.count(xid) == 3);
     }
@@ -390,8 +409,9 @@ fn refuse_one<P: Spools>(rt: &impl Abort, spools: &mut P, item: &Item) {
 // it is made once more.
 #[test]
 fn refused_memory_changes_nothing(rt: HostRuntime) -> Result<(), Fail> {
-    let item = item(rt.alloc(), T_1A)?;
-    refuse_one(&rt, &mut ListSpools::new(rt.alloc(), 100000), &item);
-    refuse_one(&rt, &mut ByteSpools::new(rt.alloc(), 100000), &item);
+    let item = item(rt.alloc(), SAMPLE)?;
+    refuse_one(&rt, ListSpools::new(rt.alloc(), 100000), &item);
+    refuse_one(&rt, ByteSpools::new(rt.alloc(), 100000), &item);
+    drop(item);
     Ok(())
 }

@@ -16,11 +16,11 @@ const KEPT: &[u8] = &[0, 2, b't', 0, 0, 0, 1, b'2', b'u'];
 const BINARY: &[u8] = &[0, 1, b'b', 0, 0, 0, 2, 255, 0];
 
 /// Encoded tuples and how many cells they have.
-const VECTORS: [(&[u8], usize); 5] = [(EMPTY, 0), (ROW, 2), (KEY, 2), (KEPT, 2), (BINARY, 1)];
+static VECTORS: [(&[u8], usize); 5] = [(EMPTY, 0), (ROW, 2), (KEY, 2), (KEPT, 2), (BINARY, 1)];
 
 /// Bytes that don't begin with a tuple, and the first field that can't be read. Lengths and widths
 /// beyond the bytes are among them.
-const FAULTS: [(&[u8], TupleFault); 16] = [
+static FAULTS: [(&[u8], TupleFault); 16] = [
     (&[], TupleFault::Short(0)),
     (&[0], TupleFault::Short(0)),
     (&[6, 65], TupleFault::TooManyColumns(0)),
@@ -118,7 +118,7 @@ fn goes_both_ways(rt: &impl Abort, alloc: Global, bytes: &[u8], width: usize) ->
 
 #[test]
 fn vectors_go_both_ways(rt: HostRuntime) -> Result<(), Fail> {
-    for (bytes, width) in VECTORS {
+    for &(bytes, width) in &VECTORS {
         goes_both_ways(&rt, rt.alloc(), bytes, width)?;
     }
     Ok(())
@@ -136,7 +136,7 @@ fn borrowed_fault(bytes: &[u8]) -> Option<TupleFault> {
 /// every allocation fails.
 #[test]
 fn faults_and_their_offsets(rt: HostRuntime) {
-    for (bytes, fault) in FAULTS {
+    for &(bytes, fault) in &FAULTS {
         assert!(rt; borrowed_fault(bytes) == Some(fault), "{bytes:?}");
         assert!(rt; decode(rt.alloc(), bytes).err() == Some(fault), "{bytes:?}");
     }
