@@ -57,7 +57,7 @@ const OF_40_RELATION_T: &str =
 const STOP: &str = "640000001e7700000000000000000000000000000000000000000000000045";
 
 /// So many bytes of the transaction, and the rows that they leave.
-const FRONTS: [(usize, &str); 5] = [
+static FRONTS: [(usize, &str); 5] = [
     (0, NOTHING),
     (3, NOTHING),
     (BEFORE_COMMIT, NOTHING),
@@ -68,7 +68,7 @@ const FRONTS: [(usize, &str); 5] = [
 #[test]
 fn the_first_bytes_of_a_file_are_fed(rt: HostRuntime) -> Result<(), Fail> {
     let (err, status) = ("", 0);
-    for (count, out) in FRONTS {
+    for &(count, out) in &FRONTS {
         let front = TRANSACTION.get(..count).map(File::of);
         let answer = Answer { out, err, status };
         check(&rt, APPLY_RAW, out, front, None, answer)?;
@@ -79,7 +79,7 @@ fn the_first_bytes_of_a_file_are_fed(rt: HostRuntime) -> Result<(), Fail> {
 #[test]
 fn a_read_that_fails_leaves_what_was_fed(rt: HostRuntime) -> Result<(), Fail> {
     let (err, status) = ("pgsub: read\n", 3);
-    for (count, out) in FRONTS {
+    for &(count, out) in &FRONTS {
         let file = File {
             rest: TRANSACTION.get(..count).unwrap_or(b""),
             at_once: 5,
@@ -92,7 +92,7 @@ fn a_read_that_fails_leaves_what_was_fed(rt: HostRuntime) -> Result<(), Fail> {
 }
 
 /// So many bytes of the transaction and these after them, and what is returned.
-const FAULTS: [(usize, &[u8], &str, &str); 2] = [
+static FAULTS: [(usize, &[u8], &str, &str); 2] = [
     (
         BEFORE_COMMIT,
         TWO_FAULTS,
@@ -105,7 +105,7 @@ const FAULTS: [(usize, &[u8], &str, &str); 2] = [
 #[test]
 fn a_file_of_bytes_stops_at_its_first_fault(rt: HostRuntime) -> Result<(), Fail> {
     let status = 1;
-    for (count, later, out, err) in FAULTS {
+    for &(count, later, out, err) in &FAULTS {
         let front = TRANSACTION.get(..count).unwrap_or(b"");
         let mut bytes = Vec::from_slice(rt.alloc(), front)?;
         bytes.extend_from_slice(later)?;
@@ -131,7 +131,7 @@ struct Resumed {
     answer: Answer,
 }
 
-static RESUMED: &[Resumed] = &[
+static RESUMED: [Resumed; 7] = [
     Resumed {
         shows: "an empty recording",
         lines: &[],
@@ -217,7 +217,7 @@ static RESUMED: &[Resumed] = &[
 
 #[test]
 fn what_is_reached_is_printed(rt: HostRuntime) -> Result<(), Fail> {
-    for row in RESUMED {
+    for row in &RESUMED {
         let text = recording(rt.alloc(), row.lines)?;
         let file = Some(File::of(text.as_bytes()));
         check(&rt, RESUME, row.shows, file, None, row.answer)?;

@@ -63,7 +63,7 @@ pub(crate) const NOTHING: &str = "position 0/0\n";
 const ROW_AT_130: &str = "[\"public\",\"t\",[\"1\",\"a\"],1]\nposition 0/130\n";
 
 /// Whole transactions, which both versions of the protocol send alike.
-pub(crate) const TRANSACTIONS: &[Row] = &[
+pub(crate) static TRANSACTIONS: [Row; 30] = [
     Row {
         shows: "an empty recording",
         lines: &[],
@@ -480,7 +480,7 @@ pub(crate) const TRANSACTIONS: &[Row] = &[
 ];
 
 /// A session with a row of a table of its own, which ends before the transactions of the faults.
-pub(crate) const BEFORE: &[&str] = &[
+pub(crate) static BEFORE: &[&str] = &[
     "42 0000000000000080 0000000000000000 00000009",
     RELATION_W,
     "49 00004001 4e 0003 74 00000001 31 74 00000001 70 74 00000001 71",
@@ -492,7 +492,7 @@ pub(crate) const BEFORE: &[&str] = &[
 pub(crate) const ROW_BEFORE: &str = "[\"public\",\"w\",[\"1\",\"p\",\"q\"],1]\nposition 0/90\n";
 
 /// Sessions that leave nothing, each with the line of the fault that stops it.
-pub(crate) const FAULTS: &[(&[&str], &str)] = &[
+pub(crate) static FAULTS: [(&[&str], &str); 38] = [
     (
         &["43 01 0000000000000100 0000000000000130 0000000000000000"],
         "pgsub: decode 4 BadFlag at 1\n",

@@ -1,18 +1,11 @@
 //! Command lines, and the tasks that they ask for.
 
+use crate::runs::{asked, task_of};
 use clap::error::ErrorKind;
-use pgcommand::{CommandFault, FeedOptions, Task, VERSION, command_of};
+use pgcommand::{CommandFault, FeedOptions, Task, VERSION};
 use pgorder::Version;
 use std::alloc::{AllocError, Global};
 use std::test::Fail;
-
-fn asked(alloc: Global, line: &str) -> Result<Result<Task, CommandFault>, AllocError> {
-    let mut words = Vec::new(alloc);
-    for word in line.split(' ') {
-        words.push(String::from_str(alloc, word)?)?;
-    }
-    Ok(command_of(alloc, words.as_slice()))
-}
 
 /// A feed that is asked for, after the text of its task.
 fn feed_text(alloc: Global, feed: &Option<FeedOptions>) -> Result<String, AllocError> {
@@ -82,7 +75,7 @@ fn task_text(alloc: Global, task: &Task) -> Result<String, AllocError> {
 }
 
 /// Command lines, each with its task.
-const TASKS: &[(&str, &str)] = &[
+static TASKS: [(&str, &str); 36] = [
     ("pgsub show F", "show Two F"),
     ("pgsub show --proto 1 F", "show One F"),
     ("pgsub show F --proto=2", "show Two F"),
@@ -199,12 +192,11 @@ const TASKS: &[(&str, &str)] = &[
 
 #[test]
 fn reads_tasks(rt: HostRuntime) -> Result<(), Fail> {
-    for (line, expected) in TASKS {
-        let Ok(task) = asked(rt.alloc(), line)? else {
-            return Err(Fail::from(*line));
-        };
-        let text = task_text(rt.alloc(), &task)?;
-        assert_eq!(rt; text.as_str(), *expected);
+    for &(line, expected) in &TASKS {
+        let task = task_of(rt.alloc(), line)?;
+        let text = task_text(rt.alloc(), &task);
+        drop(task);
+        assert_eq!(rt; text?.as_str(), expected);
     }
     Ok(())
 }
@@ -222,7 +214,7 @@ fn rejected(alloc: Global, line: &str) -> Result<Option<(ErrorKind, i32, bool)>,
 }
 
 /// Command lines that ask for no task, each with the kind of its error.
-const REJECTED: &[(&str, ErrorKind)] = &[
+static REJECTED: [(&str, ErrorKind); 72] = [
     ("pgsub", ErrorKind::MissingSubcommand),
     ("pgsub nothing", ErrorKind::InvalidSubcommand),
     ("pgsub apply", ErrorKind::MissingRequiredArgument),
@@ -389,86 +381,85 @@ fn outcome(kind: ErrorKind) -> (i32, bool) {
 
 #[test]
 fn rejects_the_rest(rt: HostRuntime) -> Result<(), Fail> {
-    for (line, kind) in REJECTED {
-        let found = rejected(rt.alloc(), line)?;
-        let (code, to_stderr) = outcome(*kind);
+    for &(line, kind) in &REJECTED {
+        let (code, to_stderr) = outcome(kind);
         assert!(rt;
-            found == Some((*kind, code, to_stderr)),
-            "{line}: {found:?}"
+            rejected(rt.alloc(), line)? == Some((kind, code, to_stderr)),
+            "{line}"
         );
     }
     Ok(())
 }
 
 /// The exit statuses of `follow`, as its help has them.
-const STATUSES: [&str; 11] = [
+static STATUSES: [&str; 11] = [
     "   0  ", "   1  ", "   2  ", "   3  ", "  10  ", "  11  ", "  12  ", "  13  ", "  14  ",
     "  15  ", "  16  ",
 ];
 
+/// What is printed where a command line asks for no task.
+fn printed(alloc: Global, line: &str) -> Result<String, Fail> {
+    let Err(fault) = asked(alloc, line)? else {
+        return Err(Fail::from(line));
+    };
+    let text = format!(in alloc; "{fault}");
+    drop(fault);
+    Ok(text?)
+}
+
 #[test]
 fn the_help_of_follow_has_its_statuses(rt: HostRuntime) -> Result<(), Fail> {
-    let Err(fault) = asked(rt.alloc(), "pgsub follow --help")? else {
-        return Err(Fail::from("no help"));
-    };
-    let text = format!(in rt.alloc(); "{fault}")?;
-    for status in STATUSES {
+    let text = printed(rt.alloc(), "pgsub follow --help")?;
+    for &status in &STATUSES {
         assert!(rt; text.contains(status), "{status}: {text}");
     }
     assert!(rt; text.contains("--max-buffered") && text.contains("--max-frame"));
     Ok(())
 }
 
+/// Command lines, and two texts that each prints.
+static PRINTED: [(&str, &str, &str); 5] = [
+    // what a cache costs
+    ("pgsub apply --help", "--cache <PAGES>", "20000 cost 20 MB"),
+    ("pgsub dump --help", "--cache <PAGES>", "20000 cost 20 MB"),
+    ("pgsub follow --help", "--cache <PAGES>", "20000 cost 20 MB"),
+    // which word a feed lacks
+    (
+        "pgsub follow --store S --feed-slot c",
+        "  --feed <FOLDER>\n",
+        "Usage: pgsub follow [OPTIONS] --store <FILE> --feed <FOLDER>\n",
+    ),
+    (
+        "pgsub apply --feed D F",
+        "  --store <FILE>\n",
+        "Usage: pgsub apply [OPTIONS] --store <FILE> --feed <FOLDER> <FILE>\n",
+    ),
+];
+
 #[test]
-fn the_help_tells_what_a_cache_costs(rt: HostRuntime) -> Result<(), Fail> {
-    for line in [
-        "pgsub apply --help",
-        "pgsub dump --help",
-        "pgsub follow --help",
-    ] {
-        let Err(fault) = asked(rt.alloc(), line)? else {
-            return Err(Fail::from("no help"));
-        };
-        let text = format!(in rt.alloc(); "{fault}")?;
-        assert!(rt;
-            text.contains("--cache <PAGES>") && text.contains("20000 cost 20 MB"),
-            "{text}"
-        );
+fn help_and_usage_have_their_words(rt: HostRuntime) -> Result<(), Fail> {
+    for &(line, first, second) in &PRINTED {
+        let text = printed(rt.alloc(), line)?;
+        assert!(rt; text.contains(first) && text.contains(second), "{text}");
     }
     Ok(())
 }
 
-#[test]
-fn a_feed_tells_which_word_it_lacks(rt: HostRuntime) -> Result<(), Fail> {
-    for (line, word, usage) in [
-        (
-            "pgsub follow --store S --feed-slot c",
-            "  --feed <FOLDER>\n",
-            "Usage: pgsub follow [OPTIONS] --store <FILE> --feed <FOLDER>\n",
-        ),
-        (
-            "pgsub apply --feed D F",
-            "  --store <FILE>\n",
-            "Usage: pgsub apply [OPTIONS] --store <FILE> --feed <FOLDER> <FILE>\n",
-        ),
-    ] {
-        let Err(fault) = asked(rt.alloc(), line)? else {
-            return Err(Fail::from(line));
-        };
-        let text = format!(in rt.alloc(); "{fault}")?;
-        assert!(rt; text.contains(word) && text.contains(usage), "{text}");
-    }
-    Ok(())
+/// Whether this is the line of the version.
+fn is_version(text: &str) -> bool {
+    let line = text.strip_suffix('\n');
+    line.and_then(|line| line.strip_prefix("pgsub ")) == Some(VERSION)
 }
 
 #[test]
 fn prints_the_version(rt: HostRuntime) -> Result<(), Fail> {
-    let Err(fault) = asked(rt.alloc(), "pgsub --version")? else {
-        return Err(Fail::from("no version"));
-    };
-    let text = format!(in rt.alloc(); "{fault}")?;
-    let expected = format!(in rt.alloc(); "pgsub {VERSION}\n")?;
-    assert!(rt; text == expected, "{text}");
+    let text = printed(rt.alloc(), "pgsub --version")?;
+    assert!(rt; is_version(&text), "{text}");
+    Ok(())
+}
+
+#[test]
+fn memory_that_ran_out_is_told(rt: HostRuntime) -> Result<(), Fail> {
     let memory = format!(in rt.alloc(); "{}", CommandFault::Memory)?;
     assert_eq!(rt; memory.as_str(), "memory");
     Ok(())

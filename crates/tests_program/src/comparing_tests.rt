@@ -365,26 +365,43 @@ static UNREAD: [Unread; 7] = [
 #[test]
 fn both_files_are_read_before_one_is_followed(rt: HostRuntime) -> Result<(), Fail> {
     let (out, status) = ("", 3);
-    for (left, right, err) in &UNREAD {
-        let (left, right, err) = (left.map(File::of), right.map(File::of), *err);
+    for &(left, right, err) in &UNREAD {
+        let (left, right) = (left.map(File::of), right.map(File::of));
         let answer = Answer { out, err, status };
         check(&rt, SAME, err, left, right, answer)?;
     }
     Ok(())
 }
 
+/// A file of one line, and after it an error if there is one.
+fn failing(error: Option<ErrorKind>) -> File<'static> {
+    let mut file = File::of(b"78\n");
+    file.error = error;
+    file
+}
+
+/// Why reading the left and the right file fails, if it does, and the line of that.
+static FAILED_READS: [(Option<ErrorKind>, Option<ErrorKind>, &str); 2] = [
+    (
+        None,
+        Some(ErrorKind::Other),
+        "pgsub: cannot read right.pgx\n",
+    ),
+    (
+        Some(ErrorKind::Other),
+        None,
+        "pgsub: cannot read left.pgx\n",
+    ),
+];
+
 #[test]
 fn a_read_that_fails_names_its_file(rt: HostRuntime) -> Result<(), Fail> {
     let (out, status) = ("", 3);
-    let whole = File::of(b"78\n");
-    let mut failing = whole;
-    failing.error = Some(ErrorKind::Other);
-    for (left, right, err) in [
-        (whole, failing, "pgsub: cannot read right.pgx\n"),
-        (failing, whole, "pgsub: cannot read left.pgx\n"),
-    ] {
+    for &(left, right, err) in &FAILED_READS {
+        let left = Some(failing(left));
+        let right = Some(failing(right));
         let answer = Answer { out, err, status };
-        check(&rt, SAME, err, Some(left), Some(right), answer)?;
+        check(&rt, SAME, err, left, right, answer)?;
     }
     Ok(())
 }

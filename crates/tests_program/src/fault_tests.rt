@@ -80,7 +80,7 @@ fn check(rt: &(impl Abort + AllocGlobal), fault: Fault) -> Result<(), Fail> {
 
 #[test]
 fn a_fault_is_told_in_the_words_of_its_library(rt: HostRuntime) -> Result<(), Fail> {
-    for fault in FAULTS {
+    for &fault in &FAULTS {
         check(&rt, fault)?;
     }
     Ok(())
@@ -88,7 +88,7 @@ fn a_fault_is_told_in_the_words_of_its_library(rt: HostRuntime) -> Result<(), Fa
 
 #[test]
 fn a_fault_of_decoding_is_told_in_the_words_of_its_library(rt: HostRuntime) -> Result<(), Fail> {
-    for reason in REASONS {
+    for &reason in &REASONS {
         let place = 12;
         check(&rt, Fault::Decode(DecodeFault { place, reason }))?;
     }

@@ -162,41 +162,70 @@ fn check(
 
 const AMPLE: usize = 100000;
 
+const WHOLE: Expected<'static> = Expected {
+    told: &[0, 0x180, 0x180],
+    position: 0x130,
+    err: "",
+    status: 0,
+};
+
+const PARTS: Expected<'static> = Expected {
+    told: &[0, 0x130, 0x180, 0x180],
+    position: 0x130,
+    err: "",
+    status: 0,
+};
+
+/// How many bytes the session gives at once, and what is left.
+static FOLLOWED: [(usize, Expected<'static>); 4] = [
+    (AMPLE, WHOLE),
+    (250, WHOLE),
+    (5, PARTS),
+    (1, PARTS),
+];
+
+/// Follows the session, of which so many bytes are read at once and so many may be written.
+fn check_session(
+    rt: &(impl Abort + AllocGlobal),
+    at_once: usize,
+    most: usize,
+    expected: &Expected<'_>,
+) -> Result<(), Fail> {
+    let reader = File {
+        rest: SESSION,
+        at_once,
+        error: None,
+    };
+    check(rt, reader, most, expected)
+}
+
 #[test]
 fn statuses_follow_what_is_stored(rt: HostRuntime) -> Result<(), Fail> {
-    let whole = Expected {
-        told: &[0, 0x180, 0x180],
-        position: 0x130,
-        err: "",
-        status: 0,
-    };
-    let parts = Expected {
-        told: &[0, 0x130, 0x180, 0x180],
-        position: 0x130,
-        err: "",
-        status: 0,
-    };
-    for (at_once, expected) in [(AMPLE, &whole), (250, &whole), (5, &parts), (1, &parts)] {
-        let reader = File {
-            rest: SESSION,
-            at_once,
-            error: None,
-        };
-        check(&rt, reader, AMPLE, expected)?;
+    for (at_once, expected) in &FOLLOWED {
+        check_session(&rt, *at_once, AMPLE, expected)?;
     }
     Ok(())
 }
 
-#[test]
-fn the_next_session_follows_copy_done(rt: HostRuntime) -> Result<(), Fail> {
-    let mut sessions = Vec::new(rt.alloc());
+/// The session, its end and the next one.
+fn both_sessions(alloc: Global) -> Result<Vec<u8>, AllocError> {
+    let mut sessions = Vec::new(alloc);
     sessions.extend_from_slice(SESSION)?;
     sessions.extend_from_slice(COPY_DONE)?;
     sessions.extend_from_slice(NEXT_SESSION)?;
-    for (at_once, told) in [
-        (AMPLE, [0, 0x180, 0x180, 0x280, 0x280].as_slice()),
-        (1, [0, 0x130, 0x180, 0x180, 0x230, 0x280, 0x280].as_slice()),
-    ] {
+    Ok(sessions)
+}
+
+/// How many bytes both sessions give at once, and what the statuses confirm.
+static CONFIRMED: [(usize, &[u64]); 2] = [
+    (AMPLE, &[0, 0x180, 0x180, 0x280, 0x280]),
+    (1, &[0, 0x130, 0x180, 0x180, 0x230, 0x280, 0x280]),
+];
+
+#[test]
+fn the_next_session_follows_copy_done(rt: HostRuntime) -> Result<(), Fail> {
+    let sessions = both_sessions(rt.alloc())?;
+    for &(at_once, told) in &CONFIRMED {
         let reader = File {
             rest: sessions.as_slice(),
             at_once,
@@ -213,15 +242,19 @@ fn the_next_session_follows_copy_done(rt: HostRuntime) -> Result<(), Fail> {
     Ok(())
 }
 
+/// How many bytes of the session are read before an error, what the statuses confirm, and the
+/// position.
+static READS: [(usize, &[u64], u64); 5] = [
+    (0, &[0], 0),
+    (226, &[0], 0),
+    (227, &[0, 0x130], 0x130),
+    (249, &[0, 0x130], 0x130),
+    (250, &[0, 0x130, 0x180, 0x180], 0x130),
+];
+
 #[test]
 fn a_failed_read_ends_it(rt: HostRuntime) -> Result<(), Fail> {
-    for (count, told, position) in [
-        (0, [0].as_slice(), 0),
-        (226, [0].as_slice(), 0),
-        (227, [0, 0x130].as_slice(), 0x130),
-        (249, [0, 0x130].as_slice(), 0x130),
-        (250, [0, 0x130, 0x180, 0x180].as_slice(), 0x130),
-    ] {
+    for &(count, told, position) in &READS {
         let reader = File {
             rest: SESSION.get(..count).unwrap_or(b""),
             at_once: 1,
@@ -238,21 +271,19 @@ fn a_failed_read_ends_it(rt: HostRuntime) -> Result<(), Fail> {
     Ok(())
 }
 
+/// How many bytes may be written, and the position.
+static WRITES: [(usize, u64); 5] = [(0, 0), (38, 0), (39, 0x130), (50, 0x130), (78, 0x130)];
+
 #[test]
 fn a_failed_write_ends_it(rt: HostRuntime) -> Result<(), Fail> {
-    for (most, position) in [(0, 0), (38, 0), (39, 0x130), (50, 0x130), (78, 0x130)] {
-        let reader = File {
-            rest: SESSION,
-            at_once: 5,
-            error: None,
-        };
+    for &(most, position) in &WRITES {
         let expected = Expected {
             told: &[0, 0x130, 0x180],
             position,
             err: "pgsub: cannot write\n",
             status: 15,
         };
-        check(&rt, reader, most, &expected)?;
+        check_session(&rt, 5, most, &expected)?;
     }
     Ok(())
 }
@@ -289,16 +320,11 @@ const SHORTER_FRAMES: Limits = Limits {
     max_frame: 64,
 };
 
+static FOLLOWED_WHOLE: Expected<'static> = WHOLE;
+
 #[test]
 fn it_follows_within_its_limits(rt: HostRuntime) -> Result<(), Fail> {
-    let followed = Expected {
-        told: &[0, 0x180, 0x180],
-        position: 0x130,
-        err: "",
-        status: 0,
-    };
-    let reader = File::of(SESSION);
-    check_within(&rt, EXACT, reader, AMPLE, &followed)
+    check_within(&rt, EXACT, File::of(SESSION), AMPLE, &FOLLOWED_WHOLE)
 }
 
 /// The status and the line where a limit is too low.
@@ -408,34 +434,40 @@ fn check_failing(
     Ok(())
 }
 
+/// Faults of a store, and the lines and statuses of them.
+static STORE_FAULTS: [(StoreFault, &str, u8); 4] = [
+    (StoreFault::Clash, "pgsub: store 1 Clash\n", 1),
+    (
+        StoreFault::Refused,
+        "pgsub: the disk is full\npgsub: store 8 Refused\n",
+        13,
+    ),
+    (StoreFault::NotAStore, "pgsub: store 10 NotAStore\n", 13),
+    (StoreFault::Memory, "pgsub: memory\n", 14),
+];
+
 #[test]
 fn a_store_that_fails_has_its_status(rt: HostRuntime) -> Result<(), Fail> {
-    for (fault, line, status) in [
-        (StoreFault::Clash, "pgsub: store 1 Clash\n", 1),
-        (
-            StoreFault::Refused,
-            "pgsub: the disk is full\npgsub: store 8 Refused\n",
-            13,
-        ),
-        (StoreFault::NotAStore, "pgsub: store 10 NotAStore\n", 13),
-        (StoreFault::Memory, "pgsub: memory\n", 14),
-    ] {
+    for &(fault, line, status) in &STORE_FAULTS {
         check_failing(&rt, fault, line, status)?;
     }
     Ok(())
 }
 
+/// Why a store isn't opened, and the lines and statuses of that.
+static UNOPENED: [(StoreFault, &str, u8); 3] = [
+    (StoreFault::NotAStore, "pgsub: store 10 NotAStore\n", 3),
+    (
+        StoreFault::Refused,
+        "pgsub: it is in use\npgsub: store 8 Refused\n",
+        12,
+    ),
+    (StoreFault::Memory, "pgsub: memory\n", 14),
+];
+
 #[test]
 fn a_store_that_is_not_opened_has_its_status(rt: HostRuntime) -> Result<(), Fail> {
-    for (fault, line, status) in [
-        (StoreFault::NotAStore, "pgsub: store 10 NotAStore\n", 3),
-        (
-            StoreFault::Refused,
-            "pgsub: it is in use\npgsub: store 8 Refused\n",
-            12,
-        ),
-        (StoreFault::Memory, "pgsub: memory\n", 14),
-    ] {
+    for &(fault, line, status) in &UNOPENED {
         let mut err = Vec::new(rt.alloc());
         let told = tell_unfollowed(rt.alloc(), fault, Some("it is in use"), &mut err);
         assert_eq!(rt; told, status);

@@ -1,5 +1,6 @@
 //! What is told of a long run, and that nothing else is another one.
 
+use crate::runs::{Answer, is_answered};
 use pgapply::{Misses, ReplicaStore};
 use pgcommand::Limits;
 use pglsn::Lsn;
@@ -38,24 +39,42 @@ fn new_clock() -> Ticking {
     }
 }
 
-#[test]
-fn a_line_says_how_far_it_is(rt: HostRuntime) -> Result<(), Fail> {
-    let mut progress = Progress {
+/// Stops unless this is the line of a run over so many bytes.
+fn check_line(
+    rt: &(impl Abort + AllocGlobal),
+    total: Option<u64>,
+    expected: &str,
+) -> Result<(), Fail> {
+    let progress = Progress {
         read: 4096,
-        total: Some(10000),
+        total,
         commits: 2,
         changes: 30,
         position: Lsn(0x130),
         rate: 25,
     };
     let line = format!(in rt.alloc(); "{progress}")?;
-    let expected =
-        "pgsub: 4096 of 10000 bytes read, 2 commits, 30 changes, position 0/130, 25 changes/s\n";
     assert_eq!(rt; line.as_str(), expected);
-    progress.total = None;
-    let line = format!(in rt.alloc(); "{progress}")?;
-    let expected = "pgsub: 4096 bytes read, 2 commits, 30 changes, position 0/130, 25 changes/s\n";
-    assert_eq!(rt; line.as_str(), expected);
+    Ok(())
+}
+
+/// The bytes of a run, where their number is known, and its line.
+static LINES: [(Option<u64>, &str); 2] = [
+    (
+        Some(10000),
+        "pgsub: 4096 of 10000 bytes read, 2 commits, 30 changes, position 0/130, 25 changes/s\n",
+    ),
+    (
+        None,
+        "pgsub: 4096 bytes read, 2 commits, 30 changes, position 0/130, 25 changes/s\n",
+    ),
+];
+
+#[test]
+fn a_line_says_how_far_it_is(rt: HostRuntime) -> Result<(), Fail> {
+    for &(total, line) in &LINES {
+        check_line(&rt, total, line)?;
+    }
     Ok(())
 }
 
@@ -84,6 +103,13 @@ fn a_line_comes_once_a_second_at_most(rt: HostRuntime) -> Result<(), Fail> {
     Ok(())
 }
 
+/// What is printed of bytes that are no frames.
+pub(crate) static REJECTED: Answer = Answer {
+    out: "position 0/0\n",
+    err: "pgsub: wire 1 UnknownFrame 120\n",
+    status: 1,
+};
+
 /// A run of which is told how far it is.
 struct IsTold;
 
@@ -104,12 +130,7 @@ impl<R: Abort + AllocGlobal> Trial<R> for IsTold {
             &mut out,
             &mut err,
         );
-        assert_eq!(rt; out.as_slice(), b"position 0/0\n".as_slice());
-        assert_eq!(rt;
-            err.as_slice(),
-            b"pgsub: wire 1 UnknownFrame 120\n".as_slice()
-        );
-        assert_eq!(rt; status, 1);
+        is_answered(rt, "a run that is told", &out, &err, status, &REJECTED);
         Ok(())
     }
 }

@@ -1,6 +1,8 @@
 //! What is applied to a store, and how a store that isn't opened is told.
 
 use crate::following_tests::SESSION;
+use crate::reporting_tests::REJECTED;
+use crate::runs::{Answer, is_answered};
 use pgapply::{ReplicaStore, StoreFault};
 use pgcommand::{DEFAULT_CACHE, Limits, Task};
 use pgorder::Version;
@@ -29,24 +31,24 @@ impl<R: Abort + AllocGlobal> Trial<R> for FeedsBytes {
         let input = Some((Version::Two, Incoming::Raw(bytes)));
         let (mut out, mut err) = (Vec::new(alloc), Vec::new(alloc));
         let (status, store) = run_store(alloc, store, input, &mut out, &mut err);
-        assert_eq!(rt; out.as_slice(), b"position 0/0\n".as_slice());
-        assert_eq!(rt;
-            err.as_slice(),
-            b"pgsub: wire 1 UnknownFrame 120\n".as_slice()
-        );
-        assert_eq!(rt; status, 1);
-        is_empty(rt, store)
+        is_answered(rt, "bytes", &out, &err, status, &REJECTED);
+        is_empty(rt, store);
+        Ok(())
     }
 }
 
+static EMPTY: Answer = Answer {
+    out: "position 0/0\n",
+    err: "",
+    status: 0,
+};
+
 /// What is printed of a store at 0/0 without rows.
-fn is_empty<C: ReplicaStore + Drop>(rt: &(impl Abort + AllocGlobal), store: C) -> Result<(), Fail> {
+fn is_empty<C: ReplicaStore + Drop>(rt: &(impl Abort + AllocGlobal), store: C) {
     let alloc = rt.alloc();
     let mut err = Vec::new(alloc);
     let (status, _, out) = run_dump(alloc, store, Vec::new(alloc), &mut err);
-    assert_eq!(rt; out.as_slice(), b"position 0/0\n".as_slice());
-    assert!(rt; err.is_empty() && status == 0);
-    Ok(())
+    is_answered(rt, "an empty store", &out, &err, status, &EMPTY);
 }
 
 #[test]
@@ -63,6 +65,12 @@ const BUFFERS_LESS: Limits = Limits {
     max_frame: 65,
 };
 
+static FULL: Answer = Answer {
+    out: "position 0/0\n",
+    err: "pgsub: spool 1 SpoolFull\n",
+    status: 1,
+};
+
 impl<R: Abort + AllocGlobal> Trial<R> for BuffersLess {
     type Outcome = Result<(), Fail>;
 
@@ -71,9 +79,7 @@ impl<R: Abort + AllocGlobal> Trial<R> for BuffersLess {
         let input = Some((Version::Two, Incoming::Raw(SESSION)));
         let (mut out, mut err) = (Vec::new(alloc), Vec::new(alloc));
         let (status, _) = run_within(alloc, store, BUFFERS_LESS, input, &mut out, &mut err);
-        assert_eq!(rt; out.as_slice(), b"position 0/0\n".as_slice());
-        assert_eq!(rt; err.as_slice(), b"pgsub: spool 1 SpoolFull\n".as_slice());
-        assert_eq!(rt; status, 1);
+        is_answered(rt, "a session", &out, &err, status, &FULL);
         Ok(())
     }
 }
@@ -99,18 +105,25 @@ fn what_cannot_be_read_is_no_input(rt: HostRuntime) -> Result<(), Fail> {
     Ok(())
 }
 
+/// Why a store isn't opened, and the lines and statuses of that.
+static UNOPENED: [(StoreFault, &str, u8); 3] = [
+    (StoreFault::Refused, "pgsub: store 8 Refused\n", 3),
+    (StoreFault::NotAStore, "pgsub: store 10 NotAStore\n", 3),
+    (StoreFault::Memory, "pgsub: memory\n", 1),
+];
+
 #[test]
-fn a_store_that_is_not_opened_is_told(rt: HostRuntime) -> Result<(), Fail> {
-    let alloc = rt.alloc();
-    for (fault, line, status) in [
-        (StoreFault::Refused, "pgsub: store 8 Refused\n", 3),
-        (StoreFault::NotAStore, "pgsub: store 10 NotAStore\n", 3),
-        (StoreFault::Memory, "pgsub: memory\n", 1),
-    ] {
-        let mut err = Vec::new(alloc);
-        assert_eq!(rt; tell_unopened(alloc, fault, &mut err), status);
+fn a_store_that_is_not_opened_is_told(rt: HostRuntime) {
+    for &(fault, line, status) in &UNOPENED {
+        let mut err = Vec::new(rt.alloc());
+        assert_eq!(rt; tell_unopened(rt.alloc(), fault, &mut err), status);
         assert_eq!(rt; err.as_slice(), line.as_bytes());
     }
+}
+
+#[test]
+fn a_store_that_is_not_there_is_told(rt: HostRuntime) -> Result<(), Fail> {
+    let alloc = rt.alloc();
     let store = String::from_str(alloc, "copy.db")?;
     let cache = DEFAULT_CACHE;
     let task = Task::Dump { store, cache };

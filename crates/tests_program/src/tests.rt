@@ -3,8 +3,7 @@
 use crate::cases::{BEFORE, DISCONNECTION, FAULTS, NOTHING, ROW_BEFORE, TRANSACTIONS};
 use crate::comparing_tests::SAME;
 use crate::following_tests::SESSION;
-use crate::runs::{Answer, File, check, task_of};
-use pgsub_cli::running::{run, store_path};
+use crate::runs::{Answer, File, check, check_run, run_line};
 use std::alloc::{AllocError, Global};
 use std::fmt::Write as _;
 use std::io;
@@ -78,7 +77,7 @@ fn recording(
 
 #[test]
 fn what_is_stored_is_printed(rt: HostRuntime) -> Result<(), Fail> {
-    for row in TRANSACTIONS {
+    for row in &TRANSACTIONS {
         let (shows, out, err) = (row.shows, row.out, row.err);
         let text = recording(rt.alloc(), &[], row.lines, false)?;
         let status = u8::from(!err.is_empty());
@@ -91,7 +90,7 @@ fn what_is_stored_is_printed(rt: HostRuntime) -> Result<(), Fail> {
 
 #[test]
 fn a_fault_has_its_line_and_what_was_stored_is_printed(rt: HostRuntime) -> Result<(), Fail> {
-    for (lines, err) in FAULTS {
+    for &(lines, err) in &FAULTS {
         let text = recording(rt.alloc(), BEFORE, lines, false)?;
         let (out, status) = (ROW_BEFORE, 1);
         let file = Some(File::of(text.as_bytes()));
@@ -102,7 +101,7 @@ fn a_fault_has_its_line_and_what_was_stored_is_printed(rt: HostRuntime) -> Resul
 }
 
 #[test]
-fn chunks_of_one_byte_and_a_truncated_frame(rt: HostRuntime) -> Result<(), Fail> {
+fn chunks_of_one_byte_leave_what_lines_do(rt: HostRuntime) -> Result<(), Fail> {
     let (err, status) = ("", 0);
     let text = recording(rt.alloc(), BEFORE, BEFORE, true)?;
     let file = Some(File::of(text.as_bytes()));
@@ -116,12 +115,20 @@ fn chunks_of_one_byte_and_a_truncated_frame(rt: HostRuntime) -> Result<(), Fail>
         None,
         answer,
     )?;
+    Ok(())
+}
+
+/// How many bytes come of a recording.
+static FRONTS: [usize; 6] = [0, 3, 12, 15, 300, 732];
+
+#[test]
+fn a_truncated_frame_leaves_nothing(rt: HostRuntime) -> Result<(), Fail> {
     let text = recording(rt.alloc(), &[], BEFORE, true)?;
-    let out = NOTHING;
-    let answer = Answer { out, err, status };
-    for count in [0usize, 3, 12, 15, 300, 732] {
-        let front = text.as_bytes().get(..count).ok_or("so many bytes")?;
-        let file = Some(File::of(front));
+    let (out, err, status) = (NOTHING, "", 0);
+    for &count in &FRONTS {
+        let file = text.as_bytes().get(..count).map(File::of);
+        assert!(rt; file.is_some());
+        let answer = Answer { out, err, status };
         check(&rt, APPLY, "a truncated frame", file, None, answer)?;
     }
     Ok(())
@@ -175,20 +182,16 @@ fn check_room(
     right: Option<File<'_>>,
     room: usize,
 ) -> Result<(), Fail> {
-    let alloc = rt.alloc();
-    let task = task_of(alloc, line)?;
-    if store_path(&task).is_some() {
-        return Err(Fail::from(line));
-    }
-    let (mut out, mut err) = (Closing { room }, Vec::new(alloc));
-    let status = run(alloc, &task, left, right, &mut out, &mut err);
+    let mut err = Vec::new(rt.alloc());
+    let mut out = Closing { room };
+    let status = run_line(rt.alloc(), line, left, right, &mut out, &mut err)?;
     assert!(rt; status == 3, "{line}: {status} after {room} bytes");
     assert!(rt;
         err.as_slice() == b"pgsub: cannot write\n".as_slice(),
         "{err:?}"
     );
     let (mut out, mut err) = (Closing { room }, Closing { room: 7 });
-    let status = run(alloc, &task, left, right, &mut out, &mut err);
+    let status = run_line(rt.alloc(), line, left, right, &mut out, &mut err)?;
     assert!(rt;
         status == 3,
         "{line}: {status} after {room} bytes, and standard error fails"
@@ -196,11 +199,14 @@ fn check_room(
     Ok(())
 }
 
+/// How many bytes an output takes.
+static ROOMS: [usize; 3] = [0, 5, 43];
+
 #[test]
 fn an_output_that_fails_has_status_3(rt: HostRuntime) -> Result<(), Fail> {
     let text = recording(rt.alloc(), &[], BEFORE, false)?;
     let file = Some(File::of(text.as_bytes()));
-    for room in [0usize, 5, 43] {
+    for &room in &ROOMS {
         check_room(&rt, APPLY, file, None, room)?;
     }
     let empty = Some(File::of(b""));
@@ -244,21 +250,25 @@ static BAD_LINES: [(&str, &[u8], &str); 6] = [
 #[test]
 fn a_line_that_is_not_hexadecimal_is_told(rt: HostRuntime) -> Result<(), Fail> {
     let (out, status) = ("", 3);
-    for (shows, text, err) in BAD_LINES {
+    for &(shows, text, err) in &BAD_LINES {
         let answer = Answer { out, err, status };
         check(&rt, APPLY, shows, Some(File::of(text)), None, answer)?;
     }
     Ok(())
 }
 
+/// The error that reading a recording ends in, None where it isn't there, and the line and the
+/// status of that.
+static UNREAD: [(Option<ErrorKind>, &str, u8); 3] = [
+    (None, "pgsub: cannot read in.pgx\n", 3),
+    (Some(ErrorKind::Other), "pgsub: cannot read in.pgx\n", 3),
+    (Some(ErrorKind::OutOfMemory), "pgsub: memory\n", 1),
+];
+
 #[test]
 fn a_recording_that_is_not_read_leaves_the_output_empty(rt: HostRuntime) -> Result<(), Fail> {
     let out = "";
-    for (error, err, status) in [
-        (None, "pgsub: cannot read in.pgx\n", 3),
-        (Some(ErrorKind::Other), "pgsub: cannot read in.pgx\n", 3),
-        (Some(ErrorKind::OutOfMemory), "pgsub: memory\n", 1),
-    ] {
+    for &(error, err, status) in &UNREAD {
         let (rest, at_once) = (b"64000000".as_slice(), 5);
         let file = error.map(|error| File {
             rest,
@@ -271,51 +281,67 @@ fn a_recording_that_is_not_read_leaves_the_output_empty(rt: HostRuntime) -> Resu
     Ok(())
 }
 
+/// The lengths of recordings, and what is printed of each.
+static LENGTHS: [(usize, Answer); 2] = [
+    (
+        67108865,
+        Answer {
+            out: "",
+            err: "pgsub: capture too long\n",
+            status: 3,
+        },
+    ),
+    (
+        67108864,
+        Answer {
+            out: NOTHING,
+            err: "",
+            status: 0,
+        },
+    ),
+];
+
 #[test]
 fn a_recording_has_a_greatest_length(rt: HostRuntime) -> Result<(), Fail> {
-    for (left, out, err, status) in [
-        (67108865, "", "pgsub: capture too long\n", 3),
-        (67108864, NOTHING, "", 0),
-    ] {
-        let answer = Answer { out, err, status };
-        check(
-            &rt,
-            APPLY,
-            "one comment",
-            Some(Comment { left }),
-            None,
-            answer,
-        )?;
+    for &(left, answer) in &LENGTHS {
+        let comment = Some(Comment { left });
+        check_run(&rt, APPLY, "one comment", comment, None, answer)?;
     }
     Ok(())
 }
 
+/// Command lines that set limits, and what each prints of a session.
+static LIMITED: [(&str, Answer); 3] = [
+    (
+        "pgsub apply --raw --max-buffered 76 --max-frame 65 F",
+        Answer {
+            out: "[\"public\",\"t\",[\"1\",\"a\"],1]\nposition 0/130\n",
+            err: "",
+            status: 0,
+        },
+    ),
+    (
+        "pgsub apply --raw --max-buffered 75 F",
+        Answer {
+            out: "position 0/0\n",
+            err: "pgsub: spool 1 SpoolFull\n",
+            status: 1,
+        },
+    ),
+    (
+        "pgsub apply --raw --max-frame 64 F",
+        Answer {
+            out: "position 0/0\n",
+            err: "pgsub: wire 3 TooLarge\n",
+            status: 1,
+        },
+    ),
+];
+
 #[test]
 fn a_command_line_sets_the_limits(rt: HostRuntime) -> Result<(), Fail> {
-    const STORED: &str = "[\"public\",\"t\",[\"1\",\"a\"],1]\nposition 0/130\n";
-    for (line, out, err, status) in [
-        (
-            "pgsub apply --raw --max-buffered 76 --max-frame 65 F",
-            STORED,
-            "",
-            0,
-        ),
-        (
-            "pgsub apply --raw --max-buffered 75 F",
-            "position 0/0\n",
-            "pgsub: spool 1 SpoolFull\n",
-            1,
-        ),
-        (
-            "pgsub apply --raw --max-frame 64 F",
-            "position 0/0\n",
-            "pgsub: wire 3 TooLarge\n",
-            1,
-        ),
-    ] {
-        let none: Option<File> = None;
-        let answer = Answer { out, err, status };
-        check(&rt, line, line, Some(File::of(SESSION)), none, answer)?;
+    for &(line, answer) in &LIMITED {
+        check(&rt, line, line, Some(File::of(SESSION)), None, answer)?;
     }
     Ok(())
 }
