@@ -77,8 +77,9 @@ fn open_feed<D: Folder + Drop>(
     }
 }
 
-/// Opens a feed beside an opened store of any kind, and follows a server over both. Returns the exit
-/// status, the store, and the feed, where it could be opened; where not, standard error gets why.
+/// Opens a feed beside an opened store of any kind, and follows a server over both. Returns the
+/// exit status, the store, and the feed, where it could be opened; where not, standard error gets
+/// why.
 fn follow_fed<
     S: Alter + Drop,
     D: Folder + Drop,

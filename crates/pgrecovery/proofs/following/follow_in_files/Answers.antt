@@ -18,5 +18,5 @@ returns-clause-followed g c serves =
 
 pub returns-clause-recovered : goal.returns-clause-recovered
 returns-clause-recovered g c honest serves history all_complete tables held sent =
-    followed g.D.Disk history (bytes_of c.args.sessions.now) all_complete tables c.args.subscriber.now c.follow_over.new.subscriber held sent
-    (c.follow_over.ensures.left honest serves)
+    followed g.D.Disk history (bytes_of c.args.sessions.now) all_complete tables c.args.subscriber.now c.follow_over.new.subscriber held
+    sent (c.follow_over.ensures.left honest serves)
