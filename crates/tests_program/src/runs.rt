@@ -47,18 +47,8 @@ impl<'t> Read for File<'t> {
     }
 }
 
-/// The recording of these lines.
-pub(crate) fn recording(alloc: Global, lines: &[&str]) -> Result<String, AllocError> {
-    let mut text = String::new(alloc);
-    for line in lines {
-        text.push_str(line)?;
-        text.push('\n')?;
-    }
-    Ok(text)
-}
-
 /// What a command line asks for.
-pub(crate) fn asked(alloc: Global, line: &str) -> Result<Result<Task, CommandFault>, AllocError> {
+fn asked(alloc: Global, line: &str) -> Result<Result<Task, CommandFault>, AllocError> {
     let mut words = Vec::new(alloc);
     for word in line.split(' ') {
         words.push(String::from_str(alloc, word)?)?;
@@ -90,7 +80,7 @@ pub(crate) fn is_answered(
 }
 
 /// Runs a command line, and returns the exit status.
-pub(crate) fn run_line<R: Read + Drop, W: Write, E: Write>(
+fn run_line<R: Read + Drop, W: Write, E: Write>(
     alloc: Global,
     line: &str,
     left: Option<R>,
@@ -109,7 +99,7 @@ pub(crate) fn run_line<R: Read + Drop, W: Write, E: Write>(
 }
 
 /// Runs a command line over what it reads, which gives this result.
-pub(crate) fn check_run<R: Read + Drop>(
+fn check_run<R: Read + Drop>(
     rt: &(impl Abort + AllocGlobal),
     line: &str,
     shows: &str,
