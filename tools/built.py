@@ -1,4 +1,4 @@
-"""The option `--program`: the program that a tool runs. Nothing is built."""
+"""The option `--program`: the program that a tool runs, and how. Nothing is built."""
 
 import argparse
 import os
@@ -6,6 +6,8 @@ from pathlib import Path
 
 TOP = Path(__file__).resolve().parent.parent
 PROGRAM = TOP / "crates/pgsub/out/pgsub"
+# the C library takes memory in few large steps, which halves the time of a run: most of a short one is the store's first eight megabytes
+LARGE_STEPS = {"GLIBC_TUNABLES": "glibc.malloc.hugetlb=1:glibc.malloc.top_pad=16777216"}
 
 
 def add_program(parser: argparse.ArgumentParser) -> None:

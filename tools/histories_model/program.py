@@ -6,6 +6,7 @@ import shutil
 import signal
 from pathlib import Path
 
+from built import LARGE_STEPS
 from stores import sound
 
 MEMORY = 1 << 30
@@ -13,8 +14,6 @@ MEMORY = 1 << 30
 SECONDS = 2.0
 SECONDS_MEGABYTE = 1.0
 PATIENCE = 300.0
-# the C library takes memory in few large steps, which halves the time of a run: most of a short one is the store's first eight megabytes
-LARGE_STEPS = {"GLIBC_TUNABLES": "glibc.malloc.hugetlb=1:glibc.malloc.top_pad=16777216"}
 
 
 class TimedOut(Exception):

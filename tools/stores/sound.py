@@ -16,7 +16,7 @@ from .form import Malformed, Shape, shape_of
 # more of one file aren't told
 MOST_TOLD = 10
 MAGIC = b"SQLite format 3\0"
-OBJECTS = {("table", name, text) for name, text in TABLES.items()} | {("index", INDEX, None)}
+OBJECTS: set[tuple[str, str, str | None]] = {("table", name, text) for name, text in TABLES.items()} | {("index", INDEX, None)}
 
 
 def log_of(path: Path) -> Path:
@@ -50,11 +50,19 @@ def broken_parts(base: sqlite3.Connection) -> list[str]:
     return [f"integrity_check: {it}" for it in told if it != "ok"] if told else ["integrity_check tells nothing"]
 
 
-def wrong_objects(base: sqlite3.Connection) -> list[str]:
-    """Whether the file has a store's tables with their index, and nothing else."""
+def plain(text: str | None) -> str | None:
+    """A text of SQL without what means nothing in it."""
+    return text and "".join(text.split()).lower()
+
+
+def wrong_objects(base: sqlite3.Connection, in_other_words: bool = False) -> list[str]:
+    """Whether the file has a store's tables with their index, and nothing else; the texts may have other blanks and small letters."""
     found = set(base.execute("SELECT type, name, sql FROM sqlite_schema"))
-    told = [f"there is no {kind} {name} as a store's" for kind, name, _ in sorted(OBJECTS - found, key=str)]
-    return told + [f"there is a {kind} {name}: {text}" for kind, name, text in sorted(found - OBJECTS, key=str)]
+    wanted = OBJECTS
+    if in_other_words:
+        found, wanted = ({(kind, name, plain(text)) for kind, name, text in them} for them in (found, wanted))
+    told = [f"there is no {kind} {name} as a store's" for kind, name, _ in sorted(wanted - found, key=str)]
+    return told + [f"there is a {kind} {name}: {text}" for kind, name, text in sorted(found - wanted, key=str)]
 
 
 def wrong_rows(base: sqlite3.Connection) -> list[str]:
@@ -92,10 +100,10 @@ def is_bare(base: sqlite3.Connection) -> bool:
     return not base.execute("SELECT name FROM sqlite_schema").fetchall()
 
 
-def findings_of(base: sqlite3.Connection, wanted: Contents | None = None) -> list[str]:
+def findings_of(base: sqlite3.Connection, wanted: Contents | None = None, in_other_words: bool = False) -> list[str]:
     """What is wrong with a store that is open, the first of it; nothing where it is sound and holds what is wanted."""
     try:
-        told = broken_parts(base) or wrong_objects(base) or wrong_rows(base) + wrong_position(base)
+        told = broken_parts(base) or wrong_objects(base, in_other_words) or wrong_rows(base) + wrong_position(base)
         if not told and wanted is not None:
             told = differences(read(base), wanted)
     except sqlite3.Error as error:
@@ -103,12 +111,12 @@ def findings_of(base: sqlite3.Connection, wanted: Contents | None = None) -> lis
     return told[:MOST_TOLD]
 
 
-def findings(path: Path, wanted: Contents | None = None) -> list[str]:
+def findings(path: Path, wanted: Contents | None = None, in_other_words: bool = False) -> list[str]:
     """What is wrong with a store's file at rest; nothing where it is sound and holds what is wanted."""
     if not path.exists():
         return ["there is no file"]
     with at_rest(path) as base:
-        return findings_of(base, wanted)
+        return findings_of(base, wanted, in_other_words)
 
 
 def findings_with_log(path: Path) -> list[str]:
