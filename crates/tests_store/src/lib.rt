@@ -1,8 +1,7 @@
 //! Tests of the SQL store and of a feed by their public calls, and no code.
 //!
-//! - Commits with what each returns and the rows that are stored after it, and stores over
-//!   connections that others have filled, in memory and on disks in memory; such a disk by its
-//!   calls; and the store's SQL tables as others make and fill them.
+//! - Commits with what each returns and the rows that are stored after it, in memory and on disks
+//!   in memory; and such a disk by its calls.
 //! - A disk that stops in the middle of its work: a store on two disks in memory follows a
 //!   recording, and one of them passes so many calls on and fails each one after. What was written
 //!   by then is adopted again: it must be the store as of one of the commits, or whole groups of
@@ -12,8 +11,6 @@
 //!   at each of their calls, and opened again.
 #![tactic(auto)]
 
-#[cfg(test)]
-mod adopting;
 #[cfg(test)]
 mod cases;
 #[cfg(test)]
@@ -28,10 +25,6 @@ mod feed_texts;
 mod feeds;
 #[cfg(test)]
 mod lines;
-#[cfg(test)]
-mod made_tables;
-#[cfg(test)]
-mod opened_tables;
 #[cfg(test)]
 mod recordings;
 #[cfg(test)]

@@ -15,9 +15,6 @@ use std::test::Fail;
 pub(crate) trait Tables: Drop {
     /// Runs statements.
     fn execute(&mut self, statements: &str) -> Result<(), Fail>;
-
-    /// How many rows a query has.
-    fn count(&mut self, query: &str) -> Result<usize, Fail>;
 }
 
 /// A store, as a trial sees it.
@@ -60,10 +57,6 @@ impl<S: Alter + Drop> Tables for Connection<S> {
     fn execute(&mut self, statements: &str) -> Result<(), Fail> {
         self.execute_batch(statements)?;
         Ok(())
-    }
-
-    fn count(&mut self, query: &str) -> Result<usize, Fail> {
-        Ok(self.query_all(query, &[])?.len())
     }
 }
 
