@@ -138,6 +138,14 @@ class Files(unittest.TestCase):
         self.holds({"chunks": ["45", "=--"]}, "64\n00\n00\n00\n1e\n77\n" + "00\n" * 24 + "45\n\n--\n")
         self.assertEqual(commands.content_of({"bytes": [BEGIN, "=ff"]}, {}, "here").whole(), bytes.fromhex(FRAME) + b"\xff")
 
+    def test_bytes_without_a_message_are_cut_too(self) -> None:
+        self.holds({"chunks": ["=6300000004", "=--", "=6"]}, "63\n00\n00\n00\n04\n--\n6\n")
+
+    def test_lists_of_lines_are_run_once_more_in_bytes(self) -> None:
+        table = {"default": {"command": "pgsub A F", "also_in_bytes": True}, "case": [{"files": {"F": ["=6301"]}}, {"files": {"F": "6"}}]}
+        found = [(it.title, it.files["F"].whole()) for it in commands.cases_in(table, {}, "t")]
+        self.assertEqual(found, [("t: pgsub A F", b"6301\n"), ("t: pgsub A F, in bytes", b"63\n01\n"), ("t: pgsub A F", b"6")])
+
     def test_names_stand_for_their_lines(self) -> None:
         self.holds(["PAIR", "BEGIN"], f"{FRAME}\n6300000004\n{FRAME}\n", PAIR=["BEGIN", "=6300000004"], BEGIN=BEGIN)
         self.assertEqual(len(commands.content_of({"bytes": ["BEGIN"]}, {"BEGIN": BEGIN}, "here").whole()), 51)
