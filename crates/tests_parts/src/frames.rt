@@ -1,22 +1,24 @@
 ghost use Rattle.std.specs.Prelude.{◌+◌, ◌≤◌};
 ghost use Rattle.pgwire.specs.Frames.{max_length};
 
-use pgwire::{Deframer, Frame, WireFault, decode_server};
-use std::alloc::{AllocError, Global};
+use pgwire::{Deframer, Frame, WireFault};
 use std::process::Abort;
 
 /// Lengths of the chunks in which a stream is fed.
 static STEPS: [usize; 9] = [1, 2, 3, 4, 5, 6, 7, 64, 1000];
 
-// Writes a frame: a letter, the payload's length and the payload.
-fn write(log: &mut Vec<u8>, frame: Frame<'_>) -> Result<(), AllocError> {
-    match frame {
+// How many bytes of the frames are met with this one, of which so many were met before it, or none
+// where another frame has come: a letter, the payload's length and the payload.
+fn meet(frames: &[u8], met: Option<usize>, frame: Frame<'_>) -> Option<usize> {
+    let left = frames.get(met?..)?;
+    let left = match frame {
         Frame::Data(payload) => {
-            log.extend_from_slice(&[b'd', (payload.len() % 256) as u8])?;
-            log.extend_from_slice(payload)
+            let head = [b'd', (payload.len() % 256) as u8];
+            left.strip_prefix(head.as_slice())?.strip_prefix(payload)?
         }
-        Frame::Done => log.extend_from_slice(b"c"),
-    }
+        Frame::Done => left.strip_prefix(b"c".as_slice())?,
+    };
+    Some(frames.len().saturating_sub(left.len()))
 }
 
 // Stops unless a fault is returned again until the deframer begins anew.
@@ -29,57 +31,58 @@ fn stays(rt: &impl Abort, deframer: &mut Deframer, fault: WireFault) {
     assert!(rt; deframer.is_done());
 }
 
-// Feeds one chunk, and writes each frame as it is released. Where memory ran out the rest is fed
+// Feeds one chunk, and meets each frame as it is released. Where memory ran out the rest is fed
 // again, so many times.
 fn feed(
     rt: &impl Abort,
     deframer: &mut Deframer,
     piece: &[u8],
-    left: &mut usize,
-    log: &mut Vec<u8>,
-) -> Result<Option<WireFault>, AllocError> {
+    frames: &[u8],
+    met: &mut Option<usize>,
+    retries: &mut usize,
+) -> Option<WireFault> {
     let mut taken = 0;
     for _ in 0..10000 {
         match deframer.feed(piece.get(taken..).unwrap_or(&[])) {
             Ok(n) => {
                 taken = taken.saturating_add(n);
                 let Some(frame) = deframer.whole() else {
-                    break;
+                    return None;
                 };
-                write(log, frame)?;
+                *met = meet(frames, *met, frame);
                 deframer.release();
             }
-            Err(WireFault::Memory) if *left > 0 => {
+            Err(WireFault::Memory) if *retries > 0 => {
                 assert!(rt; deframer.whole().is_none());
-                *left = left.saturating_sub(1);
+                *retries = retries.saturating_sub(1);
             }
-            Err(fault) => return Ok(Some(fault)),
+            Err(fault) => return Some(fault),
         }
     }
-    Ok(None)
+    None
 }
 
-// Feeds the bytes in chunks of `step` bytes and writes each frame as it is released. A chunk that
-// failed as memory ran out is fed again, so many times.
+// Feeds the bytes in chunks of `step` bytes, up to a fault.
 fn read(
-    rt: &(impl Abort + AllocGlobal),
+    rt: &impl Abort,
+    deframer: &mut Deframer,
     bytes: &[u8],
     step: usize,
-    retries: usize,
-) -> Result<(Vec<u8>, Option<WireFault>), AllocError> {
-    let mut deframer = Deframer::new(rt.alloc(), 64);
-    let mut log = Vec::new(rt.alloc());
-    let mut left = retries;
+    frames: &[u8],
+    met: &mut Option<usize>,
+    retries: &mut usize,
+) -> Option<WireFault> {
     for piece in bytes.chunks(step.max(1)) {
-        if let Some(fault) = feed(rt, &mut deframer, piece, &mut left, &mut log)? {
-            stays(rt, &mut deframer, fault);
-            return Ok((log, Some(fault)));
+        if let Some(fault) = feed(rt, deframer, piece, frames, met, retries) {
+            stays(rt, deframer, fault);
+            return Some(fault);
         }
     }
-    Ok((log, None))
+    None
 }
 
-// Whether the bytes, in chunks of `step` bytes, are read as these frames and then this fault.
+// Whether the bytes, in chunks of `step` bytes, are read as these frames and then this fault. A
+// chunk that failed as memory ran out is fed again, so many times.
 fn is_read(
     rt: &(impl Abort + AllocGlobal),
     bytes: &[u8],
@@ -87,25 +90,29 @@ fn is_read(
     retries: usize,
     frames: &[u8],
     fault: Option<WireFault>,
-) -> Result<bool, AllocError> {
-    let (log, found) = read(rt, bytes, step, retries)?;
-    Ok(log.as_slice() == frames && found == fault)
+) -> bool {
+    let mut deframer = Deframer::new(rt.alloc(), 64);
+    let mut met = Some(0);
+    let mut left = retries;
+    let found = read(rt, &mut deframer, bytes, step, frames, &mut met, &mut left);
+    drop(deframer);
+    met == Some(frames.len()) && found == fault
 }
 
 // In chunks of any length the stream gives these frames, and then this fault.
 fn check(
     rt: &(impl Abort + AllocGlobal),
+    place: usize,
     bytes: &[u8],
     frames: &[u8],
     fault: Option<WireFault>,
-) -> Result<(), AllocError> {
+) {
     for &step in &STEPS {
         assert!(rt;
-            is_read(rt, bytes, step, 0, frames, fault)?,
-            "{bytes:?} by {step}"
+            is_read(rt, bytes, step, 0, frames, fault),
+            "row {place} by {step}"
         );
     }
-    Ok(())
 }
 
 /// Bytes, and their frames.
@@ -120,11 +127,10 @@ static FRAMES: [(&[u8], &[u8]); 7] = [
 ];
 
 #[test]
-fn frames_in_any_chunks(rt: HostRuntime) -> Result<(), AllocError> {
-    for &(bytes, frames) in &FRAMES {
-        check(&rt, bytes, frames, None)?;
+fn frames_in_any_chunks(rt: HostRuntime) {
+    for (place, &(bytes, frames)) in FRAMES.iter().enumerate() {
+        check(&rt, place, bytes, frames, None);
     }
-    Ok(())
 }
 
 /// Bytes, their frames, and the fault after these.
@@ -146,57 +152,16 @@ static FAULTS: [(&[u8], &[u8], WireFault); 10] = [
 ];
 
 #[test]
-fn faults_in_any_chunks(rt: HostRuntime) -> Result<(), AllocError> {
-    for &(bytes, frames, fault) in &FAULTS {
-        check(&rt, bytes, frames, Some(fault))?;
-    }
-    Ok(())
-}
-
-// The fault of the payload of a frame that is fed in chunks of `step` bytes.
-fn payload_fault(rt: &(impl Abort + AllocGlobal), frame: &[u8], step: usize) -> Option<WireFault> {
-    let mut deframer = Deframer::new(rt.alloc(), 64);
-    for piece in frame.chunks(step.max(1)) {
-        assert!(rt; deframer.feed(piece) == Ok(piece.len()));
-    }
-    let Some(Frame::Data(payload)) = deframer.whole() else {
-        return None;
-    };
-    match decode_server(payload) {
-        Ok(_) => None,
-        Err(fault) => Some(fault),
-    }
-}
-
-/// Frames, and the faults of their payloads.
-static PAYLOAD_FAULTS: [(&[u8], WireFault); 6] = [
-    (b"d\0\0\0\x04", WireFault::Short),
-    (b"d\0\0\0\x05x", WireFault::UnknownServerMessage(120)),
-    (b"d\0\0\0\x1cw01234567012345670123456", WireFault::Short),
-    (b"d\0\0\0\x15k0123456701234567", WireFault::Short),
-    (b"d\0\0\0\x16k0123456701234567\x02", WireFault::BadReplyByte),
-    (b"d\0\0\0\x17k0123456701234567\x02\0", WireFault::Trailing),
-];
-
-/// Lengths of the chunks in which a single frame is fed.
-static FRAME_STEPS: [usize; 3] = [1, 5, 1000];
-
-#[test]
-fn payload_faults_in_any_chunks(rt: HostRuntime) {
-    for &(frame, fault) in &PAYLOAD_FAULTS {
-        for &step in &FRAME_STEPS {
-            assert!(rt;
-                payload_fault(&rt, frame, step) == Some(fault),
-                "{frame:?} by {step}"
-            );
-        }
+fn faults_in_any_chunks(rt: HostRuntime) {
+    for (place, &(bytes, frames, fault)) in FAULTS.iter().enumerate() {
+        check(&rt, place, bytes, frames, Some(fault));
     }
 }
 
 // Run it with each allocation failing in turn: the payloads grow in many steps, and one that failed
 // is fed again. It alone accepts Memory as a result.
 #[test]
-fn refused_memory_changes_nothing(rt: HostRuntime) -> Result<(), AllocError> {
+fn refused_memory_changes_nothing(rt: HostRuntime) {
     let mut bytes = [7u8; 113];
     bytes[..5].copy_from_slice(&[b'd', 0, 0, 0, 43]);
     bytes[44..49].copy_from_slice(&[b'd', 0, 0, 0, 68]);
@@ -204,7 +169,6 @@ fn refused_memory_changes_nothing(rt: HostRuntime) -> Result<(), AllocError> {
     frames[..2].copy_from_slice(&[b'd', 39]);
     frames[41..43].copy_from_slice(&[b'd', 64]);
     for &step in &STEPS {
-        assert!(rt; is_read(&rt, &bytes, step, 1, &frames, None)?);
+        assert!(rt; is_read(&rt, &bytes, step, 1, &frames, None), "by {step}");
     }
-    Ok(())
 }

@@ -1,5 +1,4 @@
 //! Identities, shapes and definitions of a few tables.
-ghost use Rattle.std.specs.Prelude.{◌≡◌, IfOk};
 
 use crate::samples::{Columns, relation, row};
 use pglogical::OldKind;
@@ -8,9 +7,7 @@ use pgrel::{
     search_identity,
 };
 use pgtuple::{CellRef, Tuple, TupleRef};
-use std::alloc::{AllocError, Global};
 use std::process::Abort;
-use std::test::Fail;
 
 /// A relation of the schema public.
 #[derive(Clone, Copy)]
@@ -74,11 +71,9 @@ const BY_INDEX: Table = Table {
 };
 
 /// What a Relation message says of the table.
-fn described(alloc: Global, table: &Table) -> Result<RelationDef, AllocError>
-    ensures { IfOk result (λ def. def.oid ≡ table.now.oid) }
-{
+fn described(rt: &(impl Abort + AllocGlobal), table: &Table) -> RelationDef {
     relation(
-        alloc,
+        rt,
         table.oid,
         "public",
         table.name,
@@ -100,79 +95,62 @@ fn is_cell(found: Option<CellRef<'_>>, cell: &CellRef<'_>) -> bool {
 
 /// Whether the row has these cells.
 fn has_cells(row: &TupleRef<'_>, cells: &[CellRef<'_>]) -> bool {
-    row.width() == cells.len()
-        && cells
-            .iter()
-            .enumerate()
-            .all(|(k, cell)| is_cell(row.get(k), cell))
+    let mut same = row.width() == cells.len();
+    for (k, cell) in cells.iter().enumerate() {
+        same = same && is_cell(row.get(k), cell);
+    }
+    same
 }
 
-/// Whether the call returned these cells. Out of memory is passed on as an error.
-fn gives(answer: Result<Tuple, RelFault>, cells: &[CellRef<'_>]) -> Result<bool, RelFault> {
+/// Whether the call returned these cells.
+fn gives(answer: Result<Tuple, RelFault>, cells: &[CellRef<'_>]) -> bool {
     match answer {
-        Ok(tuple) => {
-            let same = has_cells(&tuple.borrowed(), cells);
-            drop(tuple);
-            Ok(same)
-        }
-        Err(RelFault::Memory) => Err(RelFault::Memory),
-        Err(_) => Ok(false),
+        Ok(tuple) => has_cells(&tuple.borrowed(), cells),
+        Err(_) => false,
     }
 }
 
-/// Whether the call returned this fault. Out of memory is passed on as an error.
-fn refuses(answer: Result<Tuple, RelFault>, fault: RelFault) -> Result<bool, RelFault> {
-    match answer {
-        Ok(_) => Ok(false),
-        Err(RelFault::Memory) => Err(RelFault::Memory),
-        Err(found) => Ok(found == fault),
-    }
-}
-
-/// Whether the call returned these cells, or this fault. Out of memory is passed on as an error.
-fn answers(
-    answer: Result<Tuple, RelFault>,
-    wanted: Result<&[CellRef<'_>], RelFault>,
-) -> Result<bool, RelFault> {
+/// Whether the call returned these cells, or this fault.
+fn answers(answer: Result<Tuple, RelFault>, wanted: Result<Cells, RelFault>) -> bool {
     match wanted {
         Ok(cells) => gives(answer, cells),
-        Err(fault) => refuses(answer, fault),
+        Err(fault) => answer.err() == Some(fault),
     }
 }
 
 /// The identity that an update without an old tuple searches.
 fn of_new(
-    alloc: Global,
+    rt: &(impl Abort + AllocGlobal),
     def: &RelationDef,
     new: &[CellRef<'_>],
-) -> Result<Result<Tuple, RelFault>, Fail> {
-    let new = row(alloc, new)?;
-    Ok(search_identity(alloc, def, None, Some(new.borrowed())))
+) -> Result<Tuple, RelFault> {
+    let new = row(rt, new);
+    search_identity(rt.alloc(), def, None, Some(new.borrowed()))
 }
 
 /// The identity that an update with an old tuple searches.
 fn of_old(
-    alloc: Global,
+    rt: &(impl Abort + AllocGlobal),
     def: &RelationDef,
     kind: OldKind,
     old: &[CellRef<'_>],
     new: &[CellRef<'_>],
-) -> Result<Result<Tuple, RelFault>, Fail> {
-    let old = row(alloc, old)?;
-    let new = row(alloc, new)?;
+) -> Result<Tuple, RelFault> {
+    let old = row(rt, old);
+    let new = row(rt, new);
     let prior = Some((kind, old.borrowed()));
-    Ok(search_identity(alloc, def, prior, Some(new.borrowed())))
+    search_identity(rt.alloc(), def, prior, Some(new.borrowed()))
 }
 
 /// The identity that a delete searches.
 fn of_delete(
-    alloc: Global,
+    rt: &(impl Abort + AllocGlobal),
     def: &RelationDef,
     kind: OldKind,
     old: &[CellRef<'_>],
-) -> Result<Result<Tuple, RelFault>, Fail> {
-    let old = row(alloc, old)?;
-    Ok(search_identity(alloc, def, Some((kind, old.borrowed())), None))
+) -> Result<Tuple, RelFault> {
+    let old = row(rt, old);
+    search_identity(rt.alloc(), def, Some((kind, old.borrowed())), None)
 }
 
 /// The cells of a tuple.
@@ -187,29 +165,22 @@ enum Sent {
 }
 
 /// The identity that the change searches.
-fn searched(alloc: Global, table: &Table, sent: Sent) -> Result<Result<Tuple, RelFault>, Fail> {
-    let def = described(alloc, table)?;
-    let answer = match sent {
-        Sent::New(new) => of_new(alloc, &def, new),
-        Sent::OldAndNew(kind, old, new) => of_old(alloc, &def, kind, old, new),
-        Sent::Old(kind, old) => of_delete(alloc, &def, kind, old),
-    };
-    drop(def);
-    answer
+fn searched(rt: &(impl Abort + AllocGlobal), table: &Table, sent: Sent) -> Result<Tuple, RelFault> {
+    let def = described(rt, table);
+    match sent {
+        Sent::New(new) => of_new(rt, &def, new),
+        Sent::OldAndNew(kind, old, new) => of_old(rt, &def, kind, old, new),
+        Sent::Old(kind, old) => of_delete(rt, &def, kind, old),
+    }
 }
 
 /// A change of a table, and the identity that it searches or why there is none.
 type Search = (Table, Sent, Result<Cells, RelFault>);
 
 /// Whether a table with this letter and these columns is keyed.
-fn is_keyed(alloc: Global, letter: u8, columns: Columns) -> Result<bool, AllocError> {
-    let table = Table {
-        oid: 1,
-        name: "u",
-        letter,
-        columns,
-    };
-    Ok(keyed(&described(alloc, &table)?))
+fn is_keyed(rt: &(impl Abort + AllocGlobal), letter: u8, columns: Columns) -> bool {
+    let def = relation(rt, 1, "public", "u", letter, columns);
+    keyed(&def)
 }
 
 static KEYED: [(u8, Columns, bool); 8] = [
@@ -224,31 +195,18 @@ static KEYED: [(u8, Columns, bool); 8] = [
 ];
 
 #[test]
-fn keyed_tables_and_bags(rt: HostRuntime) -> Result<(), Fail> {
+fn keyed_tables_and_bags(rt: HostRuntime) {
     for (place, &(letter, columns, found)) in KEYED.iter().enumerate() {
-        assert!(rt;
-            is_keyed(rt.alloc(), letter, columns)? == found,
-            "table {place}"
-        );
+        assert!(rt; is_keyed(&rt, letter, columns) == found, "table {place}");
     }
-    Ok(())
 }
 
 /// Whether the table t and one with this letter and these columns have one shape, asked from both
 /// sides.
-fn has_shape_of_t(alloc: Global, letter: u8, columns: Columns) -> Result<(bool, bool), AllocError> {
-    let table = Table {
-        oid: 7,
-        name: "other",
-        letter,
-        columns,
-    };
-    let t = described(alloc, &TABLE_T)?;
-    let other = described(alloc, &table)?;
-    let same = (same_shape(&t, &other), same_shape(&other, &t));
-    drop(t);
-    drop(other);
-    Ok(same)
+fn has_shape_of_t(rt: &(impl Abort + AllocGlobal), letter: u8, columns: Columns) -> (bool, bool) {
+    let t = described(rt, &TABLE_T);
+    let other = relation(rt, 7, "public", "other", letter, columns);
+    (same_shape(&t, &other), same_shape(&other, &t))
 }
 
 static SHAPES: [(u8, Columns, bool); 7] = [
@@ -262,12 +220,11 @@ static SHAPES: [(u8, Columns, bool); 7] = [
 ];
 
 #[test]
-fn shapes(rt: HostRuntime) -> Result<(), Fail> {
+fn shapes(rt: HostRuntime) {
     for (place, &(letter, columns, same)) in SHAPES.iter().enumerate() {
-        let found = has_shape_of_t(rt.alloc(), letter, columns)?;
+        let found = has_shape_of_t(&rt, letter, columns);
         assert!(rt; found == (same, same), "table {place}");
     }
-    Ok(())
 }
 
 const ONE: CellRef<'static> = CellRef::Text("1");
@@ -337,26 +294,22 @@ static SEARCHES: [Search; 17] = [
 ];
 
 #[test]
-fn searched_identities(rt: HostRuntime) -> Result<(), Fail> {
+fn searched_identities(rt: HostRuntime) {
     for (place, (table, sent, wanted)) in SEARCHES.iter().enumerate() {
-        let answer = searched(rt.alloc(), table, *sent)?;
-        assert!(rt; answers(answer, *wanted)?, "search {place}");
+        let answer = searched(&rt, table, *sent);
+        assert!(rt; answers(answer, *wanted), "search {place}");
     }
-    Ok(())
 }
 
 /// The identity of a row of the table.
 fn identity_of(
-    alloc: Global,
+    rt: &(impl Abort + AllocGlobal),
     table: &Table,
     cells: Cells,
-) -> Result<Result<Tuple, RelFault>, Fail> {
-    let def = described(alloc, table)?;
-    let row = row(alloc, cells)?;
-    let identity = row_identity(alloc, &def, &row.borrowed());
-    drop(def);
-    drop(row);
-    Ok(identity)
+) -> Result<Tuple, RelFault> {
+    let def = described(rt, table);
+    let row = row(rt, cells);
+    row_identity(rt.alloc(), &def, &row.borrowed())
 }
 
 /// Replica identity DEFAULT, without a key.
@@ -375,22 +328,18 @@ static IDENTITIES: [(Table, Cells, Result<Cells, RelFault>); 4] = [
 ];
 
 #[test]
-fn identities_of_rows(rt: HostRuntime) -> Result<(), Fail> {
+fn identities_of_rows(rt: HostRuntime) {
     for (place, (table, cells, wanted)) in IDENTITIES.iter().enumerate() {
-        let answer = identity_of(rt.alloc(), table, *cells)?;
-        assert!(rt; answers(answer, *wanted)?, "row {place}");
+        let answer = identity_of(&rt, table, *cells);
+        assert!(rt; answers(answer, *wanted), "row {place}");
     }
-    Ok(())
 }
 
 /// Whether a row may be inserted into the table t.
-fn inserted(alloc: Global, cells: Cells) -> Result<Result<(), RelFault>, Fail> {
-    let def = described(alloc, &TABLE_T)?;
-    let row = row(alloc, cells)?;
-    let checked = check_insert(&def, &row.borrowed());
-    drop(def);
-    drop(row);
-    Ok(checked)
+fn inserted(rt: &(impl Abort + AllocGlobal), cells: Cells) -> Result<(), RelFault> {
+    let def = described(rt, &TABLE_T);
+    let row = row(rt, cells);
+    check_insert(&def, &row.borrowed())
 }
 
 static INSERTED: [(Cells, Result<(), RelFault>); 3] = [
@@ -400,27 +349,18 @@ static INSERTED: [(Cells, Result<(), RelFault>); 3] = [
 ];
 
 #[test]
-fn inserted_rows(rt: HostRuntime) -> Result<(), Fail> {
+fn inserted_rows(rt: HostRuntime) {
     for (place, (cells, wanted)) in INSERTED.iter().enumerate() {
-        assert!(rt; inserted(rt.alloc(), *cells)? == *wanted, "row {place}");
+        assert!(rt; inserted(&rt, *cells) == *wanted, "row {place}");
     }
-    Ok(())
 }
 
 /// The new row with the old row's cells in place of those that weren't sent.
-fn resolved(
-    rt: &impl Abort,
-    alloc: Global,
-    new: Cells,
-    old: Cells,
-) -> Result<Result<Tuple, RelFault>, Fail> {
-    let new = row(alloc, new)?;
-    let old = row(alloc, old)?;
+fn resolved(rt: &(impl Abort + AllocGlobal), new: Cells, old: Cells) -> Result<Tuple, RelFault> {
+    let new = row(rt, new);
+    let old = row(rt, old);
     assert!(rt; new.width() == old.width());
-    let whole = resolve(alloc, &new.borrowed(), &old.borrowed());
-    drop(new);
-    drop(old);
-    Ok(whole)
+    resolve(rt.alloc(), &new.borrowed(), &old.borrowed())
 }
 
 static RESOLVED: [(Cells, Cells, Cells); 3] = [
@@ -430,42 +370,36 @@ static RESOLVED: [(Cells, Cells, Cells); 3] = [
 ];
 
 #[test]
-fn unsent_cells_are_the_old_rows(rt: HostRuntime) -> Result<(), Fail> {
+fn unsent_cells_are_the_old_rows(rt: HostRuntime) {
     for (place, &(new, old, whole)) in RESOLVED.iter().enumerate() {
-        let answer = resolved(&rt, rt.alloc(), new, old)?;
-        assert!(rt; gives(answer, whole)?, "row {place}");
+        let answer = resolved(&rt, new, old);
+        assert!(rt; gives(answer, whole), "row {place}");
     }
-    Ok(())
 }
 
 /// A row as it is under another definition.
 fn carried(
-    rt: &impl Abort,
-    alloc: Global,
+    rt: &(impl Abort + AllocGlobal),
     old: &RelationDef,
     new: &RelationDef,
     cells: Cells,
-) -> Result<Result<Tuple, RelFault>, Fail> {
+) -> Result<Tuple, RelFault> {
     assert!(rt; new.spellable());
-    let row = row(alloc, cells)?;
+    let row = row(rt, cells);
     assert!(rt; row.width() == old.columns.len());
-    Ok(carry(alloc, old, new, &row.borrowed()))
+    carry(rt.alloc(), old, new, &row.borrowed())
 }
 
 /// The row of one table as it is in the other.
 fn carried_between(
-    rt: &impl Abort,
-    alloc: Global,
+    rt: &(impl Abort + AllocGlobal),
     old: &Table,
     new: &Table,
     cells: Cells,
-) -> Result<Result<Tuple, RelFault>, Fail> {
-    let old = described(alloc, old)?;
-    let new = described(alloc, new)?;
-    let answer = carried(rt, alloc, &old, &new, cells);
-    drop(old);
-    drop(new);
-    answer
+) -> Result<Tuple, RelFault> {
+    let old = described(rt, old);
+    let new = described(rt, new);
+    carried(rt, &old, &new, cells)
 }
 
 /// The table t with its two columns in the other order, of other types and under other flags.
@@ -494,19 +428,18 @@ static CARRIED: [(Table, Table, Cells, Cells); 6] = [
 ];
 
 #[test]
-fn rows_carried_to_another_shape(rt: HostRuntime) -> Result<(), Fail> {
+fn rows_carried_to_another_shape(rt: HostRuntime) {
     for (place, (old, new, cells, whole)) in CARRIED.iter().enumerate() {
-        let answer = carried_between(&rt, rt.alloc(), old, new, *cells)?;
-        assert!(rt; gives(answer, *whole)?, "row {place}");
+        let answer = carried_between(&rt, old, new, *cells);
+        assert!(rt; gives(answer, *whole), "row {place}");
     }
-    Ok(())
 }
 
 /// Puts the table's definition, which can be encoded.
-fn put(rt: &impl Abort, alloc: Global, book: &mut Book, table: &Table) -> Result<(), RelFault> {
-    let def = described(alloc, table)?;
+fn put(rt: &(impl Abort + AllocGlobal), book: &mut Book, table: &Table) {
+    let def = described(rt, table);
     assert!(rt; def.spellable());
-    book.set(def)
+    book.set(def).expect(rt, "room");
 }
 
 /// The number of columns of the last definition of this OID.
@@ -537,18 +470,10 @@ fn knows(rt: &impl Abort, book: &Book, t: Option<usize>, f: Option<usize>) {
 }
 
 /// Puts the table's definition, or forgets all.
-fn put_or_clear(
-    rt: &impl Abort,
-    alloc: Global,
-    book: &mut Book,
-    table: &Option<Table>,
-) -> Result<(), RelFault> {
+fn put_or_clear(rt: &(impl Abort + AllocGlobal), book: &mut Book, table: &Option<Table>) {
     match table {
-        Some(table) => put(rt, alloc, book, table),
-        None => {
-            book.clear();
-            Ok(())
-        }
+        Some(table) => put(rt, book, table),
+        None => book.clear(),
     }
 }
 
@@ -563,12 +488,11 @@ static BOOK: [(Option<Table>, Option<usize>, Option<usize>); 5] = [
 ];
 
 #[test]
-fn book_is_a_map(rt: HostRuntime) -> Result<(), Fail> {
+fn book_is_a_map(rt: HostRuntime) {
     let mut book = Book::new(rt.alloc());
     knows(&rt, &book, None, None);
     for (table, t, f) in &BOOK {
-        put_or_clear(&rt, rt.alloc(), &mut book, table)?;
+        put_or_clear(&rt, &mut book, table);
         knows(&rt, &book, *t, *f);
     }
-    Ok(())
 }

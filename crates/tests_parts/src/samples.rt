@@ -1,54 +1,61 @@
-//! Texts, definitions and rows of which several modules make their tables.
-ghost use Rattle.std.specs.Prelude.{◌≡◌, IfOk};
+//! Texts, definitions, rows and items of which several modules make their tables.
 
-use pglogical::{Column, RelationDef};
+use pglogical::{Column, ItemRef, MessageRef, RelationDef, decode_ref};
 use pgtuple::{CellRef, Seq, Text, Tuple};
-use std::alloc::{AllocError, Global};
-use std::test::Fail;
+use std::process::Abort;
 
-pub(crate) fn text(alloc: Global, text: &str) -> Result<Text, AllocError> {
-    Ok(Text::from_string(String::from_str(alloc, text)?))
+pub(crate) fn text(rt: &(impl Abort + AllocGlobal), text: &str) -> Text {
+    Text::from_string(String::from_str(rt.alloc(), text).expect(rt, "room"))
 }
 
 /// Columns without a modifier: of each its key flag, its name and its type's OID.
 pub(crate) type Columns = &'static [(bool, &'static str, u32)];
 
+fn columns(rt: &(impl Abort + AllocGlobal), table: Columns) -> Seq<Column> {
+    let mut columns = Vec::new(rt.alloc());
+    for &(key, name, type_oid) in table {
+        let column = Column {
+            key,
+            name: text(rt, name),
+            type_oid,
+            modifier: -1,
+        };
+        columns.push(column).expect(rt, "room");
+    }
+    Seq::from_vec(columns)
+}
+
 /// A relation with this replica identity.
 pub(crate) fn relation(
-    alloc: Global,
+    rt: &(impl Abort + AllocGlobal),
     oid: u32,
     namespace: &str,
     name: &str,
     letter: u8,
     table: Columns,
-) -> Result<RelationDef, AllocError>
-    ensures { IfOk result (λ def. def.oid ≡ oid) }
-{
-    let mut columns = Vec::new(alloc);
-    for &(key, name, type_oid) in table {
-        columns.push(Column {
-            key,
-            name: text(alloc, name)?,
-            type_oid,
-            modifier: -1,
-        })?;
-    }
-    let namespace = text(alloc, namespace)?;
-    let name = text(alloc, name)?;
-    let columns = Seq::from_vec(columns);
-    Ok(RelationDef {
+) -> RelationDef {
+    RelationDef {
         oid,
-        namespace,
-        name,
+        namespace: text(rt, namespace),
+        name: text(rt, name),
         letter,
-        columns,
-    })
+        columns: columns(rt, table),
+    }
 }
 
-pub(crate) fn row(alloc: Global, cells: &[CellRef<'_>]) -> Result<Tuple, Fail> {
-    let mut row = Vec::new(alloc);
+pub(crate) fn row(rt: &(impl Abort + AllocGlobal), cells: &[CellRef<'_>]) -> Tuple {
+    let mut row = Vec::new(rt.alloc());
     for cell in cells {
-        row.push(cell.to_cell(alloc)?)?;
+        let cell = cell.to_cell(rt.alloc()).expect(rt, "room");
+        row.push(cell).expect(rt, "room");
     }
-    Ok(Tuple::from_cells(row).ok_or("within the limits")?)
+    Tuple::from_cells(row).expect(rt, "within the limits")
+}
+
+/// The item that a body says, over its bytes.
+pub(crate) fn item_over<'b>(rt: &impl Abort, body: &'b [u8], in_block: bool) -> ItemRef<'b> {
+    match decode_ref(body, in_block) {
+        Ok(MessageRef::Item { item, .. }) => item,
+        _ => rt.panic("no item"),
+    }
 }

@@ -1,12 +1,11 @@
 //! Both spools over the same tables of steps.
 
-use crate::samples::{Columns, relation, row};
-use pglogical::Item;
+use crate::samples::{Columns, item_over, relation, row};
+use crate::vectors::INSERT;
+use pglogical::{Item, ItemRef};
 use pgspool::{ByteSpools, ListSpools, SpoolFault, Spools, copy_items, hold_one};
 use pgtuple::{CellRef, Seq};
-use std::alloc::Global;
 use std::process::Abort;
-use std::test::Fail;
 
 /// An item of the tables t (id integer key, v text) and w (id integer key, v text, w text).
 #[derive(Clone, Copy)]
@@ -24,20 +23,24 @@ const REL_W: Sample = Sample::Relation(
     &[(true, "id", 23), (false, "v", 25), (false, "w", 25)],
 );
 
-fn item(alloc: Global, sample: Sample) -> Result<Item, Fail> {
-    Ok(match sample {
+fn two_oids(rt: &(impl Abort + AllocGlobal), first: u32, second: u32) -> Seq<u32> {
+    Seq::from_vec([first, second].to_vec(rt.alloc()).expect(rt, "room"))
+}
+
+fn item(rt: &(impl Abort + AllocGlobal), sample: Sample) -> Item {
+    match sample {
         Sample::Relation(oid, name, columns) => {
-            Item::Relation(relation(alloc, oid, "public", name, b'd', columns)?)
+            Item::Relation(relation(rt, oid, "public", name, b'd', columns))
         }
         Sample::Insert(oid, cells) => Item::Insert {
             oid,
-            row: row(alloc, cells)?,
+            row: row(rt, cells),
         },
         Sample::Truncate(oid) => Item::Truncate {
             options: 3,
-            oids: Seq::from_vec(vec![in alloc; oid, 16384]?),
+            oids: two_oids(rt, oid, 16384),
         },
-    })
+    }
 }
 
 /// One call.
@@ -57,11 +60,11 @@ fn push<P: Spools>(
     spools: &mut P,
     xid: u32,
     subxid: u32,
-    item: &Item,
+    item: &ItemRef<'_>,
 ) -> Result<(), SpoolFault> {
     assert!(rt; spools.is_open(xid));
-    assert!(rt; item.borrowed().spellable());
-    spools.push(xid, subxid, &item.borrowed())
+    assert!(rt; item.spellable());
+    spools.push(xid, subxid, item)
 }
 
 fn open<P: Spools>(rt: &impl Abort, spools: &mut P, xid: u32) -> Result<(), SpoolFault> {
@@ -71,99 +74,85 @@ fn open<P: Spools>(rt: &impl Abort, spools: &mut P, xid: u32) -> Result<(), Spoo
 
 /// What a push of the sample's item returns.
 fn pushed<P: Spools>(
-    rt: &impl Abort,
-    alloc: Global,
+    rt: &(impl Abort + AllocGlobal),
     spools: &mut P,
     xid: u32,
     subxid: u32,
     sample: Sample,
-) -> Result<Result<(), SpoolFault>, Fail> {
-    let item = item(alloc, sample)?;
-    let pushed = push(rt, spools, xid, subxid, &item);
-    drop(item);
-    Ok(pushed)
+) -> Result<(), SpoolFault> {
+    let item = item(rt, sample);
+    push(rt, spools, xid, subxid, &item.borrowed())
 }
 
-fn take<P: Spools>(rt: &impl Abort, alloc: Global, spools: &mut P, step: Step) -> Result<(), Fail> {
+fn take<P: Spools>(rt: &(impl Abort + AllocGlobal), spools: &mut P, step: Step) {
     match step {
-        Step::Open(xid) => open(rt, spools, xid)?,
-        Step::Push(xid, subxid, sample) => pushed(rt, alloc, spools, xid, subxid, sample)??,
+        Step::Open(xid) => open(rt, spools, xid).expect(rt, "room"),
+        Step::Push(xid, subxid, sample) => {
+            pushed(rt, spools, xid, subxid, sample).expect(rt, "room");
+        }
         Step::Full(xid, subxid, sample) => {
-            let found = pushed(rt, alloc, spools, xid, subxid, sample)?;
+            let found = pushed(rt, spools, xid, subxid, sample);
             assert!(rt; found == Err(SpoolFault::SpoolFull));
         }
         Step::Cut(xid, subxid) => spools.cut(xid, subxid),
         Step::DropXid(xid) => spools.drop_xid(xid),
         Step::Clear => spools.clear(),
     }
-    Ok(())
 }
 
 /// A step, and after it the bytes of all items and the number of one transaction's.
 type Row = (Step, u64, usize);
 
 /// Makes the steps, and stops at the first one after which bytes or number differ.
-fn take_all<P: Spools>(
-    rt: &impl Abort,
-    alloc: Global,
-    spools: &mut P,
-    xid: u32,
-    steps: &[Row],
-) -> Result<(), Fail> {
+fn take_all<P: Spools>(rt: &(impl Abort + AllocGlobal), spools: &mut P, xid: u32, steps: &[Row]) {
     let limit = spools.limit();
     for (place, &(step, bytes, count)) in steps.iter().enumerate() {
-        take(rt, alloc, spools, step)?;
+        take(rt, spools, step);
         assert!(rt;
             spools.bytes() == bytes && spools.count(xid) == count,
             "step {place}"
         );
         assert!(rt; spools.limit() == limit);
     }
-    Ok(())
 }
 
 /// Takes the steps, and stops where the spools then hold other items than these.
 fn holds_after<P: Spools + Drop>(
-    rt: &impl Abort,
-    alloc: Global,
+    rt: &(impl Abort + AllocGlobal),
     mut spools: P,
     xid: u32,
     steps: &[Row],
     left: &[Sample],
-) -> Result<(), Fail> {
-    take_all(rt, alloc, &mut spools, xid, steps)?;
-    holds(rt, alloc, &spools, xid, left)
+) {
+    take_all(rt, &mut spools, xid, steps);
+    holds(rt, &spools, xid, left);
 }
 
 /// The same on both spools under one limit.
 fn both_hold(
-    rt: &impl Abort,
-    alloc: Global,
+    rt: &(impl Abort + AllocGlobal),
     max_bytes: u64,
     xid: u32,
     steps: &[Row],
     left: &[Sample],
-) -> Result<(), Fail> {
-    let lists = ListSpools::new(alloc, max_bytes);
-    holds_after(rt, alloc, lists, xid, steps, left)?;
-    let bytes = ByteSpools::new(alloc, max_bytes);
-    holds_after(rt, alloc, bytes, xid, steps, left)
+) {
+    let lists = ListSpools::new(rt.alloc(), max_bytes);
+    holds_after(rt, lists, xid, steps, left);
+    let bytes = ByteSpools::new(rt.alloc(), max_bytes);
+    holds_after(rt, bytes, xid, steps, left);
 }
 
-fn is_sample(alloc: Global, found: Option<&Item>, sample: Sample) -> Result<bool, Fail> {
-    let item = item(alloc, sample)?;
-    let same = found == Some(&item);
-    drop(item);
-    Ok(same)
+fn is_sample(rt: &(impl Abort + AllocGlobal), found: Option<&Item>, sample: Sample) -> bool {
+    let item = item(rt, sample);
+    found == Some(&item)
 }
 
 /// Stops where these are other items than the samples'.
-fn are_samples(rt: &impl Abort, alloc: Global, held: &[Item], left: &[Sample]) -> Result<(), Fail> {
+fn are_samples(rt: &(impl Abort + AllocGlobal), held: &[Item], left: &[Sample]) {
     assert!(rt; held.len() == left.len());
     for (index, sample) in left.iter().enumerate() {
-        assert!(rt; is_sample(alloc, held.get(index), *sample)?, "item {index}");
+        assert!(rt; is_sample(rt, held.get(index), *sample), "item {index}");
     }
-    Ok(())
 }
 
 /// Stops unless each item up to this number is returned, and none after.
@@ -175,16 +164,10 @@ fn has_items<P: Spools>(rt: &impl Abort, spools: &P, xid: u32, count: usize) {
 }
 
 /// Stops where a transaction holds other items than these, told by copies and one by one.
-fn holds<P: Spools>(
-    rt: &impl Abort,
-    alloc: Global,
-    spools: &P,
-    xid: u32,
-    left: &[Sample],
-) -> Result<(), Fail> {
+fn holds<P: Spools>(rt: &(impl Abort + AllocGlobal), spools: &P, xid: u32, left: &[Sample]) {
     has_items(rt, spools, xid, left.len());
-    let held = copy_items(alloc, spools, xid)?;
-    are_samples(rt, alloc, &held, left)
+    let held = copy_items(rt.alloc(), spools, xid).expect(rt, "copies");
+    are_samples(rt, &held, left);
 }
 
 const T_1A: Sample = Sample::Insert(16384, &[CellRef::Text("1"), CellRef::Text("a")]);
@@ -220,18 +203,13 @@ static ROLLED_BACK: [Row; 12] = [
     (Step::Push(20, 20, W_2RS), 169, 4),
 ];
 
+static LEFT_OF_ROLLED_BACK: [Sample; 4] = [REL_T, T_1A, REL_W, W_2RS];
+
 // The transaction 20 with the subtransactions 21 and 22, which are both rolled back before two more
 // items come.
 #[test]
-fn bytes_follow_pushes_cuts_and_drops(rt: HostRuntime) -> Result<(), Fail> {
-    both_hold(
-        &rt,
-        rt.alloc(),
-        253,
-        20,
-        &ROLLED_BACK,
-        &[REL_T, T_1A, REL_W, W_2RS],
-    )
+fn bytes_follow_pushes_cuts_and_drops(rt: HostRuntime) {
+    both_hold(&rt, 253, 20, &ROLLED_BACK, &LEFT_OF_ROLLED_BACK);
 }
 
 static FULL: [Row; 11] = [
@@ -249,8 +227,8 @@ static FULL: [Row; 11] = [
 ];
 
 #[test]
-fn full_one_byte_below(rt: HostRuntime) -> Result<(), Fail> {
-    both_hold(&rt, rt.alloc(), 252, 20, &FULL, &[])
+fn full_one_byte_below(rt: HostRuntime) {
+    both_hold(&rt, 252, 20, &FULL, &[]);
 }
 
 static RETURNING: [Row; 12] = [
@@ -268,9 +246,11 @@ static RETURNING: [Row; 12] = [
     (Step::Push(50, 50, T_2B), 28, 1),
 ];
 
+static LEFT_OF_RETURNING: [Sample; 1] = [T_2B];
+
 #[test]
-fn a_cut_starts_at_the_first_item_of_its_subtransaction(rt: HostRuntime) -> Result<(), Fail> {
-    both_hold(&rt, rt.alloc(), 1000, 50, &RETURNING, &[T_2B])
+fn a_cut_starts_at_the_first_item_of_its_subtransaction(rt: HostRuntime) {
+    both_hold(&rt, 1000, 50, &RETURNING, &LEFT_OF_RETURNING);
 }
 
 /// Holds one item of a new transaction.
@@ -278,11 +258,11 @@ fn hold<P: Spools>(
     rt: &impl Abort,
     spools: &mut P,
     xid: u32,
-    item: &Item,
+    item: &ItemRef<'_>,
 ) -> Result<(), SpoolFault> {
     assert!(rt; !spools.is_open(xid));
-    assert!(rt; item.borrowed().spellable());
-    hold_one(spools, xid, &item.borrowed())
+    assert!(rt; item.spellable());
+    hold_one(spools, xid, item)
 }
 
 /// Stops unless the bytes of all items and the number of one transaction's are these.
@@ -291,40 +271,26 @@ fn measures<P: Spools>(rt: &impl Abort, spools: &P, xid: u32, bytes: u64, count:
 }
 
 /// Buffers the item in one transaction, and finds no room for it in another.
-fn hold_once<P: Spools>(rt: &impl Abort, spools: &mut P, item: &Item) -> Result<(), SpoolFault> {
-    hold(rt, spools, 7, item)?;
+fn hold_once<P: Spools>(rt: &impl Abort, spools: &mut P, item: &ItemRef<'_>) {
+    hold(rt, spools, 7, item).expect(rt, "room");
     measures(rt, spools, 7, 28, 1);
     assert!(rt; hold(rt, spools, 8, item) == Err(SpoolFault::SpoolFull));
     assert!(rt; !spools.is_open(8));
-    Ok(())
-}
-
-/// The item that is buffered over and over.
-static SAMPLE: Sample = T_1A;
-
-fn hold_item_once<P: Spools + Drop>(
-    rt: &impl Abort,
-    alloc: Global,
-    mut spools: P,
-) -> Result<(), Fail> {
-    let item = item(alloc, SAMPLE)?;
-    let held = hold_once(rt, &mut spools, &item);
-    drop(item);
-    Ok(held?)
 }
 
 #[test]
-fn one_item_opens_its_transaction(rt: HostRuntime) -> Result<(), Fail> {
-    hold_item_once(&rt, rt.alloc(), ByteSpools::new(rt.alloc(), 28))
+fn one_item_opens_its_transaction(rt: HostRuntime) {
+    let item = item_over(&rt, INSERT, false);
+    let mut spools = ByteSpools::new(rt.alloc(), 28);
+    hold_once(&rt, &mut spools, &item);
 }
 
 /// Pushes the item twice for each of 10,000 subtransactions.
-fn push_many<P: Spools>(rt: &impl Abort, spools: &mut P, item: &Item) -> Result<(), SpoolFault> {
+fn push_many<P: Spools>(rt: &impl Abort, spools: &mut P, item: &ItemRef<'_>) {
     for subxid in 2..10002u32 {
-        push(rt, spools, 1, subxid, item)?;
-        push(rt, spools, 1, subxid, item)?;
+        push(rt, spools, 1, subxid, item).expect(rt, "room");
+        push(rt, spools, 1, subxid, item).expect(rt, "room");
     }
-    Ok(())
 }
 
 /// Rolls back all of these but the first ten, the last one first.
@@ -334,38 +300,26 @@ fn cut_many<P: Spools>(spools: &mut P) {
     }
 }
 
-fn fill<P: Spools>(rt: &impl Abort, spools: &mut P, item: &Item) -> Result<(), SpoolFault> {
-    open(rt, spools, 1)?;
-    push_many(rt, spools, item)?;
+fn fill<P: Spools>(rt: &impl Abort, spools: &mut P, item: &ItemRef<'_>) {
+    open(rt, spools, 1).expect(rt, "room");
+    push_many(rt, spools, item);
     measures(rt, spools, 1, 560000, 20000);
     assert!(rt; spools.item(1, 19999).is_some());
-    Ok(())
 }
 
-fn fill_and_cut<P: Spools>(rt: &impl Abort, spools: &mut P, item: &Item) -> Result<(), SpoolFault> {
-    fill(rt, spools, item)?;
-    cut_many(spools);
-    measures(rt, spools, 1, 560, 20);
-    push(rt, spools, 1, 12, item)?;
-    measures(rt, spools, 1, 588, 21);
-    Ok(())
-}
-
-fn roll_back_many<P: Spools + Drop>(
-    rt: &impl Abort,
-    alloc: Global,
-    mut spools: P,
-) -> Result<(), Fail> {
-    let item = item(alloc, SAMPLE)?;
-    let cut = fill_and_cut(rt, &mut spools, &item);
-    drop(item);
-    Ok(cut?)
+fn fill_and_cut<P: Spools + Drop>(rt: &impl Abort, mut spools: P, item: &ItemRef<'_>) {
+    fill(rt, &mut spools, item);
+    cut_many(&mut spools);
+    measures(rt, &spools, 1, 560, 20);
+    push(rt, &mut spools, 1, 12, item).expect(rt, "room");
+    measures(rt, &spools, 1, 588, 21);
 }
 
 #[test]
-fn many_subtransactions_are_cut(rt: HostRuntime) -> Result<(), Fail> {
-    roll_back_many(&rt, rt.alloc(), ListSpools::new(rt.alloc(), 560000))?;
-    roll_back_many(&rt, rt.alloc(), ByteSpools::new(rt.alloc(), 560000))
+fn many_subtransactions_are_cut(rt: HostRuntime) {
+    let item = item_over(&rt, INSERT, false);
+    fill_and_cut(&rt, ListSpools::new(rt.alloc(), 560000), &item);
+    fill_and_cut(&rt, ByteSpools::new(rt.alloc(), 560000), &item);
 }
 
 /// Opens once more where memory ran out, which changes nothing.
@@ -377,7 +331,13 @@ fn open_in_the_end<P: Spools>(rt: &impl Abort, spools: &mut P, xid: u32) {
 }
 
 /// Pushes once more where memory ran out, which changes nothing.
-fn push_in_the_end<P: Spools>(rt: &impl Abort, spools: &mut P, xid: u32, subxid: u32, item: &Item) {
+fn push_in_the_end<P: Spools>(
+    rt: &impl Abort,
+    spools: &mut P,
+    xid: u32,
+    subxid: u32,
+    item: &ItemRef<'_>,
+) {
     let before = (spools.bytes(), spools.count(xid));
     if push(rt, spools, xid, subxid, item) == Err(SpoolFault::Memory) {
         assert!(rt; (spools.bytes(), spools.count(xid)) == before);
@@ -385,33 +345,50 @@ fn push_in_the_end<P: Spools>(rt: &impl Abort, spools: &mut P, xid: u32, subxid:
     }
 }
 
-/// Forty items in each of nine transactions, and then three.
-fn refuse_one<P: Spools + Drop>(rt: &impl Abort, mut spools: P, item: &Item) {
+fn open_nine<P: Spools>(rt: &impl Abort, spools: &mut P) {
     for xid in 1..10u32 {
-        open_in_the_end(rt, &mut spools, xid);
+        open_in_the_end(rt, spools, xid);
     }
-    for round in 0..40u32 {
-        for xid in 1..10u32 {
-            push_in_the_end(rt, &mut spools, xid, xid + round, item);
-        }
+}
+
+/// One item in each of the nine.
+fn push_nine<P: Spools>(rt: &impl Abort, spools: &mut P, round: u8, item: &ItemRef<'_>) {
+    for xid in 1..10u32 {
+        push_in_the_end(rt, spools, xid, xid + round as u32, item);
+    }
+}
+
+/// Forty items in each of the nine.
+fn push_forty<P: Spools>(rt: &impl Abort, spools: &mut P, item: &ItemRef<'_>) {
+    for round in 0..40u8 {
+        push_nine(rt, spools, round, item);
     }
     assert!(rt; spools.bytes() == 40 * 9 * 28);
+}
+
+/// Rolls back all but the first three of each of the nine, and once more after another item.
+fn cut_to_three<P: Spools>(rt: &impl Abort, spools: &mut P, item: &ItemRef<'_>) {
     for xid in 1..10u32 {
         spools.cut(xid, xid + 3);
-        push_in_the_end(rt, &mut spools, xid, xid + 3, item);
+        push_in_the_end(rt, spools, xid, xid + 3, item);
         spools.cut(xid, xid + 3);
         assert!(rt; spools.count(xid) == 3);
     }
     assert!(rt; spools.bytes() == 3 * 9 * 28);
 }
 
+/// Forty items in each of nine transactions, and then three.
+fn refuse_one<P: Spools + Drop>(rt: &impl Abort, mut spools: P, item: &ItemRef<'_>) {
+    open_nine(rt, &mut spools);
+    push_forty(rt, &mut spools, item);
+    cut_to_three(rt, &mut spools, item);
+}
+
 // Run it with each allocation failing in turn: a call that fails changes nothing, and succeeds when
 // it is made once more.
 #[test]
-fn refused_memory_changes_nothing(rt: HostRuntime) -> Result<(), Fail> {
-    let item = item(rt.alloc(), SAMPLE)?;
+fn refused_memory_changes_nothing(rt: HostRuntime) {
+    let item = item_over(&rt, INSERT, false);
     refuse_one(&rt, ListSpools::new(rt.alloc(), 100000), &item);
     refuse_one(&rt, ByteSpools::new(rt.alloc(), 100000), &item);
-    drop(item);
-    Ok(())
 }

@@ -1,9 +1,9 @@
+use crate::samples::text;
 use pgtuple::{
     Bytes, Cell, CellRef, Seq, Text, Tuple, TupleFault, TupleRef, decode, decode_ref, encode,
 };
 use std::alloc::Global;
 use std::process::Abort;
-use std::test::Fail;
 
 const EMPTY: &[u8] = &[0, 0];
 
@@ -56,28 +56,28 @@ fn is_borrowed(
 }
 
 /// Whether the borrowed tuple is copied as this one.
-fn is_copied(alloc: Global, borrowed: &TupleRef<'_>, tuple: &Tuple) -> Result<bool, Fail> {
-    let copy = borrowed.to_tuple(alloc)?;
-    Ok(copy == *tuple)
+fn is_copied(rt: &(impl Abort + AllocGlobal), borrowed: &TupleRef<'_>, tuple: &Tuple) -> bool {
+    let copy = borrowed.to_tuple(rt.alloc()).expect(rt, "a copy");
+    copy == *tuple
 }
 
 /// Whether a tuple's clone equals it.
-fn is_cloned(tuple: &Tuple) -> Result<bool, Fail> {
-    let clone = tuple.clone()?;
-    Ok(clone == *tuple)
+fn is_cloned(rt: &impl Abort, tuple: &Tuple) -> bool {
+    let clone = tuple.clone().expect(rt, "a clone");
+    clone == *tuple
 }
 
 /// Whether the two tuples are written as these bytes, one after the other, after other bytes.
 fn are_written(
-    alloc: Global,
+    rt: &(impl Abort + AllocGlobal),
     first: &TupleRef<'_>,
     second: &TupleRef<'_>,
     bytes: &[u8],
-) -> Result<bool, Fail> {
-    let mut out = b"before".to_vec(alloc)?;
-    encode(first, &mut out)?;
-    encode(second, &mut out)?;
-    Ok(is_twice_after_before(&out, bytes))
+) -> bool {
+    let mut out = b"before".to_vec(rt.alloc()).expect(rt, "room");
+    encode(first, &mut out).expect(rt, "room");
+    encode(second, &mut out).expect(rt, "room");
+    is_twice_after_before(&out, bytes)
 }
 
 /// Whether these are the bytes `before` and then the others.
@@ -95,49 +95,44 @@ fn is_twice_after_before(out: &[u8], bytes: &[u8]) -> bool {
 
 /// The tuple is copied from the borrowed one, and both are written as the bytes.
 fn is_same_tuple(
-    rt: &impl Abort,
-    alloc: Global,
+    rt: &(impl Abort + AllocGlobal),
     borrowed: &TupleRef<'_>,
     tuple: &Tuple,
     bytes: &[u8],
-) -> Result<(), Fail> {
-    assert!(rt; is_copied(alloc, borrowed, tuple)?);
-    assert!(rt; are_written(alloc, borrowed, &tuple.borrowed(), bytes)?);
-    assert!(rt; is_cloned(tuple)?);
-    Ok(())
+) {
+    assert!(rt; is_copied(rt, borrowed, tuple));
+    assert!(rt; are_written(rt, borrowed, &tuple.borrowed(), bytes));
+    assert!(rt; is_cloned(rt, tuple));
 }
 
 /// The bytes are read as a tuple of so many cells that equals the borrowed one.
 fn is_decoded(
-    rt: &impl Abort,
-    alloc: Global,
+    rt: &(impl Abort + AllocGlobal),
     borrowed: &TupleRef<'_>,
     bytes: &[u8],
     width: usize,
-) -> Result<(), Fail> {
-    let (tuple, len) = decode(alloc, bytes)?;
-    assert!(rt; len == bytes.len());
+) {
+    let (tuple, len) = decode(rt.alloc(), bytes).expect(rt, "a tuple");
     is_borrowed(rt, &tuple.borrowed(), width, len, None);
-    is_same_tuple(rt, alloc, borrowed, &tuple, bytes)?;
-    assert!(rt; tuple.into_cells().capacity() == width);
-    Ok(())
+    is_same_tuple(rt, borrowed, &tuple, bytes);
+    let capacity = tuple.into_cells().capacity();
+    assert!(rt; len == bytes.len() && capacity == width);
 }
 
 /// The bytes are a tuple of so many cells, whichever decoder reads them, and are written again
 /// whichever way it is borrowed.
-fn goes_both_ways(rt: &impl Abort, alloc: Global, bytes: &[u8], width: usize) -> Result<(), Fail> {
-    let (borrowed, len) = decode_ref(bytes)?;
+fn goes_both_ways(rt: &(impl Abort + AllocGlobal), bytes: &[u8], width: usize) {
+    let (borrowed, len) = decode_ref(bytes).expect(rt, "a tuple");
     assert!(rt; len == bytes.len());
     is_borrowed(rt, &borrowed, width, len, Some(bytes));
-    is_decoded(rt, alloc, &borrowed, bytes, width)
+    is_decoded(rt, &borrowed, bytes, width);
 }
 
 #[test]
-fn vectors_go_both_ways(rt: HostRuntime) -> Result<(), Fail> {
+fn vectors_go_both_ways(rt: HostRuntime) {
     for &(bytes, width) in &VECTORS {
-        goes_both_ways(&rt, rt.alloc(), bytes, width)?;
+        goes_both_ways(&rt, bytes, width);
     }
-    Ok(())
 }
 
 /// The fault that the bytes have by the decoder that borrows.
@@ -152,9 +147,10 @@ fn borrowed_fault(bytes: &[u8]) -> Option<TupleFault> {
 /// every allocation fails.
 #[test]
 fn faults_and_their_offsets(rt: HostRuntime) {
-    for &(bytes, fault) in &FAULTS {
-        assert!(rt; borrowed_fault(bytes) == Some(fault), "{bytes:?}");
-        assert!(rt; decode(rt.alloc(), bytes).err() == Some(fault), "{bytes:?}");
+    for (place, &(bytes, fault)) in FAULTS.iter().enumerate() {
+        assert!(rt; borrowed_fault(bytes) == Some(fault), "row {place}");
+        let found = decode(rt.alloc(), bytes).err();
+        assert!(rt; found == Some(fault), "row {place}");
     }
 }
 
@@ -197,17 +193,20 @@ static CELLS: &[(&[u8], &[CellRef<'static>])] = &[
     (BINARY, &[CellRef::Binary(&[255, 0])]),
 ];
 
+/// The bytes are a tuple of these cells, whichever decoder reads them.
+fn is_row_of(rt: &(impl Abort + AllocGlobal), bytes: &[u8], cells: &[CellRef<'_>]) {
+    let (row, _) = decode_ref(bytes).expect(rt, "a tuple");
+    has_cells(rt, &row, cells);
+    has_cells(rt, &row.reborrow(), cells);
+    let (tuple, _) = decode(rt.alloc(), bytes).expect(rt, "a tuple");
+    has_cells(rt, &tuple.borrowed(), cells);
+}
+
 #[test]
-fn cells_of_rows(rt: HostRuntime) -> Result<(), Fail> {
-    for (bytes, cells) in CELLS {
-        let (row, _) = decode_ref(bytes)?;
-        has_cells(&rt, &row, cells);
-        has_cells(&rt, &row.reborrow(), cells);
-        let (tuple, _) = decode(rt.alloc(), bytes)?;
-        has_cells(&rt, &tuple.borrowed(), cells);
-        drop(tuple);
+fn cells_of_rows(rt: HostRuntime) {
+    for &(bytes, cells) in CELLS {
+        is_row_of(&rt, bytes, cells);
     }
-    Ok(())
 }
 
 /// Whether a borrowed cell is copied as this one, which is cloned as it is.
@@ -232,7 +231,8 @@ fn is_written(rt: &impl Abort, alloc: Global, tuple: &Tuple) -> Result<(), Tuple
 
 /// Each cell is copied from the borrowed one.
 fn are_cells_copied(rt: &impl Abort, alloc: Global, tuple: &Tuple) -> Result<(), TupleFault> {
-    for (cell, borrowed) in tuple.as_slice().iter().zip(tuple.borrowed().cells()) {
+    for (k, cell) in tuple.as_slice().iter().enumerate() {
+        let borrowed = tuple.borrowed().get(k).expect(rt, "a cell");
         assert!(rt; is_cell_copied(alloc, &borrowed, cell)?);
     }
     Ok(())
@@ -253,77 +253,86 @@ fn refused_memory_is_the_only_error(rt: HostRuntime) {
 }
 
 /// Whether a text's clone equals it.
-fn is_text_cloned(text: &Text) -> Result<bool, Fail> {
-    let clone = text.clone()?;
-    Ok(clone == *text)
+fn is_text_cloned(rt: &impl Abort, text: &Text) -> bool {
+    let clone = text.clone().expect(rt, "a clone");
+    clone == *text
 }
 
 /// Whether the clone of bytes equals them.
-fn are_bytes_cloned(bytes: &Bytes) -> Result<bool, Fail> {
-    let clone = bytes.clone()?;
-    Ok(clone == *bytes)
+fn are_bytes_cloned(rt: &impl Abort, bytes: &Bytes) -> bool {
+    let clone = bytes.clone().expect(rt, "a clone");
+    clone == *bytes
 }
 
 /// A text of one letter.
-fn one_letter(rt: &impl Abort, alloc: Global) -> Result<Text, Fail> {
-    let text = Text::from_string(String::from_str(alloc, "a")?);
+fn one_letter(rt: &(impl Abort + AllocGlobal)) -> Text {
+    let text = text(rt, "a");
     assert!(rt; text.len() == 1);
     assert!(rt; !text.is_empty());
-    assert!(rt; is_text_cloned(&text)?);
-    Ok(text)
+    assert!(rt; is_text_cloned(rt, &text));
+    text
 }
 
 /// Two bytes.
-fn two_bytes(rt: &impl Abort, alloc: Global) -> Result<Bytes, Fail> {
-    let bytes = Bytes::from_vec([1u8, 2].to_vec(alloc)?);
+fn two_bytes(rt: &(impl Abort + AllocGlobal)) -> Bytes {
+    let bytes = Bytes::from_vec([1u8, 2].to_vec(rt.alloc()).expect(rt, "room"));
     assert!(rt; bytes.len() == 2);
     assert!(rt; !bytes.is_empty());
-    assert!(rt; are_bytes_cloned(&bytes)?);
-    Ok(bytes)
+    assert!(rt; are_bytes_cloned(rt, &bytes));
+    bytes
 }
 
 /// So many nulls after these cells.
-fn with_nulls(mut cells: Vec<Cell>, count: usize) -> Result<Vec<Cell>, Fail> {
+fn with_nulls(rt: &impl Abort, mut cells: Vec<Cell>, count: usize) -> Vec<Cell> {
     for _ in 0..count {
-        cells.push(Cell::Null)?;
+        cells.push(Cell::Null).expect(rt, "room");
     }
-    Ok(cells)
+    cells
 }
 
 /// A cell of one letter, and one of two bytes.
-fn two_cells(rt: &impl Abort, alloc: Global) -> Result<Vec<Cell>, Fail> {
-    let text = Cell::Text(one_letter(rt, alloc)?);
-    let bytes = Cell::Binary(two_bytes(rt, alloc)?);
-    Ok(vec![in alloc; text, bytes]?)
+fn two_cells(rt: &(impl Abort + AllocGlobal)) -> Vec<Cell> {
+    let mut cells = Vec::new(rt.alloc());
+    cells.push(Cell::Text(one_letter(rt))).expect(rt, "room");
+    cells.push(Cell::Binary(two_bytes(rt))).expect(rt, "room");
+    cells
+}
+
+/// Whether the cells are more than a tuple may have.
+fn are_too_many(cells: Vec<Cell>) -> bool {
+    Tuple::from_cells(cells).is_none()
 }
 
 #[test]
-fn tuples_of_cells(rt: HostRuntime) -> Result<(), Fail> {
-    let cells = two_cells(&rt, rt.alloc())?;
-    let tuple = Tuple::from_cells(cells).ok_or("within the limits")?;
-    assert!(rt; tuple.width() == 2);
-    let cells = with_nulls(tuple.into_cells(), 1598)?;
-    let tuple = Tuple::from_cells(cells).ok_or("1600 cells are within the limits")?;
+fn tuples_of_cells(rt: HostRuntime) {
+    let tuple = Tuple::from_cells(two_cells(&rt)).expect(&rt, "within the limits");
+    let width = tuple.width();
+    let cells = with_nulls(&rt, tuple.into_cells(), 1598);
+    let tuple = Tuple::from_cells(cells).expect(&rt, "1600 cells are within the limits");
     let mut cells = tuple.into_cells();
-    cells.push(Cell::Unchanged)?;
-    assert!(rt; Tuple::from_cells(cells).is_none());
-    Ok(())
+    cells.push(Cell::Unchanged).expect(&rt, "room");
+    assert!(rt; width == 2 && are_too_many(cells));
 }
 
-/// Whether the copy of numbers and their clone equal them.
-fn are_numbers_copied(alloc: Global, numbers: &Seq<u32>) -> Result<bool, Fail> {
-    let copied = numbers.copy(alloc)? == *numbers;
-    let cloned = numbers.clone()? == *numbers;
-    Ok(copied && cloned)
+/// Whether the copy of numbers equals them.
+fn are_numbers_copied(rt: &(impl Abort + AllocGlobal), numbers: &Seq<u32>) -> bool {
+    let copy = numbers.copy(rt.alloc()).expect(rt, "a copy");
+    copy == *numbers
+}
+
+/// Whether the clone of numbers equals them.
+fn are_numbers_cloned(rt: &impl Abort, numbers: &Seq<u32>) -> bool {
+    let clone = numbers.clone().expect(rt, "a clone");
+    clone == *numbers
 }
 
 #[test]
-fn values_in_order(rt: HostRuntime) -> Result<(), Fail> {
-    let seq = Seq::from_vec([1u32, 2, 3].to_vec(rt.alloc())?);
-    assert!(rt; seq.len() == 3);
-    assert!(rt; !seq.is_empty());
-    assert!(rt; are_numbers_copied(rt.alloc(), &seq)?);
+fn values_in_order(rt: HostRuntime) {
+    let numbers = [1u32, 2, 3].to_vec(rt.alloc()).expect(&rt, "room");
+    let seq = Seq::from_vec(numbers);
+    assert!(rt; seq.len() == 3 && !seq.is_empty());
+    assert!(rt; are_numbers_copied(&rt, &seq) && are_numbers_cloned(&rt, &seq));
     assert!(rt; seq.as_slice() == [1u32, 2, 3].as_slice());
-    assert!(rt; seq.into_vec().len() == 3);
-    Ok(())
+    let count = seq.into_vec().len();
+    assert!(rt; count == 3);
 }
