@@ -3,11 +3,10 @@
 use crate::feed_commits::append_at;
 use crate::feed_folders::{MemoryFolder, Stop, Stored};
 use pgapply::StoreFault;
-use pgfeed::{Feed, FeedFault, Origin, SegmentLimits};
+use pgfeed::{Feed, FeedFault, Folder, Origin, SegmentLimits};
 use pgledger::Ledger;
 use pglsn::Lsn;
-use std::alloc::{AllocError, Global};
-use std::test::Fail;
+use std::process::Abort;
 
 /// A head and two commits.
 const TWO: SegmentLimits = SegmentLimits {
@@ -35,7 +34,7 @@ const SINGLY: Course = Course {
 };
 
 /// Segments end amid the commits that are settled at once.
-const GROUPED: [Course; 4] = [
+static GROUPED: [Course; 4] = [
     Course {
         limits: TWO,
         group: 2,
@@ -55,42 +54,55 @@ const GROUPED: [Course; 4] = [
 ];
 
 /// One line that ends the first segment, and one that ends the second, without blanks.
-const CLOSING: [&'static str; 2] = ["{\"last\":\"0/300\"}", "{\"last\":\"0/500\"}"];
+static CLOSING: [&'static str; 2] = ["{\"last\":\"0/300\"}", "{\"last\":\"0/500\"}"];
 
 /// The LSNs at which the commits of a run end.
-const ENDS: [u64; 5] = [0x200, 0x300, 0x400, 0x500, LAST];
+static ENDS: [u64; 5] = [0x200, 0x300, 0x400, 0x500, LAST];
 
 const LAST: u64 = 0x600;
 
-fn open(
-    alloc: Global,
-    folder: MemoryFolder,
+fn open<F: Folder + Drop>(
+    rt: &impl AllocGlobal,
+    folder: F,
+    slot: &str,
     limits: SegmentLimits,
     position: Lsn,
-) -> Result<Feed<MemoryFolder>, (FeedFault, MemoryFolder)> {
+) -> Result<Feed<F>, (FeedFault, F)> {
     let origin = Origin {
         system: "7",
         database: "d",
-        slot: "s",
+        slot,
     };
-    Feed::open(alloc, folder, &origin, limits, position)
+    Feed::open(rt.alloc(), folder, &origin, limits, position)
+}
+
+/// Appends a commit, maybe of this time, and settles it where this is told.
+fn append<F: Folder + Drop>(
+    rt: &(impl Abort + AllocGlobal),
+    feed: &mut Feed<F>,
+    end: u64,
+    time: Option<i64>,
+    settles: bool,
+) -> Result<(), StoreFault> {
+    append_at(rt, feed, Lsn(end), time, "1 a")?;
+    if settles { feed.sync() } else { Ok(()) }
 }
 
 /// Appends the commits that end after this LSN, so many settled at once, and notes up to where that
 /// was done.
-fn go_on(
-    alloc: Global,
-    feed: &mut Feed<MemoryFolder>,
+fn go_on<F: Folder + Drop>(
+    rt: &(impl Abort + AllocGlobal),
+    feed: &mut Feed<F>,
     group: u64,
     settled: &mut Lsn,
 ) -> Result<(), StoreFault> {
     let mut staged: u64 = 0;
-    for end in ENDS.iter() {
+    for end in &ENDS {
         if settled.0 < *end {
-            append_at(alloc, feed, Lsn(*end), None, "1 a")?;
             staged = staged.saturating_add(1);
-            if staged == group || *end == LAST {
-                feed.sync()?;
+            let settles = staged == group || *end == LAST;
+            append(rt, feed, *end, None, settles)?;
+            if settles {
                 *settled = Lsn(*end);
                 staged = 0;
             }
@@ -99,251 +111,338 @@ fn go_on(
     Ok(())
 }
 
-/// What a feed leaves in its folder.
-fn left(feed: Feed<MemoryFolder>) -> Vec<Stored> {
+/// The folder of a feed, which has its files back.
+fn folder_of<F: Folder + Drop>(feed: Feed<F>) -> F {
     let base = feed.base();
     let (mut folder, file) = feed.into_parts();
-    pgfeed::Folder::close(&mut folder, base, file);
-    folder.into_segments()
+    folder.close(base, file);
+    folder
 }
 
-/// Opens a feed over these segments, and goes on until all is settled or it stops. Gives the
-/// segments that are there then.
+/// Opens a feed, and goes on until all is settled or it stops. Gives the folder back.
+fn follow<F: Folder + Drop>(
+    rt: &(impl Abort + AllocGlobal),
+    folder: F,
+    course: Course,
+    settled: &mut Lsn,
+) -> F {
+    match open(rt, folder, "s", course.limits, *settled) {
+        Ok(mut feed) => {
+            let _ended = go_on(rt, &mut feed, course.group, settled);
+            folder_of(feed)
+        }
+        Err((_, folder)) => folder,
+    }
+}
+
+/// The same over these segments. Gives the segments that are there then.
 fn run(
-    alloc: Global,
+    rt: &(impl Abort + AllocGlobal),
     segments: Vec<Stored>,
     course: Course,
     stop: Stop,
     settled: &mut Lsn,
 ) -> Vec<Stored> {
-    let folder = MemoryFolder::of(alloc, segments, stop);
-    match open(alloc, folder, course.limits, *settled) {
-        Ok(mut feed) => {
-            let _ended = go_on(alloc, &mut feed, course.group, settled);
-            left(feed)
-        }
-        Err((_, folder)) => folder.into_segments(),
-    }
+    let folder = MemoryFolder::of(rt.alloc(), segments, stop);
+    follow(rt, folder, course, settled).into_segments()
 }
 
 /// The segments of an undisturbed run.
-fn whole(alloc: Global, course: Course) -> Vec<Stored> {
-    run(alloc, Vec::new(alloc), course, Stop::Never, &mut Lsn(0x100))
+fn whole(rt: &(impl Abort + AllocGlobal), course: Course) -> Vec<Stored> {
+    run(
+        rt,
+        Vec::new(rt.alloc()),
+        course,
+        Stop::Never,
+        &mut Lsn(0x100),
+    )
 }
 
-/// Where a run is stopped.
-fn stops(alloc: Global) -> Result<Vec<Stop>, AllocError> {
-    let mut all = Vec::new(alloc);
-    for calls in 0..12 {
-        all.push(Stop::Folder(calls))?;
-        for number in 0..6 {
-            all.push(Stop::File(number, calls))?;
-        }
+/// The bases and sizes of segments.
+type Sizes = &'static [(u64, usize)];
+
+fn are_sizes(segments: &[Stored], wanted: Sizes) -> bool {
+    let mut same = segments.len() == wanted.len();
+    for ((base, bytes), size) in segments.iter().zip(wanted) {
+        same = same && (base.0, bytes.len()) == *size;
     }
-    Ok(all)
+    same
 }
 
-fn opened(
-    found: Result<Feed<MemoryFolder>, (FeedFault, MemoryFolder)>,
-) -> Result<Feed<MemoryFolder>, Fail> {
-    match found {
-        Ok(feed) => Ok(feed),
-        Err((fault, _)) => Err(Fail::from(fault)),
+/// Whether segments that end wherever settlings fall are these.
+fn are_grouped(rt: &(impl Abort + AllocGlobal), course: Course, singly: &[Stored]) -> bool {
+    let grouped = whole(rt, course);
+    grouped.as_slice() == singly
+}
+
+/// Compares the segments of commits that are settled singly, and in groups.
+fn compare_groups(rt: &(impl Abort + AllocGlobal), limits: SegmentLimits) {
+    let singly = whole(rt, Course { limits, group: 1 });
+    for group in 2..6 {
+        let course = Course { limits, group };
+        assert!(rt; are_grouped(rt, course, singly.as_slice()), "{course:?}");
     }
 }
 
-fn sizes(alloc: Global, segments: &[Stored]) -> Result<Vec<(u64, usize)>, AllocError> {
-    let mut all = Vec::new(alloc);
-    for (base, bytes) in segments.iter() {
-        all.push((base.0, bytes.len()))?;
-    }
-    Ok(all)
-}
+/// The sizes of the segments of commits that are settled singly.
+static WHOLE: Sizes = &[(0x100, 2158), (0x300, 2158), (0x500, 1463)];
 
-#[test]
-fn ends_a_segment_before_the_commit_that_would_pass_its_bytes(rt: HostRuntime) -> Result<(), Fail> {
-    let alloc = rt.alloc();
-    let segments = whole(alloc, SINGLY);
-    assert_eq!(rt;
-        sizes(alloc, &segments)?.as_slice(),
-        [(0x100, 2158), (0x300, 2158), (0x500, 1463)].as_slice()
-    );
+/// Compares the sizes of segments, and the closing line of each but the last.
+fn compare_segments(rt: &impl Abort, segments: &[Stored]) {
+    assert!(rt; are_sizes(segments, WHOLE));
     for ((_, bytes), line) in segments.iter().zip(&CLOSING) {
-        let text = str::from_utf8(bytes)?;
+        let text = str::from_utf8(bytes).expect(rt, "a text");
         assert!(rt; text.ends_with("  \n"));
         assert!(rt; text.trim_end().ends_with(*line), "{line}");
     }
-    // They end wherever settlings fall.
-    for limits in [ONE, TWO] {
-        let singly = whole(alloc, Course { limits, group: 1 });
-        for group in 2..6 {
-            let grouped = whole(alloc, Course { limits, group });
-            assert!(rt;
-                grouped.as_slice() == singly.as_slice(),
-                "{limits:?} {group}"
-            );
-        }
-    }
-    Ok(())
 }
 
-/// Stops a run at each of its calls, over a folder without segments, or over the segments of a
-/// run, which were left with the store at this position: opened again and followed on, the feed
-/// has the same bytes.
-fn try_stops(alloc: Global, course: Course, left: Option<u64>) -> Result<(), Fail> {
-    let whole = whole(alloc, course);
-    for stop in stops(alloc)? {
-        let (before, position) = match left {
-            Some(position) => (whole.clone()?, position),
-            None => (Vec::new(alloc), 0x100),
-        };
-        let mut settled = Lsn(position);
-        let segments = run(alloc, before, course, stop, &mut settled);
-        let again = run(alloc, segments, course, Stop::Never, &mut settled);
-        if again.as_slice() != whole.as_slice() {
-            return Err(Fail::from(format!(in alloc; "{course:?} {stop:?} {left:?}")?));
+#[test]
+fn ends_a_segment_before_the_commit_that_would_pass_its_bytes(rt: HostRuntime) {
+    compare_segments(&rt, whole(&rt, SINGLY).as_slice());
+    compare_groups(&rt, ONE);
+    compare_groups(&rt, TWO);
+}
+
+/// Whether a run over these segments that stops, is opened again and followed on, leaves the
+/// segments of a whole run.
+fn is_made_up(
+    rt: &(impl Abort + AllocGlobal),
+    course: Course,
+    stop: Stop,
+    before: Vec<Stored>,
+    position: u64,
+    whole: &[Stored],
+) -> bool {
+    let mut settled = Lsn(position);
+    let segments = run(rt, before, course, stop, &mut settled);
+    let again = run(rt, segments, course, Stop::Never, &mut settled);
+    again.as_slice() == whole
+}
+
+/// Stops a run over a folder without segments, or over the segments of a whole run, which were left
+/// with the store at this position: opened again and followed on, the feed has the same bytes.
+fn try_stop(
+    rt: &(impl Abort + AllocGlobal),
+    course: Course,
+    left: Option<u64>,
+    stop: Stop,
+    whole: &Vec<Stored>,
+) {
+    let (before, position) = match left {
+        Some(position) => (whole.clone().expect(rt, "a copy"), position),
+        None => (Vec::new(rt.alloc()), 0x100),
+    };
+    let same = is_made_up(rt, course, stop, before, position, whole.as_slice());
+    assert!(rt; same, "{course:?} {stop:?} {left:?}");
+}
+
+/// Stops a run at each of its calls.
+fn try_stops(rt: &(impl Abort + AllocGlobal), course: Course, left: Option<u64>) {
+    let whole = whole(rt, course);
+    for calls in 0..12 {
+        try_stop(rt, course, left, Stop::Folder(calls), &whole);
+        for number in 0..6 {
+            try_stop(rt, course, left, Stop::File(number, calls), &whole);
         }
     }
-    Ok(())
 }
 
 // Stopped also amid commits of one settling, and opened within segments that have ended.
 #[test]
-fn has_the_same_bytes_after_a_stop_at_any_call(rt: HostRuntime) -> Result<(), Fail> {
+fn has_the_same_bytes_after_a_stop_at_any_call(rt: HostRuntime) {
     for left in [None, Some(0x100), Some(0x200), Some(0x300), Some(0x400)] {
-        try_stops(rt.alloc(), SINGLY, left)?;
+        try_stops(&rt, SINGLY, left);
     }
-    for course in GROUPED {
-        try_stops(rt.alloc(), course, None)?;
+    for course in &GROUPED {
+        try_stops(&rt, *course, None);
     }
     for left in [Some(0x200), Some(0x400)] {
-        try_stops(rt.alloc(), GROUPED[1], left)?;
+        try_stops(&rt, GROUPED[1], left);
     }
-    try_stops(rt.alloc(), GROUPED[3], Some(0x300))
+    try_stops(&rt, GROUPED[3], Some(0x300));
 }
 
-/// The bases and sizes of the segments once a feed of all commits is opened at a position, if it
-/// is.
-fn opened_at(alloc: Global, position: u64) -> Result<Option<Vec<(u64, usize)>>, Fail> {
-    let whole = whole(alloc, SINGLY);
-    let folder = MemoryFolder::of(alloc, whole.clone()?, Stop::Never);
-    match open(alloc, folder, TWO, Lsn(position)) {
+/// Opens a feed at a position. Gives the folder back, and the fault where it isn't opened.
+fn open_at<F: Folder + Drop>(
+    rt: &(impl Abort + AllocGlobal),
+    folder: F,
+    slot: &str,
+    position: Lsn,
+) -> (F, Option<FeedFault>) {
+    match open(rt, folder, slot, TWO, position) {
         Ok(feed) => {
-            if feed.last() != Lsn(position) || feed.begins() != Lsn(0x100) {
-                return Err(Fail::from("it is opened elsewhere"));
-            }
-            Ok(Some(sizes(alloc, &left(feed))?))
+            assert!(rt; feed.last() == position && feed.begins() == Lsn(0x100));
+            (folder_of(feed), None)
         }
-        Err((fault, folder)) => {
-            if fault != FeedFault::NotAFeed || folder.segments() != whole.as_slice() {
-                return Err(Fail::from("the folder isn't as it was"));
-            }
-            Ok(None)
-        }
+        Err((fault, folder)) => (folder, Some(fault)),
+    }
+}
+
+/// The same over the segments of all commits. Gives the segments that are there then.
+fn open_whole(
+    rt: &(impl Abort + AllocGlobal),
+    slot: &str,
+    position: u64,
+) -> (Vec<Stored>, Option<FeedFault>) {
+    let folder = MemoryFolder::of(rt.alloc(), whole(rt, SINGLY), Stop::Never);
+    let (folder, fault) = open_at(rt, folder, slot, Lsn(position));
+    (folder.into_segments(), fault)
+}
+
+/// Whether a feed of all commits, opened at a position, has segments of these sizes.
+fn is_opened(rt: &(impl Abort + AllocGlobal), position: u64, sizes: Sizes) -> bool {
+    let (segments, fault) = open_whole(rt, "s", position);
+    fault.is_none() && are_sizes(segments.as_slice(), sizes)
+}
+
+/// Whether a feed of all commits isn't opened at a position with a slot of this name, for this
+/// reason, and is left as it was.
+fn is_left(rt: &(impl Abort + AllocGlobal), slot: &str, position: u64, reason: FeedFault) -> bool {
+    let (segments, fault) = open_whole(rt, slot, position);
+    let whole = whole(rt, SINGLY);
+    fault == Some(reason) && segments.as_slice() == whole.as_slice()
+}
+
+/// Positions, and the sizes of the segments that are there once the feed is opened.
+static OPENED: [(u64, Sizes); 4] = [
+    (0x100, &[(0x100, 1024)]),
+    (0x200, &[(0x100, 1463)]),
+    (0x300, &[(0x100, 2158), (0x300, 1024)]),
+    (0x400, &[(0x100, 2158), (0x300, 1463)]),
+];
+
+/// Positions that the feed doesn't fit.
+static OTHERS: [u64; 8] = [0, 0xff, 0x101, 0x250, 0x301, 0x450, 0x601, 0x700];
+
+#[test]
+fn opening_removes_what_is_above_the_position(rt: HostRuntime) {
+    for &(position, sizes) in &OPENED {
+        assert!(rt; is_opened(&rt, position, sizes), "{position}");
+    }
+    for &position in &OTHERS {
+        assert!(rt;
+            is_left(&rt, "s", position, FeedFault::NotAFeed),
+            "{position}"
+        );
     }
 }
 
 #[test]
-fn opening_removes_what_is_above_the_position(rt: HostRuntime) -> Result<(), Fail> {
-    let alloc = rt.alloc();
-    for (position, size) in [(0x100, 1024), (0x200, 1463)] {
-        let found = opened_at(alloc, position)?.unwrap_or(Vec::new(alloc));
-        assert_eq!(rt; found.as_slice(), [(0x100, size)].as_slice());
-    }
-    for (position, size) in [(0x300, 1024), (0x400, 1463)] {
-        let found = opened_at(alloc, position)?.unwrap_or(Vec::new(alloc));
-        assert_eq!(rt; found.as_slice(), [(0x100, 2158), (0x300, size)].as_slice());
-    }
-    // A feed that doesn't fit is left as it was.
-    for position in [0, 0xff, 0x101, 0x250, 0x301, 0x450, 0x601, 0x700] {
-        assert!(rt; opened_at(alloc, position)?.is_none(), "{position}");
-    }
-    Ok(())
+fn names_that_are_too_long_leave_the_folder_as_it_was(rt: HostRuntime) {
+    let slot = "slot".repeat(rt.alloc(), 250).expect(&rt, "a name");
+    let is_left_first = is_left(&rt, slot.as_str(), 0x100, FeedFault::TooLong);
+    let is_left_later = is_left(&rt, slot.as_str(), 0x400, FeedFault::TooLong);
+    drop(slot);
+    assert!(rt; is_left_first && is_left_later);
 }
 
-#[test]
-fn names_that_are_too_long_leave_the_folder_as_it_was(rt: HostRuntime) -> Result<(), Fail> {
-    let alloc = rt.alloc();
-    let name = "slot".repeat(alloc, 250)?;
-    let origin = Origin {
-        system: "7",
-        database: "d",
-        slot: name.as_str(),
-    };
-    for position in [0x100, 0x400] {
-        let whole = whole(alloc, SINGLY);
-        let folder = MemoryFolder::of(alloc, whole.clone()?, Stop::Never);
-        match Feed::open(alloc, folder, &origin, TWO, Lsn(position)) {
-            Ok(_) => return Err(Fail::from("the names are taken")),
-            Err((fault, folder)) => {
-                assert_eq!(rt; fault, FeedFault::TooLong);
-                assert!(rt; folder.segments() == whole.as_slice());
-            }
-        }
+/// Times of commits, and where the segment of each begins.
+type Times = &'static [(Option<i64>, u64)];
+
+/// Appends commits of these times, each settled by itself.
+fn append_times<F: Folder + Drop>(
+    rt: &(impl Abort + AllocGlobal),
+    feed: &mut Feed<F>,
+    times: Times,
+) {
+    for (end, (time, base)) in (1..100).zip(times) {
+        append(rt, feed, end, *time, true).expect(rt, "a commit");
+        assert_eq!(rt; feed.base().0, *base);
     }
-    Ok(())
 }
 
-/// The bases of a feed of commits with these times, each settled by itself, of which no segment may
-/// have commits that are a thousand microseconds apart.
-fn bases_by_time(alloc: Global, times: &[Option<i64>]) -> Result<Vec<u64>, Fail> {
+/// A feed over a folder without segments.
+fn new_feed<F: Folder + Drop>(
+    rt: &(impl Abort + AllocGlobal),
+    folder: F,
+    limits: SegmentLimits,
+) -> Feed<F> {
+    match open(rt, folder, "s", limits, Lsn(0)) {
+        Ok(feed) => feed,
+        Err(_) => rt.panic("no feed"),
+    }
+}
+
+/// Appends commits of these times to a feed of which no segment may have commits that are a
+/// thousand microseconds apart.
+fn try_times<F: Folder + Drop>(rt: &(impl Abort + AllocGlobal), folder: F, times: Times) {
     let limits = SegmentLimits {
         bytes: u64::MAX,
         micros: 1000,
     };
-    let folder = MemoryFolder::of(alloc, Vec::new(alloc), Stop::Never);
-    let mut feed = opened(open(alloc, folder, limits, Lsn(0)))?;
-    let mut bases = Vec::new(alloc);
-    for (end, time) in (1..100).zip(times) {
-        append_at(alloc, &mut feed, Lsn(end), *time, "1 a")?;
-        feed.sync()?;
-        bases.push(feed.base().0)?;
-    }
-    Ok(bases)
+    append_times(rt, &mut new_feed(rt, folder, limits), times);
 }
 
-/// Where the last segment begins after the commits with ends from 1 on, settled at once, of which
-/// no segment takes two, and how many segments there are after one more.
-fn counted(alloc: Global, commits: u64) -> Result<(u64, usize), Fail> {
-    let folder = MemoryFolder::of(alloc, Vec::new(alloc), Stop::Never);
-    let mut feed = opened(open(alloc, folder, ONE, Lsn(0)))?;
+/// Appends the commits with ends from 1 on, settled at once, and one more. Returns where the last
+/// segment begins before that one.
+fn append_many<F: Folder + Drop>(
+    rt: &(impl Abort + AllocGlobal),
+    feed: &mut Feed<F>,
+    commits: u64,
+) -> u64 {
     for end in 1..=commits {
-        append_at(alloc, &mut feed, Lsn(end), None, "1 a")?;
+        append(rt, feed, end, None, end == commits).expect(rt, "a commit");
     }
-    feed.sync()?;
-    let base = feed.base();
-    append_at(alloc, &mut feed, Lsn(u64::MAX), None, "1 a")?;
-    if feed.base() != Lsn(commits) {
-        return Err(Fail::from("the open segment goes on where all was settled"));
-    }
-    Ok((base.0, left(feed).len()))
+    let base = feed.base().0;
+    append(rt, feed, u64::MAX, None, false).expect(rt, "a commit");
+    // The open segment goes on where all was settled.
+    assert_eq!(rt; feed.base().0, commits);
+    base
 }
+
+/// The same with a new feed of which no segment takes two commits. Gives the folder back too.
+fn count_in<F: Folder + Drop>(
+    rt: &(impl Abort + AllocGlobal),
+    folder: F,
+    commits: u64,
+) -> (u64, F) {
+    let mut feed = new_feed(rt, folder, ONE);
+    let base = append_many(rt, &mut feed, commits);
+    (base, folder_of(feed))
+}
+
+/// A folder without segments.
+fn new_folder(rt: &impl AllocGlobal) -> MemoryFolder {
+    MemoryFolder::of(rt.alloc(), Vec::new(rt.alloc()), Stop::Never)
+}
+
+/// Where the last segment begins after so many commits that are settled at once, and how many
+/// segments there are after one more.
+fn counted(rt: &(impl Abort + AllocGlobal), commits: u64) -> (u64, usize) {
+    let (base, folder) = count_in(rt, new_folder(rt), commits);
+    (base, folder.segments().len())
+}
+
+static TIMES: [Times; 3] = [
+    &[
+        (Some(-5), 0),
+        (Some(994), 0),
+        (Some(995), 2),
+        (Some(1994), 2),
+        (Some(1), 2),
+        (Some(1995), 5),
+    ],
+    &[
+        (None, 0),
+        (Some(7), 0),
+        (None, 0),
+        (Some(1006), 0),
+        (Some(1007), 4),
+    ],
+    &[(Some(i64::MIN), 0), (Some(i64::MAX), 1)],
+];
+
+/// So many commits that are settled at once, and what `counted` gives: so many segments stay open,
+/// and no more.
+static COUNTS: [(u64, (u64, usize)); 3] = [(3, (2, 4)), (257, (256, 258)), (270, (256, 258))];
 
 #[test]
-fn ends_a_segment_by_the_times_of_its_commits(rt: HostRuntime) -> Result<(), Fail> {
-    let alloc = rt.alloc();
-    let times = [
-        Some(-5),
-        Some(994),
-        Some(995),
-        Some(1994),
-        Some(1),
-        Some(1995),
-    ];
-    assert_eq!(rt;
-        bases_by_time(alloc, &times)?.as_slice(),
-        [0, 0, 2, 2, 2, 5].as_slice()
-    );
-    let times = [None, Some(7), None, Some(1006), Some(1007)];
-    assert_eq!(rt;
-        bases_by_time(alloc, &times)?.as_slice(),
-        [0, 0, 0, 0, 4].as_slice()
-    );
-    let times = [Some(i64::MIN), Some(i64::MAX)];
-    assert_eq!(rt; bases_by_time(alloc, &times)?.as_slice(), [0, 1].as_slice());
-    // So many segments stay open, and no more.
-    assert_eq!(rt; counted(alloc, 3)?, (2, 4));
-    assert_eq!(rt; counted(alloc, 257)?, (256, 258));
-    assert_eq!(rt; counted(alloc, 270)?, (256, 258));
-    Ok(())
+fn ends_a_segment_by_the_times_of_its_commits(rt: HostRuntime) {
+    for times in &TIMES {
+        try_times(&rt, new_folder(&rt), *times);
+    }
+    for &(commits, wanted) in &COUNTS {
+        assert!(rt; counted(&rt, commits) == wanted, "{commits}");
+    }
 }

@@ -2,40 +2,43 @@
 //! copies.
 
 use crate::stores::Kept;
-use pgapply::{DumpRow, StoreFault};
+use pgapply::DumpRow;
 use pgtuple::CellRef;
-use std::alloc::{AllocError, Global};
 use std::fmt::Write as _;
+use std::process::Abort;
 
-fn push_cell(lines: &mut String, cell: &CellRef<'_>) -> Result<(), AllocError> {
-    lines.push(' ')?;
-    match *cell {
-        CellRef::Text(text) => lines.push_str(text),
-        CellRef::Null => lines.push_str("null"),
-        CellRef::Unchanged => lines.push_str("unsent"),
-        CellRef::Binary(bytes) => {
-            lines.push('#')?;
-            lines.push_str(str::from_utf8(bytes).unwrap_or("?"))
-        }
-    }
+fn push_cell(rt: &impl Abort, lines: &mut String, cell: &CellRef<'_>) {
+    let (before, text) = match *cell {
+        CellRef::Text(text) => (" ", text),
+        CellRef::Null => (" ", "null"),
+        CellRef::Unchanged => (" ", "unsent"),
+        CellRef::Binary(bytes) => (" #", str::from_utf8(bytes).unwrap_or("?")),
+    };
+    lines.push_str(before).expect(rt, "a cell");
+    lines.push_str(text).expect(rt, "a cell");
 }
 
-fn push_line(lines: &mut String, row: &DumpRow) -> Result<(), StoreFault> {
+fn push_line(rt: &impl Abort, lines: &mut String, row: &DumpRow) {
     let namespace = row.namespace.as_str();
-    write!(lines, "{} {namespace}.{}", row.oid, row.name.as_str())?;
+    write!(lines, "{} {namespace}.{}", row.oid, row.name.as_str()).expect(rt, "a line");
     for cell in row.cells.borrowed().cells() {
-        push_cell(lines, &cell)?;
+        push_cell(rt, lines, &cell);
     }
-    write!(lines, " x{}\n", row.copies)?;
-    Ok(())
+    write!(lines, " x{}\n", row.copies).expect(rt, "a line");
 }
 
-/// All rows of a store.
-pub(crate) fn shown<C: Kept>(alloc: Global, store: &mut C) -> Result<String, StoreFault> {
-    let rows = store.rows()?;
-    let mut lines = String::new(alloc);
-    for row in rows.as_slice() {
-        push_line(&mut lines, row)?;
+/// The lines of rows.
+pub(crate) fn lines_of(rt: &(impl Abort + AllocGlobal), rows: &[DumpRow]) -> String {
+    let mut lines = String::new(rt.alloc());
+    for row in rows {
+        push_line(rt, &mut lines, row);
     }
-    Ok(lines)
+    lines
+}
+
+/// Whether these lines are all rows of a store.
+pub(crate) fn shows<C: Kept>(rt: &(impl Abort + AllocGlobal), store: &mut C, wanted: &str) -> bool {
+    let rows = store.rows().expect(rt, "the rows");
+    let lines = lines_of(rt, rows.as_slice());
+    lines.as_str() == wanted
 }

@@ -1,13 +1,9 @@
 //! What a server sends, and the stores that it leads to.
 
-use std::alloc::Global;
-use std::test::Fail;
+use std::process::Abort;
 
-/// A row of the table t as its cells, where `None` is null.
-pub(crate) type Cells = &'static [Option<&'static str>];
-
-/// The position of a store, and its rows, each once.
-pub(crate) type State = (u64, &'static [Cells]);
+/// The position of a store, and its rows as lines.
+pub(crate) type State = (u64, &'static str);
 
 /// A session of version 2, and the stores before it and after each of its commits.
 #[derive(Clone, Copy)]
@@ -16,18 +12,6 @@ pub(crate) struct Recording {
     pub(crate) messages: &'static [&'static str],
     pub(crate) states: &'static [State],
 }
-
-const ONE_A: Cells = &[Some("1"), Some("a")];
-
-const ONE_E: Cells = &[Some("1"), Some("e")];
-
-const ONE_L: Cells = &[Some("1"), Some("l")];
-
-const TWO_M: Cells = &[Some("2"), Some("m")];
-
-const ONE_A_NULL: Cells = &[Some("1"), Some("a"), None];
-
-const TWO_B_C: Cells = &[Some("2"), Some("b"), Some("c")];
 
 /// Two transactions in blocks that alternate, with subtransactions that are rolled back.
 pub(crate) static IN_BLOCKS: Recording = Recording {
@@ -54,7 +38,11 @@ pub(crate) static IN_BLOCKS: Recording = Recording {
         "63 0000000b 00 0000000000000300 0000000000000330 0000000000000000",
         "63 0000000a 00 0000000000000400 0000000000000430 0000000000000000",
     ],
-    states: &[(0, &[]), (0x330, &[ONE_E]), (0x430, &[ONE_L, TWO_M])],
+    states: &[
+        (0, ""),
+        (0x330, "16384 public.t 1 e x1\n"),
+        (0x430, "16384 public.t 1 l x1\n16384 public.t 2 m x1\n"),
+    ],
 };
 
 /// A table to which a column is added, so that its row is carried over.
@@ -69,36 +57,46 @@ pub(crate) static CARRIED: Recording = Recording {
         "49 00004000 4e 0003 74 00000001 32 74 00000001 62 74 00000001 63",
         "43 00 0000000000000200 0000000000000230 0000000000000000",
     ],
-    states: &[(0, &[]), (0x130, &[ONE_A]), (0x230, &[ONE_A_NULL, TWO_B_C])],
+    states: &[
+        (0, ""),
+        (0x130, "16384 public.t 1 a x1\n"),
+        (
+            0x230,
+            "16384 public.t 1 a null x1\n16384 public.t 2 b c x1\n",
+        ),
+    ],
 };
 
 /// The bytes of hexadecimal digits in groups.
-fn unhex(alloc: Global, digits: &str) -> Result<Vec<u8>, Fail> {
-    let mut bytes = Vec::new(alloc);
+fn unhex(rt: &(impl Abort + AllocGlobal), digits: &str) -> Vec<u8> {
+    let mut bytes = Vec::new(rt.alloc());
     for word in digits.split_whitespace() {
-        bytes.extend_from_slice(hex::decode(alloc, word)?.as_slice())?;
+        let group = hex::decode(rt.alloc(), word).expect(rt, "digits");
+        bytes
+            .extend_from_slice(group.as_slice())
+            .expect(rt, "bytes");
     }
-    Ok(bytes)
+    bytes
 }
 
 /// Appends the CopyData frame of a message.
-fn append_frame(bytes: &mut Vec<u8>, message: &[u8]) -> Result<(), Fail> {
-    let Ok(length) = u32::try_from(message.len().saturating_add(29)) else {
-        return Err(Fail::from("a message is too long"));
-    };
-    bytes.push(b'd')?;
-    bytes.extend_from_slice(&length.to_be_bytes())?;
-    bytes.push(b'w')?;
-    bytes.extend_from_slice(&[0; 24])?;
-    bytes.extend_from_slice(message)?;
-    Ok(())
+fn append_frame(rt: &impl Abort, bytes: &mut Vec<u8>, message: &[u8]) {
+    let length = u32::try_from(message.len().saturating_add(29)).expect(rt, "a length");
+    bytes.push(b'd').expect(rt, "a frame");
+    bytes
+        .extend_from_slice(&length.to_be_bytes())
+        .expect(rt, "a frame");
+    bytes.push(b'w').expect(rt, "a frame");
+    bytes.extend_from_slice(&[0; 24]).expect(rt, "a frame");
+    bytes.extend_from_slice(message).expect(rt, "a frame");
 }
 
 /// The bytes of a session.
-pub(crate) fn bytes_of(alloc: Global, messages: &[&str]) -> Result<Vec<u8>, Fail> {
-    let mut bytes = Vec::new(alloc);
+pub(crate) fn bytes_of(rt: &(impl Abort + AllocGlobal), messages: &[&str]) -> Vec<u8> {
+    let mut bytes = Vec::new(rt.alloc());
     for message in messages {
-        append_frame(&mut bytes, unhex(alloc, message)?.as_slice())?;
+        let message = unhex(rt, message);
+        append_frame(rt, &mut bytes, message.as_slice());
     }
-    Ok(bytes)
+    bytes
 }

@@ -1,22 +1,23 @@
 //! Commits that are staged and settled in groups.
 
+use crate::lines::lines_of;
 use crate::stopped_runs::Trial;
-use crate::works::work_of_t;
+use crate::works::{tuple, work_of_t};
 use pgapply::{Commit, Op, ReplicaStore, StoreFault, Work};
 use pglsn::Lsn;
-use pgtuple::{CellRef, Tuple};
-use std::alloc::Global;
-use std::test::Fail;
+use pgtuple::Tuple;
+use std::fmt::Write as _;
+use std::process::Abort;
 
 /// The groups, each by the end LSNs of its commits. The rows of the last don't fit into the pages
 /// that stay in memory.
-pub(crate) const GROUPS: &[&[u64]] = &[&[101, 102], &[103], &[104, 105, 106]];
+pub(crate) static GROUPS: [&[u64]; 3] = [&[101, 102], &[103], &[104, 105, 106]];
 
 /// The position after the last group.
 const LAST: u64 = 106;
 
 /// The letters in the keys of the rows that a commit inserts.
-const LETTERS: [char; 2] = ['a', 'b'];
+static LETTERS: [char; 2] = ['a', 'b'];
 
 /// The end of a group.
 pub(crate) fn end_of(ends: &[u64]) -> u64 {
@@ -27,62 +28,38 @@ pub(crate) fn end_of(ends: &[u64]) -> u64 {
 }
 
 /// One of the rows of a commit, longer than a page.
-fn row(alloc: Global, end: u64, letter: char) -> Result<Tuple, StoreFault> {
-    let key = format!(in alloc; "{end}{letter}")?;
-    let other = format!(in alloc; "{end:04000}")?;
-    let mut cells = Vec::new(alloc);
-    for text in [key.as_str(), other.as_str()] {
-        let cell = CellRef::Text(text).to_cell(alloc);
-        cells.push(cell.map_err(|_| StoreFault::Memory)?)?;
+fn row(rt: &(impl Abort + AllocGlobal), end: u64, letter: char) -> Tuple {
+    let words = format!(in rt.alloc(); "{end}{letter} {end:04000}").expect(rt, "words");
+    tuple(rt, words.as_str())
+}
+
+/// Adds the rows that a commit inserts.
+fn push_rows(rt: &(impl Abort + AllocGlobal), rows: &mut Vec<Tuple>, end: u64) {
+    for letter in &LETTERS {
+        rows.push(row(rt, end, *letter)).expect(rt, "a row");
     }
-    Tuple::from_cells(cells).ok_or(StoreFault::Width)
-}
-
-/// The rows that a commit inserts.
-fn rows_of(alloc: Global, end: u64) -> Result<Vec<Tuple>, StoreFault> {
-    let mut rows = Vec::new(alloc);
-    for letter in LETTERS {
-        rows.push(row(alloc, end, letter)?)?;
-    }
-    Ok(rows)
-}
-
-/// The bytes of a tuple.
-fn encoded(alloc: Global, tuple: &Tuple) -> Result<Vec<u8>, StoreFault> {
-    let mut bytes = Vec::new(alloc);
-    pgtuple::encode(&tuple.borrowed(), &mut bytes).map_err(|_| StoreFault::Memory)?;
-    Ok(bytes)
-}
-
-fn is_same(alloc: Global, left: &Tuple, right: &Tuple) -> Result<bool, StoreFault> {
-    let (left, right) = (encoded(alloc, left)?, encoded(alloc, right)?);
-    Ok(left.as_slice() == right.as_slice())
 }
 
 /// A work that inserts these rows.
-fn work_of<'a>(alloc: Global, rows: &'a [Tuple]) -> Result<Work<'a>, StoreFault> {
-    let mut work = work_of_t(alloc)?;
+fn work_of<'a>(rt: &(impl Abort + AllocGlobal), rows: &'a [Tuple]) -> Work<'a> {
+    let mut work = work_of_t(rt);
     for row in rows {
-        if work.definitions().is_empty() {
-            return Err(StoreFault::Width);
-        }
+        assert!(rt; !work.definitions().is_empty());
         let row = row.borrowed();
-        work.change(0, Op::Insert { row })?;
+        work.change(0, Op::Insert { row }).expect(rt, "a change");
     }
-    Ok(work)
+    work
 }
 
 /// Stages a commit of these rows.
 fn stage<C: ReplicaStore>(
-    alloc: Global,
+    rt: &(impl Abort + AllocGlobal),
     store: &mut C,
     end: u64,
     rows: &[Tuple],
 ) -> Result<(), StoreFault> {
-    let work = work_of(alloc, rows)?;
-    if store.reached().0 >= end {
-        return Err(StoreFault::NotAStore);
-    }
+    let work = work_of(rt, rows);
+    assert!(rt; store.reached().0 < end);
     let commit = Commit {
         end: Lsn(end),
         about: None,
@@ -91,92 +68,111 @@ fn stage<C: ReplicaStore>(
     store.stage(&commit)
 }
 
-/// Whether a disk that stopped may be the cause.
-fn comes_of_a_stop(fault: StoreFault) -> bool {
-    matches!(fault, StoreFault::Refused | StoreFault::Memory)
-}
-
-/// Stages the commits of a group, each followed by one with the same rows, which is rejected.
-/// Returns whether the disks went on.
-fn stage_group<C: ReplicaStore>(alloc: Global, store: &mut C, ends: &[u64]) -> Result<bool, Fail> {
-    for end in ends {
-        let rows = rows_of(alloc, *end)?;
-        match stage(alloc, store, *end, rows.as_slice()) {
-            Ok(()) => {}
-            Err(fault) if comes_of_a_stop(fault) => return Ok(false),
-            Err(fault) => return Err(Fail::from(fault)),
-        }
-        match stage(alloc, store, u64::MAX, rows.as_slice()) {
-            Err(StoreFault::Clash) => {}
-            Err(fault) if comes_of_a_stop(fault) => return Ok(false),
-            _ => return Err(Fail::from("rows that are there are staged")),
+/// Whether the answer is this one. Another comes of a disk that stopped.
+fn goes_on(
+    rt: &impl Abort,
+    answer: Result<(), StoreFault>,
+    wanted: Result<(), StoreFault>,
+) -> bool {
+    match answer {
+        Err(StoreFault::Refused | StoreFault::Memory) => false,
+        _ => {
+            assert_eq!(rt; answer, wanted);
+            true
         }
     }
-    Ok(true)
+}
+
+/// Stages a commit, and then one with the same rows, which is rejected. Returns whether the disks
+/// went on.
+fn stage_twice<C: ReplicaStore>(rt: &(impl Abort + AllocGlobal), store: &mut C, end: u64) -> bool {
+    let mut rows = Vec::new(rt.alloc());
+    push_rows(rt, &mut rows, end);
+    let staged = stage(rt, store, end, rows.as_slice());
+    goes_on(rt, staged, Ok(()))
+        && goes_on(
+            rt,
+            stage(rt, store, u64::MAX, rows.as_slice()),
+            Err(StoreFault::Clash),
+        )
+}
+
+/// Stages the commits of a group, each twice. Returns whether the disks went on.
+fn stage_group<C: ReplicaStore>(
+    rt: &(impl Abort + AllocGlobal),
+    store: &mut C,
+    ends: &[u64],
+) -> bool {
+    for end in ends {
+        if !stage_twice(rt, store, *end) {
+            return false;
+        }
+    }
+    true
 }
 
 /// Settles what is staged. Returns whether the disks went on.
-fn settle<C: ReplicaStore>(store: &mut C) -> Result<bool, Fail> {
+fn settle<C: ReplicaStore>(rt: &impl Abort, store: &mut C) -> bool {
     let (before, reached) = (store.position(), store.reached());
-    match store.settle() {
-        Ok(()) if store.position() == reached => Ok(true),
-        Err(fault) if comes_of_a_stop(fault) && store.position() == before => Ok(false),
-        _ => Err(Fail::from("settling leaves another position")),
-    }
+    let is_settled = goes_on(rt, store.settle(), Ok(()));
+    let wanted = if is_settled { reached } else { before };
+    assert_eq!(rt; store.position(), wanted);
+    is_settled
 }
 
-/// Stages and settles a group. Returns whether the disks went on.
-fn put<C: ReplicaStore>(alloc: Global, store: &mut C, ends: &[u64]) -> Result<bool, Fail> {
-    let is_staged = stage_group(alloc, store, ends)?;
+/// Stages and settles a group. Returns whether the disks went on: a part of a group isn't settled
+/// on a disk that stopped.
+fn put<C: ReplicaStore>(rt: &(impl Abort + AllocGlobal), store: &mut C, ends: &[u64]) -> bool {
+    let is_staged = stage_group(rt, store, ends);
     let has_some = store.reached() != store.position();
-    let is_settled = settle(store)?;
-    if !is_staged && has_some && is_settled {
-        return Err(Fail::from("a part of a group is settled on a disk that stopped"));
-    }
-    Ok(is_staged && is_settled)
+    let is_settled = settle(rt, store);
+    assert!(rt; is_staged || !has_some || !is_settled);
+    is_staged && is_settled
 }
 
 /// Puts the groups that end after the position, until a disk stops. Returns the position.
-fn put_groups<C: ReplicaStore>(alloc: Global, store: &mut C) -> Result<u64, Fail> {
-    for ends in GROUPS {
-        if end_of(*ends) > store.position().0 && !put(alloc, store, *ends)? {
+fn put_groups<C: ReplicaStore>(rt: &(impl Abort + AllocGlobal), store: &mut C) -> u64 {
+    for ends in &GROUPS {
+        if end_of(*ends) > store.position().0 && !put(rt, store, *ends) {
             break;
         }
     }
-    Ok(store.position().0)
+    store.position().0
 }
 
-/// The rows of the commits up to a position.
-fn rows_up_to(alloc: Global, position: u64) -> Result<Vec<Tuple>, StoreFault> {
-    let mut rows = Vec::new(alloc);
-    for ends in GROUPS {
-        for end in *ends {
-            if *end <= position {
-                for letter in LETTERS {
-                    rows.push(row(alloc, *end, letter)?)?;
-                }
-            }
+/// Adds the lines of the rows that a commit inserts.
+fn push_lines(rt: &impl Abort, lines: &mut String, end: u64) {
+    for letter in &LETTERS {
+        write!(lines, "16384 public.t {end}{letter} {end:04000} x1\n").expect(rt, "a line");
+    }
+}
+
+/// Adds the lines of the rows of those commits of a group that are up to a position.
+fn push_group(rt: &impl Abort, lines: &mut String, ends: &[u64], position: u64) {
+    for end in ends {
+        if *end <= position {
+            push_lines(rt, lines, *end);
         }
     }
-    Ok(rows)
 }
 
-/// The position, where the rows are those of the commits up to it.
-fn position_of<C: ReplicaStore>(alloc: Global, store: &mut C) -> Result<u64, Fail> {
+/// The lines of the rows of the commits up to a position.
+fn lines_up_to(rt: &(impl Abort + AllocGlobal), position: u64) -> String {
+    let mut lines = String::new(rt.alloc());
+    for ends in &GROUPS {
+        push_group(rt, &mut lines, *ends, position);
+    }
+    lines
+}
+
+/// The position. The rows are those of the commits up to it.
+fn position_of<C: ReplicaStore>(rt: &(impl Abort + AllocGlobal), store: &mut C) -> u64 {
     let position = store.position().0;
-    let wanted = rows_up_to(alloc, position)?;
-    let Ok(rows) = store.rows() else {
-        return Err(Fail::from("the rows can't be read"));
-    };
-    for (row, wanted) in rows.iter().zip(wanted.as_slice()) {
-        if !is_same(alloc, &row.cells, wanted)? {
-            return Err(Fail::from("a row is another"));
-        }
-    }
-    if rows.len() != wanted.len() {
-        return Err(Fail::from("rows are missing, or there are too many"));
-    }
-    Ok(position)
+    let rows = store.rows().expect(rt, "the rows");
+    let lines = lines_of(rt, rows.as_slice());
+    let wanted = lines_up_to(rt, position);
+    assert!(rt; lines.as_str() == wanted.as_str());
+    position
 }
 
 /// A run of all groups on disks that may stop.
@@ -187,9 +183,9 @@ pub(crate) struct Puts {
 }
 
 impl Trial for Puts {
-    fn run<C: ReplicaStore + Drop>(&mut self, alloc: Global, mut store: C) -> Result<C, Fail> {
-        self.position = put_groups(alloc, &mut store)?;
-        Ok(store)
+    fn run<R: Abort + AllocGlobal, C: ReplicaStore + Drop>(&mut self, rt: &R, mut store: C) -> C {
+        self.position = put_groups(rt, &mut store);
+        store
     }
 }
 
@@ -201,12 +197,10 @@ pub(crate) struct PutsMore {
 }
 
 impl Trial for PutsMore {
-    fn run<C: ReplicaStore + Drop>(&mut self, alloc: Global, mut store: C) -> Result<C, Fail> {
-        self.position = Some(position_of(alloc, &mut store)?);
-        let _position = put_groups(alloc, &mut store)?;
-        if position_of(alloc, &mut store)? != LAST {
-            return Err(Fail::from("the groups don't go in"));
-        }
-        Ok(store)
+    fn run<R: Abort + AllocGlobal, C: ReplicaStore + Drop>(&mut self, rt: &R, mut store: C) -> C {
+        self.position = Some(position_of(rt, &mut store));
+        let _position = put_groups(rt, &mut store);
+        assert_eq!(rt; position_of(rt, &mut store), LAST);
+        store
     }
 }

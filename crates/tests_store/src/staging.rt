@@ -1,13 +1,13 @@
 //! Commits that are staged and settled together, and what a store shows of them meanwhile.
 
 use crate::cases::{CLASH, Change, F, OK, T, T_1, T_1_2, UNSENT, W};
-use crate::lines::shown;
-use crate::stores::{Kept, Trial, adopt, on_stores};
+use crate::lines::shows;
+use crate::stores::{Kept, Trial, on_stores};
 use crate::works::{stage, take};
 use pgapply::{Miss, StoreFault};
 use pglogical::OldKind::{Full, Key};
+use pglsn::Lsn;
 use std::process::Abort;
-use std::test::Fail;
 
 /// A call of a store. A commit is given by its end LSN and its changes, rows by their lines.
 #[derive(Clone, Copy)]
@@ -236,7 +236,7 @@ const FIRST_MISSED: StagedCase = (
     T_1,
 );
 
-const CASES: &'static [StagedCase] = &[SETTLED, REFUSED, UNSTAGED, READ, MISSED, FIRST_MISSED];
+static CASES: &'static [StagedCase] = &[SETTLED, REFUSED, UNSTAGED, READ, MISSED, FIRST_MISSED];
 
 /// How many changes found no row, with the commit and the relation of the first.
 fn missed<C: Kept>(store: &C) -> (u64, Option<(u64, u32)>) {
@@ -249,8 +249,8 @@ fn missed<C: Kept>(store: &C) -> (u64, Option<(u64, u32)>) {
 }
 
 /// Makes a call, and compares what it reads.
-fn make<R: Abort + AllocGlobal, C: Kept>(
-    rt: &R,
+fn make<C: Kept>(
+    rt: &(impl Abort + AllocGlobal),
     store: &mut C,
     call: Call,
 ) -> Result<(), StoreFault> {
@@ -259,50 +259,57 @@ fn make<R: Abort + AllocGlobal, C: Kept>(
         Stage(end, changes) => return stage(rt, store, end, changes),
         Settle => return store.settle(),
         Unstage => store.unstage(),
-        Rows(wanted) => assert_eq!(rt; shown(rt.alloc(), store)?.as_str(), wanted),
+        Rows(wanted) => assert!(rt; shows(rt, store, wanted), "{wanted}"),
         Misses(count, first) => assert_eq!(rt; missed(store), (count, first)),
     }
     Ok(())
 }
 
-/// The store as it is closed and adopted: what was staged is lost, and no change has missed its row
-/// since.
-fn expect_reopened<R: Abort + AllocGlobal, C: Kept>(
-    rt: &R,
-    store: C,
-    rows: &str,
-) -> Result<(), Fail> {
-    let position = store.position();
-    let mut again: C = adopt(rt, store.into_tables()?)?;
-    assert_eq!(rt; (again.position(), again.reached()), (position, position));
-    assert_eq!(rt; missed(&again), (0, None));
-    assert_eq!(rt; shown(rt.alloc(), &mut again)?.as_str(), rows);
-    Ok(())
+/// Makes the call of a step. Whether it answers so, and leads there.
+fn is_met<C: Kept>(rt: &(impl Abort + AllocGlobal), store: &mut C, step: &Step) -> bool {
+    let (call, wanted, then) = *step;
+    let answer = make(rt, store, call);
+    answer == wanted && (store.position().0, store.reached().0) == then
 }
 
 /// Makes the calls of a case.
+fn make_calls<C: Kept>(rt: &(impl Abort + AllocGlobal), store: &mut C, steps: &[Step]) {
+    for (index, step) in steps.iter().enumerate() {
+        assert!(rt; is_met(rt, store, step), "at {index}");
+    }
+}
+
+/// Compares a store that was closed and adopted: what was staged is lost, and no change has missed
+/// its row since.
+fn compare_reopened<C: Kept>(
+    rt: &(impl Abort + AllocGlobal),
+    store: &mut C,
+    position: Lsn,
+    rows: &str,
+) {
+    assert_eq!(rt; (store.position(), store.reached()), (position, position));
+    assert_eq!(rt; missed(store), (0, None));
+    assert!(rt; shows(rt, store, rows), "{rows}");
+}
+
 #[derive(Drop)]
 struct MakesCalls {
     case: StagedCase,
 }
 
 impl Trial for MakesCalls {
-    fn run<R: Abort + AllocGlobal, C: Kept>(&self, rt: &R, mut store: C) -> Result<(), Fail> {
+    fn run<R: Abort + AllocGlobal, C: Kept>(&self, rt: &R, mut store: C) {
         let (steps, rows) = self.case;
-        for (index, (call, wanted, then)) in steps.iter().enumerate() {
-            let answer = make(rt, &mut store, *call);
-            assert_eq!(rt; answer, *wanted, "at {index}");
-            let found = (store.position().0, store.reached().0);
-            assert_eq!(rt; found, *then, "behind {index}");
-        }
-        expect_reopened(rt, store, rows)
+        make_calls(rt, &mut store, steps);
+        let position = store.position();
+        let mut again = C::adopt(rt, store.into_tables(rt));
+        compare_reopened(rt, &mut again, position, rows);
     }
 }
 
 #[test]
-fn commits_are_staged(rt: HostRuntime) -> Result<(), Fail> {
+fn commits_are_staged(rt: HostRuntime) {
     for case in CASES {
-        on_stores(&rt, &MakesCalls { case: *case })?;
+        on_stores(&rt, &MakesCalls { case: *case });
     }
-    Ok(())
 }

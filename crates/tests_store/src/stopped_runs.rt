@@ -1,20 +1,19 @@
 //! Runs over a store, and what it holds.
 
-use crate::recordings::{Cells, Recording, State};
-use pgapply::{DumpRow, ReplicaStore};
-use pglsn::Lsn;
+use crate::lines::lines_of;
+use crate::recordings::{Recording, State};
+use pgapply::ReplicaStore;
 use pgorder::Version;
 use pgspool::ByteSpools;
 use pgstore::StoreFault;
 use pgsub_core::{Fault, Subscriber};
-use pgtuple::Cell;
 use std::alloc::Global;
-use std::test::Fail;
+use std::process::Abort;
 
 /// What is tried over an opened store, which is given back. It is proved once, for any
 /// `ReplicaStore`.
 pub(crate) trait Trial {
-    fn run<C: ReplicaStore + Drop>(&mut self, alloc: Global, store: C) -> Result<C, Fail>;
+    fn run<R: Abort + AllocGlobal, C: ReplicaStore + Drop>(&mut self, rt: &R, store: C) -> C;
 }
 
 /// Feeds a session's bytes to a new subscriber over a store, and gives the store back.
@@ -41,47 +40,26 @@ fn tells_the_cause<C: ReplicaStore>(fed: &Result<(), Fault>, store: &C) -> bool 
     }
 }
 
-fn is_cell(cell: &Cell, text: Option<&str>) -> bool {
-    match (cell, text) {
-        (Cell::Null, None) => true,
-        (Cell::Text(found), Some(text)) => found.as_str() == text,
-        _ => false,
-    }
-}
-
-fn is_row(row: &DumpRow, cells: Cells) -> bool {
-    if row.oid != 16384 || row.copies != 1 || row.cells.width() != cells.len() {
-        return false;
-    }
-    for (cell, text) in row.cells.as_slice().iter().zip(cells) {
-        if !is_cell(cell, *text) {
-            return false;
+/// Which of the states has this position and these rows, counted from 0.
+fn index_of(states: &[State], position: u64, rows: &str) -> Option<usize> {
+    for (index, state) in states.iter().enumerate() {
+        if *state == (position, rows) {
+            return Some(index);
         }
     }
-    true
-}
-
-fn are_rows(rows: &[DumpRow], wanted: &[Cells]) -> bool {
-    for (row, cells) in rows.iter().zip(wanted) {
-        if !is_row(row, *cells) {
-            return false;
-        }
-    }
-    rows.len() == wanted.len()
+    None
 }
 
 /// Which of the states a store is in, counted from 0.
-fn state_of<C: ReplicaStore>(store: &mut C, states: &[State]) -> Result<usize, Fail> {
-    let position = store.position();
-    let Ok(rows) = store.rows() else {
-        return Err(Fail::from("the rows can't be read"));
-    };
-    for (index, (at, wanted)) in states.iter().enumerate() {
-        if Lsn(*at) == position && are_rows(rows.as_slice(), *wanted) {
-            return Ok(index);
-        }
-    }
-    Err(Fail::from("it is in none of the states"))
+fn state_of<C: ReplicaStore>(
+    rt: &(impl Abort + AllocGlobal),
+    store: &mut C,
+    states: &[State],
+) -> usize {
+    let position = store.position().0;
+    let rows = store.rows().expect(rt, "the rows");
+    let lines = lines_of(rt, rows.as_slice());
+    index_of(states, position, lines.as_str()).expect(rt, "one of the states")
 }
 
 /// A run on disks that may stop.
@@ -91,15 +69,11 @@ pub(crate) struct Stops<'t> {
 }
 
 impl Trial for Stops<'_> {
-    fn run<C: ReplicaStore + Drop>(&mut self, alloc: Global, store: C) -> Result<C, Fail> {
-        let (fed, store) = feed(alloc, store, self.bytes);
-        if !may_come_of_a_stop(&fed) {
-            return Err(Fail::from("another fault"));
-        }
-        if !tells_the_cause(&fed, &store) {
-            return Err(Fail::from("another cause"));
-        }
-        Ok(store)
+    fn run<R: Abort + AllocGlobal, C: ReplicaStore + Drop>(&mut self, rt: &R, store: C) -> C {
+        let (fed, store) = feed(rt.alloc(), store, self.bytes);
+        assert!(rt; may_come_of_a_stop(&fed));
+        assert!(rt; tells_the_cause(&fed, &store));
+        store
     }
 }
 
@@ -114,13 +88,13 @@ pub(crate) struct GoesOn<'t> {
 }
 
 impl Trial for GoesOn<'_> {
-    fn run<C: ReplicaStore + Drop>(&mut self, alloc: Global, mut store: C) -> Result<C, Fail> {
+    fn run<R: Abort + AllocGlobal, C: ReplicaStore + Drop>(&mut self, rt: &R, mut store: C) -> C {
         let states = self.recording.states;
-        self.state = Some(state_of(&mut store, states)?);
-        let (fed, mut store) = feed(alloc, store, self.bytes);
-        if fed.is_err() || state_of(&mut store, states)?.saturating_add(1) != states.len() {
-            return Err(Fail::from("the session doesn't lead to the end"));
-        }
-        Ok(store)
+        self.state = Some(state_of(rt, &mut store, states));
+        let (fed, mut store) = feed(rt.alloc(), store, self.bytes);
+        fed.expect(rt, "the end of the session");
+        let state = state_of(rt, &mut store, states);
+        assert_eq!(rt; state.saturating_add(1), states.len());
+        store
     }
 }

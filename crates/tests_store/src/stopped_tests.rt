@@ -6,31 +6,27 @@ use crate::stopped_runs::{GoesOn, Stops};
 use crate::stopping_disks::{Calls, Left, NEVER, nothing, try_in_files, try_over};
 use sqlite::Files;
 use sqlite_disk::Memory;
-use std::alloc::Global;
-use std::test::Fail;
+use std::process::Abort;
 
 /// A run on two new disks that stop after so many calls.
-fn run(alloc: Global, bytes: &[u8], calls: Calls) -> Result<Left, Fail> {
-    try_over(alloc, &nothing(alloc), calls, &mut Stops { bytes })
+fn run(rt: &(impl Abort + AllocGlobal), bytes: &[u8], calls: Calls) -> Left {
+    try_over(rt, &nothing(rt.alloc()), calls, &mut Stops { bytes })
 }
 
 /// A run on what was left. Returns the state in which that is.
 fn run_again(
-    alloc: Global,
+    rt: &(impl Abort + AllocGlobal),
     bytes: &[u8],
     left: &Left,
     recording: &Recording,
-) -> Result<usize, Fail> {
+) -> usize {
     let mut run = GoesOn {
         bytes,
         recording,
         state: None,
     };
-    let _left = try_over(alloc, left, calls_of(NEVER, true), &mut run)?;
-    match run.state {
-        Some(state) => Ok(state),
-        None => Err(Fail::from("what was left can't be opened")),
-    }
+    let _left = try_over(rt, left, calls_of(NEVER, true), &mut run);
+    run.state.expect(rt, "a store on what was left")
 }
 
 /// One of the disks passes so many calls on, the other all.
@@ -47,47 +43,59 @@ fn calls_of(number: u64, is_log: bool) -> Calls {
     }
 }
 
-/// Stops a disk after so many calls, for each number until a run meets no stop.
-fn sweep(alloc: Global, recording: &Recording, is_log: bool) -> Result<(), Fail> {
-    let bytes = bytes_of(alloc, recording.messages)?;
+/// Stops a disk after so many calls. Returns the state in which what is left is, and whether a stop
+/// was met.
+fn run_on_stopping(
+    rt: &(impl Abort + AllocGlobal),
+    bytes: &[u8],
+    recording: &Recording,
+    calls: Calls,
+) -> (usize, bool) {
+    let left = run(rt, bytes, calls);
+    (run_again(rt, bytes, &left, recording), left.has_stopped)
+}
+
+/// Stops a disk after so many calls, for each number until a run meets no stop, which leaves the
+/// last state. A later stop leaves no less.
+fn sweep(rt: &(impl Abort + AllocGlobal), recording: &Recording, is_log: bool) {
+    let bytes = bytes_of(rt, recording.messages);
     let mut last = 0;
     for number in 0..NEVER {
-        let left = run(alloc, bytes.as_slice(), calls_of(number, is_log))?;
-        let state = run_again(alloc, bytes.as_slice(), &left, recording)?;
-        if state < last {
-            return Err(Fail::from("a later stop leaves less"));
-        }
+        let calls = calls_of(number, is_log);
+        let (state, has_stopped) = run_on_stopping(rt, bytes.as_slice(), recording, calls);
+        assert!(rt; state >= last, "{number}");
         last = state;
-        if !left.has_stopped {
-            return Ok(());
+        if !has_stopped {
+            break;
         }
     }
-    Err(Fail::from("each run meets a stop"))
+    drop(bytes);
+    assert_eq!(rt; last.saturating_add(1), recording.states.len());
 }
 
 #[test]
-fn the_log_stops_in_blocks(rt: HostRuntime) -> Result<(), Fail> {
-    sweep(rt.alloc(), &IN_BLOCKS, true)
+fn the_log_stops_in_blocks(rt: HostRuntime) {
+    sweep(&rt, &IN_BLOCKS, true);
 }
 
 #[test]
-fn the_database_file_stops_in_blocks(rt: HostRuntime) -> Result<(), Fail> {
-    sweep(rt.alloc(), &IN_BLOCKS, false)
+fn the_database_file_stops_in_blocks(rt: HostRuntime) {
+    sweep(&rt, &IN_BLOCKS, false);
 }
 
 #[test]
-fn the_log_stops_while_rows_are_carried(rt: HostRuntime) -> Result<(), Fail> {
-    sweep(rt.alloc(), &CARRIED, true)
+fn the_log_stops_while_rows_are_carried(rt: HostRuntime) {
+    sweep(&rt, &CARRIED, true);
 }
 
 #[test]
-fn the_database_file_stops_while_rows_are_carried(rt: HostRuntime) -> Result<(), Fail> {
-    sweep(rt.alloc(), &CARRIED, false)
+fn the_database_file_stops_while_rows_are_carried(rt: HostRuntime) {
+    sweep(&rt, &CARRIED, false);
 }
 
 /// The end of the first group that ends after this position, else the position.
 fn next_of(position: u64) -> u64 {
-    for ends in GROUPS {
+    for ends in &GROUPS {
         let end = end_of(*ends);
         if end > position {
             return end;
@@ -97,80 +105,67 @@ fn next_of(position: u64) -> u64 {
 }
 
 /// Puts the groups that are left on what was left. Returns the position at which that is.
-fn put_again(alloc: Global, left: &Left) -> Result<u64, Fail> {
+fn put_again(rt: &(impl Abort + AllocGlobal), left: &Left) -> u64 {
     let mut run = PutsMore { position: None };
-    let _left = try_over(alloc, left, calls_of(NEVER, true), &mut run)?;
-    match run.position {
-        Some(position) => Ok(position),
-        None => Err(Fail::from("what was left can't be opened")),
-    }
+    let _left = try_over(rt, left, calls_of(NEVER, true), &mut run);
+    run.position.expect(rt, "a store on what was left")
 }
 
 /// Puts the groups on two new disks that stop after so many calls. Returns the position at which
 /// what is left is, and whether a stop was met. All groups that were settled are left, and of the
 /// others at most the next one, whole.
-fn put_on_stopping(alloc: Global, calls: Calls) -> Result<(u64, bool), Fail> {
+fn put_on_stopping(rt: &(impl Abort + AllocGlobal), calls: Calls) -> (u64, bool) {
     let mut run = Puts { position: 0 };
-    let left = try_over(alloc, &nothing(alloc), calls, &mut run)?;
-    let position = put_again(alloc, &left)?;
-    if position != run.position && position != next_of(run.position) {
-        return Err(Fail::from("another group is left"));
-    }
-    Ok((position, left.has_stopped))
+    let left = try_over(rt, &nothing(rt.alloc()), calls, &mut run);
+    let position = put_again(rt, &left);
+    assert!(rt; position == run.position || position == next_of(run.position));
+    (position, left.has_stopped)
 }
 
 /// Stops a disk after so many calls while groups are staged and settled, for each number until a
-/// run meets no stop. A later stop leaves as much or one group more, so each group is left by some
-/// run.
-fn sweep_groups(alloc: Global, is_log: bool) -> Result<(), Fail> {
+/// run meets no stop, which leaves all groups. A later stop leaves as much or one group more, so
+/// each group is left by some run.
+fn sweep_groups(rt: &(impl Abort + AllocGlobal), is_log: bool) {
     let mut last = 0;
     for number in 0..NEVER {
-        let (position, has_stopped) = put_on_stopping(alloc, calls_of(number, is_log))?;
-        if position != last && position != next_of(last) {
-            return Err(Fail::from("a later stop leaves less, or more than one group"));
-        }
+        let (position, has_stopped) = put_on_stopping(rt, calls_of(number, is_log));
+        assert!(rt; position == last || position == next_of(last), "{number}");
         last = position;
         if !has_stopped {
             break;
         }
     }
-    if next_of(last) != last {
-        return Err(Fail::from("a run that meets no stop leaves less than all groups"));
-    }
-    Ok(())
+    assert_eq!(rt; next_of(last), last);
 }
 
 #[test]
-fn the_log_stops_while_groups_are_settled(rt: HostRuntime) -> Result<(), Fail> {
-    sweep_groups(rt.alloc(), true)
+fn the_log_stops_while_groups_are_settled(rt: HostRuntime) {
+    sweep_groups(&rt, true);
 }
 
 #[test]
-fn the_database_file_stops_while_groups_are_settled(rt: HostRuntime) -> Result<(), Fail> {
-    sweep_groups(rt.alloc(), false)
+fn the_database_file_stops_while_groups_are_settled(rt: HostRuntime) {
+    sweep_groups(&rt, false);
 }
 
 /// The files of a store that was stopped hold its last state when they are opened again.
 #[test]
-fn stopped_files_are_opened_again(rt: HostRuntime) -> Result<(), Fail> {
-    let alloc = rt.alloc();
-    let bytes = bytes_of(alloc, CARRIED.messages)?;
+fn stopped_files_are_opened_again(rt: HostRuntime) {
+    let bytes = bytes_of(&rt, CARRIED.messages);
     let new = Files {
-        log: Memory::new(alloc),
-        db: Memory::new(alloc),
+        log: Memory::new(rt.alloc()),
+        db: Memory::new(rt.alloc()),
     };
     let mut first = Stops {
         bytes: bytes.as_slice(),
     };
-    let files = try_in_files(alloc, new, &mut first)?;
+    let files = try_in_files(&rt, new, &mut first);
     let mut second = GoesOn {
         bytes: bytes.as_slice(),
         recording: &CARRIED,
         state: None,
     };
-    let _files = try_in_files(alloc, files, &mut second)?;
-    match second.state {
-        Some(state) if state.saturating_add(1) == CARRIED.states.len() => Ok(()),
-        _ => Err(Fail::from("it isn't the last state")),
-    }
+    let _files = try_in_files(&rt, files, &mut second);
+    let state = second.state.expect(&rt, "a state");
+    assert_eq!(rt; state.saturating_add(1), CARRIED.states.len());
 }

@@ -7,14 +7,12 @@ use pgapply::{Commit, DumpRow, Misses, StoreFault, Work};
 use pglsn::Lsn;
 use pgstore::Store;
 use sqlite::{Alter, Connection};
-use std::alloc::Global;
 use std::process::Abort;
-use std::test::Fail;
 
 /// A connection to SQL tables, as a trial sees it.
 pub(crate) trait Tables: Drop {
     /// Runs statements.
-    fn execute(&mut self, statements: &str) -> Result<(), Fail>;
+    fn execute(&mut self, rt: &impl Abort, statements: &str);
 }
 
 /// A store, as a trial sees it.
@@ -22,9 +20,10 @@ pub(crate) trait Kept: Drop {
     /// Connections to the tables of such stores.
     type Tables: Tables;
 
-    fn adopt(alloc: Global, tables: Self::Tables) -> Result<Self, (StoreFault, Self::Tables)>;
+    /// The store of these tables.
+    fn adopt(rt: &(impl Abort + AllocGlobal), tables: Self::Tables) -> Self;
 
-    fn into_tables(self) -> Result<Self::Tables, Fail>;
+    fn into_tables(self, rt: &impl Abort) -> Self::Tables;
 
     fn position(&self) -> Lsn;
 
@@ -45,33 +44,28 @@ pub(crate) trait Kept: Drop {
     fn rows(&mut self) -> Result<Vec<DumpRow>, StoreFault>;
 }
 
-/// The value, or a failure for this reason.
-fn value_of<T, E: Drop>(outcome: Result<T, E>, why: &'static str) -> Result<T, Fail> {
-    match outcome {
-        Ok(value) => Ok(value),
-        Err(_) => Err(Fail::from(why)),
-    }
-}
-
 impl<S: Alter + Drop> Tables for Connection<S> {
-    fn execute(&mut self, statements: &str) -> Result<(), Fail> {
-        self.execute_batch(statements)?;
-        Ok(())
+    fn execute(&mut self, rt: &impl Abort, statements: &str) {
+        self.execute_batch(statements)
+            .expect(rt, "statements that run");
     }
 }
 
 impl<S: Alter + Drop> Kept for Store<S> {
     type Tables = Connection<S>;
 
-    fn adopt(
-        alloc: Global,
-        tables: Connection<S>,
-    ) -> Result<Store<S>, (StoreFault, Connection<S>)> {
-        Store::adopt(alloc, tables)
+    fn adopt(rt: &(impl Abort + AllocGlobal), tables: Connection<S>) -> Store<S> {
+        match Store::adopt(rt.alloc(), tables) {
+            Ok(store) => store,
+            Err(_) => rt.panic("the tables give no store"),
+        }
     }
 
-    fn into_tables(self) -> Result<Connection<S>, Fail> {
-        value_of(self.into_connection(), "the store gives no connection")
+    fn into_tables(self, rt: &impl Abort) -> Connection<S> {
+        match self.into_connection() {
+            Ok(tables) => tables,
+            Err(_) => rt.panic("the store gives no connection"),
+        }
     }
 
     fn position(&self) -> Lsn {
@@ -109,17 +103,9 @@ impl<S: Alter + Drop> Kept for Store<S> {
     }
 }
 
-/// The store of these tables.
-pub(crate) fn adopt<R: AllocGlobal, C: Kept>(rt: &R, tables: C::Tables) -> Result<C, StoreFault> {
-    match C::adopt(rt.alloc(), tables) {
-        Ok(store) => Ok(store),
-        Err((fault, _)) => Err(fault),
-    }
-}
-
 /// What is done with a new store.
 pub(crate) trait Trial {
-    fn run<R: Abort + AllocGlobal, C: Kept>(&self, rt: &R, store: C) -> Result<(), Fail>;
+    fn run<R: Abort + AllocGlobal, C: Kept>(&self, rt: &R, store: C);
 }
 
 /// Over a store of any kind: the proof that one over given disks is a store gets too large.
@@ -127,12 +113,12 @@ fn over<R: Abort + AllocGlobal, S: Alter + Drop>(
     rt: &R,
     trial: &impl Trial,
     store: Result<Store<S>, StoreFault>,
-) -> Result<(), Fail> {
-    trial.run(rt, store?)
+) {
+    trial.run(rt, store.expect(rt, "a store"));
 }
 
 /// Over a store in memory, and over one on disks in memory.
-pub(crate) fn on_stores<R: Abort + AllocGlobal>(rt: &R, trial: &impl Trial) -> Result<(), Fail> {
-    over(rt, trial, Store::in_memory(rt.alloc()))?;
-    over(rt, trial, Store::on_memory_disks(rt.alloc()))
+pub(crate) fn on_stores<R: Abort + AllocGlobal>(rt: &R, trial: &impl Trial) {
+    over(rt, trial, Store::in_memory(rt.alloc()));
+    over(rt, trial, Store::on_memory_disks(rt.alloc()));
 }

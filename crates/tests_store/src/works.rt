@@ -6,38 +6,42 @@ use pgapply::{Commit, Op, StoreFault, Work};
 use pglogical::{Column, RelationDef};
 use pglsn::Lsn;
 use pgtuple::{CellRef, Seq, Text, Tuple};
-use std::alloc::{AllocError, Global};
 use std::process::Abort;
 
-fn text(alloc: Global, text: &str) -> Result<Text, AllocError> {
-    Ok(Text::from_string(String::from_str(alloc, text)?))
+fn text(rt: &(impl Abort + AllocGlobal), text: &str) -> Text {
+    Text::from_string(String::from_str(rt.alloc(), text).expect(rt, "a text"))
 }
 
-/// A column of type text.
-fn column(alloc: Global, key: bool, name: &str) -> Result<Column, AllocError> {
-    Ok(Column {
-        key,
-        name: text(alloc, name)?,
-        type_oid: 25,
-        modifier: -1,
-    })
-}
-
-fn definition(alloc: Global, relation: &Relation) -> Result<RelationDef, AllocError> {
-    let (oid, namespace, name, letter, keys, others) = *relation;
-    let mut columns = Vec::new(alloc);
-    for (key, names) in [(true, keys), (false, others)] {
-        for name in names.split_whitespace() {
-            columns.push(column(alloc, key, name)?)?;
-        }
+/// Adds columns of type text.
+fn push_columns(
+    rt: &(impl Abort + AllocGlobal),
+    columns: &mut Vec<Column>,
+    key: bool,
+    names: &str,
+) {
+    for name in names.split_whitespace() {
+        let column = Column {
+            key,
+            name: text(rt, name),
+            type_oid: 25,
+            modifier: -1,
+        };
+        columns.push(column).expect(rt, "a column");
     }
-    Ok(RelationDef {
+}
+
+fn definition(rt: &(impl Abort + AllocGlobal), relation: &Relation) -> RelationDef {
+    let (oid, namespace, name, letter, keys, others) = *relation;
+    let mut columns = Vec::new(rt.alloc());
+    push_columns(rt, &mut columns, true, keys);
+    push_columns(rt, &mut columns, false, others);
+    RelationDef {
         oid,
-        namespace: text(alloc, namespace)?,
-        name: text(alloc, name)?,
+        namespace: text(rt, namespace),
+        name: text(rt, name),
         letter,
         columns: Seq::from_vec(columns),
-    })
+    }
 }
 
 fn cell(word: &str) -> CellRef<'_> {
@@ -50,12 +54,13 @@ fn cell(word: &str) -> CellRef<'_> {
 }
 
 /// A tuple of words, as those of a change.
-pub(crate) fn tuple(alloc: Global, words: &str) -> Result<Tuple, StoreFault> {
-    let mut cells = Vec::new(alloc);
+pub(crate) fn tuple(rt: &(impl Abort + AllocGlobal), words: &str) -> Tuple {
+    let mut cells = Vec::new(rt.alloc());
     for word in words.split_whitespace() {
-        cells.push(cell(word).to_cell(alloc).map_err(|_| StoreFault::Memory)?)?;
+        let cell = cell(word).to_cell(rt.alloc()).expect(rt, "a cell");
+        cells.push(cell).expect(rt, "a cell");
     }
-    Tuple::from_cells(cells).ok_or(StoreFault::Width)
+    Tuple::from_cells(cells).expect(rt, "a tuple")
 }
 
 fn op<'a>(change: Change, old: &'a Tuple, new: &'a Tuple) -> Op<'a> {
@@ -79,52 +84,55 @@ fn op<'a>(change: Change, old: &'a Tuple, new: &'a Tuple) -> Op<'a> {
     }
 }
 
-/// The old tuple and the new one of each change, of no cells where there is no such tuple.
-fn all_tuples(
-    alloc: Global,
-    changes: &[(usize, Change)],
-) -> Result<Vec<(Tuple, Tuple)>, StoreFault> {
-    let mut all = Vec::new(alloc);
-    for &(_, change) in changes {
-        let (old, new) = match change {
-            Change::Insert(new) | Change::Update(new) => ("", new),
-            Change::UpdateFrom(_, old, new) => (old, new),
-            Change::Delete(_, old) => (old, ""),
-            Change::Truncate => ("", ""),
-        };
-        all.push((tuple(alloc, old)?, tuple(alloc, new)?))?;
+/// The words of the old tuple and of the new one, none where there is no such tuple.
+fn words_of(change: Change) -> (&'static str, &'static str) {
+    match change {
+        Change::Insert(new) | Change::Update(new) => ("", new),
+        Change::UpdateFrom(_, old, new) => (old, new),
+        Change::Delete(_, old) => (old, ""),
+        Change::Truncate => ("", ""),
     }
-    Ok(all)
+}
+
+/// The number of a relation, a change of it, and the old tuple and the new one, of no cells where
+/// there is no such tuple.
+type Sent = (usize, Change, Tuple, Tuple);
+
+fn all_sent(rt: &(impl Abort + AllocGlobal), changes: &[(usize, Change)]) -> Vec<Sent> {
+    let mut all = Vec::new(rt.alloc());
+    for &(number, change) in changes {
+        let (old, new) = words_of(change);
+        let sent = (number, change, tuple(rt, old), tuple(rt, new));
+        all.push(sent).expect(rt, "a change");
+    }
+    all
+}
+
+/// A work that has these definitions, and no change.
+fn work_with<'a>(rt: &(impl Abort + AllocGlobal), relations: &[Relation]) -> Work<'a> {
+    let mut work = Work::new(rt.alloc());
+    for relation in relations {
+        let def = definition(rt, relation);
+        assert!(rt; def.spellable());
+        let _number = work.define(def).expect(rt, "a definition");
+    }
+    work
 }
 
 /// A work that has all definitions and these changes.
-fn work_of<'a>(
-    rt: &(impl Abort + AllocGlobal),
-    changes: &[(usize, Change)],
-    tuples: &'a [(Tuple, Tuple)],
-) -> Result<Work<'a>, StoreFault> {
-    let mut work = Work::new(rt.alloc());
-    for relation in &RELATIONS {
-        let def = definition(rt.alloc(), relation)?;
-        assert!(rt; def.spellable());
-        let _number = work.define(def)?;
+fn work_of<'a>(rt: &(impl Abort + AllocGlobal), all: &'a [Sent]) -> Work<'a> {
+    let mut work = work_with(rt, &RELATIONS);
+    for (number, change, old, new) in all {
+        assert!(rt; *number < work.definitions().len());
+        let op = op(*change, old, new);
+        work.change(*number, op).expect(rt, "a change");
     }
-    for (&(number, change), (old, new)) in changes.iter().zip(tuples) {
-        assert!(rt; number < work.definitions().len());
-        work.change(number, op(change, old, new))?;
-    }
-    Ok(work)
+    work
 }
 
 /// A work that has the definition of the table t, and no change.
-pub(crate) fn work_of_t<'a>(alloc: Global) -> Result<Work<'a>, StoreFault> {
-    let def = definition(alloc, &RELATIONS[T])?;
-    if !def.spellable() {
-        return Err(StoreFault::Width);
-    }
-    let mut work = Work::new(alloc);
-    let _number = work.define(def)?;
-    Ok(work)
+pub(crate) fn work_of_t<'a>(rt: &(impl Abort + AllocGlobal)) -> Work<'a> {
+    work_with(rt, &[RELATIONS[T]])
 }
 
 /// Stores a commit of these changes.
@@ -134,8 +142,8 @@ pub(crate) fn take<C: Kept>(
     end: u64,
     changes: &[(usize, Change)],
 ) -> Result<(), StoreFault> {
-    let tuples = all_tuples(rt.alloc(), changes)?;
-    let work = work_of(rt, changes, tuples.as_slice())?;
+    let sent = all_sent(rt, changes);
+    let work = work_of(rt, sent.as_slice());
     store.take(rt, Lsn(end), &work)
 }
 
@@ -146,8 +154,8 @@ pub(crate) fn stage<C: Kept>(
     end: u64,
     changes: &[(usize, Change)],
 ) -> Result<(), StoreFault> {
-    let tuples = all_tuples(rt.alloc(), changes)?;
-    let work = work_of(rt, changes, tuples.as_slice())?;
+    let sent = all_sent(rt, changes);
+    let work = work_of(rt, sent.as_slice());
     let commit = Commit {
         end: Lsn(end),
         about: None,
