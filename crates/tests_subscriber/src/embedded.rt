@@ -4,7 +4,7 @@ use crate::steps::bytes_of;
 use pgembed::InMemory;
 use pgorder::Version;
 use std::alloc::Global;
-use std::test::Fail;
+use std::process::Abort;
 
 /// The line of the row that the session inserts.
 const LINE: &[u8] = b"[\"public\",\"t\",[\"1\",\"a\"],1]\n";
@@ -43,24 +43,25 @@ fn replies(mut held: InMemory) -> bool {
     is_status && (asked, refused, passed, again) == (0, 10, 0, 0) && (length, none) == (39, 0)
 }
 
-#[test]
-fn a_session_is_fed(rt: HostRuntime) -> Result<(), Fail> {
-    let session = bytes_of(rt.alloc(), "t1")?;
-    let held = InMemory::new(rt.alloc(), Version::Two)?;
-    assert!(rt; is_fed(rt.alloc(), held, &session));
-    Ok(())
+/// A new subscriber.
+fn held(rt: &(impl Abort + AllocGlobal), version: Version) -> InMemory {
+    InMemory::new(rt.alloc(), version).expect(rt, "a subscriber")
 }
 
 #[test]
-fn a_fault_closes_until_the_next_session(rt: HostRuntime) -> Result<(), Fail> {
-    let held = InMemory::new(rt.alloc(), Version::One)?;
-    assert!(rt; closes(rt.alloc(), held));
-    Ok(())
+fn a_session_is_fed(rt: HostRuntime) {
+    let session = bytes_of(&rt, "t1");
+    let is_met = is_fed(rt.alloc(), held(&rt, Version::Two), &session);
+    drop(session);
+    assert!(rt; is_met);
 }
 
 #[test]
-fn replies_are_passed_once(rt: HostRuntime) -> Result<(), Fail> {
-    let held = InMemory::new(rt.alloc(), Version::Two)?;
-    assert!(rt; replies(held));
-    Ok(())
+fn a_fault_closes_until_the_next_session(rt: HostRuntime) {
+    assert!(rt; closes(rt.alloc(), held(&rt, Version::One)));
+}
+
+#[test]
+fn replies_are_passed_once(rt: HostRuntime) {
+    assert!(rt; replies(held(&rt, Version::Two)));
 }

@@ -3,12 +3,11 @@
 use crate::row::Step::{At, Feed, Rows};
 use crate::row::{AMPLE, AT_ONCE, Row, T_1_A};
 use crate::steps::take_steps;
+use crate::trials::{Trial, on_memory_disks};
 use pgapply::ReplicaStore;
 use pgembed::subscriber_over;
 use pgorder::Version;
 use std::process::Abort;
-use std::test::Fail;
-use trial_stores::{Trial, on_memory_disks};
 
 static FED: Row = Row {
     shows: "the common subscriber",
@@ -20,15 +19,15 @@ static FED: Row = Row {
 struct Feeds;
 
 impl<R: Abort + AllocGlobal> Trial<R> for Feeds {
-    type Outcome = Result<(), Fail>;
+    type Outcome = ();
 
-    fn run<C: ReplicaStore + Drop>(&self, rt: &R, store: C) -> Result<(), Fail> {
+    fn run<C: ReplicaStore + Drop>(&self, rt: &R, store: C) {
         let mut subscriber = subscriber_over(rt.alloc(), store, Version::Two);
-        take_steps(rt, &mut subscriber, &FED, AT_ONCE)
+        take_steps(rt, &mut subscriber, &FED, AT_ONCE);
     }
 }
 
 #[test]
-fn a_subscriber_applies_a_session(rt: HostRuntime) -> Result<(), Fail> {
-    on_memory_disks(&rt, &Feeds)?
+fn a_subscriber_applies_a_session(rt: HostRuntime) {
+    on_memory_disks(&rt, &Feeds);
 }

@@ -1,9 +1,9 @@
 //! Messages that a PostgreSQL server sent: each is decoded, and its encoding has the bytes that
 //! were sent.
 
+use crate::steps::unhex;
 use pglogical::{Message, decode, decode_ref, encode};
-use std::alloc::Global;
-use std::test::Fail;
+use std::process::Abort;
 
 /// A body of each kind, as PostgreSQL 15 sent it, and whether it came inside a stream block.
 static BODIES: [(bool, &str); 32] = [
@@ -74,35 +74,44 @@ static BODIES: [(bool, &str); 32] = [
     (true, "5900000d250000413900696e743400"),
 ];
 
-/// The encoding of a message; nothing where it has none.
-fn encoded(alloc: Global, message: &Message) -> Result<Vec<u8>, Fail> {
-    let mut bytes = Vec::new(alloc);
+/// Whether the message is encoded as the body.
+fn is_encoded(rt: &(impl Abort + AllocGlobal), message: &Message, body: &[u8]) -> bool {
+    let mut bytes = Vec::new(rt.alloc());
     if message.spellable() {
-        encode(message, &mut bytes)?;
+        encode(message, &mut bytes).expect(rt, "room");
     }
-    Ok(bytes)
+    bytes.as_slice() == body
+}
+
+/// Whether the body is decoded, and its message is encoded as the body.
+fn is_decoded(rt: &(impl Abort + AllocGlobal), body: &[u8], in_block: bool) -> bool {
+    let message = decode(rt.alloc(), body, in_block).expect(rt, "a message");
+    is_encoded(rt, &message, body)
+}
+
+/// The same where the body is borrowed as a message, and copied from there.
+fn is_copied(rt: &(impl Abort + AllocGlobal), body: &[u8], in_block: bool) -> bool {
+    let borrowed = decode_ref(body, in_block).expect(rt, "a message");
+    let message = borrowed.to_message(rt.alloc()).expect(rt, "a copy");
+    is_encoded(rt, &message, body)
 }
 
 #[test]
-fn messages_of_a_server_are_encoded_as_they_were_sent(rt: HostRuntime) -> Result<(), Fail> {
-    for (in_block, text) in &BODIES {
-        let body = hex::decode(rt.alloc(), text.as_bytes())?;
-        let message = decode(rt.alloc(), body.as_slice(), *in_block)?;
-        let bytes = encoded(rt.alloc(), &message)?;
-        assert!(rt; bytes.as_slice() == body.as_slice(), "{text}");
+fn messages_of_a_server_are_encoded_as_they_were_sent(rt: HostRuntime) {
+    for &(in_block, text) in &BODIES {
+        let body = unhex(&rt, text);
+        let is_met = is_decoded(&rt, body.as_slice(), in_block);
+        drop(body);
+        assert!(rt; is_met, "{text}");
     }
-    Ok(())
 }
 
 #[test]
-fn borrowed_messages_of_a_server_are_encoded_as_they_were_sent(
-    rt: HostRuntime,
-) -> Result<(), Fail> {
-    for (in_block, text) in &BODIES {
-        let body = hex::decode(rt.alloc(), text.as_bytes())?;
-        let message = decode_ref(body.as_slice(), *in_block)?.to_message(rt.alloc())?;
-        let bytes = encoded(rt.alloc(), &message)?;
-        assert!(rt; bytes.as_slice() == body.as_slice(), "{text}");
+fn borrowed_messages_of_a_server_are_encoded_as_they_were_sent(rt: HostRuntime) {
+    for &(in_block, text) in &BODIES {
+        let body = unhex(&rt, text);
+        let is_met = is_copied(&rt, body.as_slice(), in_block);
+        drop(body);
+        assert!(rt; is_met, "{text}");
     }
-    Ok(())
 }

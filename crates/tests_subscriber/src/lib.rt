@@ -1,11 +1,15 @@
-//! Tests of the subscriber and of what shows its messages, and no code.
+//! Tests of the subscriber and of the program's commands over it that can't be made with the built
+//! program, and no code.
 //!
 //! - The subscriber over its spools and its SQL stores. A row is a worked session: what a server
 //!   sends, in words of `messages`, and the rows, positions and statuses that it must leave. Each
 //!   form of spools takes the rows over each form of store.
 //! - The short forms for embedders (`pgembed`).
-//! - Which sessions a recording has (`pgcapture`), the lines that show them (`pgshow`), and the
-//!   encoding of messages that a server sent (`pglogical`).
+//! - The encoding of messages that a server sent (`pglogical`).
+//! - The program's commands (`pgsub_cli`, `pgcommand`). A row is a fault, a command line or the
+//!   bytes of a session or of a file; it is run over readers, writers and stores in memory, some of
+//!   which fail. Command lines over files are run with the built program, by tools/commands, and so
+//!   are bad changes at each place and runs over a store that is opened again, by tools/sweeps.
 //!
 //! They show what no contract says: that a call can succeed, what the text of a fault is, and that
 //! the definitions mean what was worked out by hand. Only the tests of `refusing` allow that an
@@ -14,6 +18,8 @@
 
 #[cfg(test)]
 mod blocks;
+#[cfg(test)]
+mod commands;
 #[cfg(test)]
 mod counting;
 #[cfg(test)]
@@ -27,30 +33,38 @@ mod embedded_stores;
 #[cfg(test)]
 mod encoded;
 #[cfg(test)]
+mod fault_tests;
+#[cfg(test)]
+mod following_tests;
+#[cfg(test)]
 mod messages;
 #[cfg(test)]
 mod missing;
 #[cfg(test)]
-mod pairs;
-#[cfg(test)]
-mod places;
+mod missing_tests;
 #[cfg(test)]
 mod pumped;
 #[cfg(test)]
-mod recordings;
+mod reading_tests;
 #[cfg(test)]
 mod refusing;
+#[cfg(test)]
+mod reporting_tests;
 #[cfg(test)]
 mod restarting;
 #[cfg(test)]
 mod row;
 #[cfg(test)]
-mod shown;
+mod runs;
 #[cfg(test)]
 mod states;
 #[cfg(test)]
 mod steps;
 #[cfg(test)]
+mod storing_tests;
+#[cfg(test)]
 mod tests;
 #[cfg(test)]
 mod transactions;
+#[cfg(test)]
+mod trials;

@@ -2,34 +2,15 @@
 
 use crate::row::Step::{At, Rows};
 use crate::row::{AMPLE, Row, T_1_A};
+use crate::runs::File;
 use crate::steps::{NOW, bytes_of, feed, over, position_of, take_steps};
+use crate::trials::{Trial, in_memory};
 use pgapply::ReplicaStore;
 use pgorder::{OrderFault, Version};
 use pgspool::{ByteSpools, ListSpools, Spools};
 use pgsub_core::{Fault, Source, Subscriber, pump};
-use std::io;
-use std::io::{ErrorKind, Read};
+use std::io::ErrorKind;
 use std::process::Abort;
-use std::test::Fail;
-use trial_stores::{Trial, in_memory};
-
-/// Gives at most so many bytes a call, and after the last one an error or the end.
-#[derive(Clone, Copy, Drop)]
-struct Reader<'t> {
-    rest: &'t [u8],
-    at_once: usize,
-    fails: bool,
-}
-
-impl<'t> Read for Reader<'t> {
-    fn read(&mut self, buf: &mut [u8]) -> io::Result<usize> {
-        if self.rest.is_empty() && self.fails {
-            return Err(io::Error::from(ErrorKind::Other));
-        }
-        let count = buf.len().min(self.at_once);
-        self.rest.read(&mut buf[..count])
-    }
-}
 
 /// What the transaction of the reader leaves.
 static STORED: Row = Row {
@@ -43,7 +24,7 @@ static STORED: Row = Row {
 fn pump_from<P: Spools + Drop, C: ReplicaStore + Drop>(
     rt: &impl Abort,
     subscriber: &mut Subscriber<P, C>,
-    reader: Reader<'_>,
+    reader: File<'_>,
 ) -> (Result<(), Fault>, bool) {
     let mut source = Source::new(reader);
     assert!(rt; !source.failed());
@@ -57,18 +38,18 @@ fn pump_and_feed<P: Spools + Drop, C: ReplicaStore + Drop>(
     subscriber: &mut Subscriber<P, C>,
     front: &[u8],
     rest: &[u8],
-) -> Result<(), Fail> {
-    let reader = Reader {
+) {
+    let reader = File {
         rest: front,
         at_once: 5,
-        fails: true,
+        error: Some(ErrorKind::Other),
     };
     let (pumped, failed) = pump_from(rt, subscriber, reader);
     let position = if rest.is_empty() { 0x130 } else { 0 };
     let is_met = pumped == Err(Fault::Read) && failed && position_of(subscriber) == position;
     assert!(rt; is_met, "after {} bytes", front.len());
     assert!(rt; feed(subscriber, rest).is_ok());
-    take_steps(rt, subscriber, &STORED, 1)
+    take_steps(rt, subscriber, &STORED, 1);
 }
 
 /// Whether pumping the bytes of words, so many at a call, gives this result, and no read fails.
@@ -78,15 +59,15 @@ fn pumps<P: Spools + Drop, C: ReplicaStore + Drop>(
     words: &str,
     at_once: usize,
     wanted: Result<(), Fault>,
-) -> Result<bool, Fail> {
-    let bytes = bytes_of(rt.alloc(), words)?;
-    let reader = Reader {
+) -> bool {
+    let bytes = bytes_of(rt, words);
+    let reader = File {
         rest: bytes.as_slice(),
         at_once,
-        fails: false,
+        error: None,
     };
     let (pumped, failed) = pump_from(rt, subscriber, reader);
-    Ok(pumped == wanted && !failed)
+    pumped == wanted && !failed
 }
 
 /// Pumps the first bytes over a new store, and feeds the others.
@@ -96,10 +77,10 @@ fn fail_after<P: Spools + Drop, C: ReplicaStore + Drop>(
     spools: P,
     bytes: &[u8],
     count: usize,
-) -> Result<(), Fail> {
+) {
     let (front, rest) = bytes.split_at(count.min(bytes.len()));
     let mut subscriber = over(rt.alloc(), store, spools, Version::Two);
-    pump_and_feed(rt, &mut subscriber, front, rest)
+    pump_and_feed(rt, &mut subscriber, front, rest);
 }
 
 /// A reader that fails after so many of the bytes.
@@ -111,26 +92,26 @@ struct FailsAfter<'t> {
 }
 
 impl<R: Abort + AllocGlobal> Trial<R> for FailsAfter<'_> {
-    type Outcome = Result<(), Fail>;
+    type Outcome = ();
 
-    fn run<C: ReplicaStore + Drop>(&self, rt: &R, store: C) -> Result<(), Fail> {
+    fn run<C: ReplicaStore + Drop>(&self, rt: &R, store: C) {
         if self.is_encoded {
             let spools = ByteSpools::new(rt.alloc(), AMPLE);
-            fail_after(rt, store, spools, self.bytes, self.count)
+            fail_after(rt, store, spools, self.bytes, self.count);
         } else {
             let spools = ListSpools::new(rt.alloc(), AMPLE);
-            fail_after(rt, store, spools, self.bytes, self.count)
+            fail_after(rt, store, spools, self.bytes, self.count);
         }
     }
 }
 
 #[test]
-fn a_reader_that_fails_after_each_byte(rt: HostRuntime) -> Result<(), Fail> {
-    let bytes = bytes_of(rt.alloc(), "t1")?;
-    let bytes = bytes.as_slice();
+fn a_reader_that_fails_after_each_byte(rt: HostRuntime) {
+    let bytes = bytes_of(&rt, "t1");
     assert!(rt; bytes.len() == 227);
     for count in 0..=bytes.len() {
         for is_encoded in [true, false] {
+            let bytes = bytes.as_slice();
             in_memory(
                 &rt,
                 &FailsAfter {
@@ -138,10 +119,9 @@ fn a_reader_that_fails_after_each_byte(rt: HostRuntime) -> Result<(), Fail> {
                     count,
                     is_encoded,
                 },
-            )??;
+            );
         }
     }
-    Ok(())
 }
 
 /// Pumps readers: one of a transaction, a byte at each call, and one of a Commit in a session of
@@ -149,29 +129,29 @@ fn a_reader_that_fails_after_each_byte(rt: HostRuntime) -> Result<(), Fail> {
 fn read_to_the_end<P: Spools + Drop, C: ReplicaStore + Drop>(
     rt: &(impl Abort + AllocGlobal),
     subscriber: &mut Subscriber<P, C>,
-) -> Result<(), Fail> {
-    assert!(rt; pumps(rt, subscriber, "t1", 1, Ok(()))?);
-    take_steps(rt, subscriber, &STORED, 1)?;
+) {
+    assert!(rt; pumps(rt, subscriber, "t1", 1, Ok(())));
+    take_steps(rt, subscriber, &STORED, 1);
     subscriber.disconnect();
     let fault = Err(Fault::Order(OrderFault::CommitWithoutBegin));
-    assert!(rt; pumps(rt, subscriber, "commit:130", 4096, fault)?);
-    take_steps(rt, subscriber, &STORED, 1)
+    assert!(rt; pumps(rt, subscriber, "commit:130", 4096, fault));
+    take_steps(rt, subscriber, &STORED, 1);
 }
 
 /// Pumps readers to their end over a new store.
 struct ReadsToTheEnd;
 
 impl<R: Abort + AllocGlobal> Trial<R> for ReadsToTheEnd {
-    type Outcome = Result<(), Fail>;
+    type Outcome = ();
 
-    fn run<C: ReplicaStore + Drop>(&self, rt: &R, store: C) -> Result<(), Fail> {
+    fn run<C: ReplicaStore + Drop>(&self, rt: &R, store: C) {
         let spools = ListSpools::new(rt.alloc(), AMPLE);
         let mut subscriber = over(rt.alloc(), store, spools, Version::Two);
-        read_to_the_end(rt, &mut subscriber)
+        read_to_the_end(rt, &mut subscriber);
     }
 }
 
 #[test]
-fn a_reader_is_read_to_its_end(rt: HostRuntime) -> Result<(), Fail> {
-    in_memory(&rt, &ReadsToTheEnd)?
+fn a_reader_is_read_to_its_end(rt: HostRuntime) {
+    in_memory(&rt, &ReadsToTheEnd);
 }

@@ -3,23 +3,13 @@
 
 use crate::blocks::{IN_BLOCKS, IN_PAIRS};
 use crate::row::{AMPLE, Stored, T_1_E, T_1_L, T_2_M};
-use crate::steps::{BadSession, are_rows, follow_all, over, position_of, rows_of, sessions_of};
+use crate::steps::{are_rows, follow_all, over, position_of, rows_of, sessions_of};
+use crate::trials::{Trial, in_memory, on_memory_disks, try_in_memory, try_on_memory_disks};
 use pgapply::{DumpRow, ReplicaStore, StoreFault};
 use pgorder::Version;
 use pgspool::{ByteSpools, ListSpools, Spools};
 use pgsub_core::{Fault, Session, Subscriber};
-use std::alloc::Global;
 use std::process::Abort;
-use std::test::Fail;
-use trial_stores::{Trial, in_memory, on_memory_disks};
-
-/// A session in chunks, asked for once more where memory ran out.
-fn sessions_in_the_end(alloc: Global, session: &'static str) -> Result<Vec<Session>, BadSession> {
-    match sessions_of(alloc, &[session], 51) {
-        Err(BadSession::Memory) => sessions_of(alloc, &[session], 51),
-        answer => answer,
-    }
-}
 
 /// All rows, asked for once more where memory ran out.
 fn rows_in_the_end<P: Spools + Drop, C: ReplicaStore + Drop>(
@@ -110,48 +100,41 @@ impl<R: Abort + AllocGlobal> Trial<R> for TakesAll<'_> {
 
 /// Whether all is applied over a store in memory, which is asked for once more where memory ran
 /// out.
-fn takes_all_in_memory(
-    rt: &(impl Abort + AllocGlobal),
-    trial: &TakesAll<'_>,
-) -> Result<bool, Fail> {
-    match in_memory(rt, trial) {
-        Ok(taken) => Ok(taken?),
-        Err(_) => Ok(in_memory(rt, trial)??),
+fn takes_all_in_memory(rt: &(impl Abort + AllocGlobal), trial: &TakesAll<'_>) -> bool {
+    match try_in_memory(rt, trial) {
+        Ok(taken) => taken == Ok(true),
+        Err(_) => in_memory(rt, trial) == Ok(true),
     }
 }
 
 /// The same over disks in memory. Where a disk can't grow, the store may shut with `Refused`, and
 /// all is applied again by other spools.
-fn takes_all_on_disks(rt: &(impl Abort + AllocGlobal), trial: &TakesAll<'_>) -> Result<bool, Fail> {
-    if let Ok(taken) = on_memory_disks(rt, trial) {
-        if taken != Err(Fault::Store(StoreFault::Refused)) {
-            return Ok(taken?);
-        }
+fn takes_all_on_disks(rt: &(impl Abort + AllocGlobal), trial: &TakesAll<'_>) -> bool {
+    match try_on_memory_disks(rt, trial) {
+        Ok(taken) if taken != Err(Fault::Store(StoreFault::Refused)) => taken == Ok(true),
+        _ => on_memory_disks(rt, trial) == Ok(true),
     }
-    Ok(on_memory_disks(rt, trial)??)
 }
 
 // The only result beside those that would have come is Memory, and nothing is lost.
 #[test]
-fn refused_memory_changes_nothing(rt: HostRuntime) -> Result<(), Fail> {
+fn refused_memory_changes_nothing(rt: HostRuntime) {
     for session in [IN_PAIRS, IN_BLOCKS] {
-        let sessions = sessions_in_the_end(rt.alloc(), session)?;
+        let sessions = sessions_of(&rt, &[session], 51);
         for as_bytes in [true, false] {
             let sessions = sessions.as_slice();
-            assert!(rt; takes_all_in_memory(&rt, &TakesAll { as_bytes, sessions })?);
+            assert!(rt; takes_all_in_memory(&rt, &TakesAll { as_bytes, sessions }));
         }
     }
-    Ok(())
 }
 
 #[test]
-fn on_disks_refused_memory_changes_nothing(rt: HostRuntime) -> Result<(), Fail> {
+fn on_disks_refused_memory_changes_nothing(rt: HostRuntime) {
     for session in [IN_PAIRS, IN_BLOCKS] {
-        let sessions = sessions_in_the_end(rt.alloc(), session)?;
+        let sessions = sessions_of(&rt, &[session], 51);
         for as_bytes in [true, false] {
             let sessions = sessions.as_slice();
-            assert!(rt; takes_all_on_disks(&rt, &TakesAll { as_bytes, sessions })?);
+            assert!(rt; takes_all_on_disks(&rt, &TakesAll { as_bytes, sessions }));
         }
     }
-    Ok(())
 }

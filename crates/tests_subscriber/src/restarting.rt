@@ -3,12 +3,11 @@
 use crate::row::Step::{At, Feed, Replies, Rows, Status};
 use crate::row::{AMPLE, Row, T_1_A, T_2_B};
 use crate::steps::taken;
+use crate::trials::{Trial, in_memory};
 use pgapply::ReplicaStore;
 use pgorder::Version;
 use pgspool::{ByteSpools, ListSpools};
 use std::process::Abort;
-use std::test::Fail;
-use trial_stores::{Trial, in_memory};
 
 static FIRST: Row = Row {
     shows: "the first of two subscribers",
@@ -36,18 +35,17 @@ static SECOND: Row = Row {
 struct Restarts;
 
 impl<R: Abort + AllocGlobal> Trial<R> for Restarts {
-    type Outcome = Result<(), Fail>;
+    type Outcome = ();
 
-    fn run<C: ReplicaStore + Drop>(&self, rt: &R, store: C) -> Result<(), Fail> {
+    fn run<C: ReplicaStore + Drop>(&self, rt: &R, store: C) {
         let spools = ByteSpools::new(rt.alloc(), AMPLE);
-        let store = taken(rt, store, spools, &FIRST, Version::One, 51)?;
+        let store = taken(rt, store, spools, &FIRST, Version::One, 51);
         let spools = ListSpools::new(rt.alloc(), AMPLE);
-        taken(rt, store, spools, &SECOND, Version::Two, 51)?;
-        Ok(())
+        drop(taken(rt, store, spools, &SECOND, Version::Two, 51));
     }
 }
 
 #[test]
-fn a_new_subscriber_goes_on_at_the_position_of_its_store(rt: HostRuntime) -> Result<(), Fail> {
-    in_memory(&rt, &Restarts)?
+fn a_new_subscriber_goes_on_at_the_position_of_its_store(rt: HostRuntime) {
+    in_memory(&rt, &Restarts);
 }

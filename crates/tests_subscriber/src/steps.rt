@@ -7,11 +7,10 @@ use pgapply::{DumpRow, ReplicaStore};
 use pglsn::Lsn;
 use pgorder::Version;
 use pgspool::{ByteSpools, ListSpools, Spools};
-use pgsub_core::{ConvergeFault, Fault, Session, Subscriber, Verdict, converge, follow};
+use pgsub_core::{Fault, Session, Side, Subscriber, Verdict, converge, follow};
 use pgtuple::{Bytes, Cell, Seq};
-use std::alloc::{AllocError, AllocFailed, Global};
+use std::alloc::Global;
 use std::process::Abort;
-use std::test::Fail;
 
 /// The clock of the replies.
 pub(crate) const NOW: i64 = 7;
@@ -19,63 +18,53 @@ pub(crate) const NOW: i64 = 7;
 /// The longest payload of a frame.
 const MAX_FRAME: u32 = 64000;
 
-/// Why a row's words give no session.
-#[derive(Debug, Drop)]
-pub(crate) enum BadSession {
-    /// Memory has run out.
-    Memory,
-    /// A word isn't known, or its digits aren't hexadecimal.
-    Word,
-}
-
-impl From<AllocError> for BadSession {
-    fn from(_error: AllocError) -> BadSession {
-        BadSession::Memory
+/// Appends bytes, once more where memory ran out.
+pub(crate) fn append(rt: &impl Abort, bytes: &mut Vec<u8>, part: &[u8]) {
+    if bytes.extend_from_slice(part).is_err() {
+        bytes.extend_from_slice(part).expect(rt, "room for bytes");
     }
 }
 
-impl<T: Drop> From<AllocFailed<T>> for BadSession {
-    fn from(_error: AllocFailed<T>) -> BadSession {
-        BadSession::Memory
+/// Pushes a value, once more where memory ran out.
+fn push<T: Drop>(rt: &impl Abort, values: &mut Vec<T>, value: T) {
+    if let Err(failed) = values.push(value) {
+        assert!(rt; values.push(failed.value).is_ok());
     }
 }
 
-impl From<FromHexError> for BadSession {
-    fn from(error: FromHexError) -> BadSession {
-        match error {
-            FromHexError::OutOfMemory => BadSession::Memory,
-            _ => BadSession::Word,
-        }
+/// The bytes of hexadecimal digits, asked for once more where memory ran out.
+fn decoded(rt: &(impl Abort + AllocGlobal), digits: &str) -> Vec<u8> {
+    match hex::decode(rt.alloc(), digits) {
+        Err(FromHexError::OutOfMemory) => hex::decode(rt.alloc(), digits).expect(rt, "digits"),
+        answer => answer.expect(rt, "digits"),
     }
 }
 
 /// The bytes of hexadecimal digits in groups.
-pub(crate) fn unhex(alloc: Global, digits: &str) -> Result<Vec<u8>, BadSession> {
-    let mut bytes = Vec::new(alloc);
+pub(crate) fn unhex(rt: &(impl Abort + AllocGlobal), digits: &str) -> Vec<u8> {
+    let mut bytes = Vec::new(rt.alloc());
     for word in digits.split_whitespace() {
-        let part = hex::decode(alloc, word)?;
-        bytes.extend_from_slice(part.as_slice())?;
+        append(rt, &mut bytes, decoded(rt, word).as_slice());
     }
-    Ok(bytes)
+    bytes
 }
 
-/// Appends the CopyData frame of a message, in XLogData from 0/0 to 0/0; of digits after `=` their
-/// bytes alone.
-fn append_message(alloc: Global, bytes: &mut Vec<u8>, message: &str) -> Result<(), BadSession> {
-    if let Some(digits) = message.strip_prefix('=') {
-        bytes.extend_from_slice(unhex(alloc, digits)?.as_slice())?;
-        return Ok(());
+/// Appends the CopyData frame of a body, in XLogData from 0/0 to 0/0.
+fn append_frame(rt: &impl Abort, bytes: &mut Vec<u8>, body: &[u8]) {
+    let length = u32::try_from(body.len().saturating_add(29)).expect(rt, "a length");
+    append(rt, bytes, b"d");
+    append(rt, bytes, &length.to_be_bytes());
+    append(rt, bytes, b"w");
+    append(rt, bytes, &[0; 24]);
+    append(rt, bytes, body);
+}
+
+/// Appends the frame of a message; of digits after `=` their bytes alone.
+fn append_message(rt: &(impl Abort + AllocGlobal), bytes: &mut Vec<u8>, message: &str) {
+    match message.strip_prefix('=') {
+        Some(digits) => append(rt, bytes, unhex(rt, digits).as_slice()),
+        None => append_frame(rt, bytes, unhex(rt, message).as_slice()),
     }
-    let body = unhex(alloc, message)?;
-    let Ok(length) = u32::try_from(body.len().saturating_add(29)) else {
-        return Err(BadSession::Word);
-    };
-    bytes.push(b'd')?;
-    bytes.extend_from_slice(&length.to_be_bytes())?;
-    bytes.push(b'w')?;
-    bytes.extend_from_slice(&[0; 24])?;
-    bytes.extend_from_slice(body.as_slice())?;
-    Ok(())
 }
 
 /// The digits of a word in a table.
@@ -89,56 +78,51 @@ fn found(table: &[(&'static str, &'static str)], word: &str) -> Option<&'static 
 }
 
 /// The digits of a word.
-fn digits_of(word: &str) -> Option<&'static str> {
-    for table in [BOUNDS, ITEMS, BLOCK_ITEMS, FRAMES] {
-        if let Some(digits) = found(table, word) {
-            return Some(digits);
-        }
-    }
-    None
+fn digits_of(rt: &impl Abort, word: &str) -> &'static str {
+    let outside = found(BOUNDS, word).or(found(ITEMS, word));
+    let digits = outside.or(found(BLOCK_ITEMS, word)).or(found(FRAMES, word));
+    digits.expect(rt, word)
 }
 
 /// The bytes of a session.
-pub(crate) fn bytes_of(alloc: Global, session: &str) -> Result<Vec<u8>, BadSession> {
-    let mut bytes = Vec::new(alloc);
+pub(crate) fn bytes_of(rt: &(impl Abort + AllocGlobal), session: &str) -> Vec<u8> {
+    let mut bytes = Vec::new(rt.alloc());
     for word in session.split_whitespace() {
-        let digits = digits_of(word).ok_or(BadSession::Word)?;
-        append_message(alloc, &mut bytes, digits)?;
+        append_message(rt, &mut bytes, digits_of(rt, word));
     }
-    Ok(bytes)
+    bytes
 }
 
-/// Bytes in chunks of so many.
-pub(crate) fn chunks_of(
-    alloc: Global,
-    bytes: &[u8],
-    chunk_len: usize,
-) -> Result<Vec<Bytes>, BadSession> {
-    let mut chunks = Vec::new(alloc);
-    for chunk in bytes.chunks(chunk_len.max(1)) {
-        chunks.push(Bytes::from_vec(Vec::from_slice(alloc, chunk)?))?;
-    }
-    Ok(chunks)
+/// A chunk of a session.
+fn chunk_of(rt: &(impl Abort + AllocGlobal), bytes: &[u8]) -> Bytes {
+    let mut chunk = Vec::new(rt.alloc());
+    append(rt, &mut chunk, bytes);
+    Bytes::from_vec(chunk)
 }
 
 /// A session in chunks of so many bytes.
-fn session_of(alloc: Global, session: &str, chunk_len: usize) -> Result<Session, BadSession> {
-    let bytes = bytes_of(alloc, session)?;
-    let pieces = Seq::from_vec(chunks_of(alloc, bytes.as_slice(), chunk_len)?);
-    Ok(Session { pieces })
+fn session_of(rt: &(impl Abort + AllocGlobal), session: &str, chunk_len: usize) -> Session {
+    let bytes = bytes_of(rt, session);
+    let mut chunks = Vec::new(rt.alloc());
+    for chunk in bytes.chunks(chunk_len.max(1)) {
+        push(rt, &mut chunks, chunk_of(rt, chunk));
+    }
+    drop(bytes);
+    let pieces = Seq::from_vec(chunks);
+    Session { pieces }
 }
 
 /// Sessions in chunks of so many bytes.
 pub(crate) fn sessions_of(
-    alloc: Global,
+    rt: &(impl Abort + AllocGlobal),
     sessions: &[&str],
     chunk_len: usize,
-) -> Result<Vec<Session>, BadSession> {
-    let mut all = Vec::new(alloc);
+) -> Vec<Session> {
+    let mut all = Vec::new(rt.alloc());
     for session in sessions {
-        all.push(session_of(alloc, session, chunk_len)?)?;
+        push(rt, &mut all, session_of(rt, session, chunk_len));
     }
-    Ok(all)
+    all
 }
 
 // The calls below promise nothing of what they return: who calls them is proved without the
@@ -184,7 +168,7 @@ pub(crate) fn rows_of<P: Spools + Drop, C: ReplicaStore + Drop>(
     subscriber.rows()
 }
 
-/// Compares two subscribers that follow these sessions first.
+/// Compares two subscribers that follow these sessions first. A fault is that of one side.
 pub(crate) fn compare_all<
     P: Spools + Drop,
     C: ReplicaStore + Drop,
@@ -195,8 +179,11 @@ pub(crate) fn compare_all<
     left_sessions: &[Session],
     right: &mut Subscriber<Q, D>,
     right_sessions: &[Session],
-) -> Result<Verdict, ConvergeFault> {
-    converge(left, left_sessions, right, right_sessions, NOW)
+) -> Result<Verdict, (Side, Fault)> {
+    match converge(left, left_sessions, right, right_sessions, NOW) {
+        Ok(verdict) => Ok(verdict),
+        Err(found) => Err((found.side, found.fault)),
+    }
 }
 
 /// Feeds bytes in chunks.
@@ -240,32 +227,36 @@ pub(crate) fn are_rows(rows: &[DumpRow], stored: &[Stored]) -> bool {
 
 /// Whether following sessions gives this result.
 fn follows<P: Spools + Drop, C: ReplicaStore + Drop>(
-    alloc: Global,
+    rt: &(impl Abort + AllocGlobal),
     subscriber: &mut Subscriber<P, C>,
     sessions: &[&str],
     chunk_len: usize,
     wanted: Result<(), Fault>,
-) -> Result<bool, Fail> {
-    let sessions = sessions_of(alloc, sessions, chunk_len)?;
-    Ok(follow_all(subscriber, sessions.as_slice()) == wanted)
+) -> bool {
+    let sessions = sessions_of(rt, sessions, chunk_len);
+    let followed = follow_all(subscriber, sessions.as_slice());
+    drop(sessions);
+    followed == wanted
 }
 
 /// Whether feeding messages gives this result.
 fn feeds<P: Spools + Drop, C: ReplicaStore + Drop>(
-    alloc: Global,
+    rt: &(impl Abort + AllocGlobal),
     subscriber: &mut Subscriber<P, C>,
     messages: &str,
     chunk_len: usize,
     wanted: Result<(), Fault>,
-) -> Result<bool, Fail> {
-    let bytes = bytes_of(alloc, messages)?;
-    Ok(feed_chunks(subscriber, bytes.as_slice(), chunk_len) == wanted)
+) -> bool {
+    let bytes = bytes_of(rt, messages);
+    let fed = feed_chunks(subscriber, bytes.as_slice(), chunk_len);
+    drop(bytes);
+    fed == wanted
 }
 
 /// Whether these are the bytes of hexadecimal digits.
-fn are_bytes(alloc: Global, bytes: &[u8], digits: &str) -> Result<bool, Fail> {
-    let wanted = unhex(alloc, digits)?;
-    Ok(bytes == wanted.as_slice())
+fn are_bytes(rt: &(impl Abort + AllocGlobal), bytes: &[u8], digits: &str) -> bool {
+    let wanted = unhex(rt, digits);
+    bytes == wanted.as_slice()
 }
 
 /// Whether position, confirmed and received are these.
@@ -301,38 +292,37 @@ pub(crate) fn has_missed<P: Spools + Drop, C: ReplicaStore + Drop>(
 
 /// Whether these are all stored rows.
 fn has_rows<P: Spools + Drop, C: ReplicaStore + Drop>(
+    rt: &impl Abort,
     subscriber: &mut Subscriber<P, C>,
     stored: &[Stored],
-) -> Result<bool, Fault> {
-    let rows = rows_of(subscriber)?;
-    Ok(are_rows(rows.as_slice(), stored))
+) -> bool {
+    let rows = rows_of(subscriber).expect(rt, "rows");
+    are_rows(rows.as_slice(), stored)
 }
 
 /// Takes a step. Returns whether its result is the one that it names.
 fn take<P: Spools + Drop, C: ReplicaStore + Drop>(
-    alloc: Global,
+    rt: &(impl Abort + AllocGlobal),
     subscriber: &mut Subscriber<P, C>,
     step: Step,
     chunk_len: usize,
-) -> Result<bool, Fail> {
+) -> bool {
     match step {
-        Step::Follow(sessions, wanted) => follows(alloc, subscriber, sessions, chunk_len, wanted),
-        Step::Feed(messages, wanted) => feeds(alloc, subscriber, messages, chunk_len, wanted),
+        Step::Follow(sessions, wanted) => follows(rt, subscriber, sessions, chunk_len, wanted),
+        Step::Feed(messages, wanted) => feeds(rt, subscriber, messages, chunk_len, wanted),
         Step::Disconnect => {
             subscriber.disconnect();
-            Ok(true)
+            true
         }
-        Step::Status(now, ask) => Ok(subscriber.status(now, ask).is_ok()),
+        Step::Status(now, ask) => subscriber.status(now, ask).is_ok(),
         Step::ClearReplies => {
             subscriber.clear_replies();
-            Ok(true)
+            true
         }
-        Step::Replies(digits) => are_bytes(alloc, subscriber.replies(), digits),
-        Step::At(position, confirmed, received) => {
-            Ok(is_at(subscriber, position, confirmed, received))
-        }
-        Step::Misses(count, end, oid) => Ok(has_missed(subscriber, count, end, oid)),
-        Step::Rows(stored) => Ok(has_rows(subscriber, stored)?),
+        Step::Replies(digits) => are_bytes(rt, subscriber.replies(), digits),
+        Step::At(position, confirmed, received) => is_at(subscriber, position, confirmed, received),
+        Step::Misses(count, end, oid) => has_missed(subscriber, count, end, oid),
+        Step::Rows(stored) => has_rows(rt, subscriber, stored),
     }
 }
 
@@ -342,16 +332,15 @@ pub(crate) fn take_steps<P: Spools + Drop, C: ReplicaStore + Drop>(
     subscriber: &mut Subscriber<P, C>,
     row: &Row,
     chunk_len: usize,
-) -> Result<(), Fail> {
+) {
     for (index, step) in row.steps.iter().enumerate() {
-        let is_met = take(rt.alloc(), subscriber, *step, chunk_len)?;
+        let is_met = take(rt, subscriber, *step, chunk_len);
         assert!(rt;
             is_met,
             "{}: step {index} in chunks of {chunk_len}",
             row.shows
         );
     }
-    Ok(())
 }
 
 /// Takes the steps of a row by a new subscriber. Returns the store then.
@@ -362,10 +351,10 @@ pub(crate) fn taken<P: Spools + Drop, C: ReplicaStore + Drop>(
     row: &Row,
     version: Version,
     chunk_len: usize,
-) -> Result<C, Fail> {
+) -> C {
     let mut subscriber = over(rt.alloc(), store, spools, version);
-    take_steps(rt, &mut subscriber, row, chunk_len)?;
-    Ok(subscriber.into_store())
+    take_steps(rt, &mut subscriber, row, chunk_len);
+    subscriber.into_store()
 }
 
 /// How a row is taken.
@@ -377,18 +366,18 @@ pub(crate) struct Way {
     pub(crate) chunk_len: usize,
 }
 
-/// Takes the steps of a row over a new store. Returns the store then.
+/// Takes the steps of a row over a new store.
 pub(crate) fn check<C: ReplicaStore + Drop>(
     rt: &(impl Abort + AllocGlobal),
     store: C,
     row: &Row,
     way: Way,
-) -> Result<C, Fail> {
+) {
     if way.is_encoded {
         let spools = ByteSpools::new(rt.alloc(), row.limit);
-        taken(rt, store, spools, row, way.version, way.chunk_len)
+        drop(taken(rt, store, spools, row, way.version, way.chunk_len));
     } else {
         let spools = ListSpools::new(rt.alloc(), row.limit);
-        taken(rt, store, spools, row, way.version, way.chunk_len)
+        drop(taken(rt, store, spools, row, way.version, way.chunk_len));
     }
 }

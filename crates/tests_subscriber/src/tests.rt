@@ -5,11 +5,10 @@ use crate::row::{AT_ONCE, Row};
 use crate::states::{STATES, VERSION_1};
 use crate::steps::{Way, check};
 use crate::transactions::{BAD_CHANGES, TRANSACTIONS};
+use crate::trials::{Trial, in_memory, on_memory_disks};
 use pgapply::ReplicaStore;
 use pgorder::Version;
 use std::process::Abort;
-use std::test::Fail;
-use trial_stores::{Trial, in_memory, on_memory_disks};
 
 /// Encoded items, a byte at a time.
 const ENCODED_IN_BYTES: Way = Way {
@@ -61,62 +60,57 @@ struct TakesRow {
 }
 
 impl<R: Abort + AllocGlobal> Trial<R> for TakesRow {
-    type Outcome = Result<(), Fail>;
+    type Outcome = ();
 
-    fn run<C: ReplicaStore + Drop>(&self, rt: &R, store: C) -> Result<(), Fail> {
-        check(rt, store, &self.row, self.way)?;
-        Ok(())
+    fn run<C: ReplicaStore + Drop>(&self, rt: &R, store: C) {
+        check(rt, store, &self.row, self.way);
     }
 }
 
 /// Takes rows over stores in memory.
-fn check_in_memory(rt: &(impl Abort + AllocGlobal), rows: &[Row], way: Way) -> Result<(), Fail> {
+fn check_in_memory(rt: &(impl Abort + AllocGlobal), rows: &[Row], way: Way) {
     for row in rows {
-        in_memory(rt, &TakesRow { row: *row, way })??;
+        in_memory(rt, &TakesRow { row: *row, way });
     }
-    Ok(())
 }
 
 /// Takes rows over B-trees on disks in memory.
-fn check_on_disks(rt: &(impl Abort + AllocGlobal), rows: &[Row], way: Way) -> Result<(), Fail> {
+fn check_on_disks(rt: &(impl Abort + AllocGlobal), rows: &[Row], way: Way) {
     for row in rows {
-        on_memory_disks(rt, &TakesRow { row: *row, way })??;
+        on_memory_disks(rt, &TakesRow { row: *row, way });
     }
-    Ok(())
 }
 
 #[test]
-fn transactions_in_memory(rt: HostRuntime) -> Result<(), Fail> {
+fn transactions_in_memory(rt: HostRuntime) {
     for way in [ENCODED_IN_BYTES, DECODED_AT_ONCE, IN_VERSION_1] {
-        check_in_memory(&rt, TRANSACTIONS, way)?;
-        check_in_memory(&rt, BAD_CHANGES, way)?;
+        check_in_memory(&rt, TRANSACTIONS, way);
+        check_in_memory(&rt, BAD_CHANGES, way);
     }
-    Ok(())
 }
 
 #[test]
-fn blocks_in_memory(rt: HostRuntime) -> Result<(), Fail> {
+fn blocks_in_memory(rt: HostRuntime) {
     for way in [ENCODED_IN_CHUNKS, ENCODED_AT_ONCE, DECODED_IN_BYTES] {
-        check_in_memory(&rt, BLOCKS, way)?;
-        check_in_memory(&rt, STATES, way)?;
+        check_in_memory(&rt, BLOCKS, way);
+        check_in_memory(&rt, STATES, way);
     }
-    Ok(())
 }
 
 #[test]
-fn version_1_has_no_blocks(rt: HostRuntime) -> Result<(), Fail> {
-    check_in_memory(&rt, VERSION_1, IN_VERSION_1)
+fn version_1_has_no_blocks(rt: HostRuntime) {
+    check_in_memory(&rt, VERSION_1, IN_VERSION_1);
 }
 
 #[test]
-fn transactions_on_disks(rt: HostRuntime) -> Result<(), Fail> {
-    check_on_disks(&rt, TRANSACTIONS, ENCODED_IN_CHUNKS)?;
-    check_on_disks(&rt, BAD_CHANGES, DECODED_AT_ONCE)
+fn transactions_on_disks(rt: HostRuntime) {
+    check_on_disks(&rt, TRANSACTIONS, ENCODED_IN_CHUNKS);
+    check_on_disks(&rt, BAD_CHANGES, DECODED_AT_ONCE);
 }
 
 #[test]
-fn blocks_on_disks(rt: HostRuntime) -> Result<(), Fail> {
-    check_on_disks(&rt, BLOCKS, ENCODED_IN_BYTES)?;
-    check_on_disks(&rt, BLOCKS, DECODED_AT_ONCE)?;
-    check_on_disks(&rt, STATES, DECODED_IN_BYTES)
+fn blocks_on_disks(rt: HostRuntime) {
+    check_on_disks(&rt, BLOCKS, ENCODED_IN_BYTES);
+    check_on_disks(&rt, BLOCKS, DECODED_AT_ONCE);
+    check_on_disks(&rt, STATES, DECODED_IN_BYTES);
 }

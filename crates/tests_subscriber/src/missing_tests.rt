@@ -2,16 +2,15 @@
 
 use crate::following_tests::{SESSION, Still};
 use crate::runs::File;
+use crate::trials::{Trial, on_memory_disks};
 use pgapply::ReplicaStore;
 use pgcommand::Limits;
 use pgfollow::Link;
 use pglsn::Lsn;
 use pgorder::Version;
 use pgsub_cli::{MissedLines, Reported, run_follow};
-use std::alloc::{AllocError, Global};
+use std::alloc::Global;
 use std::process::Abort;
-use std::test::Fail;
-use trial_stores::{Trial, on_memory_disks};
 
 /// Where the session says that its row is inserted.
 const KIND: usize = 151;
@@ -20,12 +19,10 @@ const KIND: usize = 151;
 struct Misses;
 
 /// The session with an Update.
-fn session(alloc: Global) -> Result<Vec<u8>, AllocError> {
-    let mut session = Vec::from_slice(alloc, SESSION)?;
-    if let Some(kind) = session.get_mut(KIND) {
-        *kind = b'U';
-    }
-    Ok(session)
+fn session(rt: &(impl Abort + AllocGlobal)) -> Vec<u8> {
+    let mut session = Vec::from_slice(rt.alloc(), SESSION).expect(rt, "a session");
+    *session.get_mut(KIND).expect(rt, "a kind") = b'U';
+    session
 }
 
 /// Follows the session over a store, and returns the exit status and the position.
@@ -48,24 +45,24 @@ fn follow<C: ReplicaStore + Drop>(
     (status, store.position())
 }
 
-impl<R: Abort + AllocGlobal> Trial<R> for Misses {
-    type Outcome = Result<(), Fail>;
+/// The line of a row that isn't found.
+static LINE: &[u8] = b"pgsub: rows not found: 1, first in relation 16384 at 0/130\n";
 
-    fn run<C: ReplicaStore + Drop>(&self, rt: &R, store: C) -> Result<(), Fail> {
+impl<R: Abort + AllocGlobal> Trial<R> for Misses {
+    type Outcome = bool;
+
+    fn run<C: ReplicaStore + Drop>(&self, rt: &R, store: C) -> bool {
         let alloc = rt.alloc();
-        let session = session(alloc)?;
+        let session = session(rt);
         let (mut lines, mut err) = (Vec::new(alloc), Vec::new(alloc));
         let reported = Reported::new(store, MissedLines::new(alloc, &mut lines));
         let (status, position) = follow(alloc, reported, &session, &mut err);
-        let line = b"pgsub: rows not found: 1, first in relation 16384 at 0/130\n";
-        assert!(rt; lines.as_slice() == line.as_slice(), "{lines:?}");
-        assert!(rt; err.is_empty(), "{err:?}");
-        assert!(rt; status == 16 && position == Lsn(0x130), "{status}");
-        Ok(())
+        let is_told = lines.as_slice() == LINE && err.is_empty();
+        is_told && status == 16 && position == Lsn(0x130)
     }
 }
 
 #[test]
-fn changes_that_find_no_row_are_told(rt: HostRuntime) -> Result<(), Fail> {
-    on_memory_disks(&rt, &Misses)?
+fn changes_that_find_no_row_are_told(rt: HostRuntime) {
+    assert!(rt; on_memory_disks(&rt, &Misses));
 }

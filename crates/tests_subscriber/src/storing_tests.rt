@@ -3,6 +3,7 @@
 use crate::following_tests::SESSION;
 use crate::reporting_tests::REJECTED;
 use crate::runs::{Answer, is_answered};
+use crate::trials::{Trial, on_memory_disks};
 use pgapply::{ReplicaStore, StoreFault};
 use pgcommand::{DEFAULT_CACHE, Limits, Task};
 use pgorder::Version;
@@ -13,27 +14,24 @@ use pgsub_cli::storing::{
 };
 use pgsub_core::Side;
 use std::process::Abort;
-use std::test::Fail;
-use trial_stores::{Trial, on_memory_disks};
 
 /// The bytes of a file, which are no frames.
 struct FeedsBytes;
 
 impl<R: Abort + AllocGlobal> Trial<R> for FeedsBytes {
-    type Outcome = Result<(), Fail>;
+    type Outcome = ();
 
-    fn run<C: ReplicaStore + Drop>(&self, rt: &R, store: C) -> Result<(), Fail> {
+    fn run<C: ReplicaStore + Drop>(&self, rt: &R, store: C) {
         let alloc = rt.alloc();
         let file = Some(b"x".as_slice());
         let Ok(Incoming::Raw(bytes)) = read_input(alloc, true, file) else {
-            return Err(Fail::from("the file isn't taken as bytes"));
+            rt.panic("the file isn't taken as bytes");
         };
         let input = Some((Version::Two, Incoming::Raw(bytes)));
         let (mut out, mut err) = (Vec::new(alloc), Vec::new(alloc));
         let (status, store) = run_store(alloc, store, input, &mut out, &mut err);
         is_answered(rt, "bytes", &out, &err, status, &REJECTED);
         is_empty(rt, store);
-        Ok(())
     }
 }
 
@@ -52,8 +50,8 @@ fn is_empty<C: ReplicaStore + Drop>(rt: &(impl Abort + AllocGlobal), store: C) {
 }
 
 #[test]
-fn the_bytes_of_a_file_are_fed_to_a_store(rt: HostRuntime) -> Result<(), Fail> {
-    on_memory_disks(&rt, &FeedsBytes)?
+fn the_bytes_of_a_file_are_fed_to_a_store(rt: HostRuntime) {
+    on_memory_disks(&rt, &FeedsBytes);
 }
 
 /// A session whose items cost more than may be buffered.
@@ -72,37 +70,37 @@ static FULL: Answer = Answer {
 };
 
 impl<R: Abort + AllocGlobal> Trial<R> for BuffersLess {
-    type Outcome = Result<(), Fail>;
+    type Outcome = ();
 
-    fn run<C: ReplicaStore + Drop>(&self, rt: &R, store: C) -> Result<(), Fail> {
+    fn run<C: ReplicaStore + Drop>(&self, rt: &R, store: C) {
         let alloc = rt.alloc();
         let input = Some((Version::Two, Incoming::Raw(SESSION)));
         let (mut out, mut err) = (Vec::new(alloc), Vec::new(alloc));
         let (status, _) = run_within(alloc, store, BUFFERS_LESS, input, &mut out, &mut err);
         is_answered(rt, "a session", &out, &err, status, &FULL);
-        Ok(())
     }
 }
 
 #[test]
-fn what_is_applied_is_within_its_limits(rt: HostRuntime) -> Result<(), Fail> {
-    on_memory_disks(&rt, &BuffersLess)?
+fn what_is_applied_is_within_its_limits(rt: HostRuntime) {
+    on_memory_disks(&rt, &BuffersLess);
+}
+
+/// Whether a file is no input, for this reason.
+fn is_unread(rt: &impl AllocGlobal, raw: bool, file: Option<&[u8]>, reason: RunFault) -> bool {
+    match read_input(rt.alloc(), raw, file) {
+        Ok(_) => false,
+        Err(fault) => fault == reason,
+    }
 }
 
 #[test]
-fn what_cannot_be_read_is_no_input(rt: HostRuntime) -> Result<(), Fail> {
-    let none: Option<&[u8]> = None;
-    for raw in [false, true] {
-        let Err(fault) = read_input(rt.alloc(), raw, none) else {
-            return Err(Fail::from("a file that isn't there"));
-        };
-        assert_eq!(rt; fault, RunFault::CannotRead(Side::Left));
-    }
-    let Err(fault) = read_input(rt.alloc(), false, Some(b"x".as_slice())) else {
-        return Err(Fail::from("a recording that isn't one"));
-    };
-    assert_eq!(rt; fault, RunFault::NotHexadecimal(1));
-    Ok(())
+fn what_cannot_be_read_is_no_input(rt: HostRuntime) {
+    let absent = RunFault::CannotRead(Side::Left);
+    assert!(rt; is_unread(&rt, false, None, absent));
+    assert!(rt; is_unread(&rt, true, None, absent));
+    let file = Some(b"x".as_slice());
+    assert!(rt; is_unread(&rt, false, file, RunFault::NotHexadecimal(1)));
 }
 
 /// Why a store isn't opened, and the lines and statuses of that.
@@ -112,24 +110,31 @@ static UNOPENED: [(StoreFault, &str, u8); 3] = [
     (StoreFault::Memory, "pgsub: memory\n", 1),
 ];
 
+/// Whether a store that isn't opened is told so, with this status.
+fn is_unopened(rt: &impl AllocGlobal, fault: StoreFault, line: &str, status: u8) -> bool {
+    let mut err = Vec::new(rt.alloc());
+    let told = tell_unopened(rt.alloc(), fault, &mut err);
+    told == status && err.as_slice() == line.as_bytes()
+}
+
 #[test]
 fn a_store_that_is_not_opened_is_told(rt: HostRuntime) {
     for &(fault, line, status) in &UNOPENED {
-        let mut err = Vec::new(rt.alloc());
-        assert_eq!(rt; tell_unopened(rt.alloc(), fault, &mut err), status);
-        assert_eq!(rt; err.as_slice(), line.as_bytes());
+        assert!(rt; is_unopened(&rt, fault, line, status), "{line}");
     }
 }
 
 #[test]
-fn a_store_that_is_not_there_is_told(rt: HostRuntime) -> Result<(), Fail> {
+fn a_store_that_is_not_there_is_told(rt: HostRuntime) {
     let alloc = rt.alloc();
-    let store = String::from_str(alloc, "copy.db")?;
+    let store = String::from_str(alloc, "copy.db").expect(&rt, "a name");
     let cache = DEFAULT_CACHE;
     let task = Task::Dump { store, cache };
     let mut err = Vec::new(alloc);
     let fault = RunFault::CannotRead(Side::Left);
-    assert_eq!(rt; tell_stopped(alloc, &task, fault, &mut err), 3);
-    assert_eq!(rt; err.as_slice(), b"pgsub: cannot read copy.db\n".as_slice());
-    Ok(())
+    let status = tell_stopped(alloc, &task, fault, &mut err);
+    drop(task);
+    let is_line = err.as_slice() == b"pgsub: cannot read copy.db\n".as_slice();
+    drop(err);
+    assert!(rt; is_line && status == 3);
 }

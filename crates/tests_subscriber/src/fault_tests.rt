@@ -11,7 +11,6 @@ use pgsub_core::Fault;
 use pgtuple::TupleFault;
 use pgwire::WireFault;
 use std::process::Abort;
-use std::test::Fail;
 
 /// One fault of each kind that following can end with.
 static FAULTS: [Fault; 34] = [
@@ -67,30 +66,28 @@ static REASONS: [Reason; 12] = [
     Reason::Tuple(TupleFault::TooManyColumns(3)),
 ];
 
-/// Compares both texts of a fault.
-fn check(rt: &(impl Abort + AllocGlobal), fault: Fault) -> Result<(), Fail> {
+/// Whether both texts of a fault are the same.
+fn is_told(rt: &(impl Abort + AllocGlobal), fault: Fault) -> bool {
     let alloc = rt.alloc();
-    let text = format!(in alloc; "pgsub: {fault}\n")?;
+    let text = format!(in alloc; "pgsub: {fault}\n").expect(rt, "a text");
     let fault = RunFault::Stream(fault);
     let (left, right) = ("", "");
-    let line = format!(in alloc; "{}", StopLine { fault, left, right })?;
-    assert!(rt; line == text, "{line:?} {text:?}");
-    Ok(())
+    let line = format!(in alloc; "{}", StopLine { fault, left, right }).expect(rt, "a line");
+    line == text
 }
 
 #[test]
-fn a_fault_is_told_in_the_words_of_its_library(rt: HostRuntime) -> Result<(), Fail> {
+fn a_fault_is_told_in_the_words_of_its_library(rt: HostRuntime) {
     for &fault in &FAULTS {
-        check(&rt, fault)?;
+        assert!(rt; is_told(&rt, fault), "{fault}");
     }
-    Ok(())
 }
 
 #[test]
-fn a_fault_of_decoding_is_told_in_the_words_of_its_library(rt: HostRuntime) -> Result<(), Fail> {
+fn a_fault_of_decoding_is_told_in_the_words_of_its_library(rt: HostRuntime) {
     for &reason in &REASONS {
         let place = 12;
-        check(&rt, Fault::Decode(DecodeFault { place, reason }))?;
+        let fault = Fault::Decode(DecodeFault { place, reason });
+        assert!(rt; is_told(&rt, fault), "{fault}");
     }
-    Ok(())
 }

@@ -1,12 +1,10 @@
 //! A run of a command line over files in memory, and what it must print.
 
-use pgcommand::{CommandFault, Task, command_of};
+use pgcommand::{Task, command_of};
 use pgsub_cli::running::{run, store_path};
-use std::alloc::{AllocError, Global};
 use std::io;
 use std::io::{ErrorKind, Read, Write};
 use std::process::Abort;
-use std::test::Fail;
 
 /// What a run prints, and its exit status.
 #[derive(Clone, Copy, Drop)]
@@ -47,22 +45,14 @@ impl<'t> Read for File<'t> {
     }
 }
 
-/// What a command line asks for.
-fn asked(alloc: Global, line: &str) -> Result<Result<Task, CommandFault>, AllocError> {
-    let mut words = Vec::new(alloc);
-    for word in line.split(' ') {
-        words.push(String::from_str(alloc, word)?)?;
-    }
-    Ok(command_of(alloc, words.as_slice()))
-}
-
 /// The task of a command line.
-pub(crate) fn task_of(alloc: Global, line: &str) -> Result<Task, Fail> {
-    match asked(alloc, line)? {
-        Ok(task) => Ok(task),
-        Err(CommandFault::Usage(_)) => Err(Fail::from(line)),
-        Err(CommandFault::Memory) => Err(Fail::from(AllocError)),
+pub(crate) fn task_of(rt: &(impl Abort + AllocGlobal), line: &str) -> Task {
+    let mut words = Vec::new(rt.alloc());
+    for word in line.split(' ') {
+        let word = String::from_str(rt.alloc(), word).expect(rt, "a word");
+        words.push(word).expect(rt, "words");
     }
+    command_of(rt.alloc(), words.as_slice()).expect(rt, line)
 }
 
 /// Stops unless this was written to standard output and standard error, with this exit status.
@@ -74,44 +64,24 @@ pub(crate) fn is_answered(
     status: u8,
     answer: &Answer,
 ) {
-    assert!(rt; out == answer.out.as_bytes(), "{shows}: {out:?}");
-    assert!(rt; err == answer.err.as_bytes(), "{shows}: {err:?}");
-    assert!(rt; status == answer.status, "{shows}: {status}");
+    let is_met = out == answer.out.as_bytes() && err == answer.err.as_bytes();
+    assert!(rt; is_met && status == answer.status, "{shows}");
 }
 
 /// Runs a command line, and returns the exit status.
 fn run_line<R: Read + Drop, W: Write, E: Write>(
-    alloc: Global,
+    rt: &(impl Abort + AllocGlobal),
     line: &str,
     left: Option<R>,
     right: Option<R>,
     out: &mut W,
     err: &mut E,
-) -> Result<u8, Fail> {
-    let task = task_of(alloc, line)?;
+) -> u8 {
+    let task = task_of(rt, line);
     if store_path(&task).is_some() {
-        drop(task);
-        return Err(Fail::from(line));
+        rt.panic(line);
     }
-    let status = run(alloc, &task, left, right, out, err);
-    drop(task);
-    Ok(status)
-}
-
-/// Runs a command line over what it reads, which gives this result.
-fn check_run<R: Read + Drop>(
-    rt: &(impl Abort + AllocGlobal),
-    line: &str,
-    shows: &str,
-    left: Option<R>,
-    right: Option<R>,
-    answer: Answer,
-) -> Result<(), Fail> {
-    let alloc = rt.alloc();
-    let (mut out, mut err) = (Vec::new(alloc), Vec::new(alloc));
-    let status = run_line(alloc, line, left, right, &mut out, &mut err)?;
-    is_answered(rt, shows, &out, &err, status, &answer);
-    Ok(())
+    run(rt.alloc(), &task, left, right, out, err)
 }
 
 /// Runs a command line over the files that it names, which gives this result.
@@ -121,7 +91,9 @@ pub(crate) fn check(
     shows: &str,
     left: Option<File<'_>>,
     right: Option<File<'_>>,
-    answer: Answer,
-) -> Result<(), Fail> {
-    check_run(rt, line, shows, left, right, answer)
+    answer: &Answer,
+) {
+    let (mut out, mut err) = (Vec::new(rt.alloc()), Vec::new(rt.alloc()));
+    let status = run_line(rt, line, left, right, &mut out, &mut err);
+    is_answered(rt, shows, &out, &err, status, answer);
 }

@@ -1,20 +1,19 @@
 //! A server is followed over a store: what is written, what is stored, and how it ends.
 
-ghost use Rattle.pgapply.specs.Missing.{nothing_missed};
-
+use crate::counting::rejecting;
 use crate::runs::File;
-use pgapply::{Commit, DumpRow, DumpSink, Misses, ReplicaStore, StoreFault};
+use crate::steps::append;
+use crate::trials::{Trial, on_memory_disks};
+use pgapply::{ReplicaStore, StoreFault};
 use pgcommand::Limits;
 use pgfollow::{Clock, Link};
 use pglsn::Lsn;
 use pgorder::Version;
 use pgsub_cli::following::{run_follow, tell_unfollowed};
-use std::alloc::{AllocError, Global};
+use std::alloc::Global;
 use std::io;
 use std::io::{ErrorKind, Write};
 use std::process::Abort;
-use std::test::Fail;
-use trial_stores::{Trial, on_memory_disks};
 
 /// A transaction that ends at 0/130 and stores a row, and a keepalive of 0/180 that asks for a
 /// reply. Its items cost 76 bytes, and its longest frame has 65.
@@ -74,22 +73,28 @@ struct Expected<'t> {
 }
 
 /// Appends the status of an LSN that is received, flushed and applied.
-fn push_status(told: &mut Vec<u8>, lsn: u64) -> Result<(), AllocError> {
-    told.extend_from_slice(b"\x64\x00\x00\x00\x26\x72")?;
+fn push_status(rt: &impl Abort, told: &mut Vec<u8>, lsn: u64) {
+    append(rt, told, b"\x64\x00\x00\x00\x26\x72");
     for _ in 0..3 {
-        told.extend_from_slice(&lsn.to_be_bytes())?;
+        append(rt, told, &lsn.to_be_bytes());
     }
-    told.extend_from_slice(b"\x00\x00\x00\x00\x00\x00\x00\x07\x00")
+    append(rt, told, b"\x00\x00\x00\x00\x00\x00\x00\x07\x00");
 }
 
 /// The bytes of the statuses, of which the writer takes at most so many.
-fn told_bytes(alloc: Global, told: &[u64], most: usize) -> Result<Vec<u8>, AllocError> {
-    let mut bytes = Vec::new(alloc);
+fn told_bytes(rt: &(impl Abort + AllocGlobal), told: &[u64], most: usize) -> Vec<u8> {
+    let mut bytes = Vec::new(rt.alloc());
     for lsn in told {
-        push_status(&mut bytes, *lsn)?;
+        push_status(rt, &mut bytes, *lsn);
     }
     bytes.truncate(most);
-    Ok(bytes)
+    bytes
+}
+
+/// Whether these are the bytes of the statuses, of which the writer takes at most so many.
+fn are_told(rt: &(impl Abort + AllocGlobal), bytes: &[u8], told: &[u64], most: usize) -> bool {
+    let wanted = told_bytes(rt, told, most);
+    bytes == wanted.as_slice()
 }
 
 /// Follows the bytes of a reader over an empty store, and writes to a writer that takes at most so
@@ -103,9 +108,9 @@ struct Follows<'t> {
 }
 
 impl<R: Abort + AllocGlobal> Trial<R> for Follows<'_> {
-    type Outcome = Result<(), Fail>;
+    type Outcome = ();
 
-    fn run<C: ReplicaStore + Drop>(&self, rt: &R, store: C) -> Result<(), Fail> {
+    fn run<C: ReplicaStore + Drop>(&self, rt: &R, store: C) {
         let (alloc, expected) = (rt.alloc(), &self.expected);
         let writer = Writer {
             taken: Vec::new(alloc),
@@ -123,12 +128,14 @@ impl<R: Abort + AllocGlobal> Trial<R> for Follows<'_> {
             &mut Still,
             &mut err,
         );
-        let told = told_bytes(alloc, expected.told, self.most)?;
-        assert!(rt; link.writer().taken.as_slice() == told.as_slice());
-        assert!(rt; store.position() == Lsn(expected.position));
-        assert!(rt; err.as_slice() == expected.err.as_bytes(), "{err:?}");
-        assert!(rt; status == expected.status, "{status}");
-        Ok(())
+        let position = store.position();
+        drop(store);
+        let is_told = are_told(rt, &link.writer().taken, expected.told, self.most);
+        drop(link);
+        let is_met = is_told && position == Lsn(expected.position);
+        let is_line = err.as_slice() == expected.err.as_bytes();
+        drop(err);
+        assert!(rt; is_met && is_line && status == expected.status);
     }
 }
 
@@ -138,7 +145,7 @@ fn check_within(
     reader: File<'_>,
     most: usize,
     expected: &Expected<'_>,
-) -> Result<(), Fail> {
+) {
     let expected = *expected;
     on_memory_disks(
         rt,
@@ -148,16 +155,11 @@ fn check_within(
             limits,
             expected,
         },
-    )?
+    );
 }
 
-fn check(
-    rt: &(impl Abort + AllocGlobal),
-    reader: File<'_>,
-    most: usize,
-    expected: &Expected<'_>,
-) -> Result<(), Fail> {
-    check_within(rt, Limits::DEFAULT, reader, most, expected)
+fn check(rt: &(impl Abort + AllocGlobal), reader: File<'_>, most: usize, expected: &Expected<'_>) {
+    check_within(rt, Limits::DEFAULT, reader, most, expected);
 }
 
 const AMPLE: usize = 100000;
@@ -190,30 +192,29 @@ fn check_session(
     at_once: usize,
     most: usize,
     expected: &Expected<'_>,
-) -> Result<(), Fail> {
+) {
     let reader = File {
         rest: SESSION,
         at_once,
         error: None,
     };
-    check(rt, reader, most, expected)
+    check(rt, reader, most, expected);
 }
 
 #[test]
-fn statuses_follow_what_is_stored(rt: HostRuntime) -> Result<(), Fail> {
+fn statuses_follow_what_is_stored(rt: HostRuntime) {
     for (at_once, expected) in &FOLLOWED {
-        check_session(&rt, *at_once, AMPLE, expected)?;
+        check_session(&rt, *at_once, AMPLE, expected);
     }
-    Ok(())
 }
 
 /// The session, its end and the next one.
-fn both_sessions(alloc: Global) -> Result<Vec<u8>, AllocError> {
-    let mut sessions = Vec::new(alloc);
-    sessions.extend_from_slice(SESSION)?;
-    sessions.extend_from_slice(COPY_DONE)?;
-    sessions.extend_from_slice(NEXT_SESSION)?;
-    Ok(sessions)
+fn both_sessions(rt: &(impl Abort + AllocGlobal)) -> Vec<u8> {
+    let mut sessions = Vec::new(rt.alloc());
+    append(rt, &mut sessions, SESSION);
+    append(rt, &mut sessions, COPY_DONE);
+    append(rt, &mut sessions, NEXT_SESSION);
+    sessions
 }
 
 /// How many bytes both sessions give at once, and what the statuses confirm.
@@ -223,8 +224,8 @@ static CONFIRMED: [(usize, &[u64]); 2] = [
 ];
 
 #[test]
-fn the_next_session_follows_copy_done(rt: HostRuntime) -> Result<(), Fail> {
-    let sessions = both_sessions(rt.alloc())?;
+fn the_next_session_follows_copy_done(rt: HostRuntime) {
+    let sessions = both_sessions(&rt);
     for &(at_once, told) in &CONFIRMED {
         let reader = File {
             rest: sessions.as_slice(),
@@ -237,9 +238,8 @@ fn the_next_session_follows_copy_done(rt: HostRuntime) -> Result<(), Fail> {
             err: "",
             status: 0,
         };
-        check(&rt, reader, AMPLE, &expected)?;
+        check(&rt, reader, AMPLE, &expected);
     }
-    Ok(())
 }
 
 /// How many bytes of the session are read before an error, what the statuses confirm, and the
@@ -253,7 +253,7 @@ static READS: [(usize, &[u64], u64); 5] = [
 ];
 
 #[test]
-fn a_failed_read_ends_it(rt: HostRuntime) -> Result<(), Fail> {
+fn a_failed_read_ends_it(rt: HostRuntime) {
     for &(count, told, position) in &READS {
         let reader = File {
             rest: SESSION.get(..count).unwrap_or(b""),
@@ -266,16 +266,15 @@ fn a_failed_read_ends_it(rt: HostRuntime) -> Result<(), Fail> {
             err: "pgsub: read\n",
             status: 15,
         };
-        check(&rt, reader, AMPLE, &expected)?;
+        check(&rt, reader, AMPLE, &expected);
     }
-    Ok(())
 }
 
 /// How many bytes may be written, and the position.
 static WRITES: [(usize, u64); 5] = [(0, 0), (38, 0), (39, 0x130), (50, 0x130), (78, 0x130)];
 
 #[test]
-fn a_failed_write_ends_it(rt: HostRuntime) -> Result<(), Fail> {
+fn a_failed_write_ends_it(rt: HostRuntime) {
     for &(most, position) in &WRITES {
         let expected = Expected {
             told: &[0, 0x130, 0x180],
@@ -283,13 +282,12 @@ fn a_failed_write_ends_it(rt: HostRuntime) -> Result<(), Fail> {
             err: "pgsub: cannot write\n",
             status: 15,
         };
-        check_session(&rt, 5, most, &expected)?;
+        check_session(&rt, 5, most, &expected);
     }
-    Ok(())
 }
 
 #[test]
-fn a_rejected_stream_confirms_no_more(rt: HostRuntime) -> Result<(), Fail> {
+fn a_rejected_stream_confirms_no_more(rt: HostRuntime) {
     let reader = File {
         rest: b"x",
         at_once: AMPLE,
@@ -301,7 +299,7 @@ fn a_rejected_stream_confirms_no_more(rt: HostRuntime) -> Result<(), Fail> {
         err: "pgsub: wire 1 UnknownFrame 120\n",
         status: 1,
     };
-    check(&rt, reader, AMPLE, &expected)
+    check(&rt, reader, AMPLE, &expected);
 }
 
 /// The least limits within which the session is followed.
@@ -320,118 +318,43 @@ const SHORTER_FRAMES: Limits = Limits {
     max_frame: 64,
 };
 
-static FOLLOWED_WHOLE: Expected<'static> = WHOLE;
-
 #[test]
-fn it_follows_within_its_limits(rt: HostRuntime) -> Result<(), Fail> {
-    check_within(&rt, EXACT, File::of(SESSION), AMPLE, &FOLLOWED_WHOLE)
+fn it_follows_within_its_limits(rt: HostRuntime) {
+    check_within(&rt, EXACT, File::of(SESSION), AMPLE, &WHOLE);
 }
 
 /// The status and the line where a limit is too low.
-fn check_too_low(
-    rt: &(impl Abort + AllocGlobal),
-    limits: Limits,
-    err: &str,
-    status: u8,
-) -> Result<(), Fail> {
+fn check_too_low(rt: &(impl Abort + AllocGlobal), limits: Limits, err: &str, status: u8) {
     let stopped = Expected {
         told: &[0],
         position: 0,
         err,
         status,
     };
-    check_within(rt, limits, File::of(SESSION), AMPLE, &stopped)
+    check_within(rt, limits, File::of(SESSION), AMPLE, &stopped);
 }
 
 #[test]
-fn a_limit_that_is_too_low_has_its_status(rt: HostRuntime) -> Result<(), Fail> {
-    check_too_low(&rt, BUFFERS_LESS, "pgsub: spool 1 SpoolFull\n", 10)?;
-    check_too_low(&rt, SHORTER_FRAMES, "pgsub: wire 3 TooLarge\n", 11)
+fn a_limit_that_is_too_low_has_its_status(rt: HostRuntime) {
+    check_too_low(&rt, BUFFERS_LESS, "pgsub: spool 1 SpoolFull\n", 10);
+    check_too_low(&rt, SHORTER_FRAMES, "pgsub: wire 3 TooLarge\n", 11);
 }
 
-/// A store that accepts nothing.
-#[derive(Drop)]
-struct Failing {
-    alloc: Global,
-    fault: StoreFault,
-}
-
-impl ReplicaStore for Failing {
-    ghost serves = { λ _. ⊥ };
-
-    ghost is_honest = { λ _. ⊥ };
-
-    ghost holds = { λ _ _. ⊥ };
-
-    ghost place = { λ _. 0 };
-
-    ghost stages = { λ _ _. ⊥ };
-
-    ghost reach = { λ _. 0 };
-
-    ghost missed = { λ _. nothing_missed };
-
-    ghost stages_missed = { λ _. nothing_missed };
-
-    ghost reopens = { λ _ _. ⊥ };
-
-    fn position(&self) -> Lsn {
-        Lsn(0)
-    }
-
-    fn reached(&self) -> Lsn {
-        Lsn(0)
-    }
-
-    fn unstage(&mut self) {}
-
-    fn stage(&mut self, _commit: &Commit<'_, '_>) -> Result<(), StoreFault> {
-        Err(self.fault)
-    }
-
-    fn settle(&mut self) -> Result<(), StoreFault> {
-        Ok(())
-    }
-
-    fn rows(&mut self) -> Result<Vec<DumpRow>, StoreFault> {
-        Ok(Vec::new(self.alloc))
-    }
-
-    fn each_row<T: DumpSink + Drop>(&mut self, sink: T) -> (Result<bool, StoreFault>, T) {
-        (Ok(true), sink)
-    }
-
-    fn misses(&self) -> Misses {
-        Misses::none()
-    }
-
-    fn cause(&self) -> Option<&str> {
-        Some("the disk is full")
-    }
-}
-
-/// What following over a store that accepts nothing tells, and its status.
-fn check_failing(
-    rt: &(impl Abort + AllocGlobal),
-    fault: StoreFault,
-    line: &str,
-    expected: u8,
-) -> Result<(), Fail> {
+/// Whether following over a store that accepts nothing tells this, with this status.
+fn is_failed(rt: &impl AllocGlobal, fault: StoreFault, line: &str, expected: u8) -> bool {
     let alloc = rt.alloc();
     let mut link = Link::new(File::of(SESSION), Vec::new(alloc));
     let mut err = Vec::new(alloc);
     let (status, _) = run_follow(
         alloc,
-        Failing { alloc, fault },
+        rejecting(alloc, fault),
         Limits::DEFAULT,
         Version::Two,
         &mut link,
         &mut Still,
         &mut err,
     );
-    assert!(rt; err.as_slice() == line.as_bytes(), "{err:?}");
-    assert!(rt; status == expected, "{line}: {status}");
-    Ok(())
+    status == expected && err.as_slice() == line.as_bytes()
 }
 
 /// Faults of a store, and the lines and statuses of them.
@@ -447,11 +370,10 @@ static STORE_FAULTS: [(StoreFault, &str, u8); 4] = [
 ];
 
 #[test]
-fn a_store_that_fails_has_its_status(rt: HostRuntime) -> Result<(), Fail> {
+fn a_store_that_fails_has_its_status(rt: HostRuntime) {
     for &(fault, line, status) in &STORE_FAULTS {
-        check_failing(&rt, fault, line, status)?;
+        assert!(rt; is_failed(&rt, fault, line, status), "{line}");
     }
-    Ok(())
 }
 
 /// Why a store isn't opened, and the lines and statuses of that.
@@ -465,13 +387,16 @@ static UNOPENED: [(StoreFault, &str, u8); 3] = [
     (StoreFault::Memory, "pgsub: memory\n", 14),
 ];
 
+/// Whether a store that isn't opened is told so, with this status.
+fn is_unopened(rt: &impl AllocGlobal, fault: StoreFault, line: &str, status: u8) -> bool {
+    let mut err = Vec::new(rt.alloc());
+    let told = tell_unfollowed(rt.alloc(), fault, Some("it is in use"), &mut err);
+    told == status && err.as_slice() == line.as_bytes()
+}
+
 #[test]
-fn a_store_that_is_not_opened_has_its_status(rt: HostRuntime) -> Result<(), Fail> {
+fn a_store_that_is_not_opened_has_its_status(rt: HostRuntime) {
     for &(fault, line, status) in &UNOPENED {
-        let mut err = Vec::new(rt.alloc());
-        let told = tell_unfollowed(rt.alloc(), fault, Some("it is in use"), &mut err);
-        assert_eq!(rt; told, status);
-        assert_eq!(rt; err.as_slice(), line.as_bytes());
+        assert!(rt; is_unopened(&rt, fault, line, status), "{line}");
     }
-    Ok(())
 }

@@ -3,22 +3,26 @@
 use crate::runs::task_of;
 use pgcommand::{CommandFault, FeedOptions, Task};
 use pgorder::Version;
-use std::alloc::{AllocError, Global};
-use std::test::Fail;
+use std::process::Abort;
 
 /// A feed that is asked for, after the text of its task.
-fn feed_text(alloc: Global, feed: &Option<FeedOptions>) -> Result<String, AllocError> {
+fn feed_text(rt: &(impl Abort + AllocGlobal), feed: &Option<FeedOptions>) -> String {
+    let alloc = rt.alloc();
     let Some(feed) = feed else {
-        return Ok(String::new(alloc));
+        return String::new(alloc);
     };
     let (folder, bytes, seconds) = (&feed.folder, feed.segment_bytes, feed.segment_seconds);
     let (system, database, slot) = (&feed.system, &feed.database, &feed.slot);
-    format!(in alloc; " fed {folder} [{system}] [{database}] [{slot}] {bytes} {seconds}")
+    let text = format!(in alloc;
+        " fed {folder} [{system}] [{database}] [{slot}] {bytes} {seconds}"
+    );
+    text.expect(rt, "a text")
 }
 
 /// A task in one line.
-fn task_text(alloc: Global, task: &Task) -> Result<String, AllocError> {
-    match task {
+fn task_text(rt: &(impl Abort + AllocGlobal), task: &Task) -> String {
+    let alloc = rt.alloc();
+    let text = match task {
         Task::Show { version, file } => format!(in alloc; "show {version:?} {file}"),
         Task::Apply {
             version,
@@ -46,7 +50,7 @@ fn task_text(alloc: Global, task: &Task) -> Result<String, AllocError> {
             file,
         } => {
             let (buffered, frame) = (limits.max_buffered, limits.max_frame);
-            let fed = feed_text(alloc, feed)?;
+            let fed = feed_text(rt, feed);
             format!(in alloc;
                 "apply {version:?} {buffered} {frame} {raw} {progress} into {store} {cache}{fed}: {file}"
             )
@@ -60,7 +64,7 @@ fn task_text(alloc: Global, task: &Task) -> Result<String, AllocError> {
             feed,
         } => {
             let (buffered, frame) = (limits.max_buffered, limits.max_frame);
-            let fed = feed_text(alloc, feed)?;
+            let fed = feed_text(rt, feed);
             format!(in alloc; "follow {version:?} {buffered} {frame} {store} {cache}{fed}")
         }
         Task::Same {
@@ -70,7 +74,8 @@ fn task_text(alloc: Global, task: &Task) -> Result<String, AllocError> {
         } => format!(in alloc; "same {version:?} {left} {right}"),
         Task::Resume { file } => format!(in alloc; "resume {file}"),
         Task::Lsn { text } => format!(in alloc; "lsn {text}"),
-    }
+    };
+    text.expect(rt, "a text")
 }
 
 /// Command lines, each with its task.
@@ -189,20 +194,23 @@ static TASKS: [(&str, &str); 36] = [
     ("pgsub lsn -- -1", "lsn -1"),
 ];
 
-#[test]
-fn reads_tasks(rt: HostRuntime) -> Result<(), Fail> {
-    for &(line, expected) in &TASKS {
-        let task = task_of(rt.alloc(), line)?;
-        let text = task_text(rt.alloc(), &task);
-        drop(task);
-        assert_eq!(rt; text?.as_str(), expected);
-    }
-    Ok(())
+/// Whether a command line asks for this task.
+fn asks_for(rt: &(impl Abort + AllocGlobal), line: &str, expected: &str) -> bool {
+    let task = task_of(rt, line);
+    let text = task_text(rt, &task);
+    drop(task);
+    text.as_str() == expected
 }
 
 #[test]
-fn memory_that_ran_out_is_told(rt: HostRuntime) -> Result<(), Fail> {
-    let memory = format!(in rt.alloc(); "{}", CommandFault::Memory)?;
-    assert_eq!(rt; memory.as_str(), "memory");
-    Ok(())
+fn reads_tasks(rt: HostRuntime) {
+    for &(line, expected) in &TASKS {
+        assert!(rt; asks_for(&rt, line, expected), "{line}");
+    }
+}
+
+#[test]
+fn memory_that_ran_out_is_told(rt: HostRuntime) {
+    let memory = format!(in rt.alloc(); "{}", CommandFault::Memory).expect(&rt, "a text");
+    assert!(rt; memory.as_str() == "memory");
 }

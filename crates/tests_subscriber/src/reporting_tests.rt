@@ -1,6 +1,7 @@
 //! What is told of a long run, and that nothing else is another one.
 
 use crate::runs::{Answer, is_answered};
+use crate::trials::{Trial, on_memory_disks};
 use pgapply::{Misses, ReplicaStore};
 use pgcommand::Limits;
 use pglsn::Lsn;
@@ -11,9 +12,7 @@ use pgsub_cli::storing::Incoming;
 use std::cell::{Cell, RefCell};
 use std::io;
 use std::process::Abort;
-use std::test::Fail;
 use std::time::{Clock, Duration};
-use trial_stores::{Trial, on_memory_disks};
 
 /// A clock that goes on by 600 milliseconds whenever it is read.
 #[derive(Drop)]
@@ -39,12 +38,8 @@ fn new_clock() -> Ticking {
     }
 }
 
-/// Stops unless this is the line of a run over so many bytes.
-fn check_line(
-    rt: &(impl Abort + AllocGlobal),
-    total: Option<u64>,
-    expected: &str,
-) -> Result<(), Fail> {
+/// Whether this is the line of a run over so many bytes.
+fn is_line(rt: &(impl Abort + AllocGlobal), total: Option<u64>, expected: &str) -> bool {
     let progress = Progress {
         read: 4096,
         total,
@@ -53,9 +48,8 @@ fn check_line(
         position: Lsn(0x130),
         rate: 25,
     };
-    let line = format!(in rt.alloc(); "{progress}")?;
-    assert_eq!(rt; line.as_str(), expected);
-    Ok(())
+    let line = format!(in rt.alloc(); "{progress}").expect(rt, "a line");
+    line.as_str() == expected
 }
 
 /// The bytes of a run, where their number is known, and its line.
@@ -71,11 +65,10 @@ static LINES: [(Option<u64>, &str); 2] = [
 ];
 
 #[test]
-fn a_line_says_how_far_it_is(rt: HostRuntime) -> Result<(), Fail> {
+fn a_line_says_how_far_it_is(rt: HostRuntime) {
     for &(total, line) in &LINES {
-        check_line(&rt, total, line)?;
+        assert!(rt; is_line(&rt, total, line), "{line}");
     }
-    Ok(())
 }
 
 /// A commit with so many changes.
@@ -88,19 +81,21 @@ fn settling(position: Lsn, changes: u64) -> Settling {
     }
 }
 
+/// Two lines.
+static TOLD: &[u8] =
+    b"pgsub: 5 of 9 bytes read, 1 commits, 3 changes, position 0/130, 2 changes/s\npgsub: 6 of 9 bytes read, 2 commits, 12 changes, position 0/230, 5 changes/s\n";
+
 #[test]
-fn a_line_comes_once_a_second_at_most(rt: HostRuntime) -> Result<(), Fail> {
+fn a_line_comes_once_a_second_at_most(rt: HostRuntime) {
     let mut lines = Vec::new(rt.alloc());
-    let mut reporter = Reporter::new(rt.alloc(), new_clock(), &mut lines, Some(9))?;
+    let reporter = Reporter::new(rt.alloc(), new_clock(), &mut lines, Some(9));
+    let mut reporter = reporter.expect(&rt, "a time");
     reporter.note_commits(&settling(Lsn(0x130), 3));
     reporter.note_bytes(5);
     reporter.note_bytes(1);
     reporter.note_commits(&settling(Lsn(0x230), 9));
     drop(reporter);
-    let expected =
-        b"pgsub: 5 of 9 bytes read, 1 commits, 3 changes, position 0/130, 2 changes/s\npgsub: 6 of 9 bytes read, 2 commits, 12 changes, position 0/230, 5 changes/s\n";
-    assert!(rt; lines.as_slice() == expected.as_slice(), "{lines:?}");
-    Ok(())
+    assert!(rt; lines.as_slice() == TOLD);
 }
 
 /// What is printed of bytes that are no frames.
@@ -114,11 +109,12 @@ pub(crate) static REJECTED: Answer = Answer {
 struct IsTold;
 
 impl<R: Abort + AllocGlobal> Trial<R> for IsTold {
-    type Outcome = Result<(), Fail>;
+    type Outcome = ();
 
-    fn run<C: ReplicaStore + Drop>(&self, rt: &R, store: C) -> Result<(), Fail> {
+    fn run<C: ReplicaStore + Drop>(&self, rt: &R, store: C) {
         let alloc = rt.alloc();
-        let reporter = RefCell::new(Reporter::new(alloc, new_clock(), Vec::new(alloc), None)?);
+        let reporter = Reporter::new(alloc, new_clock(), Vec::new(alloc), None);
+        let reporter = RefCell::new(reporter.expect(rt, "a time"));
         let (mut out, mut err) = (Vec::new(alloc), Vec::new(alloc));
         let input = Some((Version::Two, Incoming::Raw(b"x".as_slice())));
         let (status, _) = run_opened(
@@ -131,11 +127,10 @@ impl<R: Abort + AllocGlobal> Trial<R> for IsTold {
             &mut err,
         );
         is_answered(rt, "a run that is told", &out, &err, status, &REJECTED);
-        Ok(())
     }
 }
 
 #[test]
-fn a_run_that_is_told_ends_as_another(rt: HostRuntime) -> Result<(), Fail> {
-    on_memory_disks(&rt, &IsTold)?
+fn a_run_that_is_told_ends_as_another(rt: HostRuntime) {
+    on_memory_disks(&rt, &IsTold);
 }
