@@ -18,7 +18,7 @@ pub(crate) const IN_BLOCKS: &str =
     "start:10 10:rel:t 10:upd:1l 12:ins:8x stop start:11 11:rel:t 13:ins:9y stop abort:10/12 abort:11/13 again:11 11:ins:1e stop again:10 10:ins:2m 14:del:1 stop abort:10/14 scommit:11 scommit:10";
 
 /// Sessions with blocks, and what they leave.
-pub(crate) static BLOCKS: &[Row] = &[
+static BLOCKS: [Row; 14] = [
     Row {
         shows: "two transactions in alternating blocks",
         limit: AMPLE,
@@ -190,3 +190,8 @@ pub(crate) static BLOCKS: &[Row] = &[
         ],
     },
 ];
+
+/// All of them.
+pub(crate) fn blocks() -> &'static [Row] {
+    &BLOCKS
+}

@@ -16,7 +16,7 @@
 //! Digits after `=` are bytes of a session as they are. All others are in XLogData from 0/0 to 0/0.
 
 /// Where transactions and blocks begin and end.
-pub(crate) static BOUNDS: &[(&str, &str)] = &[
+pub(crate) static BOUNDS: [(&str, &str); 40] = [
     ("begin:100", "42 0000000000000100 0000000000000000 0000000a"),
     ("begin:200", "42 0000000000000200 0000000000000000 0000000b"),
     ("begin:300", "42 0000000000000300 0000000000000000 0000000b"),
@@ -105,7 +105,7 @@ pub(crate) static BOUNDS: &[(&str, &str)] = &[
 ];
 
 /// Descriptions and changes outside blocks.
-pub(crate) static ITEMS: &[(&str, &str)] = &[
+pub(crate) static ITEMS: [(&str, &str); 36] = [
     (
         "rel:t",
         "52 00004000 7075626c696300 7400 64 0002 01 696400 00000017 ffffffff 00 7600 00000019 ffffffff",
@@ -226,7 +226,7 @@ pub(crate) static ITEMS: &[(&str, &str)] = &[
 ];
 
 /// Descriptions and changes inside blocks.
-pub(crate) static BLOCK_ITEMS: &[(&str, &str)] = &[
+pub(crate) static BLOCK_ITEMS: [(&str, &str); 29] = [
     (
         "10:rel:t",
         "52 0000000a 00004000 7075626c696300 7400 64 0002 01 696400 00000017 ffffffff 00 7600 00000019 ffffffff",
@@ -344,7 +344,7 @@ pub(crate) static BLOCK_ITEMS: &[(&str, &str)] = &[
 
 /// Whole frames and parts of some. `t1` is the transaction at 0/100 that describes t and inserts a
 /// row.
-pub(crate) static FRAMES: &[(&str, &str)] = &[
+pub(crate) static FRAMES: [(&str, &str); 10] = [
     ("done", "=63 00000004"),
     ("short", "=64 00000003"),
     (

@@ -7,6 +7,7 @@ use pgapply::ReplicaStore;
 use pgorder::Version;
 use pgspool::{ByteSpools, Spools};
 use pgsub_core::Subscriber;
+use std::alloc::Global;
 use std::process::Abort;
 
 /// A commit with a change that finds no row.
@@ -35,13 +36,22 @@ fn feed_cut<P: Spools + Drop, C: ReplicaStore + Drop>(
     is_counted && is_fed && has_missed(subscriber, 2, 0x130, 16384)
 }
 
+/// The same over a new store.
+fn feed_cut_over<P: Spools + Drop, C: ReplicaStore + Drop>(
+    alloc: Global,
+    store: C,
+    spools: P,
+    chunks: &CutAt<'_>,
+) -> bool {
+    let mut subscriber = over(alloc, store, spools, Version::Two);
+    feed_cut(&mut subscriber, chunks)
+}
+
 impl<R: Abort + AllocGlobal> Trial<R> for CutAt<'_> {
     type Outcome = bool;
 
     fn run<C: ReplicaStore + Drop>(&self, rt: &R, store: C) -> bool {
-        let spools = ByteSpools::new(rt.alloc(), AMPLE);
-        let mut subscriber = over(rt.alloc(), store, spools, Version::Two);
-        feed_cut(&mut subscriber, self)
+        feed_cut_over(rt.alloc(), store, ByteSpools::new(rt.alloc(), AMPLE), self)
     }
 }
 

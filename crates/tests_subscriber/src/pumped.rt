@@ -138,16 +138,24 @@ fn read_to_the_end<P: Spools + Drop, C: ReplicaStore + Drop>(
     take_steps(rt, subscriber, &STORED, 1);
 }
 
-/// Pumps readers to their end over a new store.
+/// The same over a new store.
+fn read_over<P: Spools + Drop, C: ReplicaStore + Drop>(
+    rt: &(impl Abort + AllocGlobal),
+    store: C,
+    spools: P,
+) {
+    let mut subscriber = over(rt.alloc(), store, spools, Version::Two);
+    read_to_the_end(rt, &mut subscriber);
+}
+
+/// Pumps readers to their end.
 struct ReadsToTheEnd;
 
 impl<R: Abort + AllocGlobal> Trial<R> for ReadsToTheEnd {
     type Outcome = ();
 
     fn run<C: ReplicaStore + Drop>(&self, rt: &R, store: C) {
-        let spools = ListSpools::new(rt.alloc(), AMPLE);
-        let mut subscriber = over(rt.alloc(), store, spools, Version::Two);
-        read_to_the_end(rt, &mut subscriber);
+        read_over(rt, store, ListSpools::new(rt.alloc(), AMPLE));
     }
 }
 

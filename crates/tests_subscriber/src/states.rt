@@ -8,7 +8,7 @@ use pgsub_core::Fault::{Closed, Order, Wire};
 use pgwire::WireFault::AfterDone;
 
 /// Steps under version 2.
-pub(crate) static STATES: &[Row] = &[
+static STATES: [Row; 9] = [
     Row {
         shows: "replies inside a pair and after it",
         limit: AMPLE,
@@ -138,8 +138,13 @@ pub(crate) static STATES: &[Row] = &[
     },
 ];
 
+/// All of them.
+pub(crate) fn states() -> &'static [Row] {
+    &STATES
+}
+
 /// A status, and a step that version 1 rejects.
-pub(crate) static VERSION_1: &[Row] = &[Row {
+static VERSION_1: [Row; 1] = [Row {
     shows: "a block in version 1",
     limit: AMPLE,
     steps: &[
@@ -157,3 +162,8 @@ pub(crate) static VERSION_1: &[Row] = &[Row {
         Feed("t1", Err(Closed)),
     ],
 }];
+
+/// All of them.
+pub(crate) fn version_1() -> &'static [Row] {
+    &VERSION_1
+}

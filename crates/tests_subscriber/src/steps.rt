@@ -79,8 +79,10 @@ fn found(table: &[(&'static str, &'static str)], word: &str) -> Option<&'static 
 
 /// The digits of a word.
 fn digits_of(rt: &impl Abort, word: &str) -> &'static str {
-    let outside = found(BOUNDS, word).or(found(ITEMS, word));
-    let digits = outside.or(found(BLOCK_ITEMS, word)).or(found(FRAMES, word));
+    let outside = found(&BOUNDS, word).or(found(&ITEMS, word));
+    let digits = outside
+        .or(found(&BLOCK_ITEMS, word))
+        .or(found(&FRAMES, word));
     digits.expect(rt, word)
 }
 

@@ -1,10 +1,10 @@
 //! The worked rows by each form of spools over each form of store.
 
-use crate::blocks::BLOCKS;
+use crate::blocks::blocks;
 use crate::row::{AT_ONCE, Row};
-use crate::states::{STATES, VERSION_1};
+use crate::states::{states, version_1};
 use crate::steps::{Way, check};
-use crate::transactions::{BAD_CHANGES, TRANSACTIONS};
+use crate::transactions::{bad_changes, transactions};
 use crate::trials::{Trial, in_memory, on_memory_disks};
 use pgapply::ReplicaStore;
 use pgorder::Version;
@@ -84,33 +84,33 @@ fn check_on_disks(rt: &(impl Abort + AllocGlobal), rows: &[Row], way: Way) {
 #[test]
 fn transactions_in_memory(rt: HostRuntime) {
     for way in [ENCODED_IN_BYTES, DECODED_AT_ONCE, IN_VERSION_1] {
-        check_in_memory(&rt, TRANSACTIONS, way);
-        check_in_memory(&rt, BAD_CHANGES, way);
+        check_in_memory(&rt, transactions(), way);
+        check_in_memory(&rt, bad_changes(), way);
     }
 }
 
 #[test]
 fn blocks_in_memory(rt: HostRuntime) {
     for way in [ENCODED_IN_CHUNKS, ENCODED_AT_ONCE, DECODED_IN_BYTES] {
-        check_in_memory(&rt, BLOCKS, way);
-        check_in_memory(&rt, STATES, way);
+        check_in_memory(&rt, blocks(), way);
+        check_in_memory(&rt, states(), way);
     }
 }
 
 #[test]
 fn version_1_has_no_blocks(rt: HostRuntime) {
-    check_in_memory(&rt, VERSION_1, IN_VERSION_1);
+    check_in_memory(&rt, version_1(), IN_VERSION_1);
 }
 
 #[test]
 fn transactions_on_disks(rt: HostRuntime) {
-    check_on_disks(&rt, TRANSACTIONS, ENCODED_IN_CHUNKS);
-    check_on_disks(&rt, BAD_CHANGES, DECODED_AT_ONCE);
+    check_on_disks(&rt, transactions(), ENCODED_IN_CHUNKS);
+    check_on_disks(&rt, bad_changes(), DECODED_AT_ONCE);
 }
 
 #[test]
 fn blocks_on_disks(rt: HostRuntime) {
-    check_on_disks(&rt, BLOCKS, ENCODED_IN_BYTES);
-    check_on_disks(&rt, BLOCKS, DECODED_AT_ONCE);
-    check_on_disks(&rt, STATES, DECODED_IN_BYTES);
+    check_on_disks(&rt, blocks(), ENCODED_IN_BYTES);
+    check_on_disks(&rt, blocks(), DECODED_AT_ONCE);
+    check_on_disks(&rt, states(), DECODED_IN_BYTES);
 }

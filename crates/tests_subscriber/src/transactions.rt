@@ -10,7 +10,7 @@ use pgsub_core::Fault::{Closed, Order, Relation, Spool, Store, Wire};
 use pgwire::WireFault::AfterDone;
 
 /// Sessions of whole transactions, and what they leave.
-pub(crate) static TRANSACTIONS: &[Row] = &[
+static TRANSACTIONS: [Row; 28] = [
     Row {
         shows: "no session and an empty one",
         limit: AMPLE,
@@ -307,8 +307,13 @@ pub(crate) static TRANSACTIONS: &[Row] = &[
     },
 ];
 
+/// All of them.
+pub(crate) fn transactions() -> &'static [Row] {
+    &TRANSACTIONS
+}
+
 /// Commits of five changes of which the store rejects one, and the same without it.
-pub(crate) static BAD_CHANGES: &[Row] = &[
+static BAD_CHANGES: [Row; 6] = [
     Row {
         shows: "a clash with a stored row",
         limit: AMPLE,
@@ -442,3 +447,8 @@ pub(crate) static BAD_CHANGES: &[Row] = &[
         ],
     },
 ];
+
+/// All of them.
+pub(crate) fn bad_changes() -> &'static [Row] {
+    &BAD_CHANGES
+}
