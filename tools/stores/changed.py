@@ -253,7 +253,7 @@ WRONG = (
     "UPDATE held SET body = x'00037400000001317400000001616E' WHERE oid = 16384",
     "UPDATE held SET body = x'000274000000013175' WHERE oid = 16384",
     "UPDATE held SET body = x'' WHERE oid = 16384",
-    # State.
+    # Copies.
     "UPDATE held SET copies = 0 WHERE oid = 16384",
     "UPDATE held SET copies = 2 WHERE oid = 16384",
     "UPDATE held SET copies = 0 WHERE oid = 16386",

@@ -1,8 +1,6 @@
 """The cases of tools/changed_stores, over a stand-in for the program: one that answers as is expected, and ones that don't."""
 
 import contextlib
-import importlib.machinery
-import importlib.util
 import io
 import random
 import sqlite3
@@ -20,18 +18,9 @@ from stores.changed import Beside, Case, Start, Taken
 from stores.named import Commit, State
 from stores.text import Writer
 
+from .scripts import loaded
 
-def loaded() -> Any:
-    """The script as a module."""
-    loader = importlib.machinery.SourceFileLoader("changed_stores_script", str(TOP / "tools/changed_stores"))
-    spec = importlib.util.spec_from_loader("changed_stores_script", loader)
-    assert spec
-    module = importlib.util.module_from_spec(spec)
-    loader.exec_module(module)
-    return module
-
-
-script = loaded()
+script = loaded("changed_stores")
 
 Answer = tuple[int, bytes, bytes]
 ALWAYS = 1000

@@ -1,28 +1,16 @@
 """Tables of command lines: how they are read, what the files of a case hold, and what differs."""
 
 import contextlib
-import importlib.machinery
-import importlib.util
 import io
 import tempfile
 import unittest
 from pathlib import Path
-from typing import Any
 
 from built import TOP
 
+from .scripts import loaded
 
-def loaded() -> Any:
-    """The script as a module."""
-    loader = importlib.machinery.SourceFileLoader("commands_script", str(TOP / "tools/commands"))
-    spec = importlib.util.spec_from_loader("commands_script", loader)
-    assert spec
-    module = importlib.util.module_from_spec(spec)
-    loader.exec_module(module)
-    return module
-
-
-commands = loaded()
+commands = loaded("commands")
 
 # prints its first word, or its name for NAME, and the file of the second one, makes that of the third one, and ends with 3 where it can't
 # write

@@ -1,7 +1,5 @@
 """Which function a mutant changes, which mutants stand side by side, what refuses them, and what is known of those that were refused."""
 
-import importlib.machinery
-import importlib.util
 import os
 import tempfile
 import types
@@ -10,20 +8,9 @@ from pathlib import Path
 from typing import Any
 from unittest import mock
 
-from built import TOP
+from .scripts import loaded
 
-
-def loaded() -> Any:
-    """The script as a module."""
-    loader = importlib.machinery.SourceFileLoader("mutants_script", str(TOP / "tools/mutants"))
-    spec = importlib.util.spec_from_loader("mutants_script", loader)
-    assert spec
-    module = importlib.util.module_from_spec(spec)
-    loader.exec_module(module)
-    return module
-
-
-mutants = loaded()
+mutants = loaded("mutants")
 
 TEXT = """//! A module.
 
