@@ -11,17 +11,18 @@ use Rattle.sqlite.specs.Store.{Ghosts}
 use Rattle.sqlite.specs.Tree.{Trees}
 use Rattle.sqlite_trees.specs.Objects.{catalog_tree}
 use Rattle.pgmemory.proofs.Unused.{nothing_is_empty, schema_is_empty}
-use Rattle.pgtables.specs.Schema.{no_schema, store_schema}
+use Rattle.pgtables.specs.Schema.{store_schema}
 use Rattle.pgtables.proofs.Listed.{schema_once}
 use Rattle.pgtables.specs.Kept as stored
 use Rattle.pgtables.specs.Kept.{IfServing}
+use Rattle.pgrows.specs.Rows as rows
 use Rattle.pgstore.specs.Acts.{committed_of}
 use Rattle.pgapply.specs.Value.{Tables}
 use Rattle.pgapply.specs.Stored.{Stored}
 use Rattle.pgstore.specs.Spelled.{IsStored}
 use Rattle.pgstore.specs.StoreValue.{AreOf, Holds, IsValueOf, LeavesAdopted, StoreValue}
 use Rattle.pgstore.specs.StoreValue.{nothing_stored}
-use Rattle.pgstore.specs.Reopened.{AdoptedHoldsContent, HoldsContent, IsEmptyContent}
+use Rattle.pgstore.specs.Reopened.{AdoptedHoldsContent, ClosedIsReopened, HoldsContent}
 use Rattle.pgstore.specs.Reopened.{LeftIsReopened, RefusedStaysAsFound, Reopens}
 use Rattle.pgstore.specs.Reopened.{ReopensNothingOlder, ReopensTheSame}
 use Rattle.pgstore.proofs.Founding.{whole_value}
@@ -105,3 +106,14 @@ module _ {S T : Type 0} (g : Ghosts S) (h : Ghosts T) where
 pub left_is_reopened : {D S : Type 0} (g : disk.Ghosts D) (h : Ghosts S) → LeftIsReopened g h
 left_is_reopened g h old new content left holds = ∥∥₁_map (left.stopped left.honest content left.left) (λ it.
     let r : Reopens over_files h old new = record { db = it.0; left = it.1; opened = holds_stored h content new holds it.0 it.2 } in r)
+
+-- a store that was closed
+pub closed_is_reopened : {D S : Type 0} (g : disk.Ghosts D) (h : Ghosts S) → ClosedIsReopened g h
+closed_is_reopened g h old new files left content copied out which holds v held =
+    let db = (rows.state over_files old.rows).committed.trees in
+    let alone = copied.left left out in
+    let found : ∥ HoldsDatabase content db ∥₁ = elim which [
+      | inl same ↦ subst (λ (i : Image). ∥ HoldsDatabase i db ∥₁) (sym same) alone.both
+      | inr gone ↦ subst (λ (i : Image). ∥ HoldsDatabase i db ∥₁) (sym gone) alone.alone
+    ] in
+    ∥∥₁_map found (λ there. holds_stored h content new holds db there v (copied.holds v held))

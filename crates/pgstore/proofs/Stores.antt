@@ -83,6 +83,19 @@ trees_of g rows v db kept is place range same =
       range = range;
     }
 
+-- what was committed has what the store holds
+pub committed_trees : {S : Type 0} (g : Ghosts S) (old new : S) (position : ℕ) (group : Group) → IsStore g old position
+    → doubt (state g old).is_clean ≤ doubt (state g new).is_clean
+    → IfServing g new (IsTrue (state g old).is_open)
+    → IfServing g new ((v : Stored) → Holds g (record { rows = old; position = position; group = group }) v
+    → AreOf v (state g old).committed.trees)
+committed_trees g old new position group is doubts was_open clean still v held =
+    let was : HasCleanDisk (state g old) = omega (arith, doubts, clean) in
+    let at = held.position in
+    let range = is.range in
+    trees_of g old v (state g old).committed.trees (is.kept was (was_open clean still)) held.stored
+    (is.same was (was_open clean still) ∙ ap (to_be_bytes w64) (sym at)) (omega (arith, at, range)) refl
+
 -- these very tables are at least as far
 very : (v : Stored) (db : Trees) → AreOf v db → IsAtLeast v db
 very v db is = (v, is, omega arith, λ _. is)

@@ -2,7 +2,7 @@
 -- next. SQLite documentation, Write-Ahead Logging, and WAL-mode File Format, Recovery: after a
 -- crash the next open finds the last transaction whose commit is whole in the log, and nothing of a
 -- later one.
-use Rattle.std.specs.Prelude.{◌≡◌, ◌≤◌, ◌⊎◌}
+use Rattle.std.specs.Prelude.{◌≡◌, ◌≤◌, ◌⊎◌, []}
 use Rattle.sqlite_disk.specs.declared.Disk as disk
 use Rattle.sqlite_disk.specs.declared.Files.{Files}
 use Rattle.sqlite_store.specs.declared.store.FileStore.{FileStore}
@@ -11,18 +11,19 @@ use Rattle.sqlite.specs.WalFiles.{outcomes}
 use Rattle.sqlite.specs.WalReads.{AreClean}
 use Rattle.sqlite.specs.Tree.{Trees}
 use Rattle.sqlite.specs.Store.{Ghosts}
+use Rattle.sqlite.specs.Closing.{HoldsAlone}
 use Rattle.sqlite.specs.Held as connection
 use Rattle.sqlite.specs.Held.{Held}
 use Rattle.sqlite.specs.Effect.{Database, IsDatabase}
 use Rattle.sqlite.specs.Start.{FindsIn}
 use Rattle.sqlite.specs.State.{HasCleanDisk, IsLive, Opens}
-use Rattle.sqlite.specs.Files.{over_files, HoldsDatabase, IsEmpty, IsNothing}
+use Rattle.sqlite.specs.Files.{image_of, over_files, HoldsDatabase, IsEmpty, IsNothing}
 use Rattle.pgmemory.specs.Stopped.{Leaves}
 use Rattle.pgtables.specs.Kept as connected
 use Rattle.pgrows.specs.Rows.{state}
 use Rattle.pgapply.specs.Stored.{Stored}
 use Rattle.pgstore.specs.StoreValue.{StoreValue, Adopts, AreOf, Contains, Holds, IsValueOf, Keeps}
-use Rattle.pgstore.specs.StoreValue.{nothing_stored}
+use Rattle.pgstore.specs.StoreValue.{Serves, nothing_stored}
 
 -- There is no database in files with this content, or one without any table: none was made yet, or
 -- an empty one.
@@ -92,6 +93,15 @@ pub record CrashLeaves {D : Type 0} {g : disk.Ghosts D} (old : StoreValue (FileS
   -- and each says that its file may hold this after a crash
   pub left : outcomes g files.log files.db content
 
+-- The store was closed to these files. It served, and the file of the database has all of it: with
+-- the log and without it, as the files read now and after a crash.
+pub record IsCopiedTo {D : Type 0} {g : disk.Ghosts D} (s : StoreValue (FileStore D g)) (files : Files D) : Type 0 where
+  pub served : Serves over_files s
+  pub seen : HoldsAlone (image_of g files) (state over_files s.rows).committed.trees
+  pub left : (content : Image) → outcomes g files.log files.db content → HoldsAlone content (state over_files s.rows).committed.trees
+  -- what the store held is in these trees
+  pub holds : (v : Stored) → Holds over_files s v → AreOf v (state over_files s.rows).committed.trees
+
 -- Whichever store a crash left this content of, the new one reopens it.
 abbrev pub ReopensLeft : {D : Type 0} {g : disk.Ghosts D} → Image → StoreValue (FileStore D g) → Type 0
 ReopensLeft {D} {g} content new = (old : StoreValue (FileStore D g)) → CrashLeaves old content → ∥ Reopens over_files over_files old new ∥₁
@@ -102,3 +112,11 @@ abbrev pub LeftIsReopened : {D S : Type 0} → disk.Ghosts D → Ghosts S → Ty
 LeftIsReopened {D} {S} g h =
     (old : StoreValue (FileStore D g)) (new : StoreValue S) (content : Image) → CrashLeaves old content → HoldsContent h content new
     → ∥ Reopens over_files h old new ∥₁
+
+-- What a closed store held is held by the one that is opened next on its files, or on what a crash
+-- leaves of them, also where the log is gone.
+abbrev pub ClosedIsReopened : {D S : Type 0} → disk.Ghosts D → Ghosts S → Type 0
+ClosedIsReopened {D} {S} g h =
+    (old : StoreValue (FileStore D g)) (new : StoreValue S) (files : Files D) (left content : Image) → IsCopiedTo old files
+    → outcomes g files.log files.db left → (content ≡ left) ⊎ (content ≡ record left { log = [] }) → HoldsContent h content new
+    → (v : Stored) → Holds over_files old v → ∥ Holds h new v ∥₁

@@ -2,7 +2,7 @@
 //!
 //! SQLite documentation, Write-Ahead Logging.
 
-ghost use Rattle.std.specs.Prelude.{◌≡◌, ◌⊎◌, IsTrue, IfOk, IfErr, IfSome};
+ghost use Rattle.std.specs.Prelude.{◌≡◌, ◌⊎◌, true, is_some, IsTrue, IfOk, IfErr, IfSome};
 ghost use Rattle.sqlite.specs.Held as connection;
 ghost use Rattle.sqlite.specs.Files.{image_of, over_files};
 ghost use Rattle.sqlite.specs.State.{HasCleanDisk};
@@ -11,8 +11,8 @@ ghost use Rattle.sqlite.specs.WalReads.{AreClean};
 ghost use Rattle.pgmemory.specs.Stopped.{Leaves};
 ghost use Rattle.pgrows.specs.Rows.{state};
 ghost use Rattle.pgapply.specs.Stored.{IsOwnFault};
-ghost use Rattle.pgstore.specs.StoreValue.{IsHonest, Serves};
-ghost use Rattle.pgstore.specs.Reopened.{HoldsContent, ReopensLeft, StaysAsFound};
+ghost use Rattle.pgstore.specs.StoreValue.{begun_at, IsHonest, Serves};
+ghost use Rattle.pgstore.specs.Reopened.{HoldsContent, IsCopiedTo, ReopensLeft, StaysAsFound};
 
 use crate::fault::Refusal;
 use crate::store::Store;
@@ -20,6 +20,7 @@ use pgapply::StoreFault;
 use pgopening::Found;
 use sqlite::{Connection, FileStore, Files, Options};
 use sqlite_disk::Disk;
+use sqlite_trees::store::Store as TreeStore;
 use std::alloc::Global;
 
 impl<D: Disk + Drop> Store<FileStore<D>> {
@@ -36,10 +37,13 @@ impl<D: Disk + Drop> Store<FileStore<D>> {
             Serves over_files store) }
         ensures stood { IfOk result (λ store. IsHonest over_files store →
             HoldsContent over_files (image_of D.Disk files) store) }
+        ensures begun { IfOk result (λ store. store.group ≡ begun_at store.position) }
         ensures unchanged { IfErr result (λ e. IfSome e.1 (λ conn.
             HasCleanDisk (connection.state over_files conn) →
             StaysAsFound over_files (image_of D.Disk files) conn)) }
         ensures fault { IfErr result (λ e. IsOwnFault e.0 ⊎ (e.0 ≡ StoreFault.NotAStore)) }
+        ensures returned { IfErr result (λ e. e.0 ≡ StoreFault.NotAStore →
+            is_some e.1 ≡ true) }
         ensures disks { IfOk result (λ store. IsHonest over_files store →
             AreClean D.Disk files.log files.db) }
         ensures disks_refused { IfErr result (λ e. IfSome e.1 (λ conn.
@@ -69,10 +73,13 @@ impl<D: Disk + Drop> Store<FileStore<D>> {
             Serves over_files store) }
         ensures stood { IfOk result (λ store. IsHonest over_files store →
             HoldsContent over_files (image_of D.Disk files) store) }
+        ensures begun { IfOk result (λ store. store.group ≡ begun_at store.position) }
         ensures unchanged { IfErr result (λ e. IfSome e.1 (λ conn.
             HasCleanDisk (connection.state over_files conn) →
             StaysAsFound over_files (image_of D.Disk files) conn)) }
         ensures fault { IfErr result (λ e. IsOwnFault e.0 ⊎ (e.0 ≡ StoreFault.NotAStore)) }
+        ensures returned { IfErr result (λ e. e.0 ≡ StoreFault.NotAStore →
+            is_some e.1 ≡ true) }
     {
         match pgopening::open(alloc, files, options) {
             Ok(Found::Trees(store)) => Store::of_trees(alloc, store),
@@ -91,7 +98,8 @@ impl<D: Disk + Drop> Store<FileStore<D>> {
     }
 
     /// Closes the store: its log goes into the file of the database, and the two files come back.
-    /// Nothing of what is committed is lost, also where that fails.
+    /// From then on that file alone holds what the store held (`copied`). Nothing of what is
+    /// committed is lost, also where that fails.
     ///
     /// # Errors
     ///
@@ -107,10 +115,14 @@ impl<D: Disk + Drop> Store<FileStore<D>> {
             (db : Trees) → (state over_files e.1).may_leave db →
             (state over_files self.rows).may_leave db) }
         ensures fault { IfErr result (λ e. IsOwnFault e.0) }
+        ensures copied { IfOk result (λ files. AreClean D.Disk files.log files.db →
+            IsCopiedTo self files) }
     {
         let mut store = self.into_store();
+        // Again, for what only the rollback of a store in files says of its log.
+        store.rollback();
         match store.checkpoint() {
-            Ok(()) => Ok(pgmemory::stop(store)),
+            Ok(()) => Ok(store.close()),
             Err(error) => Err((StoreFault::from(Refusal::from(error)), store)),
         }
     }
@@ -137,6 +149,7 @@ impl<D: Disk + Drop> Store<FileStore<D>> {
             Serves over_files store) }
         ensures stood { IfOk result (λ store. IsHonest over_files store →
             HoldsContent over_files (image_of D.Disk files) store) }
+        ensures begun { IfOk result (λ store. store.group ≡ begun_at store.position) }
         ensures reopens { IfOk result (λ store. IsHonest over_files store →
             ReopensLeft (image_of D.Disk files) store) }
         ensures fault { IfErr result (λ fault. IsOwnFault fault ⊎ (fault ≡ StoreFault.NotAStore)) }

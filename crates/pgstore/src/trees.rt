@@ -4,11 +4,11 @@
 //! in memory. So a store that is whole is read below SQL, one row at a time, and only what isn't
 //! one gets a connection.
 
-ghost use Rattle.std.specs.Prelude.{◌≡◌, ◌⊎◌, false, IfOk, IfErr, IfSome, OnOk};
+ghost use Rattle.std.specs.Prelude.{◌≡◌, ◌⊎◌, true, false, is_some, IfOk, IfErr, IfSome, OnOk};
 ghost use Rattle.sqlite.specs.ExecCalls.{OnlyReads};
 ghost use Rattle.sqlite.specs.View.{IsClean, IsQuiet};
 ghost use Rattle.pgapply.specs.Stored.{IsOwnFault};
-ghost use Rattle.pgstore.specs.StoreValue.{IsHonest, Serves};
+ghost use Rattle.pgstore.specs.StoreValue.{begun_at, IsHonest, Serves};
 ghost use Rattle.pgstore.specs.Trees.{AreStore, HoldsOpened, IsJustOpened, StaysOpened};
 
 use crate::adopting::{KnownRows, read_book};
@@ -66,8 +66,11 @@ impl<S: Alter + Drop> Store<S> {
         requires { IsJustOpened S.Store store }
         ensures serves { IfOk result (λ it. IsHonest S.Store it → Serves S.Store it) }
         ensures holds { IfOk result (HoldsOpened S.Store store) }
+        ensures begun { IfOk result (λ it. it.group ≡ begun_at it.position) }
         ensures stays { IfErr result (λ e. IfSome e.1 (StaysOpened S.Store store)) }
         ensures fault { IfErr result (λ e. IsOwnFault e.0 ⊎ (e.0 ≡ StoreFault.NotAStore)) }
+        ensures returned { IfErr result (λ e. e.0 ≡ StoreFault.NotAStore →
+            is_some e.1 ≡ true) }
     {
         let conn = match Connection::over(alloc, store) {
             Ok(conn) => conn,
@@ -92,8 +95,11 @@ impl<S: Alter + Drop> Store<S> {
         requires { IsJustOpened S.Store store }
         ensures serves { IfOk result (λ it. IsHonest S.Store it → Serves S.Store it) }
         ensures holds { IfOk result (HoldsOpened S.Store store) }
+        ensures begun { IfOk result (λ it. it.group ≡ begun_at it.position) }
         ensures stays { IfErr result (λ e. IfSome e.1 (StaysOpened S.Store store)) }
         ensures fault { IfErr result (λ e. IsOwnFault e.0 ⊎ (e.0 ≡ StoreFault.NotAStore)) }
+        ensures returned { IfErr result (λ e. e.0 ≡ StoreFault.NotAStore →
+            is_some e.1 ≡ true) }
     {
         let found = match read_store(&mut store, alloc) {
             Ok(found) => found,

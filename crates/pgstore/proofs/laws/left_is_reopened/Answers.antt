@@ -8,4 +8,5 @@ returns g c = record {
   reopened = reopened.left_is_reopened g.D.Disk g.S.Store;
   same = reopened.reopens_same over_files g.S.Store;
   not_older = reopened.reopens_no_older over_files g.S.Store;
+  closed = reopened.closed_is_reopened g.D.Disk g.S.Store;
 }
