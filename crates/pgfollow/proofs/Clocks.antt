@@ -33,7 +33,7 @@ use Rattle.pgsub_core.proofs.Steps.{goes_through}
 abbrev pub quiet : List ℕ → Subscribed → Subscribed
 quiet r s = record s { replies = r }
 
-abbrev TakesAlike : Outcome Subscribed Fault → Outcome Subscribed Fault → Type 0
+abbrev pub TakesAlike : Outcome Subscribed Fault → Outcome Subscribed Fault → Type 0
 TakesAlike (Running s) o = (r : List ℕ) × (o ≡ Running (quiet r s))
 TakesAlike (Stopped s why) o = Unit {0}
 
@@ -95,7 +95,7 @@ then_quiet : (k k' : Subscribed → Outcome Subscribed Fault) → ((r : List ℕ
 then_quiet k k' each (Running s) o' h = subst (λ (x : Outcome Subscribed Fault). TakesAlike (k s) (then_run x k')) (sym h.1) (each h.0 s)
 then_quiet k k' each (Stopped s why) o' h = tt
 
-frames_quiet : (now now' : ℤ) (fs : List Frame) (r : List ℕ) (s : Subscribed)
+pub frames_quiet : (now now' : ℤ) (fs : List Frame) (r : List ℕ) (s : Subscribed)
     → TakesAlike (take_frames now s fs) (take_frames now' (quiet r s) fs)
 frames_quiet now now' [] r s = (r, refl)
 frames_quiet now now' (f ∷ fs) r s =

@@ -1,6 +1,6 @@
 -- The parts of a history's sessions, one after the other: what is told after each is stored.
 use Rattle.std.proofs.Common.{◌≡◌, ◌≤◌, ◌∙◌, ◌++◌, ◌⊎◌, inl, inr, ℕ, ℤ, List, [], ◌∷◌, Bool, true}
-use Rattle.std.proofs.Common.{false, cond, Option, Some, None, Ok, pos, refl, sym, ap, subst}
+use Rattle.std.proofs.Common.{false, Option, Some, None, Ok, pos, refl, sym, ap, subst}
 use Rattle.std.proofs.Common.{append_assoc, append-nil, arith}
 use Rattle.std.specs.FinMap as map
 use Rattle.pgapply.specs.declared.misses.Misses.{Misses}
@@ -31,14 +31,19 @@ use Rattle.pgsub_core.proofs.MissedSessions.{counted_of_history}
 use Rattle.pgfollow.specs.declared.fault.FollowFault.{FollowFault}
 use Rattle.pgfollow.specs.declared.fault.FollowFault.TheVariants as follow
 use Rattle.pgfollow.specs.Live.{IsStart, IsGreeted, StopsGreeting, Step, IsStep, AreSteps}
-use Rattle.pgfollow.specs.Live.{LiveSteps, LiveStops, LiveEnds, IsUnfed, IsUntold, StopsPart, news}
-use Rattle.pgfollow.specs.Live.{settled, status_at, told_of, told_in}
-use Rattle.pgfollow.specs.Told.{AreRising, sessions_from, HoldsSafely, LeavesSafely, IsToldSafely}
+use Rattle.pgfollow.specs.Live.{LiveSteps, LiveStops, LiveEnds, IsUnfed, IsUntold, StopsPart}
+use Rattle.pgfollow.specs.Live.{due, settled, status_at, told_of}
+use Rattle.pgfollow.specs.Told.{sessions_from, HoldsSafely, LeavesSafely, IsToldSafely}
 use Rattle.pgfollow.specs.Told.{AreToldSafely, TellsSafely, TellsRising, FollowsLive, steps_in}
-use Rattle.pgfollow.specs.Told.{pending_in, mid_in, first_status, LastIsSafe}
+use Rattle.pgfollow.specs.Told.{part_in, mid_in, first_status, LastIsSafe, HaveTaken, HaveAllTaken}
+use Rattle.pgfollow.specs.Told.{session_start}
 use Rattle.pgfollow.proofs.Clocks.{quiet, whole_quiet, until_quiet, counted_quiet, front_quiet}
-use Rattle.pgfollow.proofs.Rising.{one_rises, rising_join, rising_safe, none_rise, fed_rises}
-use Rattle.pgfollow.proofs.Rising.{news_rise}
+use Rattle.pgfollow.proofs.Rising.{one_rises, rising_safe}
+use Rattle.pgfollow.proofs.Statuses.{after_replies, after_confirmed, part_rises, steps_rise}
+use Rattle.pgfollow.proofs.Statuses.{last_rises}
+use Rattle.pgfollow.proofs.Within.{until_within, whole_until, counted_within, all_taken, have_less}
+use Rattle.pgfollow.proofs.Sofar.{Sofar, with_by, with_parts, go_on, same_sessions, same_from}
+use Rattle.pgfollow.proofs.Sofar.{same_last}
 
 more_stored : (history : List Transaction) (p q c : ℕ) → p ≤ q → NothingBetween history p c → NothingBetween history q c
 more_stored [] p q c le nothing = tt
@@ -49,50 +54,8 @@ more_stored (t ∷ history) p q c le nothing =
 abbrev noon : ℤ
 noon = pos 0
 
--- ---- statuses, of any bytes
-
-settled_replies : (ends : Bool) (s : Subscribed) → (settled ends s).replies ≡ []
-settled_replies false s = refl
-settled_replies true s = refl
-
-settled_confirmed : (ends : Bool) (s : Subscribed) → (settled ends s).confirmed ≡ s.confirmed
-settled_confirmed false s = refl
-settled_confirmed true s = refl
-
 module _ {C : Type 0} (holds : C → Tables → Type 0) (place : C → ℕ) (reopens : C → C → Type 0) (serves : C → Type 0)
     (count : C → Misses) where
-  after_replies : (old : SubscriberValue C) (step : Step C) → IsStep holds place reopens serves count old step
-      → step.after.applied.replies ≡ []
-  after_replies old step is =
-      ap (λ (x : Subscribed). x.replies) (is.state map.empty) ∙ settled_replies step.ends (seen place step.fed map.empty)
-
-  after_confirmed : (old : SubscriberValue C) (step : Step C) → IsStep holds place reopens serves count old step
-      → step.after.applied.confirmed ≡ step.fed.applied.confirmed
-  after_confirmed old step is =
-      ap (λ (x : Subscribed). x.confirmed) (is.state map.empty) ∙ settled_confirmed step.ends (seen place step.fed map.empty)
-
-  part_rises : (now : ℤ) (old fed : SubscriberValue C) (part : List ℕ) (tables tables' : Tables) → old.applied.replies ≡ []
-      → IsFedWhole now (seen place old tables) part (seen place fed tables')
-      → AreRising old.applied.confirmed (fed.applied.replies ++ news now old.applied.confirmed fed) fed.applied.confirmed
-  part_rises now old fed part tables tables' none whole =
-      rising_join old.applied.confirmed fed.applied.confirmed fed.applied.confirmed fed.applied.replies (news now old.applied.confirmed fed)
-      (fed_rises now (seen place old tables) (seen place fed tables') part none whole) (news_rise now old.applied.confirmed fed)
-
-  pub steps_rise : (steps : List (Step C)) (old mid : SubscriberValue C) → old.applied.replies ≡ []
-      → AreSteps holds place reopens serves count old steps mid → TellsRising holds place reopens old steps mid
-  steps_rise [] old mid none are tables h =
-      subst (λ (s : SubscriberValue C). AreRising old.applied.confirmed [] s.applied.confirmed) (sym are)
-      (none_rise old.applied.confirmed old.applied.confirmed (omega arith))
-  steps_rise (step ∷ steps) old mid none are tables h =
-      let one = are.0.is_fed.feeds tables h in
-      let first = part_rises step.now old step.fed step.part tables one.0 none one.2.1 in
-      let rest = steps_rise steps step.after mid (after_replies old step are.0) are.1 one.0
-      (subst (λ (x : C). holds x one.0) (sym are.0.store) one.1) in
-      rising_join old.applied.confirmed step.fed.applied.confirmed mid.applied.confirmed (told_of old step) (told_in step.after steps) first
-      (subst (λ n. AreRising n (told_in step.after steps) mid.applied.confirmed) (after_confirmed old step are.0) rest)
-
-  -- ---- a history's
-
   left_same : (history : List Transaction) (a b : SubscriberValue C) (other : C) → b.applied.store ≡ a.applied.store
       → b.applied.confirmed ≡ a.applied.confirmed → IsLeftSafely holds place history a other → IsLeftSafely holds place history b other
   left_same history a b other store confirmed left = record {
@@ -126,10 +89,37 @@ module _ {C : Type 0} (holds : C → Tables → Type 0) (place : C → ℕ) (reo
     none_safe : AreSafeReplies history b
     none_safe = record { statuses = []; bytes = none_waits; each = tt }
 
-    -- where what was fed is the first bytes of a history's sessions, it is safe
-    abbrev Coming : List (List ℕ) → List ℕ → Type 0
-    Coming done begun = (more : List ℕ) × (later : List (List ℕ)) × (all_complete : List (List Sent))
-        × IsSent history b (done ++ (begun ++ more) ∷ later) all_complete
+    -- where all that is taken stands in a history's sessions, it is safe
+    record Coming (base : Subscribed) (done : List (List ℕ)) (begun : List ℕ) : Type 0 where
+      bytes : List ℕ
+      later : List (List ℕ)
+      all_complete : List (List Sent)
+      have : HaveTaken (disconnect base) begun bytes
+      sent : IsSent history b (done ++ bytes ∷ later) all_complete
+
+    coming_less : (base : Subscribed) (done : List (List ℕ)) (begun more : List ℕ) → Coming base done (begun ++ more)
+        → Coming base done begun
+    coming_less base done begun more coming = record {
+      bytes = coming.bytes;
+      later = coming.later;
+      all_complete = coming.all_complete;
+      have = have_less (disconnect base) begun more coming.bytes coming.have;
+      sent = coming.sent;
+    }
+
+    until_stored : (base other : Subscribed) (done : List (List ℕ)) (begun : List ℕ) → AreFedWhole noon b done base
+        → IsFedUntil noon (disconnect base) begun other fault.Memory → Coming base done begun → IsSafeFor history other
+    until_stored base other done begun before until coming =
+        (confirmed_stored noon history b other done coming.bytes [] coming.later coming.all_complete (Some fault.Memory)
+        (subst (λ bs. IsSent history b (done ++ bs ∷ coming.later) coming.all_complete) (sym (append-nil coming.bytes)) coming.sent)
+        none_safe
+        (fed_then_stopped noon done coming.bytes [] b base other fault.Memory before
+        (until_within noon (disconnect base) other begun coming.bytes fault.Memory coming.have until))).0
+
+    whole_stored : (base ideal : Subscribed) (done : List (List ℕ)) (begun : List ℕ) → AreFedWhole noon b done base
+        → IsFedWhole noon (disconnect base) begun ideal → Coming base done begun → IsSafeFor history ideal
+    whole_stored base ideal done begun before whole coming =
+        until_stored base (record ideal { closed = true }) done begun before (whole_until noon (disconnect base) ideal begun whole) coming
 
     module _ (done : List (List ℕ)) (begun part : List ℕ) (s : SubscriberValue C) (stands : Stands done begun s) where
       -- a part is fed
@@ -167,39 +157,38 @@ module _ {C : Type 0} (holds : C → Tables → Type 0) (place : C → ℕ) (reo
             unclosed = one.2.0;
           }
 
-      fed_safe : (fed : SubscriberValue C) → Fed fed → Coming done (begun ++ part) → HoldsSafely holds place reopens history fed
+      fed_safe : (fed : SubscriberValue C) → Fed fed → Coming stands.base done (begun ++ part) → HoldsSafely holds place reopens history fed
       fed_safe fed f coming =
-          let safe = confirmed_stored noon history b f.ideal done (begun ++ part) coming.0 coming.1 coming.2 None coming.3 none_safe
-          (fed_more noon done (begun ++ part) b stands.base f.ideal stands.before f.is_fed) in
-          (f.tables, f.held, subst (λ (x : Subscribed). IsSafeFor history x) (sym f.same) safe.0)
+          let safe = whole_stored stands.base f.ideal done (begun ++ part) stands.before f.is_fed coming in
+          (f.tables, f.held, subst (λ (x : Subscribed). IsSafeFor history x) (sym f.same) safe)
 
       -- or stopped
       until_safe : (now : ℤ) (x : SubscriberValue C) (f : Fault) → (seen place s stands.tables).closed ≡ false
-          → FeedsUntil holds place now s part x f → Coming done (begun ++ part) → HoldsSafely holds place reopens history x
+          → FeedsUntil holds place now s part x f → Coming stands.base done (begun ++ part) → HoldsSafely holds place reopens history x
       until_safe now x f unclosed until coming =
           let one = until stands.tables stands.held in
           let stops : IsFedUntil now (quiet [] stands.ideal) part (seen place x one.0) f =
           subst (λ (y : Subscribed). IsFedUntil now y part (seen place x one.0) f) stands.same
           (until_of now (seen place s stands.tables) (seen place x one.0) part f unclosed one.2) in
           let alike = until_quiet now noon stands.ideal.replies (quiet [] stands.ideal) (seen place x one.0) part f stops in
-          let safe = confirmed_stored noon history b alike.other done (begun ++ part) coming.0 coming.1 coming.2 (Some fault.Memory)
-          coming.3 none_safe
-          (fed_then_stopped noon done (begun ++ part) [] b stands.base alike.other fault.Memory stands.before
-          (piece_then_stop noon (disconnect stands.base) stands.ideal alike.other begun part fault.Memory stands.is_fed alike.until)) in (
+          let safe = until_stored stands.base alike.other done (begun ++ part) stands.before
+          (piece_then_stop noon (disconnect stands.base) stands.ideal alike.other begun part fault.Memory stands.is_fed alike.until)
+          coming in (
             one.0,
             one.1,
             record {
               same = subst (λ n. tables_as_of history n ≡ Ok one.0) alike.position
-                  (subst (λ (t : Tables). tables_as_of history alike.other.position ≡ Ok t) alike.tables safe.0.same);
+                  (subst (λ (t : Tables). tables_as_of history alike.other.position ≡ Ok t) alike.tables safe.same);
               stored = subst (λ n. NothingBetween history (place x.applied.store) n) alike.confirmed
-                  (subst (λ n. NothingBetween history n alike.other.confirmed) alike.position safe.0.stored);
+                  (subst (λ n. NothingBetween history n alike.other.confirmed) alike.position safe.stored);
               below = subst (λ n. place x.applied.store ≤ n) alike.confirmed
-                  (subst (λ n. n ≤ alike.other.confirmed) alike.position safe.0.below);
+                  (subst (λ n. n ≤ alike.other.confirmed) alike.position safe.below);
             },
           )
 
       -- what a crash leaves then
-      fed_leaves : (now : ℤ) (new : SubscriberValue C) → (seen place s stands.tables).closed ≡ false → Coming done (begun ++ part)
+      fed_leaves : (now : ℤ) (new : SubscriberValue C) → (seen place s stands.tables).closed ≡ false
+          → Coming stands.base done (begun ++ part)
           → LeavesOldOr place reopens serves (FedOver (λ x. FeedsUntil holds place now s part x fault.Memory)) s.applied.store
           new.applied.store
           → NothingBetween history (place new.applied.store) new.applied.confirmed → LeavesSafely holds place reopens history s
@@ -228,7 +217,7 @@ module _ {C : Type 0} (holds : C → Tables → Type 0) (place : C → ℕ) (reo
           ]
 
     -- after a part: in the session, and behind its end
-    goes_on : (done : List (List ℕ)) (begun part : List ℕ) (s fed after : SubscriberValue C) (stands : Stands done begun s)
+    abbrev goes_on : (done : List (List ℕ)) (begun part : List ℕ) (s fed after : SubscriberValue C) (stands : Stands done begun s)
         → Fed done begun part s stands fed → after.applied.store ≡ fed.applied.store
         → ((tables : Tables) → seen place after tables ≡ settled false (seen place fed tables)) → Stands done (begun ++ part) after
     goes_on done begun part s fed after stands f store state = record {
@@ -245,7 +234,7 @@ module _ {C : Type 0} (holds : C → Tables → Type 0) (place : C → ℕ) (reo
           (sym store) f.counts;
     }
 
-    ends_here : (done : List (List ℕ)) (begun part : List ℕ) (s fed after : SubscriberValue C) (stands : Stands done begun s)
+    abbrev ends_here : (done : List (List ℕ)) (begun part : List ℕ) (s fed after : SubscriberValue C) (stands : Stands done begun s)
         → Fed done begun part s stands fed → after.applied.store ≡ fed.applied.store
         → ((tables : Tables) → seen place after tables ≡ settled true (seen place fed tables))
         → Stands (done ++ (begun ++ part) ∷ []) [] after
@@ -264,122 +253,151 @@ module _ {C : Type 0} (holds : C → Tables → Type 0) (place : C → ℕ) (reo
           (sym store) (nothing_counted noon f.ideal (count fed.applied.store));
     }
 
-    -- the first of the sessions
-    abbrev Begins : List ℕ → List (List ℕ) → Type 0
-    Begins begun sessions = (more : List ℕ) × (later : List (List ℕ)) × (sessions ≡ (begun ++ more) ∷ later)
+    -- what comes is some sessions of the history, of which the last has all that is taken of it
+    record Sends (s : Sofar C) (rest : List ℕ) : Type 0 where
+      bytes : List ℕ
+      all_complete : List (List Sent)
+      have : (tables : Tables) → holds s.from.applied.store tables → HaveTaken (seen place s.from tables) (s.begun ++ rest) bytes
+      sent : IsSent history b (s.ended ++ bytes ∷ []) all_complete
 
-    by_first : (ends : Bool) (begun part : List ℕ) (ended on : List (List ℕ)) → Begins (begun ++ part) on
-        → Begins begun (cond ends ((begun ++ part) ∷ ended) on)
-    by_first true begun part ended on rest = (part, ended, refl)
-    by_first false begun part ended on rest = (part ++ rest.0, rest.1, rest.2 ∙ ap (λ bs. bs ∷ rest.1) (append_assoc begun part rest.0))
+    -- the subscriber at the start of the session
+    record Starts (base : Subscribed) (from : SubscriberValue C) : Type 0 where
+      tables : Tables
+      held : holds from.applied.store tables
+      same : seen place from tables ≡ disconnect base
 
-    first_session : (steps : List (Step C)) (begun pending : List ℕ) → Begins begun (sessions_from begun steps pending)
-    first_session [] begun pending = (pending, [], refl)
-    first_session (step ∷ steps) begun pending =
-        by_first step.ends begun step.part (sessions_from [] steps pending) (sessions_from (begun ++ step.part) steps pending)
-        (first_session steps (begun ++ step.part) pending)
+    all_coming : (s : Sofar C) (rest : List ℕ) (base : Subscribed) → Starts base s.from → Sends s rest
+        → Coming base s.ended (s.begun ++ rest)
+    all_coming s rest base starts sends = record {
+      bytes = sends.bytes;
+      later = [];
+      all_complete = sends.all_complete;
+      have = subst (λ (x : Subscribed). HaveTaken x (s.begun ++ rest) sends.bytes) starts.same (sends.have starts.tables starts.held);
+      sent = sends.sent;
+    }
 
-    coming_of : (all_complete : List (List Sent)) (done : List (List ℕ)) (begun : List ℕ) (sessions : List (List ℕ)) → Begins begun sessions
-        → IsSent history b (done ++ sessions) all_complete → Coming done begun
-    coming_of all_complete done begun sessions begins is =
-        (begins.0, begins.1, all_complete, subst (λ (x : List (List ℕ)). IsSent history b (done ++ x) all_complete) begins.2 is)
+    -- a session that ends
+    ended_coming : (steps : List (Step C)) (s : Sofar C) (done : List (List ℕ)) (begun rest : List ℕ) (base : Subscribed)
+        → s.ended ≡ done ++ begun ∷ [] → Sends (with_parts s steps) rest → Coming base done begun
+    ended_coming steps s done begun rest base same sends =
+        let on = go_on steps s sends.bytes in
+        record {
+          bytes = begun;
+          later = on.0;
+          all_complete = sends.all_complete;
+          have = all_taken (disconnect base) begun;
+          sent = subst (λ (x : List (List ℕ)). IsSent history b x sends.all_complete)
+              (on.1 ∙ ap (λ (x : List (List ℕ)). x ++ on.0) same ∙ append_assoc done (begun ∷ []) on.0) sends.sent;
+        }
+
+    coming_of : (steps : List (Step C)) (s : Sofar C) (rest : List ℕ) (base : Subscribed) → Starts base s.from
+        → Sends (with_parts s steps) rest → Coming base s.ended s.begun
+    coming_of [] s rest base starts sends = coming_less base s.ended s.begun rest (all_coming s rest base starts sends)
+    coming_of (step ∷ steps) s rest base starts sends =
+        by_end step.ends (λ on. coming_of steps (with_by false s step) rest base starts on) sends
+      where
+        by_end : (ends : Bool)
+            → (Sends (with_parts (with_by false s step) steps) rest → Coming base s.ended (s.begun ++ step.part))
+            → Sends (with_parts (with_by ends s step) steps) rest → Coming base s.ended s.begun
+        by_end true on ended =
+            coming_less base s.ended s.begun step.part
+            (ended_coming steps (with_by true s step) s.ended (s.begun ++ step.part) rest base refl ended)
+        by_end false on more = coming_less base s.ended s.begun step.part (on more)
 
     -- where the parts end
-    record Walked (mid : SubscriberValue C) (pending : List ℕ) (all_complete : List (List Sent)) : Type 0 where
+    record Walked (mid : SubscriberValue C) (rest : List ℕ) : Type 0 where
       done : List (List ℕ)
       begun : List ℕ
       stands : Stands done begun mid
-      sent : IsSent history b (done ++ (begun ++ pending) ∷ []) all_complete
+      coming : Coming stands.base done (begun ++ rest)
       leaves : LeavesSafely holds place reopens history mid
       none : mid.applied.replies ≡ []
 
-    abbrev Walks : List (Step C) → List ℕ → List (List Sent) → SubscriberValue C → SubscriberValue C → Type 0
-    Walks steps pending all_complete old mid = AreToldSafely holds place reopens history old steps × Walked mid pending all_complete
+    abbrev Walks : List (Step C) → List ℕ → SubscriberValue C → SubscriberValue C → Type 0
+    Walks steps rest old mid = AreToldSafely holds place reopens history old steps × Walked mid rest
 
     -- one part more in front
-    walk_step : (step : Step C) (steps : List (Step C)) (pending : List ℕ) (all_complete : List (List Sent)) (done : List (List ℕ))
-        (begun : List ℕ) (old mid : SubscriberValue C) → IsStep holds place reopens serves count old step
-        → Stands done begun old → old.applied.replies ≡ [] → LeavesSafely holds place reopens history old
-        → ((done' : List (List ℕ)) (begun' : List ℕ) → Stands done' begun' step.after → step.after.applied.replies ≡ []
-        → LeavesSafely holds place reopens history step.after
-        → IsSent history b (done' ++ sessions_from begun' steps pending) all_complete → Walks steps pending all_complete step.after mid)
-        → (ends : Bool) → step.ends ≡ ends
-        → IsSent history b (done
-        ++ cond ends ((begun ++ step.part) ∷ sessions_from [] steps pending) (sessions_from (begun ++ step.part) steps pending))
-        all_complete
-        → Walks (step ∷ steps) pending all_complete old mid
-    walk_step step steps pending all_complete done begun old mid is_step stands none left later = by_end
+    walk_step : (step : Step C) (steps : List (Step C)) (rest : List ℕ) (s : Sofar C) (old mid : SubscriberValue C)
+        → IsStep holds place reopens serves count old step
+        → (stands : Stands s.ended s.begun old) → Starts stands.base s.from → old.applied.replies ≡ []
+        → LeavesSafely holds place reopens history old
+        → ((s' : Sofar C) (stands' : Stands s'.ended s'.begun step.after) → Starts stands'.base s'.from → step.after.applied.replies ≡ []
+        → LeavesSafely holds place reopens history step.after → Sends (with_parts s' steps) rest → Walks steps rest step.after mid)
+        → (ends : Bool) → step.ends ≡ ends → Sends (with_parts (with_by ends s step) steps) rest
+        → Walks (step ∷ steps) rest old mid
+    walk_step step steps rest s old mid is_step stands starts none left later = by_end
       where
-        f : Fed done begun step.part old stands step.fed
-        f = one_fed done begun step.part old stands step.now step.fed is_step.is_fed.feeds is_step.is_fed.counts
+        f : Fed s.ended s.begun step.part old stands step.fed
+        f = one_fed s.ended s.begun step.part old stands step.now step.fed is_step.is_fed.feeds is_step.is_fed.counts
 
-        told : Coming done (begun ++ step.part) → IsToldSafely holds place reopens history step.fed (told_of old step)
+        told : Coming stands.base s.ended (s.begun ++ step.part) → IsToldSafely holds place reopens history step.fed (told_of old step)
         told coming =
-            let safe = fed_safe done begun step.part old stands step.fed f coming in
+            let safe = fed_safe s.ended s.begun step.part old stands step.fed f coming in
             let one = is_step.is_fed.feeds stands.tables stands.held in
             record {
               rows = safe;
               statuses = λ tables. rising_safe history (record (seen place step.fed tables) { replies = told_of old step })
                   old.applied.confirmed safe.2.stored
-                  (part_rises step.now old step.fed step.part stands.tables one.0 none one.2.1);
-              left = fed_leaves done begun step.part old stands step.now step.fed f.unclosed coming is_step.is_fed.crash safe.2.stored left;
+                  (part_rises holds place reopens serves count step.now old step.fed step.part stands.tables one.0 none one.2.1);
+              left = fed_leaves s.ended s.begun step.part old stands step.now step.fed f.unclosed coming is_step.is_fed.crash safe.2.stored
+                  left;
             }
 
-        on : Coming done (begun ++ step.part) → LeavesSafely holds place reopens history step.after
-        on coming = leaves_same history step.fed step.after is_step.store (after_confirmed old step is_step) (told coming).left
+        on : Coming stands.base s.ended (s.begun ++ step.part) → LeavesSafely holds place reopens history step.after
+        on coming =
+            leaves_same history step.fed step.after is_step.store (after_confirmed holds place reopens serves count old step is_step)
+            (told coming).left
 
         state_by : (ends : Bool) → step.ends ≡ ends → (tables : Tables)
             → seen place step.after tables ≡ settled ends (seen place step.fed tables)
         state_by ends e tables = is_step.state tables ∙ ap (λ (x : Bool). settled x (seen place step.fed tables)) e
 
-        by_end : (ends : Bool) → step.ends ≡ ends
-            → IsSent history b (done
-            ++ cond ends ((begun ++ step.part) ∷ sessions_from [] steps pending) (sessions_from (begun ++ step.part) steps pending))
-            all_complete
-            → Walks (step ∷ steps) pending all_complete old mid
-        by_end true e all =
-            let coming : Coming done (begun ++ step.part) =
-            coming_of all_complete done (begun ++ step.part) ((begun ++ step.part) ∷ sessions_from [] steps pending)
-            ([], sessions_from [] steps pending, ap (λ bs. bs ∷ sessions_from [] steps pending) (sym (append-nil (begun ++ step.part))))
-            all in
-            let rest = later (done ++ (begun ++ step.part) ∷ []) []
-            (ends_here done begun step.part old step.fed step.after stands f is_step.store (state_by true e))
-            (after_replies old step is_step) (on coming)
-            (subst (λ (x : List (List ℕ)). IsSent history b x all_complete)
-            (sym (append_assoc done ((begun ++ step.part) ∷ []) (sessions_from [] steps pending))) all) in
-            ((told coming, rest.0), rest.1)
-        by_end false e all =
-            let coming = coming_of all_complete done (begun ++ step.part) (sessions_from (begun ++ step.part) steps pending)
-            (first_session steps (begun ++ step.part) pending) all in
-            let rest = later done (begun ++ step.part)
-            (goes_on done begun step.part old step.fed step.after stands f is_step.store (state_by false e))
-            (after_replies old step is_step) (on coming) all in
-            ((told coming, rest.0), rest.1)
+        by_end : (ends : Bool) → step.ends ≡ ends → Sends (with_parts (with_by ends s step) steps) rest → Walks (step ∷ steps) rest old mid
+        by_end true e sends =
+            let coming = ended_coming steps (with_by true s step) s.ended (s.begun ++ step.part) rest stands.base refl sends in
+            let stands' = ends_here s.ended s.begun step.part old step.fed step.after stands f is_step.store (state_by true e) in
+            let more = later (with_by true s step) stands'
+            (record { tables = stands'.tables; held = stands'.held; same = stands'.same })
+            (after_replies holds place reopens serves count old step is_step) (on coming) sends in
+            ((told coming, more.0), more.1)
+        by_end false e sends =
+            let coming = coming_of steps (with_by false s step) rest stands.base starts sends in
+            let stands' = goes_on s.ended s.begun step.part old step.fed step.after stands f is_step.store (state_by false e) in
+            let more = later (with_by false s step) stands' starts (after_replies holds place reopens serves count old step is_step)
+            (on coming) sends in
+            ((told coming, more.0), more.1)
 
-    walk : (steps : List (Step C)) (pending : List ℕ) (all_complete : List (List Sent)) (done : List (List ℕ)) (begun : List ℕ)
-        (old mid : SubscriberValue C) → AreSteps holds place reopens serves count old steps mid
-        → Stands done begun old → old.applied.replies ≡ [] → LeavesSafely holds place reopens history old
-        → IsSent history b (done ++ sessions_from begun steps pending) all_complete
-        → Walks steps pending all_complete old mid
-    walk [] pending all_complete done begun old mid are stands none left is = (
+    walk : (steps : List (Step C)) (rest : List ℕ) (s : Sofar C) (old mid : SubscriberValue C)
+        → AreSteps holds place reopens serves count old steps mid
+        → (stands : Stands s.ended s.begun old) → Starts stands.base s.from → old.applied.replies ≡ []
+        → LeavesSafely holds place reopens history old → Sends (with_parts s steps) rest
+        → Walks steps rest old mid
+    walk [] rest s old mid are stands starts none left sends = (
       tt,
-      subst (λ (s : SubscriberValue C). Walked s pending all_complete) (sym are)
-          (record { done = done; begun = begun; stands = stands; sent = is; leaves = left; none = none }),
+      subst (λ (x : SubscriberValue C). Walked x rest) (sym are) (record {
+        done = s.ended;
+        begun = s.begun;
+        stands = stands;
+        coming = all_coming s rest stands.base starts sends;
+        leaves = left;
+        none = none;
+      }),
     )
-    walk (step ∷ steps) pending all_complete done begun old mid are stands none left is =
-        walk_step step steps pending all_complete done begun old mid are.0 stands none left
-        (λ done' begun' stands' none' left' is'.
-        walk steps pending all_complete done' begun' step.after mid are.1 stands' none' left' is')
-        step.ends refl is
+    walk (step ∷ steps) rest s old mid are stands starts none left sends =
+        walk_step step steps rest s old mid are.0 stands starts none left
+        (λ s' stands' starts' none' left' sends'. walk steps rest s' step.after mid are.1 stands' starts' none' left' sends')
+        step.ends refl sends
 
     -- what the store holds there
-    walked_holds : (mid : SubscriberValue C) (pending : List ℕ) (all_complete : List (List Sent)) → Walked mid pending all_complete
-        → HoldsSafely holds place reopens history mid
-    walked_holds mid pending all_complete walked =
-        let stands = walked.stands in
-        let safe = confirmed_stored noon history b stands.ideal walked.done walked.begun pending [] all_complete None walked.sent none_safe
-        (fed_more noon walked.done walked.begun b stands.base stands.ideal stands.before stands.is_fed) in
-        (stands.tables, stands.held, subst (λ (x : Subscribed). IsSafeFor history x) (sym stands.same) safe.0)
+    walked_holds : (mid : SubscriberValue C) (rest : List ℕ) → Walked mid rest → HoldsSafely holds place reopens history mid
+    walked_holds mid rest walked =
+        let stands = walked.stands in (
+          stands.tables,
+          stands.held,
+          subst (λ (x : Subscribed). IsSafeFor history x) (sym stands.same)
+              (whole_stored stands.base stands.ideal walked.done walked.begun stands.before stands.is_fed
+              (coming_less stands.base walked.done walked.begun rest walked.coming)),
+        )
 
     holds_same : (a b : SubscriberValue C) → b.applied.store ≡ a.applied.store → b.applied.confirmed ≡ a.applied.confirmed
         → HoldsSafely holds place reopens history a → HoldsSafely holds place reopens history b
@@ -398,116 +416,97 @@ module _ {C : Type 0} (holds : C → Tables → Type 0) (place : C → ℕ) (reo
     -- ---- what is counted
 
     -- of a front of the last session
-    walked_counts : (mid : SubscriberValue C) (pending : List ℕ) (all_complete : List (List Sent))
-        (walked : Walked mid pending all_complete) (position : ℕ) (behind : Misses)
-        → IsCountedFront noon (disconnect walked.stands.base) (walked.begun ++ pending) position walked.stands.counted behind
+    walked_counts : (mid : SubscriberValue C) (rest : List ℕ) (walked : Walked mid rest) (position : ℕ) (behind : Misses)
+        → IsCountedFront noon (disconnect walked.stands.base) (walked.begun ++ rest) position walked.stands.counted behind
         → behind ≡ history_missed history b.position position first_count
-    walked_counts mid pending all_complete walked position behind front =
-        counted_of_history noon history (walked.done ++ (walked.begun ++ pending) ∷ []) all_complete b position first_count behind
-        walked.sent
-        (sessions_then noon walked.done (walked.begun ++ pending) [] b walked.stands.base position first_count walked.stands.counted behind
-        walked.stands.counts_before front)
+    walked_counts mid rest walked position behind front =
+        let coming = walked.coming in
+        let stands = walked.stands in
+        counted_of_history noon history (walked.done ++ coming.bytes ∷ coming.later) coming.all_complete b position first_count behind
+        coming.sent
+        (sessions_then noon walked.done coming.bytes coming.later b stands.base position first_count stands.counted behind
+        stands.counts_before
+        (counted_within noon (disconnect stands.base) (walked.begun ++ rest) coming.bytes position stands.counted behind coming.have front))
 
     -- where all that was read is fed
-    all_counts : (mid : SubscriberValue C) (all_complete : List (List Sent)) → Walked mid [] all_complete
+    all_counts : (mid : SubscriberValue C) → Walked mid []
         → count mid.applied.store ≡ history_missed history b.position (place mid.applied.store) first_count
-    all_counts mid all_complete walked =
+    all_counts mid walked =
         let stands = walked.stands in
         let at : place mid.applied.store ≡ stands.ideal.position = ap (λ (x : Subscribed). x.position) stands.same in
-        walked_counts mid [] all_complete walked (place mid.applied.store) (count mid.applied.store)
+        walked_counts mid [] walked (place mid.applied.store) (count mid.applied.store)
         (subst (λ n. IsCountedFront noon (disconnect stands.base) (walked.begun ++ []) n stands.counted (count mid.applied.store)) (sym at)
         (front_stands noon (disconnect stands.base) walked.begun [] stands.ideal.position stands.counted (count mid.applied.store)
         (is_front noon (disconnect stands.base) walked.begun stands.ideal.position stands.counted (count mid.applied.store) stands.counts)))
 
     -- ---- what comes of the last part
 
-    module _ (mid new : SubscriberValue C) (part later : List ℕ) (all_complete : List (List Sent))
-        (walked : Walked mid (part ++ later) all_complete) where
-      last_coming : Coming walked.done (walked.begun ++ part)
-      last_coming = (
-        later,
-        [],
-        all_complete,
-        subst (λ bs. IsSent history b (walked.done ++ bs ∷ []) all_complete) (sym (append_assoc walked.begun part later)) walked.sent,
-      )
+    module _ (mid new : SubscriberValue C) (part : List ℕ) (walked : Walked mid part) where
+      untold_holds : (now : ℤ) (front : List ℕ) (untold : IsUntold holds place reopens serves count now mid part new front)
+          → HoldsSafely holds place reopens history untold.fed
+      untold_holds now front untold =
+          fed_safe walked.done walked.begun part mid walked.stands untold.fed
+          (one_fed walked.done walked.begun part mid walked.stands now untold.fed untold.is_fed.feeds untold.is_fed.counts) walked.coming
 
-      untold_leaves : (now : ℤ) (front : List ℕ) → IsUntold holds place reopens serves count now mid part new front
-          → LeavesSafely holds place reopens history new
-      untold_leaves now front untold =
-          let f = one_fed walked.done walked.begun part mid walked.stands now untold.fed untold.is_fed.feeds untold.is_fed.counts in
-          let safe = fed_safe walked.done walked.begun part mid walked.stands untold.fed f last_coming in
-          leaves_same history untold.fed new untold.store untold.confirmed
-          (fed_leaves walked.done walked.begun part mid walked.stands now untold.fed f.unclosed last_coming untold.is_fed.crash
-          safe.2.stored walked.leaves)
+      untold_left : (now : ℤ) (front : List ℕ) (untold : IsUntold holds place reopens serves count now mid part new front)
+          → LeavesSafely holds place reopens history untold.fed
+      untold_left now front untold =
+          fed_leaves walked.done walked.begun part mid walked.stands now untold.fed
+          (untold.is_fed.feeds walked.stands.tables walked.stands.held).2.0 walked.coming untold.is_fed.crash
+          (untold_holds now front untold).2.stored walked.leaves
 
       unfed_leaves : (now : ℤ) (f : Fault) → IsUnfed holds place reopens serves count now mid part new f
           → LeavesSafely holds place reopens history new
       unfed_leaves now f unfed =
-          let x = unfed.stands.0 in
-          let kept = unfed.stands.1 in
-          let safe = until_safe walked.done walked.begun part mid walked.stands now x fault.Memory unfed.unclosed unfed.stands.2
-          last_coming in
-          fed_leaves walked.done walked.begun part mid walked.stands now new unfed.unclosed last_coming unfed.crash
+          let x = unfed.why.0 in
+          let kept = unfed.why.1 in
+          let safe = until_safe walked.done walked.begun part mid walked.stands now x f unfed.unclosed unfed.why.2 walked.coming in
+          fed_leaves walked.done walked.begun part mid walked.stands now new unfed.unclosed walked.coming unfed.crash
           (subst (λ n. NothingBetween history n new.applied.confirmed) (sym kept.position)
           (subst (λ n. NothingBetween history (place x.applied.store) n) (sym kept.confirmed) safe.2.stored)) walked.leaves
 
       -- all that is to be told of it is stored, though a front alone is written
       last_told : (now : ℤ) (front : List ℕ) → (untold : IsUntold holds place reopens serves count now mid part new front)
-          → IsToldSafely holds place reopens history untold.fed (untold.fed.applied.replies ++ news now mid.applied.confirmed untold.fed)
+          → IsToldSafely holds place reopens history untold.fed (due now mid untold.fed)
       last_told now front untold =
-          let f = one_fed walked.done walked.begun part mid walked.stands now untold.fed untold.is_fed.feeds untold.is_fed.counts in
-          let safe = fed_safe walked.done walked.begun part mid walked.stands untold.fed f last_coming in
+          let safe = untold_holds now front untold in
           let one = untold.is_fed.feeds walked.stands.tables walked.stands.held in
           record {
             rows = safe;
             statuses = λ tables. rising_safe history
-                (record (seen place untold.fed tables)
-                { replies = untold.fed.applied.replies ++ news now mid.applied.confirmed untold.fed }) mid.applied.confirmed safe.2.stored
-                (part_rises now mid untold.fed part walked.stands.tables one.0 walked.none one.2.1);
-            left = fed_leaves walked.done walked.begun part mid walked.stands now untold.fed f.unclosed last_coming untold.is_fed.crash
-                safe.2.stored walked.leaves;
+                (record (seen place untold.fed tables) { replies = due now mid untold.fed }) mid.applied.confirmed safe.2.stored
+                (part_rises holds place reopens serves count now mid untold.fed part walked.stands.tables one.0 walked.none one.2.1);
+            left = untold_left now front untold;
           }
-
-      untold_holds : (now : ℤ) (front : List ℕ) → IsUntold holds place reopens serves count now mid part new front
-          → HoldsSafely holds place reopens history new
-      untold_holds now front untold =
-          let f = one_fed walked.done walked.begun part mid walked.stands now untold.fed untold.is_fed.feeds untold.is_fed.counts in
-          holds_same untold.fed new untold.store untold.confirmed
-          (fed_safe walked.done walked.begun part mid walked.stands untold.fed f last_coming)
 
       stopped_holds : (a b : Option (List ℕ)) (f : FollowFault) → StopsPart holds place reopens serves count a b part mid new f
           → serves new.applied.store → HoldsSafely holds place reopens history new
       stopped_holds a b follow.Read stops serving = absurd stops
-      stopped_holds a b follow.Write stops serving = untold_holds stops.0 stops.1 stops.2
+      stopped_holds a b follow.Write stops serving =
+          let untold = stops.2 in
+          holds_same untold.fed new untold.store untold.confirmed (untold_holds stops.0 stops.1 untold)
       stopped_holds a b (follow.Stream f) stops serving = by_part stops.1.1
         where
           by_part : IsUnfed holds place reopens serves count stops.1.0 mid part new f
               ⊎ ((f ≡ fault.Memory) × IsUntold holds place reopens serves count stops.1.0 mid part new [])
               → HoldsSafely holds place reopens history new
           by_part (inl unfed) = until_safe walked.done walked.begun part mid walked.stands stops.1.0 new f unfed.unclosed
-              (unfed.until serving) last_coming
-          by_part (inr untold) = untold_holds stops.1.0 [] untold.1
+              (unfed.until serving) walked.coming
+          by_part (inr untold) = holds_same untold.1.fed new untold.1.store untold.1.confirmed (untold_holds stops.1.0 [] untold.1)
 
       stopped_leaves : (a b : Option (List ℕ)) (f : FollowFault) → StopsPart holds place reopens serves count a b part mid new f
           → LeavesSafely holds place reopens history new
       stopped_leaves a b follow.Read stops = absurd stops
-      stopped_leaves a b follow.Write stops = untold_leaves stops.0 stops.1 stops.2
+      stopped_leaves a b follow.Write stops =
+          let untold = stops.2 in
+          leaves_same history untold.fed new untold.store untold.confirmed (untold_left stops.0 stops.1 untold)
       stopped_leaves a b (follow.Stream f) stops = by_part stops.1.1
         where
           by_part : IsUnfed holds place reopens serves count stops.1.0 mid part new f
               ⊎ ((f ≡ fault.Memory) × IsUntold holds place reopens serves count stops.1.0 mid part new [])
               → LeavesSafely holds place reopens history new
           by_part (inl unfed) = unfed_leaves stops.1.0 f unfed
-          by_part (inr untold) = untold_leaves stops.1.0 [] untold.1
-
-      -- what is counted of the bytes up to the part, and of a front of it
-      last_counts : (s : C) → IsCountedFront noon (disconnect walked.stands.base) (walked.begun ++ part) (place s) walked.stands.counted
-          (count s) → count s ≡ history_missed history b.position (place s) first_count
-      last_counts s front =
-          walked_counts mid (part ++ later) all_complete walked (place s) (count s)
-          (subst (λ bs. IsCountedFront noon (disconnect walked.stands.base) bs (place s) walked.stands.counted (count s))
-          (append_assoc walked.begun part later)
-          (front_stands noon (disconnect walked.stands.base) (walked.begun ++ part) later (place s) walked.stands.counted (count s) front))
+          by_part (inr untold) = leaves_same history untold.1.fed new untold.1.store untold.1.confirmed (untold_left stops.1.0 [] untold.1)
 
       untold_counts : (now : ℤ) (front : List ℕ) → IsUntold holds place reopens serves count now mid part new front
           → count new.applied.store ≡ history_missed history b.position (place new.applied.store) first_count
@@ -515,8 +514,8 @@ module _ {C : Type 0} (holds : C → Tables → Type 0) (place : C → ℕ) (reo
           let f = one_fed walked.done walked.begun part mid walked.stands now untold.fed untold.is_fed.feeds untold.is_fed.counts in
           let fed = untold.fed.applied.store in
           subst (λ (s : C). count s ≡ history_missed history b.position (place s) first_count) (sym untold.store)
-          (last_counts fed (is_front noon (disconnect walked.stands.base) (walked.begun ++ part) (place fed) walked.stands.counted
-          (count fed)
+          (walked_counts mid part walked (place fed) (count fed)
+          (is_front noon (disconnect walked.stands.base) (walked.begun ++ part) (place fed) walked.stands.counted (count fed)
           (subst (λ n. IsCountedWhole noon (disconnect walked.stands.base) (walked.begun ++ part) n walked.stands.counted (count fed))
           (sym (ap (λ (x : Subscribed). x.position) f.same)) f.counts)))
 
@@ -529,7 +528,7 @@ module _ {C : Type 0} (holds : C → Tables → Type 0) (place : C → ℕ) (reo
           let front : IsCountedFront now (quiet [] stands.ideal) part (place s) was (count s) =
           subst (λ (x : Subscribed). IsCountedFront now x part (place s) was (count s)) stands.same
           (unfed.counts own stands.tables stands.held) in
-          last_counts s
+          walked_counts mid part walked (place s) (count s)
           (front_pieces noon (disconnect stands.base) stands.ideal walked.begun part stands.ideal.position (place s) stands.counted was
           (count s) stands.is_fed stands.counts
           (front_quiet now noon stands.ideal.replies (quiet [] stands.ideal) part (place s) was (count s) front))
@@ -564,7 +563,7 @@ module _ {C : Type 0} (holds : C → Tables → Type 0) (place : C → ℕ) (reo
     abbrev counted_first : Misses
     counted_first = count old.applied.store
 
-    at_start : Stands history first refl counted_first [] [] start
+    abbrev at_start : Stands history first refl counted_first [] [] start
     at_start = record {
       base = first;
       before = refl;
@@ -617,14 +616,53 @@ module _ {C : Type 0} (holds : C → Tables → Type 0) (place : C → ℕ) (reo
           left = start_leaves sessions is;
         }
 
-    from_start : (steps : List (Step C)) (pending : List ℕ) (mid : SubscriberValue C)
-        → AreSteps holds place reopens serves count start steps mid
-        → IsSent history (seen place old tables) (sessions_from [] steps pending) all_complete
-        → AreToldSafely holds place reopens history start steps × Walked history first refl counted_first mid pending all_complete
-    from_start steps pending mid are is =
-        walk history first refl counted_first steps pending all_complete [] [] start mid are at_start
-        (ap (λ (x : Subscribed). x.replies) (is_start.state map.empty)) (start_leaves (sessions_from [] steps pending) is)
-        (record { is_history = is.is_history; safe = is.safe; start = is.start; above = is.above; nothing = is.nothing; sent = is.sent })
+    abbrev begins : Sofar C
+    begins = record { ended = []; from = start; begun = [] }
+
+    -- sessions with all that is taken of these parts, and of one more
+    from_start : (steps : List (Step C)) (part : List ℕ) (mid : SubscriberValue C) (sessions : List (List ℕ))
+        → AreSteps holds place reopens serves count start steps mid → HaveAllTaken holds place start steps part sessions
+        → IsSent history (seen place old tables) sessions all_complete
+        → AreToldSafely holds place reopens history start steps × Walked history first refl counted_first mid part
+    from_start steps part mid sessions are all is =
+        let s = with_parts begins steps in
+        let from : s.from ≡ session_start start steps = same_from steps begins in
+        let same = same_last all.ended s.ended all.last (s.begun ++ part) (sym all.came ∙ same_sessions steps begins part) in
+        walk history first refl counted_first steps part begins start mid are at_start
+        (record { tables = at_start.tables; held = at_start.held; same = at_start.same })
+        (ap (λ (x : Subscribed). x.replies) (is_start.state map.empty)) (start_leaves sessions is)
+        (record {
+          bytes = all.bytes;
+          all_complete = all_complete;
+          have = subst (λ (x : SubscriberValue C). (t : Tables) → holds x.applied.store t
+              → HaveTaken (seen place x t) (s.begun ++ part) all.bytes) (sym from)
+              (subst (λ bs. (t : Tables) → holds (session_start start steps).applied.store t
+              → HaveTaken (seen place (session_start start steps) t) bs all.bytes) same.1 all.taken);
+          sent = subst (λ (x : List (List ℕ)). IsSent history first x all_complete)
+              (all.are ∙ ap (λ (x : List (List ℕ)). x ++ all.bytes ∷ []) same.0)
+              (record {
+                is_history = is.is_history;
+                safe = is.safe;
+                start = is.start;
+                above = is.above;
+                nothing = is.nothing;
+                sent = is.sent;
+              });
+        })
+
+    -- those that came do
+    as_they_came : (steps : List (Step C)) → HaveAllTaken holds place start steps [] (sessions_from [] steps [])
+    as_they_came steps =
+        let s = with_parts begins steps in
+        let same : sessions_from [] steps [] ≡ s.ended ++ (s.begun ++ []) ∷ [] = same_sessions steps begins [] in
+        record {
+          ended = s.ended;
+          last = s.begun ++ [];
+          bytes = s.begun ++ [];
+          came = same;
+          are = same;
+          taken = λ t held. all_taken (seen place (session_start start steps) t) (s.begun ++ []);
+        }
 
   module _ (unread rest : Option (List ℕ)) (reads : ℕ) (wrote wrote' : Option (List ℕ)) (old start new : SubscriberValue C)
       (is_start : IsStart place old start) (leaves : held.Leaves holds place reopens old.applied.store) where
@@ -641,90 +679,91 @@ module _ {C : Type 0} (holds : C → Tables → Type 0) (place : C → ℕ) (reo
         let some = front_steps front later start mid
         (subst (λ (x : List (Step C)). AreSteps holds place reopens serves count start x mid) is are) in (
           greets old start is_start leaves history all_complete tables h now (sessions_from [] front []) sent,
-          (from_start old start is_start leaves history all_complete tables h front [] some.0 some.1 sent).0,
+          (from_start old start is_start leaves history all_complete tables h front [] some.0 (sessions_from [] front []) some.1
+              (as_they_came old start is_start leaves history all_complete tables h front) sent).0,
         )
 
-    live_safe : (now : ℤ) (pending : List ℕ) → (so : LiveSteps holds place reopens serves count unread rest pending wrote wrote' start new)
+    live_safe : (now : ℤ) → (so : LiveSteps holds place reopens serves count unread rest [] wrote wrote' start new)
         → TellsSafely holds place reopens serves old start (first_status start now) so.steps [] new
-    live_safe now pending so = record {
+    live_safe now so = record {
       told = fronts_safe now so.steps new so.are;
-      at_end = λ history all_complete tables h is.
-          let walked = from_start old start is_start leaves history all_complete tables h so.steps [] new so.are is in (
-            (λ serving. walked_holds history (first old start is_start leaves history all_complete tables h) refl (count old.applied.store)
-                new [] all_complete walked.1),
+      at_end = λ history all_complete tables sessions all h is.
+          let walked = from_start old start is_start leaves history all_complete tables h so.steps [] new sessions so.are all is in
+          let b = first old start is_start leaves history all_complete tables h in (
+            (λ serving. walked_holds history b refl (count old.applied.store) new [] walked.1),
             walked.1.leaves,
           );
     }
 
     stops_safe : (now : ℤ) (f : FollowFault) → (stops : LiveStops holds place reopens serves count unread rest wrote wrote' start new f)
-        → TellsSafely holds place reopens serves old start (first_status start now) stops.4.steps (stops.2 ++ stops.3) new
+        → TellsSafely holds place reopens serves old start (first_status start now) stops.4.steps stops.2 new
     stops_safe now f stops = record {
       told = fronts_safe now stops.4.steps stops.0 stops.4.are;
-      at_end = λ history all_complete tables h is.
-          let walked = from_start old start is_start leaves history all_complete tables h stops.4.steps (stops.2 ++ stops.3) stops.0
-          stops.4.are is in
+      at_end = λ history all_complete tables sessions all h is.
+          let walked = from_start old start is_start leaves history all_complete tables h stops.4.steps stops.2 stops.0 sessions
+          stops.4.are all is in
           let b = first old start is_start leaves history all_complete tables h in (
-            stopped_holds history b refl (count old.applied.store) stops.0 new stops.2 stops.3 all_complete walked.1 stops.1 wrote' f
-                stops.5,
-            stopped_leaves history b refl (count old.applied.store) stops.0 new stops.2 stops.3 all_complete walked.1 stops.1 wrote' f
-                stops.5,
+            stopped_holds history b refl (count old.applied.store) stops.0 new stops.2 walked.1 stops.1 wrote' f stops.5,
+            stopped_leaves history b refl (count old.applied.store) stops.0 new stops.2 walked.1 stops.1 wrote' f stops.5,
           );
     }
 
     pub ends_safe : (now : ℤ) (ended : Option FollowFault) → (e : Ends ended)
         → TellsSafely holds place reopens serves old start (first_status start now)
         (steps_in holds place reopens serves count unread rest reads wrote wrote' start new ended e)
-        (pending_in holds place reopens serves count unread rest reads wrote wrote' start new ended e) new
-    ends_safe now None e = live_safe now [] e.0
-    ends_safe now (Some follow.Read) e = live_safe now [] e
+        (part_in holds place reopens serves count unread rest reads wrote wrote' start new ended e) new
+    ends_safe now None e = live_safe now e.0
+    ends_safe now (Some follow.Read) e = live_safe now e
     ends_safe now (Some follow.Write) e = stops_safe now follow.Write e
     ends_safe now (Some (follow.Stream f)) e = stops_safe now (follow.Stream f) e
+
+    none_at_start : start.applied.replies ≡ []
+    none_at_start = ap (λ (x : Subscribed). x.replies) (is_start.state map.empty)
 
     pub last_safe : (ended : Option FollowFault) → (e : Ends ended)
         → LastIsSafe holds place reopens serves count unread rest reads wrote wrote' start new old ended e
     last_safe None e = tt
     last_safe (Some follow.Read) e = tt
     last_safe (Some (follow.Stream f)) e = tt
-    last_safe (Some follow.Write) e = λ history all_complete tables h is.
-        let walked = from_start old start is_start leaves history all_complete tables h e.4.steps (e.2 ++ e.3) e.0 e.4.are is in
-        last_told history (first old start is_start leaves history all_complete tables h) refl (count old.applied.store) e.0 new e.2 e.3
-        all_complete walked.1 e.5.0 e.5.1 e.5.2
+    last_safe (Some follow.Write) e = (
+      last_rises holds place reopens serves count e.4.steps start e.0 e.5.2.fed e.5.0 e.2 none_at_start e.4.are e.5.2.is_fed.feeds,
+      λ history all_complete tables sessions all h is.
+          let walked = from_start old start is_start leaves history all_complete tables h e.4.steps e.2 e.0 sessions e.4.are all is in
+          last_told history (first old start is_start leaves history all_complete tables h) refl (count old.applied.store) e.0 new e.2
+          walked.1 e.5.0 e.5.1 e.5.2,
+    )
 
-    live_counts : (so : LiveSteps holds place reopens serves count unread rest [] wrote wrote' start new)
-        → CountsHistory holds place count old (sessions_from [] so.steps []) new
-    live_counts so history all_complete tables h is =
-        let walked = from_start old start is_start leaves history all_complete tables h so.steps [] new so.are is in
-        all_counts history (first old start is_start leaves history all_complete tables h) refl (count old.applied.store) new all_complete
-        walked.1
+    live_counts : (sessions : List (List ℕ)) (so : LiveSteps holds place reopens serves count unread rest [] wrote wrote' start new)
+        → HaveAllTaken holds place start so.steps [] sessions → CountsHistory holds place count old sessions new
+    live_counts sessions so all history all_complete tables h is =
+        let walked = from_start old start is_start leaves history all_complete tables h so.steps [] new sessions so.are all is in
+        all_counts history (first old start is_start leaves history all_complete tables h) refl (count old.applied.store) new walked.1
 
-    stops_counts : (f : FollowFault) → serves new.applied.store
+    stops_counts : (f : FollowFault) → serves new.applied.store → (sessions : List (List ℕ))
         → (stops : LiveStops holds place reopens serves count unread rest wrote wrote' start new f)
-        → CountsHistory holds place count old (sessions_from [] stops.4.steps (stops.2 ++ stops.3)) new
-    stops_counts f own stops history all_complete tables h is =
-        let walked = from_start old start is_start leaves history all_complete tables h stops.4.steps (stops.2 ++ stops.3) stops.0
-        stops.4.are is in
+        → HaveAllTaken holds place start stops.4.steps stops.2 sessions → CountsHistory holds place count old sessions new
+    stops_counts f own sessions stops all history all_complete tables h is =
+        let walked = from_start old start is_start leaves history all_complete tables h stops.4.steps stops.2 stops.0 sessions
+        stops.4.are all is in
         stopped_counts history (first old start is_start leaves history all_complete tables h) refl (count old.applied.store) stops.0 new
-        stops.2 stops.3 all_complete walked.1 stops.1 wrote' f own stops.5
+        stops.2 walked.1 stops.1 wrote' f own stops.5
 
-    pub ends_count : (ended : Option FollowFault) → (e : Ends ended) → serves new.applied.store
-        → CountsHistory holds place count old
-        (sessions_from [] (steps_in holds place reopens serves count unread rest reads wrote wrote' start new ended e)
-        (pending_in holds place reopens serves count unread rest reads wrote wrote' start new ended e)) new
-    ends_count None e own = live_counts e.0
-    ends_count (Some follow.Read) e own = live_counts e
-    ends_count (Some follow.Write) e own = stops_counts follow.Write own e
-    ends_count (Some (follow.Stream f)) e own = stops_counts (follow.Stream f) own e
-
-    none_at_start : start.applied.replies ≡ []
-    none_at_start = ap (λ (x : Subscribed). x.replies) (is_start.state map.empty)
+    pub ends_count : (ended : Option FollowFault) → (e : Ends ended) → serves new.applied.store → (sessions : List (List ℕ))
+        → HaveAllTaken holds place start (steps_in holds place reopens serves count unread rest reads wrote wrote' start new ended e)
+        (part_in holds place reopens serves count unread rest reads wrote wrote' start new ended e) sessions
+        → CountsHistory holds place count old sessions new
+    ends_count None e own sessions all = live_counts sessions e.0 all
+    ends_count (Some follow.Read) e own sessions all = live_counts sessions e all
+    ends_count (Some follow.Write) e own sessions all = stops_counts follow.Write own sessions e all
+    ends_count (Some (follow.Stream f)) e own sessions all = stops_counts (follow.Stream f) own sessions e all
 
     pub ends_rise : (ended : Option FollowFault) → (e : Ends ended)
         → TellsRising holds place reopens start (steps_in holds place reopens serves count unread rest reads wrote wrote' start new ended e)
         (mid_in holds place reopens serves count unread rest reads wrote wrote' start new ended e)
-    ends_rise None e = steps_rise e.0.steps start new none_at_start e.0.are
-    ends_rise (Some follow.Read) e = steps_rise e.steps start new none_at_start e.are
-    ends_rise (Some follow.Write) e = steps_rise e.4.steps start e.0 none_at_start e.4.are
-    ends_rise (Some (follow.Stream f)) e = steps_rise e.4.steps start e.0 none_at_start e.4.are
+    ends_rise None e = steps_rise holds place reopens serves count e.0.steps start new none_at_start e.0.are
+    ends_rise (Some follow.Read) e = steps_rise holds place reopens serves count e.steps start new none_at_start e.are
+    ends_rise (Some follow.Write) e = steps_rise holds place reopens serves count e.4.steps start e.0 none_at_start e.4.are
+    ends_rise (Some (follow.Stream f)) e = steps_rise holds place reopens serves count e.4.steps start e.0 none_at_start e.4.are
 
   -- it is greeted, and then followed
   pub followed_live : (a a' rest : Option (List ℕ)) (reads : ℕ) (wrote w wrote' : Option (List ℕ)) (old start new : SubscriberValue C)

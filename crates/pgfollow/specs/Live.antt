@@ -65,10 +65,13 @@ pub record Step (C : Type 0) : Type 0 where
 abbrev pub IsShort : {C : Type 0} → Step C → Type 0
 IsShort step = length step.part ≤ piece_len
 
--- the bytes that are written after a part: the replies that wait, and the status where confirmed
--- has moved
+-- the bytes that are to be written after a part: the replies that wait, and the status where
+-- confirmed has moved
+abbrev pub due : {C : Type 0} → ℤ → SubscriberValue C → SubscriberValue C → List ℕ
+due now old fed = fed.applied.replies ++ news now old.applied.confirmed fed
+
 abbrev pub told_of : {C : Type 0} → SubscriberValue C → Step C → List ℕ
-told_of old step = step.fed.applied.replies ++ news step.now old.applied.confirmed step.fed
+told_of old step = due step.now old step.fed
 
 -- as after a disconnection, over the same store
 pub record IsStart {C : Type 0} (place : C → ℕ) (old start : SubscriberValue C) : Type 0 where
@@ -146,13 +149,13 @@ module _ {C : Type 0} (holds : C → Tables → Type 0) (place : C → ℕ) (reo
   IsFollowedPart wrote wrote' part old new =
       (step : Step C) × (step.part ≡ part) × (step.after ≡ new) × IsStep old step × Appends wrote wrote' (told_of old step)
 
-  -- Feeding a part stopped with this fault: where the store serves still, the subscriber is as
-  -- after what came before the first fault.
+  -- Feeding a part stopped with this fault. The subscriber is as after what came before the first
+  -- fault: where its store has shut, in all that outlives a disconnection but the rows.
   pub record IsUnfed (now : ℤ) (old : SubscriberValue C) (part : List ℕ) (new : SubscriberValue C) (f : Fault) : Type 0 where
     pub unclosed : old.framing.closed ≡ false
     pub until : serves new.applied.store → FeedsUntil holds place now old part new f
     pub counts : serves new.applied.store → FeedsCountedFront holds place count now old part new
-    pub stands : StandsAsFed place (λ s. FeedsUntil holds place now old part s fault.Memory) new
+    pub why : StandsAsFed place (λ s. FeedsUntil holds place now old part s f) new
     pub crash : LeavesOldOr place reopens serves (FedOver (λ s. FeedsUntil holds place now old part s fault.Memory)) old.applied.store
         new.applied.store
 
@@ -160,7 +163,7 @@ module _ {C : Type 0} (holds : C → Tables → Type 0) (place : C → ℕ) (reo
   pub record IsUntold (now : ℤ) (old : SubscriberValue C) (part : List ℕ) (new : SubscriberValue C) (front : List ℕ) : Type 0 where
     pub fed : SubscriberValue C
     pub is_fed : IsFedPart now old part fed
-    pub is_front : IsFront front (fed.applied.replies ++ news now old.applied.confirmed fed)
+    pub is_front : IsFront front (due now old fed)
     pub store : new.applied.store ≡ fed.applied.store
     pub confirmed : new.applied.confirmed ≡ fed.applied.confirmed
 

@@ -12,10 +12,12 @@
 
 mod clock;
 mod fault;
+mod laws;
 mod link;
 mod live;
 
 pub use clock::Clock;
 pub use fault::FollowFault;
+pub use laws::parts_have_what_is_taken;
 pub use link::Link;
 pub use live::follow_live;

@@ -259,24 +259,27 @@ fn follow_reads<
 ///
 /// The first status is that of the opened store. After each piece, and at the end of each session,
 /// it writes the replies to keepalives that asked for one, and a status where confirmed has moved
-/// since the last one, and flushes. So what the writer gets is statuses alone, each of which
-/// confirms as flushed what it confirms as applied, and no less than the one before it.
+/// since the last one, and flushes. So what the writer gets is statuses alone, cut off where a
+/// write fails, each of which confirms as flushed what it confirms as applied, and no less than the
+/// one before it.
 ///
 /// Let the sessions be some that a server sends of a history, and let the rows be the history's
-/// before. Then every transaction that changes rows and ends by what a status confirms is in the
-/// store when that status is written, and in whatever a crash leaves then or later: that holds
-/// exactly the rows of all transactions of the history up to a position of its own. The store
-/// itself holds exactly the history's rows up to its position, after each part and, while it
-/// serves, at the end. So it is of each front of the parts that is of a history, whatever comes
-/// after it. Its premises are those of `follow`: nobody else writes the store's files, and the disk
-/// gives back what was written. To what the store had counted come exactly the changes that find no
-/// row of the transactions between its positions before and after the call, while it serves.
+/// before. Then at the start and after each part the store holds exactly the history's rows up to
+/// its position; and every transaction that changes rows and ends by what a status confirms is in
+/// it when that status is written, and in whatever a crash leaves then, which holds exactly the
+/// history's rows up to a position of its own. So it is of each front of the parts that is of a
+/// history, whatever comes after it. Where sessions are of a history that have all that was taken,
+/// also of the part that stopped it (`parts_have_what_is_taken`), so it is of what is told of that
+/// part, if but a front of it is written, of a crash at the end and, while it serves, of the store;
+/// and then to what that had counted come exactly the changes that find no row of the transactions
+/// between its positions before and after the call. The premises are those of `follow`: nobody else
+/// writes the store's files, and the disk gives back what was written.
 ///
 /// # Errors
 ///
 /// `Read` exactly if a read failed, `Write` exactly if a write failed; then nothing more is read
-/// and nothing more is confirmed. Any other fault is that of feeding the piece that was read last,
-/// of which nothing is told, or out of memory.
+/// and nothing more is confirmed. Any other fault is that of feeding a part, of which nothing is
+/// told, also where the store has shut; or out of memory.
 ///
 /// PostgreSQL documentation, Streaming Replication Protocol, START_REPLICATION and Standby status
 /// update.

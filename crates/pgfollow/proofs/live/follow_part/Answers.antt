@@ -17,8 +17,7 @@ returns-in-Err-clause-stopped g c honest serves = (
         unclosed = c.requires.unclosed;
         until = c.in-Err.ensures.refused;
         counts = λ own. c.in-Err.ensures.counts_refused own c.requires.unclosed;
-        stands =
-            c.in-Err.ensures.stands honest serves c.requires.unclosed;
+        why = c.in-Err.ensures.why honest serves c.requires.unclosed;
         crash = c.in-Err.ensures.crash_refused honest;
       }),
     ),
