@@ -1,4 +1,3 @@
 mod NewPage
 mod LiveRows
-mod Parts
 mod Unfed

@@ -16,10 +16,11 @@ use Rattle.pgcommand.specs.declared.limits.Limits.{Limits}
 use Rattle.pgorder.specs.declared.Version.{Version}
 use Rattle.pgapply.specs.declared.fault.StoreFault.{StoreFault}
 use Rattle.pgapply.specs.declared.fault.StoreFault.TheVariants as store
+use Rattle.pgapply.specs.Missing.{nothing_missed}
 use Rattle.pgmemory.specs.Stopped.{Leaves}
 use Rattle.pgrows.specs.Rows.{state}
 use Rattle.pgstore.specs.StoreValue.{StoreValue, HasTables, IsHonest, Serves}
-use Rattle.pgstore.specs.Reopened.{HoldsContent, Reopens}
+use Rattle.pgstore.specs.Reopened.{HoldsContent, IsCopiedTo, Reopens}
 use Rattle.pgsub_core.specs.declared.fault.Fault.TheVariants as fault
 use Rattle.pgfollow.specs.declared.fault.FollowFault.{FollowFault}
 use Rattle.pgsub_cli.specs.declared.fault.Ending.{Ending}
@@ -55,6 +56,9 @@ TellsBoth {E} takes failed tells closing old new =
 
 -- ---- the store of a run
 
+abbrev pub position_of : {S : Type 0} → StoreValue S → ℕ
+position_of store = store.position
+
 module _ {S : Type 0} (g : Ghosts S) where
   -- `FollowsOver`, of a store that tells a listener of each settling
   abbrev pub FollowsTold : (L : Type 0) → Option (List ℕ) → Option (List ℕ) → ℕ → Option (List ℕ) → Option (List ℕ) → Limits → Version
@@ -71,11 +75,13 @@ module _ {S : Type 0} (g : Ghosts S) where
 
 module _ {D : Type 0} {g : disk.Ghosts D} where
   -- A store is closed to its files: whatever content they have then, or after a crash later, is one
-  -- that it could leave. Where the log can't be copied, its trees can leave nothing new. The disks
-  -- were honest while it was open, if they have been so up to then.
+  -- that it could leave, and the file of the database alone has all of it. Where the log can't be
+  -- copied, its trees can leave nothing new. The disks were honest while it was open, if they have
+  -- been so up to then.
   abbrev pub ClosesTo : StoreValue (FileStore D g) → Result (Files D) (StoreFault × FileStore D g) → Type 0
   ClosesTo ended (Ok files) =
       (AreClean g files.log files.db → IsHonest over_files ended) × Leaves g (state over_files ended.rows).may_leave files
+      × (AreClean g files.log files.db → IsCopiedTo ended files)
   ClosesTo ended (Err e) =
       HasCleanDisk (state over_files e.1)
       → IsHonest over_files ended × ((db : Trees) → (state over_files e.1).may_leave db → (state over_files ended.rows).may_leave db)
@@ -86,13 +92,14 @@ module _ {D : Type 0} {g : disk.Ghosts D} where
   fault_of_closing (Err e) = Some e.0
 
   -- A run over files that had this content: a store that holds what is stored in them was opened,
-  -- if the disks gave back what was written until the run had ended; the run led from it to
-  -- another; and that one was closed.
+  -- if the disks gave back what was written until the run had ended, and had counted no change
+  -- without a row; the run led from it to another; and that one was closed.
   pub record RunsInFiles (content : Image) (leads : StoreValue (FileStore D g) → StoreValue (FileStore D g) → Type 0)
       (closing : Result (Files D) (StoreFault × FileStore D g)) : Type 0 where
     pub opened : StoreValue (FileStore D g)
     pub ended : StoreValue (FileStore D g)
     pub found : IsHonest over_files ended → HoldsContent over_files content opened
     pub serves : IsHonest over_files ended → Serves over_files opened
+    pub unmissed : opened.group.missed ≡ nothing_missed
     pub run : leads opened ended
     pub closes : ClosesTo ended closing

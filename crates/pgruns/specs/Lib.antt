@@ -1,5 +1,4 @@
 pub mod Filed
 pub mod NewFile
-pub mod Over
 pub mod Recorded
 pub mod Fed

@@ -10,14 +10,12 @@ use Rattle.pgledger.specs.Entries.{Entry}
 use Rattle.pgledger.specs.Records.{Records}
 use Rattle.pgstore.specs.StoreValue.{StoreValue, HasTables, IsHonest, Serves}
 use Rattle.pgstore.specs.Reopened.{Reopens}
-use Rattle.pgsub_core.specs.Machine.Faults.{IsReadFault}
 use Rattle.pgfollow.specs.declared.fault.FollowFault.{FollowFault}
 use Rattle.pgsub_cli.specs.declared.fault.Ending.{Ending}
 use Rattle.pgsub_cli.specs.declared.fault.RunFault.{RunFault}
 use Rattle.pgsub_cli.specs.declared.reported.Reported.{Reported}
 use Rattle.pgsub_cli.specs.declared.storing.Incoming.{Incoming}
 use Rattle.pgsub_cli.specs.FollowedLive.{FollowsOver}
-use Rattle.pgsub_cli.specs.Runs.{Writes}
 use Rattle.pgsub_cli.specs.StoreAfter.{HoldsAfter, LosesNothing, MayBeLeft}
 use Rattle.pgsub_cli.specs.Storing.{PrintsOver}
 
@@ -44,15 +42,13 @@ module _ {S G : Type 0} (g : Ghosts S) where
 
 module _ {S G R W : Type 0} (g : Ghosts S) (begins : G → ℕ) (keeps : G → List Entry → Type 0) (outlasts : G → ℕ → Type 0)
     (is_stuck : G → Bool) (reopens : G → ℕ → G → Type 0) where
-  -- What came was applied to the one, which led to the other: its lines were written, and what the
+  -- What came was applied to the one, which led to the other: its lines were printed, and what the
   -- store holds then, and what a crash may leave of it, is as of a run without a ledger.
   pub record AppliesRecorded (gives starts : R → List ℕ → Type 0) (unread : R → Type 0) (takes : W → List ℕ → W → Type 0)
       (failed : W → Type 0) (limits : Limits) (input : Option (Version × Incoming R)) (old new : Recorded (StoreValue S) G)
       (ended : Result Ending RunFault) (out out' : W) : Type 0 where
-    pub writes : Writes takes failed (λ f. IsHonest g new.store → IsReadFault f)
-        (λ stopped lines. IsHonest g new.store
-        → PrintsOver gives starts unread (HoldsRecorded g begins keeps outlasts is_stuck) (λ r. r.store.position) limits input old new
-        stopped lines) out out' ended
+    pub prints : PrintsOver gives starts unread (HoldsRecorded g begins keeps outlasts is_stuck) (λ r. r.store.position)
+        (λ r. IsHonest g r.store) takes failed limits input old new out out' ended
     pub kept : Serves g new.store
         → HoldsAfter gives starts unread (HoldsRecorded g begins keeps outlasts is_stuck) (λ r. r.store.position) limits input old new
     pub left : IsHonest g new.store

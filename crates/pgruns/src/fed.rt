@@ -33,7 +33,6 @@ ghost use Rattle.pgruns.specs.Fed.{status_of_unfed};
 
 use crate::closing::{close_told, followed_status, run_status};
 use crate::filed::{Filed, open_file};
-use crate::over::{apply_recorded, follow_recorded};
 use crate::telling::{tell_unapplied, tell_unfed};
 use pgfeed::{Feed, FeedFault, Folder, Origin, SegmentLimits};
 use pgfollow::{Clock, Link};
@@ -43,6 +42,7 @@ use pgstore::Store;
 use pgsub_cli::Limits;
 use pgsub_cli::files::{Input, Output};
 use pgsub_cli::following::tell_unfollowed;
+use pgsub_cli::over::{apply_recorded, follow_recorded};
 use pgsub_cli::reported::Listener;
 use pgsub_cli::reporting::Reporter;
 use pgsub_cli::storing::{Incoming, tell_unopened};
@@ -139,7 +139,7 @@ fn apply_fed<
     R: Input + Drop,
     K: Ticks + Drop,
     P: Output + Drop,
-    W: Output,
+    W: Output + Drop,
     E: Output,
 >(
     alloc: Global,
@@ -253,7 +253,7 @@ pub fn apply_fed_to_file<
     R: Input + Drop,
     K: Ticks + Drop,
     P: Output + Drop,
-    W: Output,
+    W: Output + Drop,
     E: Output,
 >(
     alloc: Global,

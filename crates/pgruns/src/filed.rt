@@ -14,8 +14,7 @@ ghost use Rattle.pgfollow.specs.declared.fault.FollowFault.{FollowFault};
 ghost use Rattle.pgfollow.specs.declared.fault.FollowFault.TheVariants as follow;
 ghost use Rattle.pgfollow.specs.Live.{IsOfFollowing};
 ghost use Rattle.pgstore.specs.Reopened.{HoldsContent, Reopens, StaysAsFound};
-ghost use Rattle.pgstore.specs.StoreValue.{HasTables, IsHonest, Serves};
-ghost use Rattle.pgsub_core.specs.Machine.Faults.{IsReadFault};
+ghost use Rattle.pgstore.specs.StoreValue.{begun_at, HasTables, IsHonest, Serves};
 ghost use Rattle.pgsub_core.specs.declared.fault.Fault.TheVariants.{Store as OfStore};
 ghost use Rattle.pgsub_cli.specs.declared.fault.Ending.{Ending};
 ghost use Rattle.pgsub_cli.specs.declared.fault.RunFault.{RunFault};
@@ -26,19 +25,20 @@ ghost use Rattle.pgruns.specs.Filed.{FollowsTold, LeavesNothingNew, RunsInFiles,
 ghost use Rattle.pgruns.specs.Filed.{fault_of_closing, status_closed, status_of_unclosed};
 ghost use Rattle.pgsub_cli.specs.FollowedLive.{ending_of};
 ghost use Rattle.pgsub_cli.specs.FollowStatus.{status_of_follow, status_of_unfollowed};
-ghost use Rattle.pgsub_cli.specs.Runs.{Tells, Writes, status_of};
+ghost use Rattle.pgsub_cli.specs.Runs.{Tells, status_of};
 ghost use Rattle.pgsub_cli.specs.StoreAfter.{HoldsAfter, LosesNothing, MayBeLeft};
-ghost use Rattle.pgsub_cli.specs.Stores.{position_of};
+ghost use Rattle.pgruns.specs.Filed.{position_of};
 ghost use Rattle.pgsub_cli.specs.Storing.{PrintsOver, status_of_unopened};
 
 use crate::closing::{Closing, close_told, followed_status, run_status};
-use crate::new_file::make_file;
-use crate::over::follow_reported;
+use crate::new_file::{has_single_byte, make_file};
+use pgapply::StoreFault;
 use pgfollow::{Clock, Link};
 use pgorder::Version;
 use pgstore::{Refusal, Store};
 use pgsub_cli::files::{Input, Output};
 use pgsub_cli::following::tell_unfollowed;
+use pgsub_cli::over::follow_reported;
 use pgsub_cli::reported::Listener;
 use pgsub_cli::reporting::Reporter;
 use pgsub_cli::storing::{Incoming, tell_unopened};
@@ -65,12 +65,35 @@ pub(crate) fn open_file<F: Start>(
     ensures serves { IfOk result (λ store. IsHonest over_files store → Serves over_files store) }
     ensures stood { IfOk result (λ store. IsHonest over_files store →
         HoldsContent over_files (image_at F.Start) store) }
+    ensures begun { IfOk result (λ store. store.group ≡ begun_at store.position) }
     ensures unchanged { IfErr result (λ e. IfSome e.1 (λ conn.
         HasCleanDisk (connection.state over_files conn) →
         StaysAsFound over_files (image_at F.Start) conn)) }
 {
     if let Err(fault) = make_file(rt, path) {
         return Err((Refusal::new(fault), None));
+    }
+    Store::open_or_return(alloc, rt, path, cache, start)
+}
+
+/// The store in a file that is there, as `Store::open_or_return` opens it.
+fn open_there<F: Start>(
+    alloc: Global,
+    rt: &HostRuntime,
+    path: &str,
+    cache: usize,
+    start: F,
+) -> Result<Store<FileStore<FileFrom<F>>>, (Refusal, Option<Connection<FileStore<FileFrom<F>>>>)>
+    ensures serves { IfOk result (λ store. IsHonest over_files store → Serves over_files store) }
+    ensures stood { IfOk result (λ store. IsHonest over_files store →
+        HoldsContent over_files (image_at F.Start) store) }
+    ensures begun { IfOk result (λ store. store.group ≡ begun_at store.position) }
+    ensures unchanged { IfErr result (λ e. IfSome e.1 (λ conn.
+        HasCleanDisk (connection.state over_files conn) →
+        StaysAsFound over_files (image_at F.Start) conn)) }
+{
+    if has_single_byte(rt, path) {
+        return Err((Refusal::new(StoreFault::NotAStore), None));
     }
     Store::open_or_return(alloc, rt, path, cache, start)
 }
@@ -119,7 +142,7 @@ fn apply_to_store<
     R: Input + Drop,
     K: Ticks + Drop,
     P: Output + Drop,
-    W: Output,
+    W: Output + Drop,
     E: Output,
 >(
     alloc: Global,
@@ -131,11 +154,9 @@ fn apply_to_store<
     err: &mut E,
 ) -> (u8, Store<S>)
     ensures ends { (ended : Result Ending RunFault) × (result.0 ≡ status_of ended)
-        × Writes W.takes W.failed (λ fault. IsHonest S.Store result.1 → IsReadFault fault)
-        (λ stopped lines. IsHonest S.Store result.1 →
-        PrintsOver R.gives R.begins R.failed
-        (HasTables S.Store) position_of limits input store result.1 stopped lines) out.old out.new
-        ended × Tells E.takes E.failed [] [] ended err.old err.new }
+        × PrintsOver R.gives R.begins R.failed
+        (HasTables S.Store) position_of (IsHonest S.Store) W.takes W.failed limits input store
+        result.1 out.old out.new ended × Tells E.takes E.failed [] [] ended err.old err.new }
     ensures kept { Serves S.Store result.1 →
         HoldsAfter R.gives R.begins R.failed
         (HasTables S.Store) position_of limits input store result.1 }
@@ -252,7 +273,7 @@ pub fn apply_to_file<
     R: Input + Drop,
     K: Ticks + Drop,
     P: Output + Drop,
-    W: Output,
+    W: Output + Drop,
     E: Output,
 >(
     alloc: Global,
@@ -276,11 +297,9 @@ pub fn apply_to_file<
         × TellsBoth E.takes E.failed (Tells E.takes E.failed [] [] why)
         (fault_of_closing closing) err.old err.new
         × RunsInFiles (image_at F.Start) (λ opened ended.
-        Writes W.takes W.failed (λ fault. IsHonest over_files ended → IsReadFault fault)
-        (λ stopped lines. IsHonest over_files ended →
         PrintsOver R.gives R.begins R.failed
-        (HasTables over_files) position_of limits input opened ended stopped lines) out.old out.new
-        why × (Serves over_files ended →
+        (HasTables over_files) position_of (IsHonest over_files) W.takes W.failed limits input
+        opened ended out.old out.new why × (Serves over_files ended →
         HoldsAfter R.gives R.begins R.failed
         (HasTables over_files) position_of limits input opened ended)
         × (IsHonest over_files ended →
@@ -330,7 +349,7 @@ pub fn dump_file<F: Start, W: Output + Drop, E: Output>(
         × (ended.position ≡ opened.position)
         × (IsHonest over_files ended → LeavesNothingNew over_files opened ended)) closing) }
 {
-    match Store::open_or_return(alloc, rt, path, cache, start) {
+    match open_there(alloc, rt, path, cache, start) {
         Ok(store) => {
             let (status, store, out) = dump_store(alloc, store, out, err);
             let (fault, closing) = close_told(alloc, store, err);

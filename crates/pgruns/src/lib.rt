@@ -12,7 +12,6 @@ mod file_folder;
 mod filed;
 mod laws;
 mod new_file;
-mod over;
 mod telling;
 
 pub use closing::Closing;

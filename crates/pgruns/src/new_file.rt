@@ -49,6 +49,12 @@ fn is_special(path: &str) -> bool {
     path == ":memory:" || path.starts_with("file:")
 }
 
+/// Whether the file at the path has a single byte. The SQL library would take it for an empty one
+/// and make a store of it, as SQLite does.
+pub(crate) fn has_single_byte(rt: &HostRuntime, path: &str) -> bool {
+    fs::metadata(rt, path).is_ok_and(|about| about.len() == 1)
+}
+
 /// The path with a suffix.
 fn beside(rt: &HostRuntime, path: &str, end: &str) -> Result<String, AllocError> {
     let mut name = String::from_str(rt.alloc(), path)?;
@@ -100,8 +106,7 @@ fn sync_folder(rt: &HostRuntime, path: &str) {
 ///
 /// # Errors
 ///
-/// `NotAStore` where the file has a single byte, which the library would take for an empty one, as
-/// SQLite does; `Memory`.
+/// `NotAStore` where the file has a single byte; `Memory`.
 pub(crate) fn make_file(rt: &HostRuntime, path: &str) -> Result<(), StoreFault>
     ensures { IfErr result (λ fault. IsOwnFault fault ⊎ (fault ≡ StoreFault.NotAStore)) }
 {
@@ -114,12 +119,11 @@ pub(crate) fn make_file(rt: &HostRuntime, path: &str) -> Result<(), StoreFault>
         // two.
         let _ = fs::remove_file(rt, part.as_str());
     }
-    if let Ok(about) = fs::metadata(rt, path) {
-        return if about.len() == 1 {
-            Err(StoreFault::NotAStore)
-        } else {
-            Ok(())
-        };
+    if has_single_byte(rt, path) {
+        return Err(StoreFault::NotAStore);
+    }
+    if fs::metadata(rt, path).is_ok() {
+        return Ok(());
     }
     let log = beside(rt, path, "-wal")?;
     if fs::metadata(rt, log.as_str()).is_err() {

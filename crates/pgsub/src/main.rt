@@ -15,10 +15,11 @@ use pgruns::{
     follow_file,
 };
 use pgsub_cli::fault::RunFault;
-use pgsub_cli::reporting::{Reporter, run_in_memory};
+use pgsub_cli::reporting::Reporter;
 use pgsub_cli::storing::{Incoming, read_input, tell_stopped};
-use pgsub_cli::{MissedLines, run, store_path};
+use pgsub_cli::{MissedLines, store_path};
 use pgsub_core::Side;
+use pgtasks::{run, run_in_memory};
 use sqlite::{FileFrom, Start, Unknown};
 use std::alloc::AllocError;
 use std::cell::RefCell;

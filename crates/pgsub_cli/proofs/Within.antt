@@ -1,5 +1,5 @@
 -- What a run over a store that is told of comes to, said of the store and the reader within.
-use Rattle.std.proofs.Common.{◌≡◌, ◌≤◌, ◌∙◌, inl, inr, ℕ, List, Option, Some, None, Result, Ok, Err}
+use Rattle.std.proofs.Common.{◌≡◌, ◌≤◌, ◌∙◌, inl, inr, ℕ, List, Option, Some, None, Result}
 use Rattle.std.proofs.Common.{ap, sym, subst}
 use Rattle.pgcommand.specs.declared.limits.Limits.{Limits}
 use Rattle.pgorder.specs.declared.Version.{Version}
@@ -11,30 +11,18 @@ use Rattle.pgsub_core.specs.Subscriber.Crashing.{IsLeftSafely}
 use Rattle.pgsub_core.specs.Subscriber.Following.{FeedsSessions}
 use Rattle.pgsub_core.specs.Subscriber.SubscriberValue.{SubscriberValue}
 use Rattle.pgsub_cli.specs.declared.fault.Ending.{Ending}
-use Rattle.pgsub_cli.specs.declared.fault.Ending.TheVariants.{Done, Differs}
 use Rattle.pgsub_cli.specs.declared.fault.RunFault.{RunFault}
-use Rattle.pgsub_cli.specs.declared.fault.RunFault.TheVariants as run
 use Rattle.pgsub_cli.specs.declared.storing.Incoming.{Incoming}
 use Rattle.pgsub_cli.specs.declared.storing.Incoming.TheVariants.{Sessions, Raw}
+use Rattle.pgsub_cli.specs.Dumped.{PrintsHeld}
 use Rattle.pgsub_cli.specs.Followed.{PrintsLed, lines_of, new_subscriber}
 use Rattle.pgsub_cli.specs.Limits.{clock}
 use Rattle.pgsub_cli.specs.Reports.{incoming_within, input_within}
-use Rattle.pgsub_cli.specs.Runs.{AreRead, ForSessions, PrintsNew, Writes}
+use Rattle.pgsub_cli.specs.Runs.{AreRead, ForSessions, PrintsNew}
 use Rattle.pgsub_cli.specs.StoreAfter.{FeedsIncoming, HoldsAfter, HoldsFed, LeavesFronts}
 use Rattle.pgsub_cli.specs.StoreAfter.{LeavesIncomingHistory, LosesNothing, MayBeLeft}
-use Rattle.pgsub_cli.specs.Storing.{PrintsKept, PrintsOver}
-
--- other lines are written, where these are such lines
-pub writes_weaker : {W : Type 0} (takes : W → List ℕ → W → Type 0) (failed : W → Type 0) (lost more : Fault → Type 0)
-    (P Q : Option Fault → List ℕ → Type 0) (old new : W) (ended : Result Ending RunFault)
-    → ((fault : Fault) → lost fault → more fault) → ((stopped : Option Fault) (lines : List ℕ) → P stopped lines → Q stopped lines)
-    → Writes takes failed lost P old new ended → Writes takes failed more Q old new ended
-writes_weaker takes failed lost more P Q old new (Ok Done) means f (lines, p, t) = (lines, f None lines p, t)
-writes_weaker takes failed lost more P Q old new (Ok Differs) means f none = none
-writes_weaker takes failed lost more P Q old new (Err (run.Stream x)) means f (inl (l, same)) = inl (means x l, same)
-writes_weaker takes failed lost more P Q old new (Err (run.Stream x)) means f (inr (lines, p, t)) = inr (lines, f (Some x) lines p, t)
-writes_weaker takes failed lost more P Q old new (Err run.CannotWrite) means f h = h
-writes_weaker takes failed lost more P Q old new (Err f) means more_lines none = none
+use Rattle.pgsub_cli.specs.Storing.{LinesBefore, LinesOver, PrintsKept, PrintsOver}
+use Rattle.pgsub_cli.proofs.PrintedOver.{held_weaker, left_weaker}
 
 module _ {R Q : Type 0} (reader : Q → R) (gives begins : R → List ℕ → Type 0) (failed : R → Type 0) where
   read_within : (file : Q) (bytes : List ℕ) (stopped : Option Fault)
@@ -51,12 +39,21 @@ module _ {R Q : Type 0} (reader : Q → R) (gives begins : R → List ℕ → Ty
   came_within (Raw q) stopped P h = (h.0, read_within q h.0 stopped h.1, h.2)
 
   -- from an empty store on
-  pub new_within : (limits : Limits) (b : Option (Version × Incoming Q)) (stopped : Option Fault) (lines : List ℕ)
+  new_within : (limits : Limits) (b : Option (Version × Incoming Q)) (stopped : Option Fault) (lines : List ℕ)
       → PrintsNew (λ q. gives (reader q)) (λ q. begins (reader q)) (λ q. failed (reader q)) limits b stopped lines
       → PrintsNew gives begins failed limits (input_within reader b) stopped lines
   new_within limits None stopped lines h = h
   new_within limits (Some (version, b)) stopped lines h =
       came_within b stopped (λ sessions f. PrintsLed lines_of (new_subscriber limits version) sessions f lines) h
+
+  pub prints_new_within : {W : Type 0} (takes : W → List ℕ → W → Type 0) (write_failed : W → Type 0) (limits : Limits)
+      (b : Option (Version × Incoming Q)) (out out' : W) (ended : Result Ending RunFault)
+      → PrintsHeld takes write_failed (PrintsNew (λ q. gives (reader q)) (λ q. begins (reader q)) (λ q. failed (reader q)) limits b) out
+      out' ended
+      → PrintsHeld takes write_failed (PrintsNew gives begins failed limits (input_within reader b)) out out' ended
+  prints_new_within takes write_failed limits b out out' ended =
+      held_weaker takes write_failed (PrintsNew (λ q. gives (reader q)) (λ q. begins (reader q)) (λ q. failed (reader q)) limits b)
+      (PrintsNew gives begins failed limits (input_within reader b)) out out' (λ f lines h. new_within limits b f lines h) ended
 
 module _ {R Q C D : Type 0} (reader : Q → R) (inner : D → C) (gives begins : R → List ℕ → Type 0) (failed : R → Type 0)
     (holds : C → Tables → Type 0) (place : C → ℕ) where
@@ -90,14 +87,33 @@ module _ {R Q C D : Type 0} (reader : Q → R) (inner : D → C) (gives begins :
       came_within reader gives begins failed b stopped (λ sessions f. FeedsSessions holds place clock (within old) sessions (within new) f)
       h
 
-  pub prints_within : (limits : Limits) (b : Option (Version × Incoming Q)) (old new : D) (stopped : Option Fault) (lines : List ℕ)
-      → PrintsOver (λ q. gives (reader q)) (λ q. begins (reader q)) (λ q. failed (reader q)) (λ d. holds (inner d)) (λ d. place (inner d))
-      limits b old new stopped lines
-      → PrintsOver gives begins failed holds place limits (input_within reader b) (inner old) (inner new) stopped lines
-  prints_within limits None old new stopped lines h = h
-  prints_within limits (Some (version, b)) old new stopped lines h =
+  lines_within : (limits : Limits) (b : Option (Version × Incoming Q)) (old new : D) (stopped : Option Fault) (said : List ℕ → Type 0)
+      → LinesOver (λ q. gives (reader q)) (λ q. begins (reader q)) (λ q. failed (reader q)) (λ d. holds (inner d)) (λ d. place (inner d))
+      limits b old new stopped said
+      → LinesOver gives begins failed holds place limits (input_within reader b) (inner old) (inner new) stopped said
+  lines_within limits None old new stopped said h = h
+  lines_within limits (Some (version, b)) old new stopped said h =
       came_within reader gives begins failed b stopped
-      (λ sessions f. PrintsKept holds place limits version (inner old) sessions (inner new) f lines) h
+      (λ sessions f. PrintsKept holds place limits version (inner old) sessions (inner new) f said) h
+
+  pub prints_within : (is_honest : C → Type 0) {W : Type 0} (takes : W → List ℕ → W → Type 0) (write_failed : W → Type 0) (limits : Limits)
+      (b : Option (Version × Incoming Q)) (old new : D) (out out' : W) (ended : Result Ending RunFault)
+      → PrintsOver (λ q. gives (reader q)) (λ q. begins (reader q)) (λ q. failed (reader q)) (λ d. holds (inner d)) (λ d. place (inner d))
+      (λ d. is_honest (inner d)) takes write_failed limits b old new out out' ended
+      → PrintsOver gives begins failed holds place is_honest takes write_failed limits (input_within reader b) (inner old) (inner new) out
+      out' ended
+  prints_within is_honest takes write_failed limits b old new out out' ended (ends, prints) = (
+    ends,
+    λ honest. left_weaker takes write_failed
+        (LinesOver (λ q. gives (reader q)) (λ q. begins (reader q)) (λ q. failed (reader q)) (λ d. holds (inner d)) (λ d. place (inner d))
+        limits b old new)
+        (LinesOver gives begins failed holds place limits (input_within reader b) (inner old) (inner new))
+        (LinesBefore (λ q. gives (reader q)) (λ q. begins (reader q)) (λ q. failed (reader q)) (λ d. holds (inner d))
+        (λ d. place (inner d)) limits b old new)
+        (LinesBefore gives begins failed holds place limits (input_within reader b) (inner old) (inner new)) out out'
+        (λ f said h. lines_within limits b old new f said h)
+        (λ said h. (inner h.0, h.1, (h.2.0, lines_within limits b old h.0 h.2.0 said h.2.1))) ended (prints honest),
+  )
 
   pub holds_within : (limits : Limits) (b : Option (Version × Incoming Q)) (old new : D)
       → HoldsAfter (λ q. gives (reader q)) (λ q. begins (reader q)) (λ q. failed (reader q)) (λ d. holds (inner d)) (λ d. place (inner d))

@@ -5,14 +5,13 @@ pub mod Followed
 pub mod Recorded
 pub mod Shown
 pub mod Runs
-pub mod Stores
 pub mod Storing
 pub mod StoreAfter
 pub mod Reports
-pub mod Compared
 pub mod Dumped
 pub mod Lines
 pub mod FollowedLive
 pub mod FollowStatus
 pub mod MissedLines
 pub mod Caused
+pub mod Over

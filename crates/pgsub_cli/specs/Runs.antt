@@ -30,6 +30,7 @@ use Rattle.pgsub_cli.specs.declared.fault.RunFault.TheVariants as run
 use Rattle.pgsub_cli.specs.declared.printed.Printed.{Printed}
 use Rattle.pgsub_cli.specs.declared.storing.Incoming.{Incoming}
 use Rattle.pgsub_cli.specs.declared.storing.Incoming.TheVariants.{Sessions, Raw}
+use Rattle.pgsub_cli.specs.Dumped.{PrintsHeld}
 use Rattle.pgsub_cli.specs.DumpText.{dump_of}
 use Rattle.pgsub_cli.specs.FaultTexts.{stop_line, memory_line}
 use Rattle.pgsub_cli.specs.Followed.{Leaves, PrintsLed, lines_of, new_subscriber, resumed_lines_of}
@@ -238,13 +239,13 @@ module _ {R W : Type 0} (gives begins : R → List ℕ → Type 0) (read_failed 
       ((f : RunFault) × (ended ≡ Err f) × IsUnread gives read_failed Left file f × (new ≡ old))
       ⊎ ((sessions : List Session) × Records gives file sessions × Writes takes write_failed lost (prints sessions) old new ended)
 
-  -- What comes of a file is applied to an empty store, and the lines of what it leaves are written.
+  -- What comes of a file is applied to an empty store, and the lines of what it leaves are printed.
   -- Where nothing comes of it, nothing is.
   abbrev pub Applies : Limits → Version → Bool → Option R → W → W → Result Ending RunFault → Type 0
   Applies limits version raw file old new ended =
       ((f : RunFault) × (ended ≡ Err f) × ComesNot gives read_failed raw file f × (new ≡ old))
       ⊎ ((incoming : Incoming R) × ComesOf gives read_failed raw file incoming
-      × Writes takes write_failed IsReadFault (PrintsApplied gives begins read_failed limits version incoming) old new ended)
+      × PrintsHeld takes write_failed (PrintsApplied gives begins read_failed limits version incoming) old new ended)
 
   -- Why two recordings aren't read: both are opened first, and then the left one is read before the
   -- right one.
@@ -261,8 +262,8 @@ module _ {R W : Type 0} (gives begins : R → List ℕ → Type 0) (read_failed 
       ⊎ ((sessions : List Session) × (others : List Session) × Records gives left sessions × Records gives right others
       × ComparesSessions takes write_failed version sessions others old new ended)
 
-  -- How each task ends that names no store. Of `show` no line is lost; the others lose theirs where
-  -- the store can't be read or memory runs out.
+  -- How each task ends that names no store. Of `show` no line is lost. Where the store can't be
+  -- read or memory runs out, `resume` loses its lines, and `apply` those that aren't printed yet.
   abbrev pub Ends : Task → Option R → Option R → W → W → Result Ending RunFault → Type 0
   Ends (task.Show version file) left right old new ended = Prints (λ f. ⊥) (PrintsShown version) left old new ended
   Ends (task.Apply version limits raw progress store cache feed file) left right old new ended =

@@ -1,6 +1,6 @@
 //! The printed form of rows and position.
 ghost use Rattle.std.specs.Prelude.{◌≡◌, ◌++◌, IfOk, OnOk, string_bytes};
-ghost use Rattle.pgsub_cli.specs.DumpText.{row_line, position_line, dump_of, resumed_of};
+ghost use Rattle.pgsub_cli.specs.DumpText.{row_line, position_line, resumed_of};
 
 use pgapply::DumpRow;
 use pglsn::Lsn;
@@ -13,14 +13,6 @@ pub(crate) fn line_text(alloc: Global, row: &DumpRow) -> Result<String, AllocErr
 {
     let (namespace, name) = (row.namespace.as_str(), row.name.as_str());
     pgjson::row_line(alloc, namespace, name, &row.cells.borrowed(), row.copies)
-}
-
-/// Appends a row's line.
-fn write_row(alloc: Global, row: &DumpRow, out: &mut String) -> Result<(), AllocError>
-    ensures { OnOk result (string_bytes out.new ≡ string_bytes out.old ++ row_line row.now) }
-{
-    let line = line_text(alloc, row)?;
-    out.push_str(line.as_str())
 }
 
 /// Appends the line of the position.
@@ -38,31 +30,11 @@ pub(crate) fn position_text(alloc: Global, position: Lsn) -> Result<String, Allo
 }
 
 /// The line of the position, and that of the LSN up to which it may be confirmed.
-pub(crate) fn resume_text(
-    alloc: Global,
-    position: Lsn,
-    confirmed: Lsn,
-) -> Result<String, AllocError>
+pub fn resume_text(alloc: Global, position: Lsn, confirmed: Lsn) -> Result<String, AllocError>
     ensures { IfOk result (λ text. string_bytes text ≡ resumed_of position confirmed) }
 {
     let mut lines = String::new(alloc);
     write_position(position, &mut lines)?;
     writeln!(&mut lines, "confirmed {confirmed}")?;
     Ok(lines)
-}
-
-/// The rows, a line each, and the position after them.
-pub(crate) fn dump_text(
-    alloc: Global,
-    rows: &[DumpRow],
-    position: Lsn,
-) -> Result<String, AllocError>
-    ensures { IfOk result (λ text. string_bytes text ≡ dump_of rows.now position) }
-{
-    let mut text = String::new(alloc);
-    for row in rows {
-        write_row(alloc, row, &mut text)?;
-    }
-    write_position(position, &mut text)?;
-    Ok(text)
 }

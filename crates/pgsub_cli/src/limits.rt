@@ -11,7 +11,7 @@ pub(crate) const MAX_FRAME: u32 = 16777216;
 pub(crate) const MAX_RECORDING: u32 = 67108864;
 
 /// The client's clock of replies, in microseconds since 2000-01-01. The program sends none.
-pub(crate) const CLOCK: i64 = 0;
+pub const CLOCK: i64 = 0;
 
 /// The length in a frame's header counts its own four bytes too, and is at most 2147483647.
 const LONGEST_FRAME: u32 = 2147483643;

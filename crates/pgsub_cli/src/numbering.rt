@@ -17,11 +17,7 @@ fn number_line(alloc: Global, lsn: Lsn) -> Result<String, AllocError>
 }
 
 /// Writes the number of an LSN, in decimal, and its text as PostgreSQL prints it.
-pub(crate) fn write_number<W: Output>(
-    alloc: Global,
-    text: &str,
-    out: &mut W,
-) -> Result<Ending, RunFault>
+pub fn write_number<W: Output>(alloc: Global, text: &str, out: &mut W) -> Result<Ending, RunFault>
     ensures { WritesNumber W.takes W.failed text.now out.old out.new result }
 {
     let Ok(lsn) = Lsn::parse(text) else {

@@ -9,7 +9,7 @@ use std::alloc::AllocError;
 
 /// The lines that a task prints.
 #[derive(Drop)]
-pub(crate) struct Printed {
+pub struct Printed {
     /// The lines, each with its line feed.
     pub lines: String,
     /// The fault that stopped it, if one did. The lines are those of what was done before.
@@ -17,7 +17,7 @@ pub(crate) struct Printed {
 }
 
 /// Writes the lines that a task prints, whatever stopped it, and nothing where it has none.
-pub(crate) fn write_printed<W: Output>(
+pub fn write_printed<W: Output>(
     printed: Result<Printed, Fault>,
     out: &mut W,
 ) -> Result<Ending, RunFault>
@@ -37,7 +37,7 @@ pub(crate) fn write_printed<W: Output>(
 }
 
 /// Writes a line, if there was memory for it, and ends so.
-pub(crate) fn write_line<W: Output>(
+pub fn write_line<W: Output>(
     line: Result<String, AllocError>,
     ending: Ending,
     out: &mut W,

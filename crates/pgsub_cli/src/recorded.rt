@@ -12,7 +12,7 @@ use std::alloc::Global;
 use std::io::ErrorKind;
 
 /// The sessions of the recording on this side, of which all is read before any is followed.
-pub(crate) fn read_sessions<R: Input + Drop>(
+pub fn read_sessions<R: Input + Drop>(
     alloc: Global,
     side: Side,
     file: Option<R>,

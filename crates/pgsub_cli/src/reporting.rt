@@ -2,21 +2,17 @@
 //! as without it.
 
 ghost use Rattle.std.specs.Prelude.{◌≡◌, ◌≤◌, ◌+◌, ◌⊎◌, [], Result, Some, IfOk};
-ghost use Rattle.pgsub_core.specs.Machine.Faults.{IsReadFault};
 ghost use Rattle.pgsub_cli.specs.declared.fault.Ending.{Ending};
 ghost use Rattle.pgsub_cli.specs.declared.fault.RunFault.{RunFault};
 ghost use Rattle.pgsub_cli.specs.Reports.{IsCounted, TellsProgress, bytes_text, input_within};
 ghost use Rattle.pgsub_cli.specs.Reports.{nothing_of, progress_line, with_bytes, with_commits};
-ghost use Rattle.pgsub_cli.specs.Runs.{PrintsNew, Tells, Writes, status_of};
+ghost use Rattle.pgsub_cli.specs.Runs.{Tells, status_of};
 ghost use Rattle.pgsub_cli.specs.StoreAfter.{HoldsAfter, MayBeLeft, LosesNothing};
 ghost use Rattle.pgsub_cli.specs.Storing.{PrintsOver};
 
 use crate::files::{Input, Output, ReadListener};
 use crate::limits::Limits;
-use crate::printed::write_printed;
 use crate::reported::{Listener, Reported, Settling};
-use crate::running::{status, tell};
-use crate::stores::apply_told;
 use crate::storing::{Incoming, run_within};
 use pgapply::ReplicaStore;
 use pglsn::Lsn;
@@ -177,8 +173,9 @@ impl<K: Clock + Drop, E: Output + Drop> Reporter<K, E> {
 
 /// Tells a reporter of each settling, where there is one.
 #[derive(Drop)]
-struct Commits<'a, K: Clock + Drop, E: Output + Drop> {
-    reporter: Option<&'a RefCell<Reporter<K, E>>>,
+pub struct Commits<'a, K: Clock + Drop, E: Output + Drop> {
+    /// The reporter.
+    pub reporter: Option<&'a RefCell<Reporter<K, E>>>,
 }
 
 impl<K: Clock + Drop, E: Output + Drop> Listener for Commits<'_, K, E> {
@@ -245,7 +242,7 @@ impl<R: Input + Drop, K: Clock + Drop, E: Output + Drop> Input for Counted<'_, R
 }
 
 /// What comes, if anything does, of which the bytes are told as they are read.
-fn count_bytes<'a, R: Input + Drop, K: Clock + Drop, E: Output + Drop>(
+pub fn count_bytes<'a, R: Input + Drop, K: Clock + Drop, E: Output + Drop>(
     input: Option<(Version, Incoming<R>)>,
     reporter: Option<&'a RefCell<Reporter<K, E>>>,
 ) -> Option<(Version, Incoming<Counted<'a, R, K, E>>)>
@@ -270,7 +267,7 @@ pub fn run_opened<
     C: ReplicaStore + Drop,
     K: Clock + Drop,
     P: Output + Drop,
-    W: Output,
+    W: Output + Drop,
     E: Output,
 >(
     alloc: Global,
@@ -283,10 +280,8 @@ pub fn run_opened<
 ) -> (u8, C)
     ensures status { result.0 ≤ 4 }
     ensures ends { (ended : Result Ending RunFault) × (result.0 ≡ status_of ended)
-        × Writes W.takes W.failed (λ fault. C.is_honest result.1 → IsReadFault fault)
-        (λ stopped lines. C.is_honest result.1 →
-        PrintsOver R.gives R.begins R.failed C.holds C.place
-        limits input store result.1 stopped lines) out.old out.new ended
+        × PrintsOver R.gives R.begins R.failed C.holds C.place C.is_honest W.takes W.failed limits
+        input store result.1 out.old out.new ended
         × Tells E.takes E.failed [] [] ended err.old err.new }
     ensures kept { C.serves result.1 →
         HoldsAfter R.gives R.begins R.failed C.holds C.place
@@ -303,27 +298,4 @@ pub fn run_opened<
     let counted = count_bytes(input, reporter);
     let (status, told) = run_within(alloc, store, limits, counted, out, err);
     (status, told.into_store())
-}
-
-/// Runs a task over an empty store in memory, which ends with that, and tells a reporter meanwhile,
-/// where there is one. Returns the exit status. What is printed is as `run` says, and with nothing
-/// to apply the position 0/0.
-pub fn run_in_memory<R: Input + Drop, K: Clock + Drop, P: Output + Drop, W: Output, E: Output>(
-    alloc: Global,
-    limits: Limits,
-    input: Option<(Version, Incoming<R>)>,
-    reporter: Option<&RefCell<Reporter<K, P>>>,
-    out: &mut W,
-    err: &mut E,
-) -> u8
-    ensures status { result ≤ 4 }
-    ensures ends { (ended : Result Ending RunFault) × (result ≡ status_of ended)
-        × Writes W.takes W.failed IsReadFault (PrintsNew R.gives R.begins R.failed limits input)
-        out.old out.new ended × Tells E.takes E.failed [] [] ended err.old err.new }
-{
-    let told = count_bytes(input, reporter);
-    let printed = apply_told(alloc, limits, told, Commits { reporter });
-    let ended = write_printed(printed, out);
-    tell(alloc, ended, "", "", err);
-    status(ended)
 }

@@ -90,7 +90,7 @@ fn show_sessions(
 
 /// The lines of all frames of the sessions, with `--` for each disconnection, up to the first fault
 /// of the frames, their messages or the messages' order.
-pub(crate) fn show(alloc: Global, version: Version, sessions: &[Session]) -> Printed
+pub fn show(alloc: Global, version: Version, sessions: &[Session]) -> Printed
     ensures { AreShown version (bytes_of sessions.now) (string_bytes result.lines) result.stopped }
 {
     let mut lines = String::new(alloc);

@@ -1,10 +1,7 @@
 //! Runs a task over a store that outlasts it, wherever that keeps what it holds.
 
-ghost use Rattle.std.specs.Prelude.{◌≡◌, ◌≤◌, [], Option, Result, Err, IfOk, IfErr, OnOk};
-ghost use Rattle.std.specs.Prelude.{string_bytes};
-ghost use Rattle.pgapply.specs.Taken.{Stays};
+ghost use Rattle.std.specs.Prelude.{◌≡◌, ◌≤◌, [], Option, Result, Err, IfOk, IfErr};
 ghost use Rattle.pgapply.specs.Value.{Tables};
-ghost use Rattle.pgsub_core.specs.Machine.Faults.{IsReadFault};
 ghost use Rattle.pgsub_core.specs.Subscriber.Handled.{fault_in};
 ghost use Rattle.pgsub_core.specs.Subscriber.SubscriberValue.{seen};
 ghost use Rattle.pgsub_cli.specs.declared.fault.Ending.{Ending};
@@ -12,26 +9,26 @@ ghost use Rattle.pgsub_cli.specs.declared.fault.RunFault.{RunFault};
 ghost use Rattle.pgsub_cli.specs.declared.fault.RunFault.TheVariants.{Stream};
 ghost use Rattle.pgsub_cli.specs.Followed.{subscriber_over};
 ghost use Rattle.pgsub_cli.specs.Recorded.{ComesOf, ComesNot};
-ghost use Rattle.pgsub_cli.specs.Runs.{Tells, Writes, left_path, right_path, status_of};
+ghost use Rattle.pgsub_cli.specs.Runs.{Tells, left_path, right_path, status_of};
 ghost use Rattle.pgsub_cli.specs.StoreAfter.{FeedsIncoming, StandsFed, LeavesFronts};
 ghost use Rattle.pgsub_cli.specs.StoreAfter.{LeavesIncomingHistory, HoldsAfter, HoldsOver};
 ghost use Rattle.pgsub_cli.specs.StoreAfter.{MayBeLeft, LosesNothing};
-ghost use Rattle.pgsub_cli.specs.Storing.{PrintsOver, ShowsHeld, status_of_unopened};
+ghost use Rattle.pgsub_cli.specs.Storing.{PrintsOver, status_of_unopened};
 ghost use Rattle.pgsub_core.specs.declared.fault.Fault.TheVariants.{Store};
 
-use crate::dump::dump_text;
+use crate::dumping::write_held;
 use crate::fault::{Ending, RunFault};
 use crate::files::{Input, Output, Unheard};
 use crate::limits::{CLOCK, Limits, max_frame};
-use crate::printed::{Printed, write_printed};
 use crate::recorded::read_sessions;
-use crate::running::{left_path, right_path, status, tell};
+use crate::telling::{left_path, right_path, status, tell};
+use core::mem::replace_with;
 use pgapply::{ReplicaStore, StoreFault};
 use pgcommand::Task;
 use pgorder::Version;
 use pgspool::{ByteSpools, Spools};
 use pgsub_core::{Fault, Session, Side, Subscriber, fed_sessions_are_followed, follow};
-use std::alloc::{AllocError, Global};
+use std::alloc::Global;
 
 /// What is applied to a store.
 #[derive(Drop)]
@@ -93,7 +90,7 @@ fn feed_incoming<R: Input + Drop, P: Spools + Drop, C: ReplicaStore + Drop>(
 }
 
 /// A subscriber over a store, with the program's spools, within these limits.
-pub(crate) fn subscriber_over<C: ReplicaStore + Drop>(
+pub fn subscriber_over<C: ReplicaStore + Drop>(
     alloc: Global,
     store: C,
     limits: Limits,
@@ -134,57 +131,44 @@ fn feed_over<R: Input + Drop, C: ReplicaStore + Drop>(
     (stopped, subscriber.into_store())
 }
 
-/// The lines of the rows and the position that a store holds, beside what stopped a run. Nothing
-/// changes.
-fn held_lines<C: ReplicaStore>(
-    alloc: Global,
-    store: &mut C,
-    stopped: Option<Fault>,
-) -> Result<Printed, Fault>
-    ensures held { C.is_honest store.new → IfOk result (λ printed. (printed.stopped ≡ stopped)
-        × ShowsHeld C.holds C.place store.old store.new (string_bytes printed.lines)) }
-    ensures fault { C.is_honest store.new → IfErr result IsReadFault }
-    ensures open { C.is_honest store.new → OnOk result (C.serves store.old) }
-    ensures served { C.serves store.new → C.serves store.old }
-    ensures stays { C.serves store.new → Stays C.holds store.old store.new }
-    ensures position { C.place store.new ≡ C.place store.old }
-    ensures crash { C.is_honest store.new → (other : C) → C.reopens store.new other →
-        C.reopens store.old other }
-    ensures honest { C.is_honest store.new → C.is_honest store.old }
-{
-    let position = store.position();
-    let rows = store.rows()?;
-    match dump_text(alloc, rows.as_slice(), position) {
-        Ok(lines) => Ok(Printed { lines, stopped }),
-        Err(AllocError) => Err(Fault::Memory),
-    }
+/// A store, and what is applied to it, if anything is.
+#[derive(Drop)]
+pub struct ToApply<R: Input + Drop, C: ReplicaStore + Drop> {
+    /// Where memory is taken.
+    pub alloc: Global,
+    /// The store.
+    pub store: C,
+    /// The limits of a subscriber over it.
+    pub limits: Limits,
+    /// What is applied, by which version of the protocol.
+    pub input: Option<(Version, Incoming<R>)>,
 }
 
-/// Applies to a store what comes, if anything does. The lines are those of what it holds then,
-/// whatever stopped it.
-pub(crate) fn apply_over<R: Input + Drop, C: ReplicaStore + Drop>(
-    alloc: Global,
-    store: C,
-    limits: Limits,
-    input: Option<(Version, Incoming<R>)>,
-) -> (Result<Printed, Fault>, C)
-    ensures applied { C.is_honest result.1 → IfOk result.0
-        (λ printed. PrintsOver R.gives R.begins R.failed C.holds C.place limits input store
-        result.1 printed.stopped (string_bytes printed.lines)) }
-    ensures fault { C.is_honest result.1 → IfErr result.0 IsReadFault }
-    ensures kept { C.serves result.1 →
-        HoldsAfter R.gives R.begins R.failed C.holds C.place limits input store result.1 }
-    ensures left { C.is_honest result.1 →
-        MayBeLeft R.gives R.begins R.failed C.holds C.place C.reopens C.serves limits input
-        store result.1 }
-    ensures crash { C.is_honest result.1 → C.serves store →
-        LosesNothing R.gives R.begins R.failed C.holds C.place C.reopens limits input store
-        result.1 }
-    ensures honest { C.is_honest result.1 → C.is_honest store }
+/// Applies to a store what comes, if anything does, and prints what it holds then, whatever stopped
+/// it. Returns the output, how that ended, and the store.
+pub fn apply_over<R: Input + Drop, C: ReplicaStore + Drop, W: Output + Drop>(
+    out: W,
+    given: ToApply<R, C>,
+) -> (W, (Result<Ending, RunFault>, C))
+    ensures prints { PrintsOver R.gives R.begins R.failed C.holds C.place C.is_honest W.takes
+        W.failed given.limits given.input given.store result.1.1 out result.0 result.1.0 }
+    ensures kept { C.serves result.1.1 → HoldsAfter R.gives R.begins R.failed C.holds C.place
+        given.limits given.input given.store result.1.1 }
+    ensures left { C.is_honest result.1.1 → MayBeLeft R.gives R.begins R.failed C.holds C.place
+        C.reopens C.serves given.limits given.input given.store result.1.1 }
+    ensures crash { C.is_honest result.1.1 → C.serves given.store → LosesNothing R.gives R.begins
+        R.failed C.holds C.place C.reopens given.limits given.input given.store result.1.1 }
+    ensures honest { C.is_honest result.1.1 → C.is_honest given.store }
 {
+    let ToApply {
+        alloc,
+        store,
+        limits,
+        input,
+    } = given;
     let (stopped, mut store) = feed_over(alloc, store, limits, input);
-    let printed = held_lines(alloc, &mut store, stopped);
-    (printed, store)
+    let (ended, out) = write_held(alloc, &mut store, stopped, out);
+    (out, (ended, store))
 }
 
 /// Tells why a task was stopped before it opened its store. Returns the exit status.
@@ -219,13 +203,15 @@ pub fn tell_unopened<E: Output>(alloc: Global, fault: StoreFault, err: &mut E) -
 /// There is a way in which it ends, with this status: what is printed are the lines of where the
 /// bytes lead from what the store had, also where a fault stopped them, and that is what the store
 /// has then. With nothing to apply nothing changes. Standard error gets the line of the fault.
+/// The lines are printed as the rows are read, with the memory of one row and some lines. Where the
+/// rows can't be read, memory runs out or a write fails, some front of them is printed, or nothing.
 ///
 /// Where memory runs out or the lines can't be written, too, the store holds what some front of the
 /// bytes leads to, while it serves (`kept`). Whatever a crash at the end may leave of it could be
 /// left before, or has what some front of the bytes leads to (`left`). Where they are sessions of a
 /// history, that is exactly the history's rows up to a position no lower than the store's, with
 /// every transaction that is confirmed (`crash`). That holds where the store has shut, too.
-pub fn run_within<R: Input + Drop, C: ReplicaStore + Drop, W: Output, E: Output>(
+pub fn run_within<R: Input + Drop, C: ReplicaStore + Drop, W: Output + Drop, E: Output>(
     alloc: Global,
     store: C,
     limits: Limits,
@@ -235,10 +221,9 @@ pub fn run_within<R: Input + Drop, C: ReplicaStore + Drop, W: Output, E: Output>
 ) -> (u8, C)
     ensures status { result.0 ≤ 4 }
     ensures ends { (ended : Result Ending RunFault) × (result.0 ≡ status_of ended)
-        × Writes W.takes W.failed (λ fault. C.is_honest result.1 → IsReadFault fault)
-        (λ stopped lines. C.is_honest result.1 →
-        PrintsOver R.gives R.begins R.failed C.holds C.place limits input store result.1 stopped
-        lines) out.old out.new ended × Tells E.takes E.failed [] [] ended err.old err.new }
+        × PrintsOver R.gives R.begins R.failed C.holds C.place C.is_honest W.takes W.failed limits
+        input store result.1 out.old out.new ended
+        × Tells E.takes E.failed [] [] ended err.old err.new }
     ensures kept { C.serves result.1 →
         HoldsAfter R.gives R.begins R.failed C.holds C.place limits input store result.1 }
     ensures left { C.is_honest result.1 →
@@ -249,14 +234,19 @@ pub fn run_within<R: Input + Drop, C: ReplicaStore + Drop, W: Output, E: Output>
         result.1 }
     ensures honest { C.is_honest result.1 → C.is_honest store }
 {
-    let (printed, store) = apply_over(alloc, store, limits, input);
-    let ended = write_printed(printed, out);
+    let given = ToApply {
+        alloc,
+        store,
+        limits,
+        input,
+    };
+    let (ended, store) = replace_with(out, given, apply_over);
     tell(alloc, ended, "", "", err);
     (status(ended), store)
 }
 
 /// `run_within`, within the limits of a command line that names none.
-pub fn run_store<R: Input + Drop, C: ReplicaStore + Drop, W: Output, E: Output>(
+pub fn run_store<R: Input + Drop, C: ReplicaStore + Drop, W: Output + Drop, E: Output>(
     alloc: Global,
     store: C,
     input: Option<(Version, Incoming<R>)>,
@@ -265,10 +255,9 @@ pub fn run_store<R: Input + Drop, C: ReplicaStore + Drop, W: Output, E: Output>(
 ) -> (u8, C)
     ensures status { result.0 ≤ 4 }
     ensures ends { (ended : Result Ending RunFault) × (result.0 ≡ status_of ended)
-        × Writes W.takes W.failed (λ fault. C.is_honest result.1 → IsReadFault fault)
-        (λ stopped lines. C.is_honest result.1 →
-        PrintsOver R.gives R.begins R.failed C.holds C.place Limits.DEFAULT input store result.1
-        stopped lines) out.old out.new ended × Tells E.takes E.failed [] [] ended err.old err.new }
+        × PrintsOver R.gives R.begins R.failed C.holds C.place C.is_honest W.takes W.failed
+        Limits.DEFAULT input store result.1 out.old out.new ended
+        × Tells E.takes E.failed [] [] ended err.old err.new }
     ensures kept { C.serves result.1 →
         HoldsAfter R.gives R.begins R.failed C.holds C.place Limits.DEFAULT input store result.1 }
     ensures left { C.is_honest result.1 →

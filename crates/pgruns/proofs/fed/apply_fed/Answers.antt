@@ -12,6 +12,6 @@ returns-in-Ok-clause-ran g c =
         c.in-Ok.feed,
         subst (λ (p : ℕ). IsOpenedAt g.D.File.Disk.seen g.D.File.Disk.may_leave g.D.File.Disk.is_clean p c.in-Ok.feed)
             c.position.ensures.position c.in-Ok.ensures,
-        record { writes = e.2.writes; kept = e.2.kept; left = e.2.left; crash = e.2.crash },
+        record { prints = e.2.prints; kept = e.2.kept; left = e.2.left; crash = e.2.crash },
       ),
     )

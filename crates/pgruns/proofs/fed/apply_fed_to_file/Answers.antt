@@ -1,6 +1,7 @@
 use Rattle.std.proofs.Common.{◌∙◌, [], ℕ, Option, ap, ap₂, subst}
 use Rattle.std.proofs.lemmas.Option.{IfSome_then}
 use Rattle.pgapply.specs.declared.fault.StoreFault.{StoreFault}
+use Rattle.pgstore.specs.StoreValue.{Group}
 use Rattle.pgsub_cli.specs.Runs.{Tells}
 use Rattle.pgsub_cli.specs.Storing.{status_of_unopened}
 use Rattle.pgruns.specs.Filed.{ending_of_closing, status_closed}
@@ -23,6 +24,7 @@ returns-in-Ok-clause-ran g c =
         ended = applied.result.1;
         found = λ honest. c.in-Ok.ensures.stood (applied.ensures.honest honest);
         serves = λ honest. c.in-Ok.ensures.serves (applied.ensures.honest honest);
+        unmissed = ap (λ (a : Group). a.missed) c.in-Ok.ensures.begun;
         run = (e.3.0, e.3.1, e.3.2);
         closes = closed.ensures.closes;
       },
@@ -46,6 +48,7 @@ returns-in-Ok-clause-unfed g c none =
         ended = applied.result.1;
         found = λ honest. c.in-Ok.ensures.stood (applied.ensures.honest honest);
         serves = λ honest. c.in-Ok.ensures.serves (applied.ensures.honest honest);
+        unmissed = ap (λ (a : Group). a.missed) c.in-Ok.ensures.begun;
         run = e.2;
         closes = closed.ensures.closes;
       },

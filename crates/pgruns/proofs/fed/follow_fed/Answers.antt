@@ -1,6 +1,6 @@
 use Rattle.std.proofs.Common.{ℕ, subst}
 use Rattle.pgruns.specs.Fed.{IsOpenedAt}
-use Rattle.pgruns.proofs.Parts.{ledger_of, store_of}
+use Rattle.pgsub_cli.proofs.Parts.{ledger_of, store_of}
 use Rattle.pgruns.proofs.fed.follow_fed.Goals as goal
 
 pub returns-in-Ok-clause-ran : goal.returns-in-Ok-clause-ran

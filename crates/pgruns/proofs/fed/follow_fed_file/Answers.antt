@@ -1,6 +1,7 @@
 use Rattle.std.proofs.Common.{◌∙◌, [], ℕ, Option, ap, ap₂, subst}
 use Rattle.std.proofs.lemmas.Option.{IfSome_then}
 use Rattle.pgapply.specs.declared.fault.StoreFault.{StoreFault}
+use Rattle.pgstore.specs.StoreValue.{Group}
 use Rattle.pgsub_cli.specs.Runs.{Tells}
 use Rattle.pgruns.specs.Filed.{ending_of_closing, status_closed, status_of_unclosed}
 use Rattle.pgruns.proofs.Unfed.{unfed_stays}
@@ -24,6 +25,7 @@ returns-in-Ok-clause-ran g c =
         ended = followed.result.1;
         found = λ honest. c.in-Ok.ensures.stood (followed.ensures.honest honest);
         serves = λ honest. c.in-Ok.ensures.serves (followed.ensures.honest honest);
+        unmissed = ap (λ (a : Group). a.missed) c.in-Ok.ensures.begun;
         run = (
           c.followed_status.ensures ∙ ap₂ (status_closed status_of_unclosed) e.1 closed.ensures.fault,
           (e.6.0, e.6.1, λ honest. e.6.2 honest (c.in-Ok.ensures.serves (followed.ensures.honest honest))),
@@ -50,6 +52,7 @@ returns-in-Ok-clause-unfed g c none =
         ended = followed.result.1;
         found = λ honest. c.in-Ok.ensures.stood (followed.ensures.honest honest);
         serves = λ honest. c.in-Ok.ensures.serves (followed.ensures.honest honest);
+        unmissed = ap (λ (a : Group). a.missed) c.in-Ok.ensures.begun;
         run = e.2;
         closes = closed.ensures.closes;
       },

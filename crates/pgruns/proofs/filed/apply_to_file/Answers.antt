@@ -1,5 +1,6 @@
-use Rattle.std.proofs.Common.{[], Option, refl, subst, ap₂, ◌∙◌}
+use Rattle.std.proofs.Common.{[], Option, refl, subst, ap, ap₂, ◌∙◌}
 use Rattle.pgapply.specs.declared.fault.StoreFault.{StoreFault}
+use Rattle.pgstore.specs.StoreValue.{Group}
 use Rattle.pgruns.specs.Filed.{ending_of_closing, status_closed}
 use Rattle.pgsub_cli.specs.Storing.{status_of_unopened}
 use Rattle.pgsub_cli.specs.Runs.{Tells}
@@ -23,6 +24,7 @@ returns-in-Ok-clause-ran g c =
         ended = c.apply_to_store-status.result.1;
         found = λ honest. c.in-Ok.ensures.stood (applied.honest honest);
         serves = λ honest. c.in-Ok.ensures.serves (applied.honest honest);
+        unmissed = ap (λ (a : Group). a.missed) c.in-Ok.ensures.begun;
         run = (e.2, applied.kept, λ honest. (applied.left honest, applied.crash honest (c.in-Ok.ensures.serves (applied.honest honest))));
         closes = c.close_told-fault.ensures.closes;
       },

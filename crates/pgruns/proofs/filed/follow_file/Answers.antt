@@ -1,5 +1,6 @@
-use Rattle.std.proofs.Common.{[], Option, refl, subst, ap₂, ◌∙◌}
+use Rattle.std.proofs.Common.{[], Option, refl, subst, ap, ap₂, ◌∙◌}
 use Rattle.pgapply.specs.declared.fault.StoreFault.{StoreFault}
+use Rattle.pgstore.specs.StoreValue.{Group}
 use Rattle.pgruns.specs.Filed.{ending_of_closing, status_closed, status_of_unclosed}
 use Rattle.pgsub_cli.specs.Runs.{Tells}
 use Rattle.pgruns.proofs.filed.follow_file.Goals as goal
@@ -24,6 +25,7 @@ returns-in-Ok-clause-ran g c =
         ended = c.follow_store-status.result.1;
         found = λ honest. c.in-Ok.ensures.stood (followed.honest honest);
         serves = λ honest. c.in-Ok.ensures.serves (followed.honest honest);
+        unmissed = ap (λ (a : Group). a.missed) c.in-Ok.ensures.begun;
         run = (
           c.followed_status.ensures ∙ ap₂ (status_closed status_of_unclosed) e.1 c.close_told-fault.ensures.fault,
           λ honest. e.6 honest (c.in-Ok.ensures.serves (followed.honest honest)),

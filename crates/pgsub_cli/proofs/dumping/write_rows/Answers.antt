@@ -25,4 +25,4 @@ returns-clause-dumps g c honest tables holds =
     (dumped takes failed (dump tables) c.position-position.result c.each_row-read.result.0 c.args.out sink.lines.out
     (string_bytes sink.lines.text) sink.fault c.end-ended.new.self.lines.out c.end-ended.result
     (front.0, front.1, front.2, unbegun takes failed text c.new-text.ensures.bytes front.3) all (c.each_row-read.ensures.fault honest)
-    c.end-ended.ensures)
+    c.end-ended.ensures.prints)

@@ -1,6 +1,4 @@
-use Rattle.std.proofs.Common.{◌≡◌, ℕ, List, Option, refl, subst, sym}
-use Rattle.pgsub_core.specs.declared.fault.Fault.{Fault}
-use Rattle.pgsub_core.specs.Machine.Faults.{IsReadFault}
+use Rattle.std.proofs.Common.{◌≡◌, ℕ, List, refl, subst, sym}
 use Rattle.pgsub_cli.specs.declared.reporting.Counted.{Counted}
 use Rattle.pgsub_cli.specs.declared.reported.Reported.{Reported}
 use Rattle.pgsub_cli.specs.declared.reporting.Commits.{Commits}
@@ -8,7 +6,6 @@ use Rattle.pgsub_cli.specs.Reports.{input_within}
 use Rattle.pgsub_cli.specs.StoreAfter.{HoldsAfter, MayBeLeft, LosesNothing}
 use Rattle.pgsub_cli.specs.Storing.{PrintsOver}
 use Rattle.pgsub_cli.proofs.Within.{holds_within, left_within, loses_within, prints_within}
-use Rattle.pgsub_cli.proofs.Within.{writes_weaker}
 use Rattle.pgsub_cli.proofs.reporting.run_opened.Goals as goal
 
 pub returns-clause-ends : goal.returns-clause-ends
@@ -20,28 +17,20 @@ returns-clause-ends g c =
     let reader : Counted g.row.R.Denot g.row.K.Denot g.row.P.Denot → g.row.R.Denot = λ q. q.file in
     let inner : Reported g.row.C.Denot (Commits g.row.K.Denot g.row.P.Denot) → g.row.C.Denot = λ s. s.store in
     let there = c.run_within-status.result.1 in
-    let told : Option Fault → List ℕ → Type 0 = λ stopped lines. it.is_honest (inner there)
-    → PrintsOver (λ q. gives (reader q)) (λ q. begins (reader q)) (λ q. failed (reader q)) (λ s. it.holds (inner s))
-    (λ s. it.place (inner s)) c.args.limits c.count_bytes-counted.result c.new-store.result there stopped lines in
-    let wanted : Option Fault → List ℕ → Type 0 = λ stopped lines. it.is_honest c.into_store.result
-    → PrintsOver gives begins failed it.holds it.place c.args.limits c.args.input c.args.store c.into_store.result stopped lines in
-    let shown : (stopped : Option Fault) (lines : List ℕ) → told stopped lines → wanted stopped lines = λ stopped lines h honest.
-    subst (λ i. PrintsOver gives begins failed it.holds it.place c.args.limits i c.args.store c.into_store.result stopped lines)
-    c.count_bytes-counted.ensures
-    (subst (λ s. PrintsOver gives begins failed it.holds it.place c.args.limits (input_within reader c.count_bytes-counted.result) s
-    c.into_store.result stopped lines) c.new-store.ensures
-    (subst (λ s. PrintsOver gives begins failed it.holds it.place c.args.limits (input_within reader c.count_bytes-counted.result)
-    (inner c.new-store.result) s stopped lines) (sym c.into_store.ensures)
-    (prints_within reader inner gives begins failed it.holds it.place c.args.limits c.count_bytes-counted.result c.new-store.result there
-    stopped lines
-    (h (subst it.is_honest c.into_store.ensures honest))))) in
+    let out' = c.run_within-status.new.out in
     let e = c.run_within-status.ensures.ends in (
       e.0,
       e.1,
-      writes_weaker {W = g.row.W.Denot} g.W.Output.takes g.W.Output.failed
-          (λ fault. it.is_honest (inner there) → IsReadFault fault) (λ fault. it.is_honest c.into_store.result → IsReadFault fault) told
-          wanted c.args.out.now c.run_within-status.new.out e.0 (λ fault lost honest. lost (subst it.is_honest c.into_store.ensures honest))
-          shown e.2,
+      subst (λ i. PrintsOver gives begins failed it.holds it.place it.is_honest g.W.Output.takes g.W.Output.failed c.args.limits i
+          c.args.store c.into_store.result c.args.out.now out' e.0)
+          c.count_bytes-counted.ensures
+          (subst (λ s. PrintsOver gives begins failed it.holds it.place it.is_honest g.W.Output.takes g.W.Output.failed c.args.limits
+          (input_within reader c.count_bytes-counted.result) s c.into_store.result c.args.out.now out' e.0) c.new-store.ensures
+          (subst (λ s. PrintsOver gives begins failed it.holds it.place it.is_honest g.W.Output.takes g.W.Output.failed c.args.limits
+          (input_within reader c.count_bytes-counted.result) (inner c.new-store.result) s c.args.out.now out' e.0)
+          (sym c.into_store.ensures)
+          (prints_within reader inner gives begins failed it.holds it.place it.is_honest g.W.Output.takes g.W.Output.failed c.args.limits
+          c.count_bytes-counted.result c.new-store.result there c.args.out.now out' e.0 e.2))),
       e.3,
     )
 

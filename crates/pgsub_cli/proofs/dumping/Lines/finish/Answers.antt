@@ -1,21 +1,24 @@
-use Rattle.std.proofs.Common.{◌++◌}
+use Rattle.std.proofs.Common.{◌++◌, Err, subst, sym}
 use Rattle.pgsub_cli.specs.DumpText.{position_line}
-use Rattle.pgsub_cli.proofs.LineSteps.{done, stops_as, unfinished}
+use Rattle.pgsub_cli.specs.Dumped.{PrintsLines}
+use Rattle.pgsub_cli.proofs.LineSteps.{done, stops, unfinished}
 use Rattle.pgsub_cli.proofs.dumping.Lines.finish.Goals as goal
 
-pub returns-in_err-add_position : goal.returns-in_err-add_position
-returns-in_err-add_position g c old bytes writing =
-    stops_as g.W.Output.takes g.W.Output.failed c.from_residual.result c.in_err-add_position.field-0.0 c.from_residual.ensures.1
-    (c.in_err-add_position.ensures.stays old bytes writing) (position_line c.args.position)
+pub returns-in-Err-clause-prints : goal.returns-in-Err-clause-prints
+returns-in-Err-clause-prints g c old bytes writing =
+    subst (λ f. PrintsLines g.W.Output.takes g.W.Output.failed (bytes ++ position_line c.args.position) old c.add_position.new.self.out
+    (Err f)) (sym c.run_fault.ensures)
+    (stops g.W.Output.takes g.W.Output.failed c.in-Err.fault (c.in-Err.ensures.stays old bytes writing) (position_line c.args.position))
 
-pub returns-in_err-write : goal.returns-in_err-write
-returns-in_err-write g c old bytes writing =
-    unfinished g.W.Output.takes g.W.Output.failed old (bytes ++ position_line c.args.position) c.add_position.new.self.out _
-    (c.in_ok-add_position.ensures.added old bytes writing) c.write.new.self.out c.from_residual-in_err-write.result
-    c.in_err-write.field-0.0 c.from_residual-in_err-write.ensures.1 c.in_err-write.ensures.failed
+pub returns-in-Err-write-clause-prints : goal.returns-in-Err-write-clause-prints
+returns-in-Err-write-clause-prints g c old bytes writing =
+    subst (λ f. PrintsLines g.W.Output.takes g.W.Output.failed (bytes ++ position_line c.args.position) old c.write.new.self.out (Err f))
+    (sym c.run_fault-in-Err-write.ensures)
+    (unfinished g.W.Output.takes g.W.Output.failed old (bytes ++ position_line c.args.position) c.add_position.new.self.out _
+    (c.in_default.ensures.added old bytes writing) c.write.new.self.out c.in-Err-write.fault c.in-Err-write.ensures.failed)
 
-pub returns : goal.returns
-returns g c old bytes writing =
+pub returns-in-Ok-clause-prints : goal.returns-in-Ok-clause-prints
+returns-in-Ok-clause-prints g c old bytes writing =
     done g.W.Output.takes g.W.Output.failed
-    (c.in_ok-write.ensures.written old (bytes ++ position_line c.args.position) (c.in_ok-add_position.ensures.added old bytes writing))
-    c.in_ok-write.ensures.cleared
+    (c.in-Ok.ensures.written old (bytes ++ position_line c.args.position) (c.in_default.ensures.added old bytes writing))
+    c.in-Ok.ensures.cleared

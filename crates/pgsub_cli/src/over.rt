@@ -1,0 +1,151 @@
+//! Runs over an opened store of any kind: one that tells a listener, and one with a ledger of its
+//! commits.
+//!
+//! They are generic over what a store is, since each call over a store of rows proves anew that
+//! such a store is one, and costs seconds. So callers make one such call each.
+
+ghost use Rattle.std.specs.Prelude.{◌≡◌, ◌↔◌, [], true, false, Option, Result, Some, IfSome};
+ghost use Rattle.pgfollow.specs.declared.fault.FollowFault.{FollowFault};
+ghost use Rattle.pgfollow.specs.declared.fault.FollowFault.TheVariants as follow;
+ghost use Rattle.pgfollow.specs.Live.{IsOfFollowing};
+ghost use Rattle.pgsub_cli.specs.declared.fault.Ending.{Ending};
+ghost use Rattle.pgsub_cli.specs.declared.fault.RunFault.{RunFault};
+ghost use Rattle.pgsub_cli.specs.Caused.{TellsCaused};
+ghost use Rattle.pgsub_cli.specs.FollowedLive.{ending_of};
+ghost use Rattle.pgsub_cli.specs.FollowStatus.{status_of_follow};
+ghost use Rattle.pgsub_cli.specs.Runs.{Tells, status_of};
+ghost use Rattle.pgsub_cli.specs.Over.{AppliesOver, FollowsReported, HoldsBoth, ReopensBoth};
+
+use crate::files::{Input, Output};
+use crate::following::run_follow;
+use crate::limits::Limits;
+use crate::reported::{Listener, Reported};
+use crate::reporting::{Reporter, run_opened};
+use crate::storing::Incoming;
+use pgapply::ReplicaStore;
+use pgfollow::{Clock, Link};
+use pgledger::{Ledger, LedgerStore, Recorded};
+use pgorder::Version;
+use std::alloc::Global;
+use std::cell::RefCell;
+use std::io::{Read, Write};
+use std::time::Clock as Ticks;
+
+/// Follows a server over an opened store that tells a listener of each settling. Returns the exit
+/// status and the store.
+pub fn follow_reported<
+    C: ReplicaStore + Drop,
+    L: Listener + Drop,
+    R: Read + Drop,
+    W: Write + Drop,
+    K: Clock,
+    E: Output,
+>(
+    alloc: Global,
+    store: C,
+    listener: L,
+    limits: Limits,
+    version: Version,
+    link: &mut Link<R, W>,
+    clock: &mut K,
+    err: &mut E,
+) -> (u8, C)
+    requires readable { link.old.read_failed ≡ false }
+    requires writable { link.old.write_failed ≡ false }
+    ensures ends { (why : Option FollowFault)
+        × (result.0 ≡ status_of_follow (C.missed result.1).count why)
+        × TellsCaused E.takes E.failed (ending_of why) err.old err.new
+        × ((why ≡ Some follow.Read) ↔ (link.new.read_failed ≡ true))
+        × ((why ≡ Some follow.Write) ↔ (link.new.write_failed ≡ true))
+        × IfSome why IsOfFollowing
+        × (C.is_honest result.1 → C.serves store →
+        FollowsReported C.holds C.place C.reopens C.serves C.missed L
+        (R.remaining link.old.reader) (R.remaining link.new.reader) link.new.reads
+        (W.contents link.old.writer) (W.contents link.new.writer) limits version store result.1
+        why) }
+    ensures honest { C.is_honest result.1 → C.is_honest store }
+{
+    let reported = Reported::new(store, listener);
+    let (status, reported) = run_follow(alloc, reported, limits, version, link, clock, err);
+    (status, reported.into_store())
+}
+
+/// The same, over a store with a ledger of its commits. Returns the exit status, the store and the
+/// ledger.
+pub fn follow_recorded<
+    C: LedgerStore + Drop,
+    G: Ledger + Drop,
+    L: Listener + Drop,
+    R: Read + Drop,
+    W: Write + Drop,
+    K: Clock,
+    E: Output,
+>(
+    alloc: Global,
+    store: C,
+    ledger: G,
+    listener: L,
+    limits: Limits,
+    version: Version,
+    link: &mut Link<R, W>,
+    clock: &mut K,
+    err: &mut E,
+) -> (u8, C, G)
+    requires readable { link.old.read_failed ≡ false }
+    requires writable { link.old.write_failed ≡ false }
+    ensures ends { (why : Option FollowFault)
+        × (result.0 ≡ status_of_follow (C.missed result.1).count why)
+        × TellsCaused E.takes E.failed (ending_of why) err.old err.new
+        × ((why ≡ Some follow.Read) ↔ (link.new.read_failed ≡ true))
+        × ((why ≡ Some follow.Write) ↔ (link.new.write_failed ≡ true))
+        × IfSome why IsOfFollowing
+        × (C.is_honest result.1 → C.serves store →
+        FollowsReported (HoldsBoth C.holds C.place C.reach G.begins G.keeps G.outlasts G.is_stuck)
+        (λ r. C.place r.store) (ReopensBoth C.place C.reopens G.reopens) (λ r. C.serves r.store)
+        (λ r. C.missed r.store) L (R.remaining link.old.reader) (R.remaining link.new.reader)
+        link.new.reads (W.contents link.old.writer) (W.contents link.new.writer) limits version
+        (record { store = store; ledger = ledger })
+        (record { store = result.1; ledger = result.2 }) why) }
+    ensures honest { C.is_honest result.1 → C.is_honest store }
+{
+    let followed = Recorded::new(store, ledger);
+    let (status, followed) = follow_reported(
+        alloc, followed, listener, limits, version, link, clock, err,
+    );
+    let (store, ledger) = followed.into_parts();
+    (status, store, ledger)
+}
+
+/// Applies to an opened store with its ledger what comes, and prints what it holds then.
+pub fn apply_recorded<
+    C: LedgerStore + Drop,
+    G: Ledger + Drop,
+    R: Input + Drop,
+    K: Ticks + Drop,
+    P: Output + Drop,
+    W: Output + Drop,
+    E: Output,
+>(
+    alloc: Global,
+    store: C,
+    ledger: G,
+    limits: Limits,
+    input: Option<(Version, Incoming<R>)>,
+    reporter: Option<&RefCell<Reporter<K, P>>>,
+    out: &mut W,
+    err: &mut E,
+) -> (u8, C, G)
+    ensures ends { (ended : Result Ending RunFault) × (result.0 ≡ status_of ended)
+        × AppliesOver (λ r. C.is_honest r.store) (λ r. C.serves r.store)
+        (HoldsBoth C.holds C.place C.reach G.begins G.keeps G.outlasts G.is_stuck)
+        (λ r. C.place r.store) (ReopensBoth C.place C.reopens G.reopens) R.gives R.begins R.failed
+        W.takes W.failed limits input (record { store = store; ledger = ledger })
+        (record { store = result.1; ledger = result.2 }) ended out.old out.new
+        × Tells E.takes E.failed [] [] ended err.old err.new }
+    ensures honest { C.is_honest result.1 → C.is_honest store }
+{
+    let recorded = Recorded::new(store, ledger);
+    let (status, recorded) = run_opened(alloc, recorded, limits, input, reporter, out, err);
+    let (store, ledger) = recorded.into_parts();
+    (status, store, ledger)
+}

@@ -1,0 +1,3 @@
+pub mod Writing
+pub mod ComparedSides
+pub mod BothRead
