@@ -19,11 +19,11 @@ const FOLLOW_STATUSES: &str = "Exit statuses:
    0  the stream ended
    1  the stream is rejected
    2  usage error
-   3  the file is no store, or the folder no feed of it
+   3  the file is no store, the folder no feed of it, or a name for a feed is too long
   10  the buffered items of open transactions would cost more than --max-buffered
   11  a frame is longer than --max-frame
   12  the store can't be opened, as while another process has it open
-  13  the store failed to take a commit
+  13  the store or the feed failed, while it was open or as it was closed
   14  memory has run out
   15  standard input or output failed
   16  the stream ended, and some of its changes found no row";
@@ -270,7 +270,7 @@ fn dump_command<'a>(alloc: Global) -> Result<Command<'a>, AllocError>
         "dump",
         "Print the rows and the position that a file holds",
     );
-    let help = "The file in which `apply --store` keeps them";
+    let help = "The file in which `apply --store` or `follow` keeps them";
     with_store(alloc, command, true, help)
 }
 
@@ -357,7 +357,7 @@ fn bare<'a>(alloc: Global) -> Command<'a>
     named(
         alloc,
         "pgsub",
-        "The receiving end of PostgreSQL logical replication, over recordings of its sessions",
+        "The receiving end of PostgreSQL logical replication, for live sessions and recorded ones",
     )
     .version(VERSION)
     .subcommand_required(true)

@@ -68,3 +68,5 @@ mod tests;
 mod transactions;
 #[cfg(test)]
 mod trials;
+#[cfg(test)]
+mod watched_tests;

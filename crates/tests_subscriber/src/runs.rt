@@ -1,7 +1,8 @@
 //! A run of a command line over files in memory, and what it must print.
 
 use pgcommand::{Task, command_of};
-use pgsub_cli::running::{run, store_path};
+use pgsub_cli::store_path;
+use pgtasks::run;
 use std::io;
 use std::io::{ErrorKind, Read, Write};
 use std::process::Abort;
@@ -69,7 +70,7 @@ pub(crate) fn is_answered(
 }
 
 /// Runs a command line, and returns the exit status.
-fn run_line<R: Read + Drop, W: Write, E: Write>(
+fn run_line<R: Read + Drop, W: Write + Drop, E: Write>(
     rt: &(impl Abort + AllocGlobal),
     line: &str,
     left: Option<R>,
