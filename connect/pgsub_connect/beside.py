@@ -26,14 +26,15 @@ if TYPE_CHECKING:
     from .cli import Options
 
 READER = "tables"
-# The statuses that another try doesn't mend; one that was killed by a signal has none above 0.
-LASTING = (1, 2, 3, 5, 6)
+# The statuses that another try doesn't mend; one that was killed by a signal has none above 0. And that of one that can't be started now.
+LASTING, PASSING = (1, 2, 3, 5, 6), 7
 # After how many seconds it is started again, at first and at most, and how long it has to run until that is forgotten.
 FIRST_DELAY, LONGEST_DELAY, FORGET = 1.0, 60.0, 60.0
 # How long it may take to end, in seconds: it ends between two transactions.
 PATIENCE = 60.0
 TOP = os.path.dirname(os.path.dirname(os.path.realpath(__file__)))
-CODE = f"import sys; sys.path.insert(0, {TOP!r}); from pgsub_connect.cli import run; run()"
+# (the working directory, which is the first of its path, may have modules of others)
+CODE = f"import sys; sys.path[:] = [{TOP!r}, *filter(None, sys.path)]; from pgsub_connect.cli import run; run()"
 
 
 def check(options: Options) -> None:
@@ -94,9 +95,14 @@ class Beside(threading.Thread):
                 return 0
             environment = {name: value for name, value in os.environ.items() if name in KEPT or name.startswith("PYTHON")}
             # (a session of its own: an interrupt at the terminal is for the follower, which ends it)
-            child = subprocess.Popen(
-                self.words, stdin=subprocess.PIPE, stdout=subprocess.DEVNULL, stderr=subprocess.PIPE, start_new_session=True, env=environment,
-            )
+            try:
+                child = subprocess.Popen(
+                    self.words, stdin=subprocess.PIPE, stdout=subprocess.DEVNULL, stderr=subprocess.PIPE, start_new_session=True, env=environment,
+                )
+            except OSError as error:
+                # (processes or memory may be too few)
+                log.warning(f"{self.path}: what follows can't be started now: {error.strerror}")
+                return PASSING
             self.child = child
         assert child.stderr and child.stdin
         for line in child.stderr:
@@ -122,7 +128,8 @@ class Beside(threading.Thread):
         if self.progress.tables_error or not self.is_alive():
             return True
         try:
-            return read_lsn(self.reader) >= lsn
+            # (before they are made its LSN is that of what they need)
+            return os.path.exists(self.path) and read_lsn(self.reader) >= lsn
         except FileError:
             return False
 

@@ -3,6 +3,7 @@
 from __future__ import annotations
 
 import dataclasses
+from collections.abc import Iterator
 from typing import NamedTuple
 
 from .postgres import QUICK, Connection
@@ -31,21 +32,25 @@ class Shape:
 
 @dataclasses.dataclass(frozen=True)
 class Publication:
-    """A publication's options. `whole`: it is for all tables."""
+    """A publication's options. `whole`: it is for all tables; `since`: which transaction has written them, "" where that isn't known."""
 
     oid: int
     whole: bool
     actions: tuple[str, ...]
     via_root: bool
     generated: bool
+    owner: int = dataclasses.field(default=0, compare=False)
+    since: str = dataclasses.field(default="", compare=False)
 
 
 class Part(NamedTuple):
-    """Which rows and columns a publication has of a table. `whole`: with every table, or every one of the schema."""
+    """Which rows and columns a publication has of a table. `whole`: with every table, or every one of the schema; `since`: what says
+    that the publication has the table, none where it has all, None where that isn't known."""
 
     row_filter: str | None
     listed: tuple[int, ...] | None
     whole: bool
+    since: tuple[str, ...] | None = None
 
 
 @dataclasses.dataclass(frozen=True)
@@ -71,7 +76,8 @@ class Table:
 @dataclasses.dataclass(frozen=True)
 class Partition:
     """A partition or a partitioned table; `parent` is 0 of one that is in no other. `made`: it was made there, and not attached;
-    `node`: the number of the file with its rows, 0 where that isn't known."""
+    `node`: the number of the file with its rows, 0 where that isn't known; `since`: which transaction has attached it, "" where that
+    isn't known."""
 
     oid: int
     parent: int
@@ -79,6 +85,7 @@ class Partition:
     leaf: bool
     made: bool = dataclasses.field(default=False, compare=False)
     node: int = 0
+    since: str = ""
 
 
 @dataclasses.dataclass(frozen=True)
@@ -103,6 +110,7 @@ def read_catalog(connection: Connection, names: list[str]) -> Catalog:
     publications = read_publications(connection, names)
     tables = read_tables(connection, list(publications))
     partitions = read_partitions(connection, list(publications))
+    note_since(tables, read_members(connection, list(publications)), partitions)
     types = read_types(connection, list(tables))
     highest = int(connection.text("SELECT max(oid) FROM pg_catalog.pg_class"))
     end = connection.text(
@@ -129,13 +137,15 @@ def read_publications(connection: Connection, names: list[str]) -> dict[str, Pub
     via_root = "p.pubviaroot" if version >= 130000 else "false"
     generated = "p.pubgencols = 's'" if version >= 180000 else "false"
     rows = connection.rows(
-        f"SELECT p.pubname, p.oid, p.puballtables, p.pubinsert, p.pubupdate, p.pubdelete, p.pubtruncate, {via_root}, {generated}"
+        f"SELECT p.pubname, p.oid, p.puballtables, p.pubinsert, p.pubupdate, p.pubdelete, p.pubtruncate, {via_root}, {generated},"
+        " p.pubowner, p.xmin::pg_catalog.text"
         f" FROM pg_catalog.pg_publication p WHERE p.pubname IN ({listed_names(names)}) ORDER BY 1",
         QUICK,
     )
     return {
         name or "": Publication(
-            number(oid), whole == "t", tuple(word for word, it in zip(ACTIONS, more) if it == "t"), more[4] == "t", more[5] == "t"
+            number(oid), whole == "t", tuple(word for word, it in zip(ACTIONS, more) if it == "t"), more[4] == "t", more[5] == "t",
+            number(more[6]), more[7] or "",
         )
         for name, oid, whole, *more in rows
     }
@@ -242,15 +252,54 @@ def read_partitions(connection: Connection, names: list[str]) -> dict[int, Parti
         f" LEFT JOIN pg_catalog.pg_inherits i ON i.inhrelid = root.oid WHERE p.pubname IN ({listed_names(names)})"
         " UNION SELECT i.inhrelid, i.inhparent FROM t JOIN pg_catalog.pg_inherits i ON i.inhparent = t.oid)"
         f" SELECT c.oid, t.parent, n.nspname || '.' || c.relname, c.relkind <> 'p', i.xmin = y.xmin AND {UNTOUCHED} AND {UNWRITTEN},"
-        " pg_catalog.pg_relation_filenode(c.oid)"
+        " pg_catalog.pg_relation_filenode(c.oid), i.xmin::pg_catalog.text"
         " FROM t JOIN pg_catalog.pg_class c ON c.oid = t.oid JOIN pg_catalog.pg_namespace n ON n.oid = c.relnamespace"
         " LEFT JOIN pg_catalog.pg_inherits i ON i.inhrelid = t.oid JOIN pg_catalog.pg_type y ON y.oid = c.reltype ORDER BY 1",
         QUICK,
     )
     return {
-        number(oid): Partition(number(oid), number(parent), name or "", leaf == "t", made == "t", number(node))
-        for oid, parent, name, leaf, made, node in rows
+        number(oid): Partition(number(oid), number(parent), name or "", leaf == "t", made == "t", number(node), since or "")
+        for oid, parent, name, leaf, made, node, since in rows
     }
+
+
+# By publication and the OID of a relation: the OIDs of what says that the publication has it, itself or by its schema.
+Members = dict[str, dict[int, list[str]]]
+
+
+def read_members(connection: Connection, names: list[str]) -> Members:
+    """The relations that the publications list, or whose schemas they do. What left a list and joined it again has another OID there."""
+    listed = f"p.pubname IN ({listed_names(names)})"
+    query = (
+        "SELECT p.pubname, r.prrelid, r.oid FROM pg_catalog.pg_publication p JOIN pg_catalog.pg_publication_rel r ON r.prpubid = p.oid"
+        f" WHERE {listed}"
+    )
+    if connection.version() >= 150000:
+        query += (
+            " UNION ALL SELECT p.pubname, c.oid, s.oid FROM pg_catalog.pg_publication p"
+            " JOIN pg_catalog.pg_publication_namespace s ON s.pnpubid = p.oid"
+            f" JOIN pg_catalog.pg_class c ON c.relnamespace = s.pnnspid AND c.relkind IN ('r', 'p') WHERE {listed}"
+        )
+    members: Members = {}
+    for name, relation, entry in connection.rows(query, QUICK):
+        members.setdefault(name or "", {}).setdefault(number(relation), []).append(entry or "")
+    return members
+
+
+def note_since(tables: dict[int, Table], members: Members, partitions: dict[int, Partition]) -> None:
+    """Notes of each table by what publications have it: itself, or what it is a partition of, with who attached it there."""
+    for oid, table in tables.items():
+        for name, part in table.parts.items():
+            table.parts[name] = part._replace(since=tuple(sorted(ways_to(oid, members.get(name, {}), partitions))))
+
+
+def ways_to(oid: int, members: dict[int, list[str]], partitions: dict[int, Partition]) -> Iterator[str]:
+    """What says that a publication has a relation, or one above it: `16401`, `16388/741` of one that transaction 741 has attached."""
+    way = ""
+    while oid:
+        yield from (entry + way for entry in members.get(oid, ()))
+        partition = partitions.get(oid)
+        oid, way = (partition.parent, f"{way}/{partition.since}") if partition else (0, way)
 
 
 def read_types(connection: Connection, oids: list[int]) -> dict[int, dict[str, str]]:

@@ -46,6 +46,8 @@ class Purpose:
     slot: str = "pgsub"
     # whether a store is there, so that only its slot is needed
     has_store: bool = False
+    # whether publication and slot are made where they aren't there
+    makes: bool = True
     copies: bool = True
     failover: bool = False
     keyless: str = "refuse"
@@ -136,6 +138,8 @@ def judge_making(facts: Facts, purpose: Purpose) -> Judged:
     foreign = [table.name for table in facts.tables if not table.owns]
     if purpose.has_store:
         yield Result(ERROR, "publication", f"not there, and the store follows it: {names}")
+    elif not purpose.makes:
+        yield Result(ERROR, "publication", f"not there, and --no-copy without --create makes none: {names}")
     elif facts.is_standby:
         yield Result(ERROR, "publication", f"not there, and can't be made at a standby: {names}")
     elif purpose.all_tables and not role.is_superuser:
@@ -207,6 +211,8 @@ def judge_slot(facts: Facts, purpose: Purpose) -> Judged:
     if slot is None:
         if purpose.has_store:
             yield Result(ERROR, "slot", f"{name} isn't there, and the store follows it: copy anew")
+        elif not purpose.makes:
+            yield Result(ERROR, "slot", f"{name} isn't there, and --no-copy without --create makes none")
         else:
             yield Result(OK, "slot", f"{name} isn't there, and can be made")
     elif slot.plugin != "pgoutput" or not slot.is_here:
@@ -315,7 +321,9 @@ def results(facts: Facts, purpose: Purpose) -> list[Result]:
 
 def purpose_of(options: Options) -> Purpose:
     has_store = bool(options.store and os.path.exists(options.store))
-    return Purpose(options.slot, has_store, not options.no_copy, options.failover, options.keyless, options.all_tables)
+    # (where nothing is said of a start without a store, it is one with --create)
+    makes, copies = bool(options.create) or not options.no_copy, not options.no_copy
+    return Purpose(options.slot, has_store, makes, copies, options.failover, options.keyless, options.all_tables)
 
 
 def require(connection: Connection, options: Options, copies: bool) -> None:

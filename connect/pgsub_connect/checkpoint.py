@@ -87,13 +87,10 @@ class Checkpoint:
     """The file, open and locked. `counted` is None before a filter has begun."""
 
     def __init__(self, store: str, mode: int = 0o600, check: Check = never) -> None:
-        self.path = store + ".connector"
+        self.path, self.mode = store + ".connector", mode
         # what stands around the two positions in the first line, as long as nothing else of it changes
         self.around: tuple[str, str] | None = None
-        try:
-            self.file = os.open(self.path, os.O_RDWR | os.O_CREAT | os.O_CLOEXEC, mode)
-        except OSError as error:
-            raise FileError(f"{self.path}: {error.strerror}") from None
+        self.file = self.opened()
         try:
             self.lock(check)
             self.known, self.counted = self.read(), self.read_counted()
@@ -101,21 +98,36 @@ class Checkpoint:
             os.close(self.file)
             raise
 
+    def opened(self) -> int:
+        try:
+            return os.open(self.path, os.O_RDWR | os.O_CREAT | os.O_CLOEXEC, self.mode)
+        except OSError as error:
+            raise FileError(f"{self.path}: {error.strerror}") from None
+
     def lock(self, check: Check) -> None:
         until = time.monotonic() + PATIENCE
         told = False
-        while True:
-            try:
-                fcntl.flock(self.file, fcntl.LOCK_EX | fcntl.LOCK_NB)
-                return
-            except BlockingIOError:
-                if time.monotonic() >= until:
-                    raise Passing(f"{self.path}: another process follows into this store") from None
+        while not self.has_locked():
+            if time.monotonic() >= until:
+                raise Passing(f"{self.path}: another process follows into this store")
             if not told:
                 log.info(f"another connector or its filter still has the store: waiting up to {PATIENCE} seconds")
                 told = True
             check()
             time.sleep(0.2)
+
+    def has_locked(self) -> bool:
+        """Locks the file. One that was removed since it was opened, as by `drop`, is no use: another one is opened in its place."""
+        try:
+            fcntl.flock(self.file, fcntl.LOCK_EX | fcntl.LOCK_NB)
+        except BlockingIOError:
+            return False
+        if has_name(self.file, self.path):
+            return True
+        file = self.opened()
+        os.close(self.file)
+        self.file = file
+        return False
 
     def read(self) -> Known:
         line = os.pread(self.file, SIZE, 0).strip()
@@ -250,6 +262,14 @@ class Checkpoint:
             counted = Counted(counted.since, counted.upto)
         if (left, counted) != (self.known.found, self.counted):
             self.put(True, dataclasses.replace(self.known, found=left), counted)
+
+
+def has_name(file: int, path: str) -> bool:
+    """Whether an open file has this name still."""
+    try:
+        return os.path.samestat(os.fstat(file), os.stat(path))
+    except FileNotFoundError:
+        return False
 
 
 def encoded(known: Known) -> bytes:

@@ -28,6 +28,8 @@ from .feeding import Feeding
 from .filtering import Filter, FilterEnded
 from .following import Follower
 from .limits import LONGEST_FRAME, MOST_PAGES, default_buffered
+from .making import inserts_of
+from .placing import check_apart
 from .postgres import Check, parameters
 from .progress import Progress
 from .recording import LONGEST, Aside, Recorder, Recording
@@ -61,6 +63,22 @@ can't be used; 4 the server rejected a command for good; 5 the store and the slo
 bug; 7 something is in the way only for now, such as a server that isn't there: start it again; 9 ended as asked, but changes found no
 row in the copy
 """
+CHECKED = """\
+exit status: 0 nothing is missing, whatever is warned of; 4 something is missing, or the server rejected a command for good; 2 usage error; 3 a
+file can't be used; 6 a bug; 7 the server can't be reached for now
+"""
+DROPPED = """\
+exit status: 0 dropped, but for what somebody said no to; 2 usage error; 3 a file can't be used; 4 the server rejected a command for good; 5
+it isn't the server or slot that the store follows, or nobody is there to ask; 6 a bug; 7 something is in the way only for now, such as a
+follower that runs
+"""
+COPIED = """\
+exit status: 0 the file is whole; 2 usage error; 3 a file can't be used; 6 a bug; 7 something is in the way only for now, or a signal ended it
+"""
+EXPORTED = COPIED.replace("6 a bug", "5 a value isn't one of its column's type: --text exports it; 6 a bug")
+NAMED = """\
+exit status: 0 printed; 2 usage error; 3 a file can't be used; 6 a bug
+"""
 COMPARED = """\
 exit status: 0 equal, or repaired; 1 the copy differs; 8 the server made no slot in time, so nothing was compared; 2 to 7 as those of `follow`
 """
@@ -76,7 +94,11 @@ exit status: 0 ended as asked; 1 a change is larger than the engine takes; 2 usa
 command for good; 5 the feed lacks commits after those that are written, or another sink has begun, or something else has written what the
 sink keeps; 6 a bug; 7 something is in the way only for now, such as an engine that isn't there: start it again
 """
-ENDINGS = {"follow": ENDS, "record": ENDS, "verify": COMPARED, "add": ADDED, "refresh": ADDED, "tables": FED, "sink": SUNK, "wait": FED}
+# (that of `status` is in what it is about)
+ENDINGS = {
+    "follow": ENDS, "record": ENDS, "check": CHECKED, "drop": DROPPED, "export": EXPORTED, "snapshot": COPIED, "verify": COMPARED, "add": ADDED,
+    "refresh": ADDED, "names": NAMED, "tables": FED, "sink": SUNK, "wait": FED,
+}
 TOP = os.path.dirname(os.path.dirname(os.path.dirname(os.path.realpath(__file__))))
 REJECTED, USAGE, FILE, SERVER, UNFIT, BUG, PASSING, NO_SLOT, MISSED = 1, 2, 3, 4, 5, 6, 7, 8, 9
 KINDS = ("history", "slot", "names", "publication", "values", "missing", "gap", "all")
@@ -236,7 +258,7 @@ def add_following(parser: argparse.ArgumentParser) -> None:
     add("--max-buffered", type=within(1, (1 << 63) - 1), default=0, metavar="BYTES",
         help="the most that may be buffered of open transactions (default: half of the memory, at most 1 GiB)")
     add("--max-frame", type=within(1 << 10, LONGEST_FRAME), default=0, metavar="BYTES",
-        help="the longest message that is accepted (default: what may be buffered, at most 1 GiB)")
+        help=f"the longest message that is accepted (default: what may be buffered, at most {LONGEST_FRAME})")
     add("--cache", type=within(100, MOST_PAGES), metavar="PAGES",
         help="pages of the store's file that stay in memory (default: 20000, which cost 20 MB; see `pgsub follow --help`)")
     add("--until", type=lsn_or_now, metavar="LSN|now", help="stop once all that was committed up to this LSN, or up to now, is stored")
@@ -246,8 +268,6 @@ def add_following(parser: argparse.ArgumentParser) -> None:
     add("--accept-gap", dest="accept", action="append_const", const="gap",
         help="go on although changes between the store and the slot may be missing")
     add("--skip", type=lsn, default=0, metavar="LSN", help="pass over the changes of the commit with this final LSN")
-    add("--create", action="store_const", const="permanent",
-        help="where the store isn't there yet: make publication and slot, and copy the rows that are there")
     add_copying(parser)
     add = parser.add_argument_group("watching").add_argument
     add("--status-file", metavar="FILE", help="replace this file each second by a JSON object that says how it goes")
@@ -284,13 +304,15 @@ def add_publishing(add: Callable[..., object]) -> None:
     add("--table", action="append", default=[], help="with --create: a table to publish, may be repeated (default: those that are there)")
     add("--all-tables", action="store_true", help="with --create: publish all tables, also those that are made later")
     add("--keyless", choices=("refuse", "leave-out", "inserts"), default="refuse",
-        help="what becomes of tables without a usable replica identity (default: refuse; inserts: only their Inserts are published)")
+        help="what becomes of tables without a usable replica identity (default: refuse; inserts: only their Inserts are published, by a publication NAME_inserts)")
     add("--failover", action="store_true", help="with --create: a slot that is synchronized to standbys (PostgreSQL 17)")
 
 
 def add_copying(parser: argparse.ArgumentParser) -> None:
     """Options on what --create makes."""
     add = parser.add_argument_group("the initial copy").add_argument
+    add("--create", action="store_const", const="permanent",
+        help="where the store isn't there yet, publication and slot are made, and the rows that are there copied")
     add_publishing(add)
     add("--no-copy", action="store_true", help="begin a new store where the slot is, without the rows from before")
     add("--jobs", type=within(1, 64), default=2, metavar="N", help="read N tables at a time (default: 2)")
@@ -416,6 +438,14 @@ COMMANDS: dict[str, tuple[str, Sequence[Callable[[argparse.ArgumentParser], None
 }
 
 
+# The options that name what is written, by the subcommand, and those that name what is only read.
+WRITTEN: dict[str, Sequence[str]] = {
+    "follow": ("snapshot", "status_file", "metrics_file", "record", "tables", "feed"), "record": ("record",), "export": ("into",),
+    "snapshot": ("into",), "tables": ("into",),
+}
+READ = ("dsn_file", "url_file", "init", "base")
+
+
 @functools.cache
 def parsers_of_commands() -> tuple[argparse.ArgumentParser, dict[str, argparse.ArgumentParser]]:
     """What reads the command line, and what reads the words of each command."""
@@ -486,10 +516,20 @@ def check_verifying(parser: argparse.ArgumentParser, options: Options) -> None:
         parser.error("--repair is for a store: what follows its feed gets what was repaired")
 
 
+def check_files(options: Options) -> None:
+    """Rejects to write what is the store's, or what another option names."""
+    written, read = (
+        [(f"--{name.replace('_', '-')}", str(getattr(options, name))) for name in names if getattr(options, name)]
+        for names in (WRITTEN.get(options.command, ()), READ)
+    )
+    check_apart(options.store, written, read)
+
+
 def settle_options(options: Options) -> None:
     """Fills in what stands elsewhere: the connection string of a file, the program, the limits."""
     if options.command in ("status", "wait"):
         return
+    check_files(options)
     if options.dsn_file:
         with open(options.dsn_file, encoding="utf-8") as file:
             options.dsn = file.readline().strip()
@@ -498,12 +538,20 @@ def settle_options(options: Options) -> None:
     if options.command == "verify" and options.tables:
         options.store = options.store or tables_verifying.store_of(options.tables)
     remembered = Remembered(options.store).publications() if os.path.exists(options.store) else []
-    options.publication = options.publication or remembered or ["pgsub"]
+    options.publication = followed_again(options, remembered) or remembered or ["pgsub"]
     options.pgsub = options.pgsub or program()
     options.max_buffered = options.max_buffered or default_buffered()
     options.max_frame = options.max_frame or min(options.max_buffered, LONGEST_FRAME)
     # (all files get the mode that was asked for, and not what the caller's umask leaves of it)
     os.umask(0o777 & ~options.mode)
+
+
+def followed_again(options: Options, remembered: Sequence[str]) -> list[str]:
+    """The publications that are named, and behind each the one that was made for Inserts alone, where the store follows it."""
+    names = options.publication
+    if options.keyless == "inserts":
+        names = [it for name in names for it in (name, inserts_of(name)) if it == name or it in remembered]
+    return list(dict.fromkeys(names))
 
 
 def program() -> str:

@@ -4,6 +4,7 @@ from __future__ import annotations
 
 from typing import TYPE_CHECKING
 
+from . import log
 from .errors import ServerError
 from .facts import source_wanted
 from .making import REFUSED, Wanted, keyless_of, names_of
@@ -16,7 +17,10 @@ if TYPE_CHECKING:
 
 
 def require_published(options: Options, check: Check) -> None:
-    """Ends a start with a store whose --table or --all-tables isn't what the publications have that it follows.
+    """Ends a start with a store that follows no publication with what --table or --all-tables asks for.
+
+    Tables that joined a publication since, and ones that are gone, are told alone: the same words have started the follower before, and
+    are those of its next start, where nobody may be there to alter them.
 
     Which columns and rows they have of a table isn't compared here: what changes of these is found at each connection.
     """
@@ -24,12 +28,15 @@ def require_published(options: Options, check: Check) -> None:
     try:
         names = ", ".join(map(literal, options.publication))
         # (names of tables are looked up as the role does it)
-        wrong = different_tables(connection, options, names) if options.table else not_whole(connection, names)
+        wrong, others = different_tables(connection, options, names) if options.table else (not_whole(connection, names), "")
     finally:
         connection.close()
     if wrong:
+        wrong = "; ".join(filter(None, (wrong, others)))
         text = "--table" if options.table else "--all-tables"
         raise ServerError(f"{text} isn't what the store follows: {wrong}. Alter the publication, or leave {text} out", REFUSED)
+    if others:
+        log.warning(f"--table isn't what is published, and what is published is followed: {others}")
 
 
 def not_whole(connection: Connection, names: str) -> str:
@@ -40,8 +47,8 @@ def not_whole(connection: Connection, names: str) -> str:
     return "" if rows else f"no publication for all tables ({names})"
 
 
-def different_tables(connection: Connection, options: Options, names: str) -> str:
-    """What the publications list and --table doesn't, and the other way round; "" where it is the same."""
+def different_tables(connection: Connection, options: Options, names: str) -> tuple[str, str]:
+    """What --table has and the publications don't list; and what these list besides, or what isn't there at all."""
     wanted = Wanted(options.publication, options.table, keyless=options.keyless)
     source, unknown = source_wanted(connection, wanted)
     settle(connection)
@@ -56,10 +63,9 @@ def different_tables(connection: Connection, options: Options, names: str) -> st
         left_out = keyless_of(connection, source)
         missing = {oid: name for oid, name in missing.items() if oid not in left_out}
     more = {oid: name for oid, name in there.items() if oid not in asked}
-    parts = [f"no such table: {names_of(unknown)}"] if unknown else []
-    parts += [f"not published: {names_of(sorted(missing.values()))}"] if missing else []
-    parts += [f"published too: {names_of(sorted(more.values()))}"] if more else []
-    return "; ".join(parts)
+    others = [f"no such table: {names_of(unknown)}"] if unknown else []
+    others += [f"published too: {names_of(sorted(more.values()))}"] if more else []
+    return f"not published: {names_of(sorted(missing.values()))}" if missing else "", "; ".join(others)
 
 
 def tables_of(connection: Connection, source: str) -> dict[int, str]:

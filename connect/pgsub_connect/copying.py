@@ -40,7 +40,7 @@ from .messages import begin, commit, frame
 from .postgres import QUICK, Check, Connection, never
 from .publishing import Table, are_so_named, estimated_rows, published_tables, sizes_of, stored_in
 from .reading import GONE, LOCK_TIMEOUT, Left, Part, Readers, take_snapshot
-from .server import Server, identify, settle, settle_for_slot, slot_position, tell_plain_text
+from .server import Server, identify, is_lost, settle, settle_for_slot, slot_position, tell_plain_text
 from .snapshots import sync_folder
 from .texts import counted, identifier, literal, lsn_text, parse_lsn
 from .waiting import Waiting, lock_text
@@ -55,14 +55,21 @@ LONGEST_DELAY = 60
 # for how many milliseconds a lock is waited for where names are compared
 SHORT = 2000
 NO_MEMORY = "53200"
-# how often it is noted which tables are stored whole, in seconds, and how long it may take to drop a slot of which no copy comes
-NOTED, LIMIT = 1.0, 10.0
+# how often it is noted which tables are stored whole, in seconds, and how long it may take to drop a slot of which no copy comes; and how
+# often it is looked whether the slot is lost, which nobody follows as long as rows are copied
+NOTED, LIMIT, LOOK = 1.0, 10.0, 60.0
+# the first version of the server that ends slots which are idle
+IDLE = 180000
 # what the name of a store's log adds to that of its file
 LOG = "-wal"
 # what may be in the way only for now: a table that was altered or dropped while it was to be read
 CHANGED = "the published tables changed while the slot was made"
 # The most attempts that the same cause ends: of tables that were changed, of what else may pass by itself, and of all others.
 MOST_CHANGED, MOST_PASSING, MOST = 20, 10, 5
+LOST = (
+    "the slot {} is lost: the server has removed log that it needs (max_slot_wal_keep_size), or has ended it as idle"
+    " (idle_replication_slot_timeout). Nothing can follow on this copy: raise the limit, and start again, to copy anew"
+)
 # after these a command may have had its effect: a lost connection, the end of the session
 LEFT_OPEN = ("08", "57")
 # connections, deadlocks, too many connections, a slot in use, a server that is stopped
@@ -103,6 +110,8 @@ class Copier:
         self.holder: Connection | None = None
         self.replication: Connection | None = None
         self.lsn, self.delay, self.noted = 0, 0.0, 0.0
+        # when the lasting slot was looked at, None where there is none yet
+        self.looked: float | None = None
         # what was made before the slot, and why tables are to be added by themselves
         self.made: dict[str, int] = {}
         self.later: dict[int, str] = {}
@@ -190,7 +199,7 @@ class Copier:
         for connection in (self.plain, self.holder, self.replication):
             if connection:
                 connection.close()
-        self.plain = self.holder = self.replication = None
+        self.plain = self.holder = self.replication = self.looked = None
 
     def note(self, text: str) -> None:
         log.warning(f"{text}: the copy {'goes on' if self.remembered.copied else 'begins anew'}")
@@ -327,6 +336,19 @@ class Copier:
         if slot_position(replication, slot) != point:
             raise ServerError(f"the slot {slot} is not at {lsn_text(point)}")
         replication.run(f"DROP_REPLICATION_SLOT {identifier(temporary)}")
+        self.looked = time.monotonic()
+
+    def look_at_slot(self) -> None:
+        """Looks now and then whether the lasting slot is lost: then nothing can follow on the copy, however long it goes on."""
+        if self.looked is None or not self.replication or time.monotonic() - self.looked < LOOK:
+            return
+        self.looked, slot = time.monotonic(), self.options.slot
+        if is_lost(self.replication, slot):
+            raise ServerError(LOST.format(slot), REFUSED)
+        if self.replication.version() >= IDLE:
+            # (what it is already: the server takes the slot for that, and so for one that is used. Where it can't, that shows later)
+            with contextlib.suppress(ServerError):
+                self.replication.run(f"ALTER_REPLICATION_SLOT {identifier(slot)} (FAILOVER false)", limit=QUICK)
 
     def make_temporary(self) -> tuple[str, int, str]:
         """Makes the temporary slot; its name, its consistent point and its snapshot. The server waits for running transactions."""
@@ -405,6 +427,10 @@ class Copier:
         options, copied = self.options, self.remembered.copied
         if not copied or self.remembered.catalog is None or not os.path.exists(self.part):
             return False
+        assert self.replication
+        if is_lost(self.replication, options.slot):
+            log.info(f"the slot {options.slot} of an interrupted copy is lost: the copy begins anew")
+            return False
         position = self.filter.start(self.check_stop)
         whole = {oid for oid, end in copied.items() if end <= position}
         self.plain = plain = Connection(options.dsn, name=f"{options.slot} copy", check=self.check_all)
@@ -450,6 +476,7 @@ class Copier:
         """Serves the filter until something holds. `reads`: what tells by something to read that it may."""
         while True:
             self.check_stop()
+            self.look_at_slot()
             waits = not condition()
             watched = {it.socket(): it for it in (self.replication, self.holder) if it}
             readable = self.filter.serve(0.5 if waits else 0, [*watched, *reads])[0]

@@ -5,20 +5,22 @@ Each difference has the kind of fault that it may be in the copy:
 | Kind | What may be wrong |
 |---|---|
 | `names` | a name is another table's now: rows of both are shown under it |
-| `publication` | rows are missing, or stay, because the publication has other tables, partitions or rows |
+| `publication` | rows are missing, or stay, because the publication has other tables, partitions or rows, or had for a time |
 | `values` | values in rows that were there before were changed by a command that isn't in the stream |
 """
 
 from __future__ import annotations
 
-from collections.abc import Iterator
+import itertools
+from collections.abc import Iterable, Iterator
 from typing import NamedTuple
 
-from .catalog import Catalog, Part, Partition, Publication, Shape, Table
+from .catalog import ACTIONS, Catalog, Part, Partition, Publication, Shape, Table
 from .found import NOTHING, About
 
 NAMES, PUBLICATION, VALUES = "names", "publication", "values"
 KINDS = (NAMES, PUBLICATION, VALUES)
+TRUNCATE = ACTIONS[3]
 # How many columns, labels and the like a text names.
 NAMED = 20
 
@@ -66,6 +68,9 @@ def publication_differences(name: str, before: Publication, now: Publication) ->
         names = "the root's name" if now.via_root else "their own names"
         text = f"publication {name} has rows of partitions under {names} now: the older rows stay as they were"
         yield Difference(PUBLICATION, text, about)
+    if before == now and before.owner == now.owner and "" != before.since != now.since:
+        text = f"publication {name} was altered, and has the options that it had: changes in between may be missing"
+        yield Difference(PUBLICATION, text, about)
     if before.generated != now.generated:
         generated = "only from now on" if now.generated else "no more"
         yield Difference(PUBLICATION, f"publication {name} has generated columns {generated}", about)
@@ -89,8 +94,12 @@ def table_differences(oid: int, before: Catalog, now: Catalog) -> Iterator[Diffe
         else:
             yield gone(oid, f"{old.namespace}.{old.name}")
     elif old is not None and new is not None:
-        for name in sorted(old.parts.keys() & new.parts.keys()):
-            yield from part_differences(new, old.parts[name], new.parts[name])
+        parts = (part_differences(new, old.parts[name], new.parts[name]) for name in sorted(old.parts.keys() & new.parts.keys()))
+        told = [*itertools.chain.from_iterable(parts), *sent_differences(old, new, before, now)]
+        if not told and has_left(old, new, before, now):
+            text = f"table {new.text()} left and joined again: changes in between weren't sent"
+            told.append(Difference(PUBLICATION, text, About((oid,))))
+        yield from told
         shapes = list(shape_differences(oid, new.text(), old.shape, new.shape))
         if not shapes and is_computed_anew(oid, before, now):
             text = f"table {new.text()} was written anew, and columns of it were altered: values that were there may be others now"
@@ -145,12 +154,70 @@ def is_made_in(oid: int, before: Catalog, now: Catalog) -> bool:
 
 
 def part_differences(table: Table, old: Part, new: Part) -> Iterator[Difference]:
-    if old.row_filter != new.row_filter:
-        text = f"table {table.text()} has the row filter {new.row_filter or 'none'} now, and before {old.row_filter or 'none'}"
-        yield Difference(PUBLICATION, text, About((table.oid,)))
     if old.listed != new.listed:
         text = f"table {table.text()} has another column list: rows that were there have nulls in the columns that joined"
         yield Difference(PUBLICATION, text, About((table.oid,)))
+
+
+def sent_differences(old: Table, new: Table, before: Catalog, now: Catalog) -> Iterator[Difference]:
+    """What is sent of a table otherwise, by whichever publication. What one of them has altered for all its tables is told by that."""
+    was, are = ways_of(old, before, now), ways_of(new, now, before)
+    table, about = f"table {new.text()}", About((new.oid,))
+    for word in sorted(was.keys() - are.keys(), key=ACTIONS.index):
+        yield Difference(PUBLICATION, f"{table} has no {word}s any more", about._replace(lacks=word))
+    if joined := are.keys() - was.keys():
+        yield Difference(PUBLICATION, f"{table} has {words_text(joined)} only from now on", about)
+    both = was.keys() & are.keys()
+    others: dict[tuple[str, str], list[str]] = {}
+    for word in both:
+        if was[word].keys() != are[word].keys():
+            others.setdefault((filter_text(was[word]), filter_text(are[word])), []).append(word)
+    for (earlier, later), words in sorted(others.items()):
+        which = "" if len(words) == len(both - {TRUNCATE}) else f" for {words_text(words)}"
+        yield Difference(PUBLICATION, f"{table} has the row filter {later}{which} now, and before {earlier}", about)
+
+
+# By action and row filter, None for all rows: the parts of publications by which these rows of a table are sent.
+Ways = dict[str, dict[str | None, dict[str, Part]]]
+
+
+def ways_of(table: Table, catalog: Catalog, other: Catalog) -> Ways:
+    """Those of the actions that the publications have in both readings."""
+    found: Ways = {}
+    for name, part in table.parts.items():
+        actions = [set(it.publications[name].actions) for it in (catalog, other) if name in it.publications]
+        for word in set(ACTIONS).intersection(*actions) if actions else ():
+            found.setdefault(word, {}).setdefault(part.row_filter if word != TRUNCATE else None, {})[name] = part
+    return {word: {None: it[None]} if None in it else it for word, it in found.items()}
+
+
+def has_left(old: Table, new: Table, before: Catalog, now: Catalog) -> bool:
+    """Whether some rows that are sent of a table in both readings weren't in between, as far as that is known."""
+    was, are = ways_of(old, before, now), ways_of(new, now, before)
+    oids = {name: it.oid for name, it in before.publications.items()}
+    # (what is sent by a publication that is new itself is told by that)
+    kept = {name for name, it in now.publications.items() if oids.get(name) == it.oid}
+    return any(
+        parts.keys() <= kept and not any(stays(was[word][row_filter].get(name), part) for name, part in parts.items())
+        for word, ways in are.items() for row_filter, parts in ways.items()
+    )
+
+
+def stays(old: Part | None, new: Part) -> bool:
+    """Whether a publication had a table all the time between two readings."""
+    if old is None or old.since is None or new.since is None:
+        return old is not None
+    return old.since == new.since or not set(old.since).isdisjoint(new.since)
+
+
+def filter_text(ways: Iterable[str | None]) -> str:
+    return " or ".join(sorted(filter(None, ways))) or "none"
+
+
+def words_text(words: Iterable[str]) -> str:
+    """`inserts, updates and deletes`, in the order in which the server has them."""
+    *first, last = (f"{word}s" for word in sorted(words, key=ACTIONS.index))
+    return f"{', '.join(first)} and {last}" if first else last
 
 
 def shape_differences(oid: int, table: str, old: Shape, new: Shape) -> Iterator[Difference]:
@@ -196,6 +263,20 @@ def partition_differences(before: Catalog, now: Catalog) -> Iterator[Difference]
                 text = f"{partition} was attached: the rows that it had before are missing"
                 yield Difference(PUBLICATION, text, About((root,), is_missing=True))
     yield from truncations(before, now)
+    yield from dict.fromkeys(detachments(before, now))
+
+
+def detachments(before: Catalog, now: Catalog) -> Iterator[Difference]:
+    """Partitions under another name that were detached in between, or one above them was."""
+    for oid in sorted(before.partitions.keys() & now.partitions.keys()):
+        root, at = root_of(oid, now), oid
+        while root == root_of(oid, before) and root and at != root:
+            old, new = before.partitions.get(at), now.partitions[at]
+            if old and "" not in (old.since, new.since) and (old.parent, old.since) != (new.parent, new.since):
+                partition = f"partition {new.name} ({at}) of {now.tables[root].text()}"
+                text = f"{partition} was detached and attached again: changes in between weren't sent"
+                yield Difference(PUBLICATION, text, About((root,)))
+            at = new.parent
 
 
 def truncations(before: Catalog, now: Catalog) -> Iterator[Difference]:

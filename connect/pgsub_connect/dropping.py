@@ -4,7 +4,6 @@ from __future__ import annotations
 
 import contextlib
 import fcntl
-import glob
 import json
 import os
 import select
@@ -15,20 +14,20 @@ from typing import TYPE_CHECKING, Any
 
 from . import checkpoint as known_of
 from . import log
-from .checkpoint import Known
+from .checkpoint import Known, has_name
 from .errors import FileError, Passing, Unfit
 from .making import inserts_of, oid_of, other_slots
+from .placing import OF_STORE
 from .postgres import TICK, Check, Connection, never
+from .resting import own_files
 from .server import settle
 from .texts import identifier, literal
 
 if TYPE_CHECKING:
     from .cli import Options
 
-# What the names of a store's files add to its own, the checkpoint last: as long as it is there, a start tells what is missing.
-SUFFIXES = (
-    ".copying", ".copying-wal", ".copying-shm", ".copying.pgsub-new", ".filter", ".pgsub-new", "-wal", "-shm", "", ".request", ".tables", ".connector",
-)
+# Beside which names processes make files for themselves: copies that a follower is asked for, and exports with which a sink begins.
+ASKED = (".export", ".base")
 # How long a slot that was just left by its connection is waited for.
 PATIENCE = 5.0
 
@@ -76,6 +75,8 @@ def locked(path: str) -> Iterator[None]:
             fcntl.flock(file, fcntl.LOCK_EX | fcntl.LOCK_NB)
         except BlockingIOError:
             raise Passing(f"{path}: a connector or its filter is at work on this store: end it first") from None
+        if not has_name(file, path):
+            raise Passing(f"{path} was removed meanwhile")
         yield
     finally:
         os.close(file)
@@ -83,12 +84,11 @@ def locked(path: str) -> Iterator[None]:
 
 def files_of(store: str) -> list[str]:
     """The files of a store that are there, the checkpoint last."""
-    named = [store + suffix for suffix in SUFFIXES]
-    others = [
-        path for path in glob.glob(glob.escape(store) + ".*")
-        if path.startswith(tuple(store + it for it in (".copying", ".filter", ".export.", ".request", ".tables", ".connector"))) and path not in named
-    ]
-    return [path for path in (*sorted(others), *named) if os.path.lexists(path)]
+    folder, there, patterns = os.path.dirname(store), list[str](), [own_files(store + it) for it in ASKED]
+    with contextlib.suppress(FileNotFoundError):
+        there = sorted(os.listdir(folder or "."))
+    asked = [os.path.join(folder, name) for name in there if any(it.fullmatch(name) for it in patterns)]
+    return [path for path in (*asked, *(store + it for it in OF_STORE)) if os.path.lexists(path)]
 
 
 Ask = Callable[[str], bool]

@@ -45,7 +45,8 @@ class FilterFault(Exception):
 
 # The classes and codes of errors that another try doesn't mend: the feature, the login, the database, the rights, the state
 # of the slot. A slot that is in use and the like may pass.
-LASTING = ("0A", "28", "3D", "42", "55000", "22023")
+LOGIN = "28"
+LASTING = ("0A", LOGIN, "3D", "42", "55000", "22023")
 IN_USE = "55006"
 
 
@@ -59,3 +60,7 @@ class ServerError(Exception):
     def is_lasting(self) -> bool:
         """Whether another try would end in the same way."""
         return self.sqlstate.startswith(LASTING)
+
+
+class Unconnected(ServerError):
+    """No connection was made: the server can't be reached, or let nobody in."""

@@ -28,8 +28,9 @@ from .beside import Beside
 from .beside import check as check_tables
 from .checkpoint import Checkpoint
 from .errors import FileError, Passing, Unfit
+from .feed.faults import Damaged
 from .feed.noting import make_folder
-from .feed.reading import CONFIRMED, read_confirmed, segments
+from .feed.reading import CONFIRMED, Reader, read_confirmed, segments
 from .feed.retaining import Limits, feed_bytes, read_readers, retire
 from .filtering import Filter, FilterEnded
 from .postgres import Check, Connection
@@ -48,6 +49,8 @@ if TYPE_CHECKING:
 QUIET, BUSY, LOOK, RETIRE = 0.25, 1.0, 1.0, 10.0
 # How long a filter that is to end is waited for, before it is looked whether the end was asked for.
 STEP = 0.5
+# After how many seconds a store that can't be opened is tried again, in steps of how many.
+AGAIN, SLEEP = 5, 0.2
 # What the filter says of a feed that doesn't fit its store.
 NOT_A_FEED = "pgsub: feed 1 NotAFeed"
 
@@ -128,16 +131,29 @@ class Feeding:
             self.beside = Beside(self.options, self.progress)
 
     def check_position(self, child: Filter, check: Check) -> None:
-        """Rejects an older store, before a filter cuts off what the feed has above the store's position."""
+        """Rejects an older store, before a filter cuts off what the feed has above the store's position.
+
+        Its checkpoint may be older too, or gone. But all that was confirmed is in the right store.
+        """
         known, options = self.checkpoint.known, self.options
-        if not (known.position and has_segments(self.folder)) or options.accepts("gap") or options.without_feed:
+        if not has_segments(self.folder) or options.accepts("gap") or options.without_feed:
             return
         position = opened_at(child, check) if has_log(options.store) else position_in(options.store)
-        if position is not None and position < known.position:
-            raise Unfit(
-                f"the store is at {lsn_text(position)}, and was at {lsn_text(known.position)} before, so this is an older one; by opening it"
-                f" the feed {self.folder} would lose the commits between. Put the right one back, or say --accept gap, or --without-feed"
+        if position is None:
+            return
+        told = ""
+        if position < known.position:
+            told = (
+                f"was at {lsn_text(known.position)} before, so this is an older one; by opening it the feed {self.folder} would lose the"
+                " commits between"
             )
+        elif end := confirmed_above(self.folder, position):
+            told = (
+                f"the feed {self.folder} has the commit up to {lsn_text(end)}, which was confirmed, so this is an older store; by opening it"
+                " the feed would lose what it has above"
+            )
+        if told:
+            raise Unfit(f"the store is at {lsn_text(position)}, and {told}. Put the right one back, or say --accept gap, or --without-feed")
 
     def words(self, check: Check) -> list[str]:
         """What the filter is told."""
@@ -190,21 +206,45 @@ class Feeding:
                 it.finish()
 
 
+def confirmed_above(folder: str, position: int) -> int | None:
+    """The end of a commit above a position that the feed has, and that is confirmed; None where there is none.
+
+    One that can't be read may be what a power cut has left. A segment begins where the commits of the one before it end.
+    """
+    confirmed = read_confirmed(folder) or 0
+    if confirmed <= position:
+        return None
+    with contextlib.suppress(Damaged, Unfit), contextlib.closing(Reader(folder, position)) as reader:
+        if (commit := reader.next()) is not None:
+            return commit.end if commit.end <= confirmed else None
+    return next((base for base, _ in segments(folder) if position < base <= confirmed), None)
+
+
 def opened_at(child: Filter, check: Check) -> int | None:
-    """The position of a store of which only a filter can say it, since its log isn't empty; None where that can't be opened now."""
-    position = None
-    # (one of its own, so that nothing is known by it of what a killed one had stored)
-    other = Filter(child.words, child.kept_open, child.proto, child.mode)
-    try:
-        with contextlib.suppress(FilterEnded):
+    """The position of a store of which only a filter can say it, since its log isn't empty; None where it is none.
+
+    One that can't be opened now, since somebody dumps it say, is waited for: later it would be opened with its feed.
+    """
+    while True:
+        position = None
+        # (one of its own, so that nothing is known by it of what a killed one had stored)
+        other = Filter(child.words, child.kept_open, child.proto, child.mode)
+        try:
             position = other.start(check)
             other.finish()
             while True:
                 check()
                 other.serve(STEP)
-    finally:
-        other.kill()
-    return position
+        except FilterEnded as ended:
+            if position is not None or ended.is_rejection():
+                return position
+            log.warning(f"{ended}: the store is tried again in {counted(AGAIN, 'second')}")
+        finally:
+            other.kill()
+        until = time.monotonic() + AGAIN
+        while time.monotonic() < until:
+            check()
+            time.sleep(SLEEP)
 
 
 class Keeper(threading.Thread):
@@ -215,7 +255,8 @@ class Keeper(threading.Thread):
         self.folder, self.progress, self.reached, self.mode = folder, progress, reached, options.mode
         self.limits = Limits(options.feed_max_bytes or None, options.feed_max_age)
         self.ended = threading.Event()
-        self.cause = ""
+        # why what can't be done now can't be
+        self.causes = dict[str, str]()
         # what was written last, and when; when the readers were looked at, and segments looked for
         self.confirmed, self.written = -1, 0.0
         self.looked = self.retired = 0.0
@@ -232,33 +273,37 @@ class Keeper(threading.Thread):
         self.tend(time.monotonic())
 
     def tend(self, now: float) -> None:
-        """Does what it is time for. What can't be done is told, once for each cause, and is tried again."""
+        """Does what it is time for. First old segments go, since a disk that is full may have room by that."""
+        reached = self.reached()
+        if now - self.retired >= RETIRE:
+            self.retired = now
+            self.attempt(self.retire, reached)
+        if now - self.looked >= LOOK:
+            self.looked = now
+            self.attempt(self.look, reached)
+        wait = QUIET if reached.confirmed > reached.position else BUSY
+        if reached.confirmed != self.confirmed and now - self.written >= wait:
+            self.written = now
+            self.attempt(self.confirm, reached)
+
+    def attempt(self, step: Callable[[Reached], None], reached: Reached) -> None:
+        """Does one of these. What can't be done is told, once for each cause, and is tried again; the others are done."""
         try:
-            reached = self.reached()
-            self.confirm(reached, now)
-            if now - self.looked >= LOOK:
-                self.looked = now
-                self.look(reached)
-            if now - self.retired >= RETIRE:
-                self.retired = now
-                self.retire(reached)
-            self.cause = ""
+            step(reached)
+            self.causes.pop(step.__name__, None)
         except (FileError, Passing, OSError) as error:
             cause = str(error)
-            if cause != self.cause:
+            if cause not in self.causes.values():
                 log.warning(f"the feed can't be looked after: {cause}")
-            self.cause = cause
+            self.causes[step.__name__] = cause
 
-    def confirm(self, reached: Reached, now: float) -> None:
+    def confirm(self, reached: Reached) -> None:
         """Tells readers up to where the feed has all commits: the disk has these since before the filter said so."""
         if self.confirmed < 0:
             self.confirmed = read_confirmed(self.folder) or 0
-        wait = QUIET if reached.confirmed > reached.position else BUSY
-        if reached.confirmed == self.confirmed or now - self.written < wait:
-            return
-        self.written = now
-        replace_file(os.path.join(self.folder, CONFIRMED), f"{lsn_text(reached.confirmed)}\n".encode(), self.mode)
-        self.confirmed = reached.confirmed
+        if reached.confirmed != self.confirmed:
+            replace_file(os.path.join(self.folder, CONFIRMED), f"{lsn_text(reached.confirmed)}\n".encode(), self.mode)
+            self.confirmed = reached.confirmed
 
     def look(self, reached: Reached) -> None:
         """Shows how far behind each reader is, and how large the feed."""

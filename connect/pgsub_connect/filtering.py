@@ -34,8 +34,8 @@ KEPT_HEADERS = 1 << 12
 LOOK = 0.5
 # The size that the pipe to the filter is asked to have.
 PIPE = 1 << 20
-# The statuses with which a filter ends by itself.
-REJECTED, USAGE, NO_STORE, SPOOL_FULL, FRAME_TOO_LARGE, UNOPENED, REFUSED, MEMORY, BROKEN = 1, 2, 3, 10, 11, 12, 13, 14, 15
+# The statuses with which a filter ends by itself, but for those of its words (2) and of a file that is no store (3).
+REJECTED, SPOOL_FULL, FRAME_TOO_LARGE, UNOPENED, REFUSED, MEMORY, BROKEN = 1, 10, 11, 12, 13, 14, 15
 PASSING = (UNOPENED, REFUSED, MEMORY, BROKEN)
 # The status of one whose input ended, after changes that found no row.
 MISSED = 16

@@ -13,9 +13,11 @@ from . import checkpoint as known_of
 from . import log, sizes
 from .adding import Adder
 from .checkpoint import Checkpoint, check_gap
-from .errors import FileError, FilterFault, Passing, ServerError, Stopped, Unfit
+from .differences import PUBLICATION
+from .errors import LOGIN, FileError, FilterFault, Passing, ServerError, Stopped, Unconnected, Unfit
 from .feeding import Feeding, Reached
 from .filtering import MISSED, PIECE, Filter, FilterEnded, asking, confirming, flushed
+from .found import NOTHING, About
 from .missing import Misses
 from .noting import Noting, final_lsn
 from .postgres import COPY_BOTH, Connection
@@ -24,8 +26,8 @@ from .recording import Aside
 from .remembered import Remembered
 from .repairing import Repairing
 from .server import (
-    ABORTS_IN_VERSION_1, STREAMS, Server, identify, is_lost, left_at, log_end, sender_timeout, settle, slot_position, tell_plain_text,
-    tell_version_1, waits_for,
+    ABORTS_IN_VERSION_1, STREAMS, Server, identify, is_lost, left_at, log_end, postmaster_start, sender_timeout, settle, slot_position,
+    tell_plain_text, tell_version_1, waits_for,
 )
 from .skipping import Skipping
 from .snapshots import SOON, Snapshots
@@ -82,6 +84,8 @@ class Follower:
         # the greatest end of a commit that was passed on and is confirmed
         self.position = 0
         self.last_sent = self.last_moved = 0.0
+        # when the server was heard last, as far as anything of it was waited for
+        self.heard = time.monotonic()
         # how long a position that a keepalive alone has moved took to be noted
         self.noted_in = 0.0
         # the last status that was passed on, and one that moves a position by a keepalive alone and waits for its time
@@ -131,8 +135,12 @@ class Follower:
             raise Stopped
 
     def note_error(self, error: ServerError) -> None:
-        """Notes what the server said. Raises where the same would come of another try, or where it was never reached."""
-        if error.is_lasting():
+        """Notes what the server said. Raises where the same would come of another try, or where it was never reached.
+
+        Whom it has let in before it may let in again, once the password is the new one here too, or what it asks for it is back.
+        """
+        is_of_connecting = isinstance(error, Unconnected) or error.sqlstate.startswith(LOGIN)
+        if error.is_lasting() and not (self.was_connected and is_of_connecting):
             raise error
         if not (self.was_connected or error.sqlstate):
             raise Passing(str(error))
@@ -195,7 +203,9 @@ class Follower:
         if self.snapshots.hold.keeps:
             self.repairing.look()
         state, self.progress.state = self.progress.state, "copying the store"
-        self.snapshots.take(self.position, self.tick)
+        with contextlib.suppress(Stopped):
+            # (whoever has called this sees that, and ends)
+            self.snapshots.take(self.position, self.serve_server)
         self.progress.state = state
         return self.snapshots.hold.stops()
 
@@ -329,16 +339,18 @@ class Follower:
             self.start_filter()
 
     def check_server(self, server: Server, at: int) -> None:
-        """Checks that this is the server whose changes the store has, and that it has all of them."""
+        """Checks that this is the server whose changes the store has, and that it has all of them. On another timeline it needn't be
+        beyond what a keepalive alone has confirmed: a standby that was promoted never had what isn't published behind its last commit."""
         known, options = self.checkpoint.known, self.options
         if known.system and (server.system, server.database, options.slot) != (known.system, known.database, known.slot):
             raise Unfit(
                 f"the store follows slot {known.slot} of database {known.database} of the server {known.system}, "
                 f"and not slot {options.slot} of {server.database} of {server.system}"
             )
-        if server.log_end >= at:
+        least = at if known.timeline in (0, server.timeline) else self.position
+        if server.log_end >= least:
             return
-        ends = f"log ends at {lsn_text(server.log_end)}, before the store at {lsn_text(at)}"
+        ends = f"log ends at {lsn_text(server.log_end)}, before the store at {lsn_text(least)}"
         if server.is_standby:
             raise ServerError(f"the server is a standby whose {ends}")
         raise Unfit(f"the server's {ends}: it lost changes")
@@ -347,30 +359,43 @@ class Follower:
         """Checks that what the store has is in the server's history too, where its timeline isn't that of the last session.
 
         A server that was promoted or put back has a timeline of its own. It left the old one at an LSN; what the store has above
-        that is of commits that the server hasn't. But a standby that was promoted since without being started anew has all that it
+        that is of commits that the server hasn't, and the server has others there. But a standby that was promoted since without being started anew has all that it
         ever sent.
         """
         known = self.checkpoint.known
-        if not known.timeline or server.timeline == known.timeline or self.options.accepts("history"):
+        if not known.timeline or server.timeline == known.timeline:
             return
         if known.started and known.started == server.started:
             log.info(f"the server was promoted while it was followed: it is on the timeline {server.timeline} now")
             return
         left = left_at(connection, server.timeline, known.timeline) if server.timeline > known.timeline else None
         if left is None or self.position > left:
+            self.note_history(server, left)
+        shared = max(left or 0, self.position)
+        log.warning(f"the server went on from the timeline {known.timeline} to {server.timeline} at {lsn_text(left or 0)}")
+        # What a keepalive confirmed above that LSN is of the other history.
+        self.checkpoint.write(True, timeline=server.timeline, confirmed=min(known.confirmed, shared))
+        self.watch.show()
+        if self.filter.confirmed() > shared:
+            self.finish_filter()
+            raise ServerError("the filter is started anew on the server's new timeline")
+
+    def note_history(self, server: Server, left: int | None) -> None:
+        """Notes that the server has another history than the store. Where that is accepted, it sends nothing that ends up to the store's
+        position, so its own commits up to there are passed over, and that is what is found then."""
+        known, position = self.checkpoint.known, lsn_text(self.position)
+        if not self.options.accepts("history"):
             at = "never" if left is None else f"at {lsn_text(left)}"
             text = (
-                f"the store is at {lsn_text(self.position)} of the timeline {known.timeline}, which the server's timeline"
+                f"the store is at {position} of the timeline {known.timeline}, which the server's timeline"
                 f" {server.timeline} left {at}: the store has changes that the server hasn't"
             )
             self.watch.note("history", self.position, text)
             raise Unfit(f"{text}. Copy anew, or take it as it is by --accept history")
-        log.warning(f"the server went on from the timeline {known.timeline} to {server.timeline} at {lsn_text(left)}")
-        # What a keepalive confirmed above that LSN is of the other history.
-        self.checkpoint.write(True, timeline=server.timeline, confirmed=min(known.confirmed, max(left, self.position)))
-        if self.filter.confirmed() > left:
-            self.finish_filter()
-            raise ServerError("the filter is started anew on the server's new timeline")
+        after = "below" if left is None else f"from {lsn_text(left)} to"
+        text = f"the server's commits {after} {position} are missing, and the store has others: verify --repair, then --accept history again"
+        self.watch.note("history", self.position, text)
+        log.warning(f"found: history at {position}: {text}")
 
     def check_slot(self) -> None:
         """Checks the slot again once it is ours: what somebody confirmed since it was looked at would be passed over."""
@@ -427,16 +452,18 @@ class Follower:
         connection = self.connect()
         self.progress.state = "following"
         self.last_sent, self.held = 0.0, None
-        began = heard = time.monotonic()
+        began, silent = time.monotonic(), 0.0
         more: bool | None = True
         socket, is_wrapped = connection.socket(), connection.is_wrapped()
         while not self.is_over():
             if self.ends_for_another(connection):
                 return
-            room = not self.holds_for_snapshot() and self.filter.has_room()
+            room, listens = not self.holds_for_snapshot() and self.filter.has_room(), time.monotonic()
             readable, writable, statuses = self.serve(
                 self.longest_wait(bool(more) and room), [socket] if room else [], [socket] if connection.unsent else []
             )
+            # (what else takes long, as a copy of the store does, is none of the server's silence)
+            silent = 0.0 if socket in readable or not room else silent + time.monotonic() - listens
             if statuses or self.held:
                 self.forward(statuses)
             # (what was read already of an encrypted connection doesn't wake select, nor what is read where a flush would block)
@@ -445,6 +472,8 @@ class Follower:
                 more = True
             if room and more:
                 more = self.take_payloads(connection)
+            if connection.left_out:
+                self.note_left_out(connection.left_out)
             self.tend_misses()
             self.noting.show()
             self.noting.wants_look = self.watch.tend(self.noting.wants_look, self.serve_server, self.position)
@@ -454,8 +483,8 @@ class Follower:
             if socket in writable:
                 connection.flush()
             now = time.monotonic()
-            heard = now if socket in readable or not room else heard
-            self.keep_alive(now - heard)
+            self.heard = now - silent
+            self.keep_alive(silent)
             if self.delay and now - began > 2 * self.heartbeat:
                 self.delay = 0.0
         self.end_session_by_ourselves()
@@ -510,7 +539,25 @@ class Follower:
         if self.filter.is_running():
             self.forward(self.serve(0)[2])
             self.misses.tell()
+        self.require_server()
         self.keep_alive(0.0)
+
+    def require_server(self) -> None:
+        """Asks the server on another connection whether it is there, where nothing has come for too long: of the session nothing is read
+        meanwhile, and it may need that long for what is waited for."""
+        limit = self.options.silence
+        if time.monotonic() - self.heard <= limit:
+            return
+        try:
+            connection = Connection(self.options.dsn, name=f"{self.options.slot} check", quiet=True, check=self.serve_server)
+            with contextlib.closing(connection):
+                is_there = postmaster_start(connection) == self.progress.server_started
+        except ServerError as error:
+            # (who is turned away was answered)
+            is_there = bool(error.sqlstate)
+        if not is_there:
+            raise ServerError(f"the server said nothing for {limit:.0f} seconds")
+        self.heard = time.monotonic()
 
     def stored(self) -> Reached:
         """What the store has, for another thread. (Each of the two is at most what it has, whenever it is looked at.)"""
@@ -528,6 +575,7 @@ class Follower:
 
     def push(self, frames: bytes) -> None:
         """Gives the filter frames, and waits until it has room."""
+        self.heard = time.monotonic()
         self.filter.push(frames)
         self.attend()
         while not self.filter.has_room():
@@ -535,7 +583,7 @@ class Follower:
             self.attend()
 
     def serve_server(self) -> None:
-        """Keeps the server content while another connection is waited for."""
+        """Keeps the server content while another connection is waited for, or a copy is made. Raises where the end was asked for."""
         self.check_stop()
         self.tick()
 
@@ -560,6 +608,18 @@ class Follower:
         self.filter.push_payloads(payloads)
         self.noting.note_all(payloads)
         return True if hold.kept and more is not None else more
+
+    def note_left_out(self, said: list[str]) -> None:
+        """Finds what the server has said of publications that weren't there yet at this place in the log: it leaves out their changes.
+
+        Up to 17 that is an error. It comes before whatever confirms the transactions.
+        """
+        while said:
+            text = said.pop(0)
+            names = sorted((name for name in self.options.publication if name in text), key=len)
+            about = About(publication=names[-1], is_missing=True) if names else NOTHING
+            text = f"the server leaves out changes from before a publication was made: {text}"
+            self.watch.remembered.find(PUBLICATION, self.position, text, about)
 
     def serve(
         self, timeout: float, reads: Sequence[int] = (), writes: Sequence[int] = ()

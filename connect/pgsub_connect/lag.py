@@ -3,9 +3,12 @@
 from __future__ import annotations
 
 import collections
+import threading
 
 # For how many seconds the last answer of the server's is taken for what it has now.
 FRESH = 10.0
+# How many ends of the server's log are kept that the copy hasn't reached. Without the oldest ones it is known later what it is complete as of.
+MOST = 50000
 
 
 class Lag:
@@ -16,7 +19,7 @@ class Lag:
     clock, which `skew` brings to this one's.
 
     The thread that follows sets `confirmed`, `last_commit` and `waits_since`, the one that asks calls `note_answer`, and the one that
-    reports calls `bytes` and `seconds`.
+    reports, where there is one, calls `bytes` and `seconds`.
     """
 
     def __init__(self) -> None:
@@ -29,7 +32,8 @@ class Lag:
         self.end = 0
         self.skew = 0.0
         # when the server was asked, and the end that it told then, of those that the copy hasn't reached
-        self.asked: collections.deque[tuple[float, int]] = collections.deque()
+        self.asked = collections.deque[tuple[float, int]](maxlen=MOST)
+        self.lock = threading.Lock()
         self.answered = 0.0
         self.complete: float | None = None
 
@@ -38,8 +42,15 @@ class Lag:
         if clock is not None:
             self.skew = clock - (asked + answered) / 2
         self.end = end
+        self.forget_reached()
         self.asked.append((asked, end))
         self.answered = answered
+
+    def forget_reached(self) -> None:
+        """Forgets the ends that the copy has reached, but for when the last of them was asked for."""
+        with self.lock:
+            while self.asked and self.asked[0][1] <= self.confirmed:
+                self.complete = self.asked.popleft()[0]
 
     def bytes(self, sent_to: int) -> int | None:
         """How much of the server's log the copy lacks; None where nothing is known of it. `sent_to`: how far the server has sent."""
@@ -48,13 +59,11 @@ class Lag:
 
     def seconds(self, now: float) -> float | None:
         """At most how old the oldest commit is that the copy lacks; 0 where it has all; None where nothing is known of it."""
-        asked = self.asked
-        while asked and asked[0][1] <= self.confirmed:
-            self.complete = asked.popleft()[0]
+        self.forget_reached()
         waits_since, last_commit = self.waits_since, self.last_commit
         if waits_since is not None:
             return max(now - (waits_since - self.skew), 0.0)
-        if not asked and self.complete is not None and now - self.answered < FRESH:
+        if not self.asked and self.complete is not None and now - self.answered < FRESH:
             return 0.0
         known = [it for it in (self.complete, None if last_commit is None else last_commit - self.skew) if it is not None]
         return max(now - max(known), 0.0) if known else None

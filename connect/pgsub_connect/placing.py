@@ -4,23 +4,54 @@ from __future__ import annotations
 
 import contextlib
 import os
-from collections.abc import Callable, Iterator
+from collections.abc import Callable, Iterator, Sequence
 
 from .errors import FileError, UsageError
 from .resting import own_name, remove_files
-from .snapshots import LOG, remove, sync_folder
+from .snapshots import LOG, OF_FILE, remove, sync_folder
 
-# What follows a store's name in those of its own files.
-OF_STORE = ("", LOG, "-shm", "-journal", ".connector", ".tables", ".request", ".copying", ".pgsub-new", ".filter")
+# What follows a store's name in those of its own files, the checkpoint last: as long as it is there, a start tells what is missing.
+OF_STORE = (
+    ".copying", ".copying-wal", ".copying-shm", ".copying-journal", ".copying.pgsub-new", ".pgsub-new", LOG, "-shm", "-journal", "",
+    ".request", ".tables.new", ".tables", ".connector",
+)
+Identity = str | tuple[int, int]
+
+
+def identities(*paths: str) -> set[Identity]:
+    """What the names of one file have in common: the path without links, or the inode."""
+    found: set[Identity] = {os.path.realpath(path) for path in paths}
+    for path in paths:
+        with contextlib.suppress(OSError):
+            about = os.stat(path)
+            found.add((about.st_dev, about.st_ino))
+    return found
+
+
+def is_of_store(store: str, path: str) -> bool:
+    """Whether a path is one of a store's own files: the connector's are beside the name that it was given, the program's beside what that
+    links to."""
+    names = (store, os.path.realpath(store))
+    return not identities(path).isdisjoint(identities(*(name + it for name in names for it in OF_STORE)))
+
+
+def check_apart(store: str, written: Sequence[tuple[str, str]], read: Sequence[tuple[str, str]]) -> None:
+    """Rejects files to write that are a store's own, or that are named for something else too. Each is an option with its path."""
+    for at, (option, path) in enumerate(written):
+        if store and is_of_store(store, path):
+            raise UsageError(f"{option} {path}: that is a file of the store itself")
+        files = identities(*(path + it for it in OF_FILE))
+        for other, its in (*written[at + 1 :], *read):
+            if not files.isdisjoint(identities(*(its + it for it in OF_FILE))):
+                raise UsageError(f"{option} {path} and {other} {its}: each needs a file of its own")
 
 
 def check_into(store: str, into: str, is_earlier: Callable[[str], bool], what: str) -> None:
-    """Rejects a file to write that is there and isn't an earlier one, or has the name of one of the store's files."""
-    path = os.path.realpath(into)
-    if path in [os.path.realpath(store) + it for it in OF_STORE]:
-        raise UsageError(f"--into {into}: that is a file of the store itself")
-    if not os.path.isdir(os.path.dirname(path)):
-        raise FileError(f"--into {into}: there is no folder {os.path.dirname(path)}")
+    """Rejects a file to write that is there and isn't an earlier one, or is one of the store's files."""
+    check_apart(store, [("--into", into)], [])
+    folder = os.path.dirname(os.path.realpath(into))
+    if not os.path.isdir(folder):
+        raise FileError(f"--into {into}: there is no folder {folder}")
     if not os.path.lexists(into):
         return
     try:
@@ -45,8 +76,7 @@ def placed(into: str, mode: int) -> Iterator[str]:
             os.fsync(file)
         finally:
             os.close(file)
-        for suffix in (LOG, "-shm"):
-            # (those of the file that goes would be taken for the new one's)
+        for suffix in OF_FILE[1:]:
             remove(into + suffix)
         os.replace(new, into)
         sync_folder(into)

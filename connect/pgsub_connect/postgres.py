@@ -4,6 +4,7 @@ from __future__ import annotations
 
 import contextlib
 import ctypes
+import functools
 import ipaddress
 import os
 import re
@@ -19,12 +20,14 @@ from psycopg import pq
 from psycopg.conninfo import conninfo_to_dict, make_conninfo
 
 from . import log
-from .errors import ServerError
+from .errors import ServerError, Unconnected
 
 LIBPQ = ctypes.PyDLL("libpq.so.5") if pq.__impl__ == "python" else None
 # After how many seconds each, at most, a host is given up, and a command that takes no time at the server.
 CONNECT_LIMIT = 10.0
 QUICK = 60.0
+# The first libpq that can be told to connect to a primary alone. One whose transactions are read-only by default is one, too.
+PRIMARY = 140000
 # The limits that a DSN can give for a host: libpq knows none below two seconds, and takes 0 for none at all.
 LEAST_LIMIT, MOST_LIMIT = 2.0, 3600.0
 # How long a wait may go on before it looks whether the end was asked for, in seconds.
@@ -63,6 +66,9 @@ BYTES_AT = typed(ctypes.pythonapi["PyBytes_FromStringAndSize"], ctypes.py_object
 # A call of libpq that psycopg lacks.
 GSS_IN_USE: Any = getattr(LIBPQ, "PQgssEncInUse", None)
 
+# Where the server looks up the publications of a session. (Its texts may be in another language.)
+LOADS_PUBLICATIONS = b"LoadPublications"
+
 Check = Callable[[], None]
 
 
@@ -97,7 +103,8 @@ def hosts_of(settings: dict[str, str]) -> list[dict[str, str]]:
         own = {"host": hosts[it % len(hosts)], "hostaddr": addresses[it % len(addresses)], "port": ports[it % len(ports)]}
         attempt = {**settings, **own}
         # A restarted primary is waited for, rather than one of its standbys followed.
-        attempt.setdefault("target_session_attrs", os.environ.get("PGTARGETSESSIONATTRS", "read-write"))
+        primary = "primary" if pq.version() >= PRIMARY else "read-write"
+        attempt.setdefault("target_session_attrs", os.environ.get("PGTARGETSESSIONATTRS", primary))
         attempts.append(attempt)
     return attempts
 
@@ -144,7 +151,7 @@ def addresses_of(settings: dict[str, str], check: Check) -> list[dict[str, str]]
         check()
     if not found:
         why = failed[0].strerror if failed else f"no answer within {CONNECT_LIMIT:.0f} seconds"
-        raise ServerError(f"the host {host} can't be looked up: {why}")
+        raise Unconnected(f"the host {host} can't be looked up: {why}")
     return [{**settings, "hostaddr": address} for address in found]
 
 
@@ -168,7 +175,9 @@ class Connection:
             settings["replication"] = "database"
         self.limit = connect_limit(settings.pop("connect_timeout", ""))
         self.raw = self.connected(settings)
-        self.raw.notice_handler = None if quiet else tell_notice
+        # what the server has said of publications whose changes it leaves out, since the caller looked last
+        self.left_out: list[str] = []
+        self.raw.notice_handler = None if quiet else functools.partial(tell_notice, self.left_out)
         self.number = self.raw.socket
         self.wire = wire_of(self.raw)
 
@@ -177,16 +186,22 @@ class Connection:
         errors = []
         for attempt in hosts_of(settings):
             try:
-                for resolved in addresses_of(attempt, self.check):
-                    try:
-                        return self.connect_to(resolved)
-                    except ServerError as error:
-                        errors.append(error)
+                return self.connect_to_host(attempt)
             except ServerError as error:
                 errors.append(error)
-        if len(errors) == 1:
-            raise errors[0]
-        raise ServerError("\n".join(dict.fromkeys(map(str, errors))), "28" if all(it.is_lasting() for it in errors) else "")
+        raise together(errors)
+
+    def connect_to_host(self, settings: dict[str, str]) -> pq.abc.PGconn:
+        """Connects to the first address of a host that can be reached. What another try doesn't mend is the host's own answer."""
+        errors = []
+        for resolved in addresses_of(settings, self.check):
+            try:
+                return self.connect_to(resolved)
+            except ServerError as error:
+                if error.is_lasting():
+                    raise
+                errors.append(error)
+        raise together(errors)
 
     def connect_to(self, settings: dict[str, str]) -> pq.abc.PGconn:
         """Connects to one address without blocking."""
@@ -199,7 +214,7 @@ class Connection:
             ):
                 self.check()
                 if time.monotonic() > until:
-                    raise ServerError(f"{where(settings)}: no answer within {self.limit:.0f} seconds")
+                    raise Unconnected(f"{where(settings)}: no answer within {self.limit:.0f} seconds")
                 reads = polled == pq.PollingStatus.READING
                 select.select([raw.socket] if reads else [], [] if reads else [raw.socket], [], TICK)
             if raw.status != pq.ConnStatus.OK:
@@ -535,18 +550,31 @@ def wire_of(raw: pq.abc.PGconn) -> Wire:
 
 
 def set_verbosity(raw: pq.abc.PGconn, verbosity: int) -> None:
-    """Sets how much libpq's errors say, by the one call of libpq that psycopg lacks."""
+    """Sets how much libpq's errors say, by the one call of libpq that psycopg lacks.
+
+    psycopg[binary] has a libpq of its own. The system's may be of another version, and would write into that one's connection at a
+    place where something else is.
+    """
+    if pq.__impl__ == "binary":
+        return
     pointer = getattr(raw, "pgconn_ptr", None)
     with contextlib.suppress(OSError, AttributeError):
         ctypes.CDLL("libpq.so.5").PQsetErrorVerbosity(ctypes.c_void_p(pointer), ctypes.c_int(verbosity))
 
 
-def connection_error(raw: pq.abc.PGconn, host: str) -> ServerError:
+def together(errors: list[ServerError]) -> ServerError:
+    """The error of several attempts to connect. It lasts where each of them does."""
+    if len(errors) == 1:
+        return errors[0]
+    return Unconnected("\n".join(dict.fromkeys(map(str, errors))), "28" if all(it.is_lasting() for it in errors) else "")
+
+
+def connection_error(raw: pq.abc.PGconn, host: str) -> Unconnected:
     """The error of a connection that wasn't made. A verbose one has the SQLSTATE, which libpq gives in no other way."""
     said = raw.error_message.decode(errors="replace").strip()
     found = CODE.search(said)
     text = CODE.sub(":  ", PLACE_IN_SOURCE.sub("", said)) or f"{host}: can't connect"
-    return ServerError(text, found[1] if found else "28P01" if raw.needs_password else "")
+    return Unconnected(text, found[1] if found else "28P01" if raw.needs_password else "")
 
 
 def where(settings: dict[str, str]) -> str:
@@ -559,6 +587,8 @@ def cancel_by(handle: pq.abc.PGcancel) -> None:
         handle.cancel()
 
 
-def tell_notice(result: pq.abc.PGresult) -> None:
-    """Passes on a notice or warning of the server."""
+def tell_notice(left_out: list[str], result: pq.abc.PGresult) -> None:
+    """Passes on a notice or warning of the server, and keeps one of pgoutput that a publication isn't there at this place in the log."""
     log.info(f"server: {result.error_message.decode(errors='replace').strip()}")
+    if result.error_field(pq.DiagnosticField.SOURCE_FUNCTION) == LOADS_PUBLICATIONS:
+        left_out.append((result.error_field(pq.DiagnosticField.MESSAGE_PRIMARY) or b"").decode(errors="replace"))

@@ -13,6 +13,7 @@ As long as nothing was copied it has the first three fields alone.
 | `lsn`, `highest` | when the server was looked at last: nothing that was committed above that LSN was seen, nor an OID above that one |
 | `followed`, `publications` | the names that are followed, and the options of those that were there |
 | `tables`, `partitions`, `types` | what the server had then, changed by what Relation messages said since |
+| `attached` | by the OID of a partition: which transaction has attached it |
 | `sent` | by OID: the last Relation message of a change, and the LSN of its commit |
 | `names` | which OID each name has, since when, and which OIDs had it before |
 | `found` | by kind: the LSN at which the first was found, the texts with what each is about, and how many more there were |
@@ -335,8 +336,20 @@ class Remembered:
             self.unwanted.discard(oid)
             self.left.discard(oid)
             self.sent.pop(oid, None)
+            if not (self.catalog and oid in self.catalog.tables):
+                self.forget_names(oid)
             self.save()
         return gone
+
+    def forget_names(self, oid: int) -> None:
+        """Forgets the names of a table that isn't published and has no rows in the store: whatever has one later is alone under it."""
+        self.held.pop(oid, None)
+        for key, name in list(self.names.items()):
+            if oid in (name.oid, *name.before):
+                name.oid = None if name.oid == oid else name.oid
+                name.before = [it for it in name.before if it != oid]
+                if name.oid is None and not name.before:
+                    del self.names[key]
 
     def are_right(self, oid: int, texts: Iterable[str]) -> list[str]:
         """Notes durably that a table's rows are right as to what was found of it. Returns the kinds that go by that."""
@@ -370,10 +383,14 @@ class Remembered:
         return True
 
     def is_so(self, text: str) -> bool:
-        """Whether a publication lacks changes of a kind, as a text says: then the rows of its tables are right only for now."""
-        about = self.about(text)
-        publication = self.catalog.publications.get(about.publication) if self.catalog and about.lacks else None
-        return publication is not None and about.lacks not in publication.actions
+        """Whether changes of a kind aren't sent, as a text says: then the rows of its tables are right only for now."""
+        about, catalog = self.about(text), self.catalog
+        if catalog is None or not about.lacks:
+            return False
+        parts = (name for oid in about.tables if oid in catalog.tables for name in catalog.tables[oid].parts)
+        names = {about.publication} if about.publication else set(parts)
+        there = [it for name, it in catalog.publications.items() if name in names]
+        return bool(there) and not any(about.lacks in it.actions for it in there)
 
     def tables_of(self, text: str) -> list[int]:
         """The published tables that a text is about, itself or by their publication or a column's type."""
@@ -381,13 +398,16 @@ class Remembered:
         return [it for it in self.about(text).tables if self.catalog and it in self.catalog.tables] if others is None else others
 
     def tables_of_several(self, text: str) -> list[int] | None:
-        """The published tables that a text is about which is of a type, or of a publication that is there; None of any other."""
+        """The published tables that a text is about which is of a type, of a publication that is there, or of what isn't sent; None of
+        any other."""
         about, catalog = self.about(text), self.catalog
         tables = catalog.tables.values() if catalog else ()
         if about.type_oid:
             return [it.oid for it in tables if any(column.type_oid == about.type_oid for column in it.shape.columns)]
         if catalog and about.publication in catalog.publications:
             return [it.oid for it in tables if about.publication in it.parts]
+        if about.lacks and not about.publication:
+            return [it.oid for it in tables if it.oid in about.tables]
         return None
 
     def never_copied(self, oid: int) -> None:
@@ -567,36 +587,45 @@ def catalog_written(catalog: Catalog) -> dict[str, Any]:
         "tables": [
             {
                 "oid": it.oid, "schema": it.namespace, "name": it.name, "kind": it.kind, "identity": it.shape.identity,
-                "columns": it.shape.columns, "parts": it.parts, "node": it.node, "altered": it.altered,
+                "columns": it.shape.columns, "parts": {name: part[:3] for name, part in it.parts.items()},
+                "since": {name: part.since for name, part in it.parts.items()}, "node": it.node, "altered": it.altered,
             }
             for it in catalog.tables.values()
         ],
         "partitions": [[it.oid, it.parent, it.name, it.leaf, it.node] for it in catalog.partitions.values()],
+        "attached": {it.oid: it.since for it in catalog.partitions.values()},
         "types": catalog.types,
     }
 
 
 def catalog_of(said: dict[str, Any]) -> Catalog:
-    publications = {
-        name: Publication(int(it["oid"]), bool(it["whole"]), tuple(it["actions"]), bool(it["via_root"]), bool(it["generated"]))
-        for name, it in said["publications"].items()
-    }
+    publications = {name: publication_of(it) for name, it in said["publications"].items()}
     tables = {it["oid"]: table_of(it) for it in said["tables"]}
-    partitions = {it[0]: partition_of(*it) for it in said["partitions"]}
+    attached = {str(oid): str(since) for oid, since in said.get("attached", {}).items()}
+    partitions = {it[0]: partition_of(*it, since=attached.get(str(it[0]), "")) for it in said["partitions"]}
     types = {int(oid): {str(part): str(text) for part, text in it.items()} for oid, it in said["types"].items()}
     names = tuple(str(it) for it in said["followed"])
     return Catalog(names, parse_lsn(said["lsn"]), int(said["highest"]), publications, tables, partitions, types)
 
 
-def partition_of(oid: int, parent: int, name: str, leaf: bool, node: int = 0) -> Partition:
-    """A partition; an earlier version of this program didn't keep the number of its file."""
-    return Partition(int(oid), int(parent), str(name), bool(leaf), node=int(node))
+def publication_of(said: dict[str, Any]) -> Publication:
+    """A publication; an earlier version of this program didn't keep whose it is and who has written it."""
+    return Publication(
+        int(said["oid"]), bool(said["whole"]), tuple(said["actions"]), bool(said["via_root"]), bool(said["generated"]),
+        int(said.get("owner", 0)), str(said.get("since", "")),
+    )
+
+
+def partition_of(oid: int, parent: int, name: str, leaf: bool, node: int = 0, *, since: str) -> Partition:
+    """A partition; an earlier version of this program didn't keep the number of its file, nor who has attached it."""
+    return Partition(int(oid), int(parent), str(name), bool(leaf), node=int(node), since=since)
 
 
 def table_of(said: dict[str, Any]) -> Table:
-    """A table; an earlier version of this program didn't keep when its columns were altered."""
+    """A table; an earlier version of this program didn't keep when its columns were altered, nor by what publications have it."""
+    since = {name: tuple(str(it) for it in entries) for name, entries in said.get("since", {}).items() if entries is not None}
     parts = {
-        name: Part(row_filter, None if listed is None else tuple(listed), bool(whole))
+        name: Part(row_filter, None if listed is None else tuple(listed), bool(whole), since.get(name))
         for name, (row_filter, listed, whole) in said["parts"].items()
     }
     shape = shape_of(said["identity"], said["columns"])

@@ -13,6 +13,7 @@ from typing import TYPE_CHECKING
 from . import log
 from .metrics import metrics_text
 from .progress import Progress
+from .snapshots import NEW
 
 if TYPE_CHECKING:
     from .cli import Options
@@ -92,7 +93,7 @@ class Replaced:
 
 def replace(path: str, text: str, mode: int) -> None:
     """Puts a file with this text and mode in the place of one that is there. Who reads it finds one of both as a whole."""
-    new = path + ".new"
+    new = path + NEW
     with contextlib.suppress(FileNotFoundError):
         os.unlink(new)
     number = os.open(new, os.O_WRONLY | os.O_CREAT | os.O_EXCL | os.O_CLOEXEC, mode)

@@ -14,9 +14,10 @@ from collections.abc import Iterator
 from typing import Any
 
 from . import log
+from .checkpoint import has_name
 from .errors import FileError, Passing
 from .postgres import Check
-from .snapshots import LOG, copy, fold, remove
+from .snapshots import LOG, NEW, OF_FILE, copy, fold, remove
 
 # Where SQLite, and so the program, locks a file: the bytes of its readers.
 SHARED_FIRST, SHARED_SIZE = 0x40000002, 510
@@ -25,6 +26,9 @@ PATIENCE = 300.0
 LOOK = 0.1
 # After how many seconds a file that a killed process has left is removed.
 STALE = 3600.0
+# What a file that a process makes for itself has in its name behind another one's: its id, as nobody else names files. Beside it there
+# may be such a file again, the parts of a request, and what SQLite makes.
+OWN = r"\.pgsub-([0-9]+)(?:(?:\.copied)?\.pgsub-[0-9]+)?(?:\.pgsub-new|\.request|\.changes)?(?:-wal|-shm|-journal)?"
 
 
 @contextlib.contextmanager
@@ -50,7 +54,7 @@ def at_rest(store: str, beside: str, check: Check) -> Iterator[tuple[str, bool]]
         copied = own_name(beside + ".copied")
         stack.callback(remove_files, copied)
         for suffix in (LOG, ""):
-            copy(store + suffix, copied + suffix, 0o600, check)
+            copy(os.path.realpath(store) + suffix, copied + suffix, 0o600, check)
         fold(copied)
         yield copied, True
 
@@ -66,9 +70,9 @@ def check_there(store: str) -> None:
 
 
 def has_log(store: str) -> bool:
-    """Whether a killed program has left rows that aren't in the file yet."""
+    """Whether a killed program has left rows that aren't in the file yet. (The log is beside the file, whatever links to that.)"""
     try:
-        return os.stat(store + LOG).st_size > 0
+        return os.stat(os.path.realpath(store) + LOG).st_size > 0
     except FileNotFoundError:
         return False
 
@@ -88,6 +92,10 @@ def locked_checkpoint(store: str) -> int | None:
     except BlockingIOError:
         os.close(file)
         return None
+    if not has_name(file, path):
+        # (removed meanwhile, and perhaps made anew)
+        os.close(file)
+        return locked_checkpoint(store)
     return file
 
 
@@ -185,7 +193,7 @@ def wait_for_copy(store: str, request: str, into: str, check: Check) -> bool:
             remove(request)
             remove_files(into)
             return False
-        if time.monotonic() > until and not os.path.exists(into + ".new"):
+        if time.monotonic() > until and not os.path.exists(into + NEW):
             raise Passing(f"{store}: its follower hasn't begun to copy it in {PATIENCE:.0f} seconds")
         check()
         time.sleep(LOOK)
@@ -208,16 +216,22 @@ def read_request(path: str) -> dict[str, Any]:
     return found if isinstance(found, dict) else {}
 
 
+def own_files(path: str) -> re.Pattern[str]:
+    """The names of the files that processes make for themselves beside this one, and of what is made beside those; the first group has
+    the process's id."""
+    return re.compile(re.escape(os.path.basename(path)) + OWN)
+
+
 def own_name(path: str) -> str:
     """A name for a file of this process alone. What killed processes have left under such a name goes."""
-    folder, name = os.path.split(os.path.abspath(path))
-    pattern = re.compile(re.escape(name) + r"\.(\d+)(?:\.new|\.request|\.changes)?(?:-wal|-shm|-journal)?")
-    for entry in os.scandir(folder):
+    pattern = own_files(path)
+    for entry in os.scandir(os.path.dirname(os.path.abspath(path))):
         found = pattern.fullmatch(entry.name)
-        with contextlib.suppress(OSError):
+        # (a number may be none of a process)
+        with contextlib.suppress(OSError, OverflowError):
             if found and not is_alive(int(found[1])) and time.time() - entry.stat().st_mtime > STALE:
                 os.unlink(entry.path)
-    return f"{path}.{os.getpid()}"
+    return f"{path}.pgsub-{os.getpid()}"
 
 
 def is_alive(process: int) -> bool:
@@ -232,5 +246,5 @@ def is_alive(process: int) -> bool:
 
 def remove_files(path: str) -> None:
     """Removes a file with what SQLite may have made beside it."""
-    for suffix in ("", LOG, "-shm", "-journal"):
+    for suffix in OF_FILE:
         remove(path + suffix)

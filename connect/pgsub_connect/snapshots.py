@@ -14,10 +14,15 @@ from collections.abc import Callable
 from typing import Any
 
 from . import log
+from .errors import Stopped
 from .holding import LONGEST, Hold, read_locked, write_request
 from .texts import lsn_text, parse_lsn
 
 LOG = "-wal"
+# A file, and what SQLite may have beside it. Whoever opens another file in its place would take that for its own: a journal takes it back.
+OF_FILE = ("", LOG, "-shm", "-journal")
+# What a file that is being made has behind its name.
+NEW = ".pgsub-new"
 CHUNK = 1 << 22
 # How often a request is looked for, and what has become of one for which the stream is held, in seconds.
 LOOK, SOON = 0.5, 0.05
@@ -168,7 +173,10 @@ class Snapshots:
             write_request(self.request, into=into, error=why, lasts=lasts)
 
     def take(self, position: int, tick: Callable[[], None]) -> None:
-        """Copies the files of a store at rest, and has a thread make one file of them. `tick` is called between parts."""
+        """Copies the files of a store at rest, and has a thread make one file of them. `tick` is called between parts.
+
+        What it raises is raised, and nothing stays of the copy. Whoever waits for it is told of an end; else it is copied again later.
+        """
         into, self.wanted = self.hold.into or self.wanted, None
         is_locked, keeps = self.hold.into is not None, self.hold.keeps
         if keeps:
@@ -181,29 +189,37 @@ class Snapshots:
             self.asked = False
             self.next = time.monotonic() + self.every
             self.last = position
-        new = path + ".new"
+        new = path + NEW
         try:
-            for suffix in (LOG, ""):
+            for suffix in OF_FILE:
                 remove(new + suffix)
-                copy(self.store + suffix, new + suffix, self.mode, tick)
+            for suffix in (LOG, ""):
+                # (the log is beside the file, whatever links to that)
+                copy(os.path.realpath(self.store) + suffix, new + suffix, self.mode, tick)
         except OSError as error:
             self.fail(path, into, f"{error.strerror}")
             return
+        except Stopped:
+            self.fail(path, into, "the follower is about to end")
+            raise
+        except BaseException:
+            self.clear(path)
+            self.asked = self.asked or into is None
+            raise
         self.finishing = threading.Thread(target=self.finish, args=(path, into, position, is_locked, keeps), daemon=True)
         self.finishing.start()
 
     def finish(self, path: str, into: str | None, position: int, is_locked: bool, keeps: bool = False) -> None:
         """Puts the log into the copied file, which gets its name once it is whole. What was there stays until then. `keeps`: the request
         goes on."""
-        new = path + ".new"
+        new = path + NEW
         try:
             fold(new)
             found = position_in(new)
             if found is None or found < position:
                 raise OSError(0, f"the copy isn't at {lsn_text(position)}")
-            for left in (path + LOG, path + "-shm"):
-                # (a log of the file that goes would be taken for one of the file that comes)
-                remove(left)
+            for suffix in OF_FILE[1:]:
+                remove(path + suffix)
             os.replace(new, path)
             sync_folder(path)
         except (OSError, sqlite3.Error) as error:
@@ -229,12 +245,16 @@ class Snapshots:
             return False
         return True
 
-    def fail(self, path: str, into: str | None, why: str) -> None:
-        for left in (path + ".new", path + ".new" + LOG, path + ".new-shm"):
+    def clear(self, path: str) -> None:
+        """Removes what is there of a copy that isn't whole."""
+        for suffix in OF_FILE:
             with contextlib.suppress(OSError):
-                remove(left)
-        log.warning(f"{path}: {why}")
+                remove(path + NEW + suffix)
         self.last = None
+
+    def fail(self, path: str, into: str | None, why: str) -> None:
+        self.clear(path)
+        log.warning(f"{path}: {why}")
         if into is not None:
             self.answer(into, why)
 

@@ -39,8 +39,9 @@ class Watch:
 
     def begin(self) -> None:
         """Accepts what is to be accepted, and tells what else was found up to now."""
-        self.checkpoint.accept(self.options.accept)
-        self.remembered.accept(self.options.accept)
+        kinds = [it for it in {*self.checkpoint.findings(), *self.remembered.found} if self.options.accepts(it)]
+        self.checkpoint.accept(kinds)
+        self.remembered.accept(kinds)
         if self.remembered.is_urgent:
             self.remembered.save()
         self.note_kinds()

@@ -30,6 +30,7 @@ class FakeRedis:
         self.before_exec: Callable[[], None] = lambda: None
         self.fails: Callable[[], Said | None] = lambda: None
         self.info, self.save = b"aof_enabled:1\r\naof_last_write_status:ok\r\n", b"3600 1"
+        self.syncs: Any = [b"appendfsync", b"everysec", b"no-appendfsync-on-rewrite", b"no"]
 
     def rows(self) -> dict[str, dict[str, str]]:
         """The hashes."""
@@ -132,8 +133,8 @@ class FakeRedis:
     def do_time(self) -> list[bytes]:
         return [b"1000", b"0"]
 
-    def do_config(self, _: bytes, __: bytes) -> list[bytes]:
-        return [b"save", self.save]
+    def do_config(self, _: bytes, name: bytes) -> Any:
+        return [b"save", self.save] if name == b"save" else self.syncs
 
 
 class FakeCalls:

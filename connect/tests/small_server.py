@@ -28,8 +28,8 @@ def fields(**values: str) -> bytes:
     return b"".join(tag.encode() + text.encode() + b"\0" for tag, text in values.items()) + b"\0"
 
 
-def error(text: str, sqlstate: str, tag: bytes = b"E") -> bytes:
-    return message(tag, fields(S="ERROR", V="ERROR", C=sqlstate, M=text))
+def error(text: str, sqlstate: str, tag: bytes = b"E", function: str = "x") -> bytes:
+    return message(tag, fields(S="ERROR", V="ERROR", C=sqlstate, M=text, R=function))
 
 
 def answered(rows: list[Row]) -> bytes:
@@ -45,13 +45,15 @@ def answered(rows: list[Row]) -> bytes:
 
 class SmallServer:
     """Listens in a folder. `silent`: a query with this in it has no answer; `lets_in`: whether it answers those who connect;
-    `version`: which one it says that it is."""
+    `version`: which one it says that it is; `read_only`: its default_transaction_read_only."""
 
     def __init__(self, folder: str, brain: FakeServer, *, port: int = 5432, standby: bool = False, refusal: bytes = b"") -> None:
         self.folder, self.brain, self.port, self.standby, self.refusal = folder, brain, port, standby, refusal
-        self.silent, self.lets_in, self.version = "", True, "15.18"
+        self.silent, self.lets_in, self.version, self.read_only = "", True, "15.18", "off"
         # what a session sends once it copies, and what it was told then: when, and the payload
         self.to_send: list[bytes] = []
+        # messages that it sends before all that
+        self.notices = b""
         self.statuses: list[tuple[float, bytes]] = []
         self.sessions = self.canceled = 0
         self.answers_asking = True
@@ -108,7 +110,7 @@ class SmallServer:
             if self.refusal:
                 peer.sendall(self.refusal)
                 return
-            said = {"server_version": self.version, "client_encoding": "UTF8", "default_transaction_read_only": "off"}
+            said = {"server_version": self.version, "client_encoding": "UTF8", "default_transaction_read_only": self.read_only}
             said["in_hot_standby"] = "on" if self.standby else "off"
             peer.sendall(message(b"R", bytes(4)))
             for name, value in said.items():
@@ -163,7 +165,7 @@ class SmallServer:
     def copy(self, peer: socket.socket) -> None:
         """A session: sends what there is to send, and notes what it is told."""
         self.sessions += 1
-        peer.sendall(COPY_BOTH)
+        peer.sendall(COPY_BOTH + self.notices)
         copies = threading.Event()
         copies.set()
         self.begin(self.send_all, peer, copies)

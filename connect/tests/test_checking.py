@@ -11,7 +11,7 @@ from unittest import mock
 
 from pgsub_connect import checking, facts
 from pgsub_connect.checking import ERROR, OK, WARNING, Purpose, Result, results
-from pgsub_connect.cli import Options
+from pgsub_connect.cli import Options, arguments
 from pgsub_connect.errors import ServerError, UsageError
 from pgsub_connect.facts import Facts, Publication, Role, Slot, TableFacts, server_facts, slot_facts, source_wanted
 from pgsub_connect.making import Wanted
@@ -106,6 +106,7 @@ class Judging(unittest.TestCase):
         self.expect(ERROR, "publication", "doesn't own all tables that are to be in it: public.stock",
             changed(publications=missing, tables=foreign))
         self.expect(OK, "publication", "", changed(publications=missing, tables=foreign, role=Role("p", True, True, True)))
+        self.expect(ERROR, "publication", "--no-copy without --create makes none", changed(publications=missing), makes=False, copies=False)
 
     def test_publications(self) -> None:
         self.expect(ERROR, "publication", "no table, or none that f can see: nosuch", changed(unknown=["nosuch"]))
@@ -139,6 +140,8 @@ class Judging(unittest.TestCase):
         self.expect(ERROR, "slot", "isn't there, and the store follows it", well(), has_store=True)
         self.expect(ERROR, "slot", "is there already, and no store", slot())
         self.expect(OK, "slot", "pgsub", slot(), copies=False)
+        self.expect(OK, "slot", "pgsub", slot(), makes=False, copies=False)
+        self.expect(ERROR, "slot", "--no-copy without --create makes none", well(), makes=False, copies=False)
         self.expect(ERROR, "slot", "is not one of pgoutput", slot(plugin="test_decoding"), has_store=True)
         self.expect(ERROR, "slot", "is not one of pgoutput", slot(is_here=False), has_store=True)
         self.expect(ERROR, "slot", "two-phase", slot(is_two_phase=True), has_store=True)
@@ -210,6 +213,11 @@ class Printing(unittest.TestCase):
     def test_json(self) -> None:
         status, text = self.printed(well(), json=True)
         self.assertEqual((status, json.loads(text)[1]), (0, {"level": "ok", "name": "wal_level", "text": "logical"}))
+
+    def test_what_a_start_makes(self) -> None:
+        for words, makes in (("--create --table t", True), ("--table t", True), ("--create --no-copy", True), ("--no-copy", False)):
+            purpose = checking.purpose_of(arguments(["check", *words.split()]))
+            self.assertEqual((purpose.makes, purpose.copies), (makes, "--no-copy" not in words), words)
 
     def test_warnings_are_no_error(self) -> None:
         self.assertEqual(self.printed(with_setting(max_slot_wal_keep_size="-1"))[0], 0)

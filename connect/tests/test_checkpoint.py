@@ -2,7 +2,9 @@
 
 from __future__ import annotations
 
+import contextlib
 import dataclasses
+import fcntl
 import os
 import unittest
 from typing import Any
@@ -10,8 +12,9 @@ from unittest import mock
 
 from pgsub_connect import checkpoint as known_of
 from pgsub_connect.checkpoint import MISSING, SIZE, Checkpoint, Counted, Known, check_gap
-from pgsub_connect.dropping import read_known
+from pgsub_connect.dropping import locked, read_known
 from pgsub_connect.errors import FileError, Passing, Stopped, Unfit
+from pgsub_connect.resting import locked_checkpoint
 
 from .fake_server import Quiet
 
@@ -159,6 +162,60 @@ class File(FileCase):
         with mock.patch("time.sleep"), self.assertRaises(Stopped):
             Checkpoint(self.store, check=check)
         self.assertEqual(len(self.said), 1)
+
+
+    def test_a_file_that_was_removed_meanwhile(self) -> None:
+        """As by `drop`, for which a start waits, and where another one has begun since: the lock is of the file that is there."""
+        path, files = self.store + ".connector", list[int]()
+
+        def begin() -> None:
+            files.append(os.open(path, os.O_RDWR | os.O_CREAT))
+            fcntl.flock(files[-1], fcntl.LOCK_EX)
+
+        def drop() -> None:
+            os.unlink(path)
+            os.close(files.pop())
+
+        def drop_and_begin() -> None:
+            drop()
+            begin()
+
+        for checks in ([drop], [drop_and_begin, lambda: None, drop], [drop_and_begin, lambda: os.close(files.pop())]):
+            begin()
+            before, calls = len(os.listdir("/proc/self/fd")), iter(checks)
+            with mock.patch("time.sleep"):
+                checkpoint = Checkpoint(self.store, 0o640, lambda calls=calls: next(calls, lambda: None)())  # type: ignore[misc]
+            self.assertTrue(os.path.samestat(os.stat(path), os.fstat(checkpoint.file)))
+            self.assertIsNone(locked_checkpoint(self.store))
+            self.assertEqual((files, len(os.listdir("/proc/self/fd"))), ([], before))
+            os.close(checkpoint.file)
+
+    def test_whoever_has_opened_it_before_it_was_removed(self) -> None:
+        """And before another one began: that one is seen."""
+        path, was = self.store + ".connector", fcntl.flock
+
+        def removed_before(begins: bool) -> contextlib.AbstractContextManager[object]:
+            """As where `drop` comes between the opening of the file and its lock."""
+            os.close(Checkpoint(self.store).file)
+            first = iter([True])
+
+            def flock(file: int, how: int) -> None:
+                if next(first, False):
+                    os.unlink(path)
+                    if begins:
+                        self.open()
+                was(file, how)
+
+            return mock.patch("fcntl.flock", flock)
+
+        with removed_before(False):
+            file = locked_checkpoint(self.store)
+        assert file is not None
+        os.close(file)
+        with removed_before(False), self.assertRaisesRegex(Passing, "was removed meanwhile"), locked(path):
+            pass
+        with removed_before(True):
+            self.assertIsNone(locked_checkpoint(self.store))
 
 
 class Counts(FileCase):

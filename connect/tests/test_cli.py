@@ -11,6 +11,7 @@ from pathlib import Path
 import pgsub_connect
 from pgsub_connect.checkpoint import Checkpoint
 from pgsub_connect.cli import arguments, settle_options
+from pgsub_connect.errors import UsageError
 from pgsub_connect.remembered import replace_file
 
 from .fake_server import Quiet
@@ -27,6 +28,66 @@ class Modes(Quiet):
             replace_file(f"{store}.tables", b"", options.mode)
             for name in ("connector", "tables"):
                 self.assertEqual(stat.S_IMODE(os.stat(f"{store}.{name}").st_mode), mode, name)
+
+
+class Apart(Quiet):
+    """What is written is none of the store's files, and each file has one purpose."""
+
+    def setUp(self) -> None:
+        super().setUp()
+        self.addCleanup(os.umask, os.umask(0o022))
+        self.folder = self.make_folder()
+        self.store = self.folder + "/copy.db"
+        for name in ("copy.db", "copy.db.connector", "dsn", "other"):
+            Path(self.folder, name).write_text("")
+
+    def settle(self, *words: str) -> None:
+        settle_options(arguments([it.replace("DIR", self.folder) for it in words]))
+
+    def refused(self, text: str, *words: str) -> None:
+        with self.assertRaisesRegex(UsageError, text):
+            self.settle(*words)
+
+    def test_files_of_the_store(self) -> None:
+        os.mkdir(self.folder + "/sub")
+        os.symlink(self.folder, self.folder + "/link")
+        os.link(self.store, self.folder + "/hard")
+        os.symlink(self.folder + "/copy.db.connector", self.folder + "/soft")
+        for name in (
+            "copy.db", "copy.db-wal", "copy.db-shm", "copy.db.connector", "copy.db.tables", "copy.db.request", "copy.db.copying", "copy.db.copying-wal",
+            "copy.db.pgsub-new", "sub/../copy.db", "link/copy.db-wal", "hard", "soft",
+        ):
+            for option in ("--snapshot", "--status-file", "--metrics-file", "--record", "--tables", "--feed"):
+                self.refused(f"{option} .*{name}: that is a file of the store itself", "follow", "--store", "DIR/copy.db", option, f"DIR/{name}")
+            for words in (("export",), ("snapshot",), ("tables", "--feed", "DIR/feed")):
+                self.refused("--into .*: that is a file of the store itself", *words, "--store", "DIR/copy.db", "--into", f"DIR/{name}")
+
+    def test_a_store_by_a_link(self) -> None:
+        """The program has its log beside the file that is meant, and the connector its own ones beside the link."""
+        os.symlink(self.store, self.folder + "/shop.db")
+        for name in ("copy.db", "shop.db", "copy.db-wal", "shop.db.connector"):
+            self.refused("of the store itself", "follow", "--store", "DIR/shop.db", "--snapshot", f"DIR/{name}")
+
+    def test_the_same_file_twice(self) -> None:
+        os.link(self.folder + "/other", self.folder + "/again")
+        names = (("--snapshot", "s"), ("--status-file", "status"), ("--metrics-file", "metrics"), ("--record", "r"), ("--tables", "t"), ("--feed", "f"))
+        words = [it for name, value in names for it in (name, "DIR/" + value)]
+        self.settle("follow", "--store", "DIR/copy.db", "--dsn-file", "DIR/dsn", "--init", "DIR/init", *words)
+        for one, other, more in (
+            ("--snapshot x", "--tables x", ""), ("--status-file x", "--metrics-file sub/../x", ""), ("--status-file other", "--metrics-file again", ""),
+            ("--record dsn", "--dsn-file dsn", ""), ("--status-file x", "--init x", "--tables t"), ("--snapshot x", "--record x-wal", ""),
+            ("--snapshot x", "--feed x", ""),
+        ):
+            chosen = [f"{word} DIR/{path}" for word, path in (it.split(" ") for it in (one, other))] + more.split()
+            text = f"{one.split()[0]} .* and {other.split()[0]} .*: each needs a file of its own"
+            with self.subTest(one=one, other=other):
+                self.refused(text, "follow", "--store", "DIR/copy.db", *" ".join(chosen).split())
+        self.refused("--record .* and --dsn-file .*: each needs a file of its own", "record", "--record", "DIR/dsn", "--dsn-file", "DIR/dsn")
+
+    def test_what_is_only_read(self) -> None:
+        self.settle("verify", "--store", "DIR/copy.db", "--dsn-file", "DIR/dsn", "--tables", "DIR/other", "--with", "DIR/other")
+        self.settle("sink", "redis://h", "--feed", "DIR/feed", "--base", "DIR/copy.db")
+        self.settle("status", "--status-file", "DIR/copy.db.connector")
 
 
 class Modules(unittest.TestCase):

@@ -465,6 +465,40 @@ class Ends(Copying):
         self.assertEqual(len(self.server.told("pg_export_snapshot")), 10)
         self.assertEqual(self.progress.copied_rows, 0)
 
+    def test_a_slot_that_is_lost_while_rows_come(self) -> None:
+        """Nothing can follow on the copy, so it ends at once, and the next start copies anew."""
+        self.patch(copying, "LOOK", 0.0)
+        self.server.answer("SELECT s.wal_status", lambda _: [["lost" if self.server.told("COPY (") else "reserved"]])
+        self.server.answer("COPY (", [])
+        with self.assertRaisesRegex(ServerError, "the slot pgsub is lost: .*max_slot_wal_keep_size") as raised:
+            self.copier().run()
+        self.assertTrue(raised.exception.is_lasting())
+        self.assertEqual((self.slots, self.checkpoint.known.phase), ([], known_of.COPYING))
+        self.assertEqual((len(self.server.told('DROP PUBLICATION "pgsub"')), self.server.opened), (1, self.server.closed))
+
+    def test_a_slot_is_kept_from_being_idle(self) -> None:
+        """From 18 on a server may end it because of that."""
+        for version, told in ((170000, False), (180000, True)):
+            with self.subTest(version):
+                self.setUp()
+                self.server.server_version = version
+                self.patch(copying, "LOOK", 0.0)
+                self.server.answer("SELECT s.wal_status", [["reserved"]])
+                self.server.answer("ALTER_REPLICATION_SLOT", ServerError("it is active for PID 7", "55006"))
+                self.copier().run()
+                self.assertEqual(set(self.server.told("ALTER_REPL")), {'ALTER_REPLICATION_SLOT "pgsub" (FAILOVER false)'} if told else set())
+
+    def test_a_slot_is_looked_at_now_and_then(self) -> None:
+        self.server.answer("SELECT s.wal_status", [["reserved"]])
+        self.copier().run()
+        self.assertEqual(self.server.told("SELECT s.wal_status"), [])
+        self.setUp()
+        self.patch(copying, "LOOK", 0.0)
+        self.server.answer("SELECT s.wal_status", [["extended"]])
+        self.copier().run()
+        self.assertLess(self.server.index("pg_copy_logical_replication_slot"), self.server.index("SELECT s.wal_status"))
+        self.assertEqual(self.checkpoint.known.phase, known_of.COPIED)
+
     def test_a_slot_that_is_there(self) -> None:
         self.slots = [["pgoutput", "t", "f", "5"]]
         with self.assertRaisesRegex(Unfit, "the slot pgsub is there already"):
@@ -621,6 +655,14 @@ class Kept(Copying):
         self.position = POINT
         self.copier().run()
         self.assertEqual((self.filter.sent, self.checkpoint.known.phase), (b"", known_of.COPIED))
+
+    def test_it_begins_anew_where_the_slot_is_lost(self) -> None:
+        self.cut()
+        self.position = 2
+        self.server.answer("SELECT s.wal_status", lambda _: [["lost" if self.slots else "reserved"]])
+        with mock.patch.object(Copier, "copy_anew") as fresh:
+            self.copier().run()
+        self.assertEqual((fresh.called, self.slots), (True, []))
 
     def test_a_slot_that_was_moved_is_left_alone(self) -> None:
         self.cut()

@@ -5,7 +5,7 @@ from __future__ import annotations
 import dataclasses
 import unittest
 
-from pgsub_connect.catalog import Catalog, Part, Partition, Table
+from pgsub_connect.catalog import Catalog, Part, Partition, Publication, Table, note_since, ways_to
 from pgsub_connect.differences import NAMES, PUBLICATION, VALUES, Difference, differences, shape_differences
 from pgsub_connect.found import NOTHING, About
 
@@ -26,6 +26,37 @@ MOOD = {"name": "public.mood", "501": "sad", "502": "ok"}
 PAIR = {"name": "public.pair", "#1": "23 -1", "#2": "25 -1"}
 COLUMNS = [ID, NAME]
 
+
+
+# a publication of Inserts alone, and all of a table and a part of its rows
+INSERTS = Publication(901, False, ("insert", "truncate"), False, False)
+EACH, SOME, FEW = Part(None, None, False), Part("(k > 10)", None, False), Part("(k > 20)", None, False)
+
+
+def followed(publications: dict[str, Publication], **parts: Part) -> Catalog:
+    """A server with these publications, of which some have parts of one table."""
+    table = dataclasses.replace(T, parts=parts)
+    return dataclasses.replace(a_catalog(*([table] if parts else []), names=list(publications)), publications=publications)
+
+
+def by(*since: str, row_filter: str | None = None) -> Part:
+    """A part that a publication has by these entries."""
+    return Part(row_filter, None, False, since)
+
+
+def written(by: str, owner: int = 10, **options: object) -> Publication:
+    """A publication whose options this transaction has written."""
+    return dataclasses.replace(PGSUB, since=by, owner=owner, **options)
+
+
+def attached(*by: str) -> tuple[Partition, ...]:
+    """Partitions below one another, each with the transaction that has attached it to the one before."""
+    rows = ((10, 0, "root", False), (13, 10, "sub", False), (11, 13, "p1", True), (12, 13, "p2", True))
+    return tuple(Partition(oid, parent, f"public.{name}", leaf, since=who) for (oid, parent, name, leaf), who in zip(rows, ("", *by)))
+
+
+A_B, A_INSERTS = {"a": PGSUB, "b": PGSUB}, {"a": PGSUB, "b": INSERTS}
+UPDATES, ONLY = (dataclasses.replace(INSERTS, actions=it) for it in (("insert", "update", "truncate"), ("insert",)))
 
 
 def altered(table: Table, node: int, by: str) -> Table:
@@ -52,6 +83,52 @@ CASES: list[Case] = [
     ("generated columns", a_catalog(), a_catalog(publication=dataclasses.replace(PGSUB, generated=True)), [PUBLICATION], "generated"),
     ("a row filter", a_catalog(T), a_catalog(a_table(1, "t", part=Part("(id > 3)", None, False))), [PUBLICATION], "row filter (id > 3)"),
     ("a column list", a_catalog(T), a_catalog(a_table(1, "t", part=Part(None, (1, 2), False))), [PUBLICATION], "column list"),
+    # by which publications a table is sent
+    ("all rows, by another one", followed(A_B, b=SOME), followed(A_B, a=EACH, b=SOME), [PUBLICATION],
+     "public.t (1) has the row filter none now, and before (k > 10)"),
+    ("other rows, by another one", followed(A_B, b=SOME), followed(A_B, a=FEW, b=SOME), [PUBLICATION], "(k > 10) or (k > 20) now, and before (k > 10)"),
+    ("by Inserts alone", followed(A_INSERTS, a=EACH, b=EACH), followed(A_INSERTS, b=EACH), [PUBLICATION] * 2,
+     "public.t (1) has no updates any more"),
+    ("by all once it has a key", followed(A_INSERTS, b=EACH), followed(A_INSERTS, a=EACH), [PUBLICATION],
+     "public.t (1) has updates and deletes only from now on"),
+    ("some Inserts, and each Update", followed({"a": UPDATES, "b": PGSUB}, b=SOME), followed({"a": UPDATES, "b": PGSUB}, a=EACH, b=SOME), [PUBLICATION],
+     "public.t (1) has the row filter none for inserts and updates now, and before (k > 10)"),
+    ("by all once it has a key, of Inserts alone", followed({"a": PGSUB, "b": ONLY}, b=EACH), followed({"a": PGSUB, "b": ONLY}, a=EACH), [PUBLICATION],
+     "public.t (1) has updates, deletes and truncates only from now on"),
+    ("also by another one", followed(A_B, a=EACH), followed(A_B, a=EACH, b=SOME), [], ""),
+    ("by one of two", followed(A_B, a=EACH, b=EACH), followed(A_B, b=EACH), [], ""),
+    ("no filter of a TRUNCATE", followed(A_INSERTS, a=EACH, b=SOME), followed(A_INSERTS, a=EACH, b=FEW), [], ""),
+    ("what the publication tells", followed({"a": PGSUB}, a=EACH), followed({"a": INSERTS}, a=EACH), [PUBLICATION] * 3, "made anew"),
+    # what left and joined again between two looks
+    ("left and joined", a_catalog(a_table(1, "t", part=by("16401"))), a_catalog(a_table(1, "t", part=by("16402"))), [PUBLICATION],
+     "public.t (1) left and joined again"),
+    ("stayed", a_catalog(a_table(1, "t", part=by("16401"))), a_catalog(a_table(1, "t", part=by("16401"))), [], ""),
+    ("its schema, too", a_catalog(a_table(1, "t", part=by("16401"))), a_catalog(a_table(1, "t", part=by("16401", "16402"))), [], ""),
+    ("from when it wasn't known", a_catalog(T), a_catalog(a_table(1, "t", part=by("16401"))), [], ""),
+    ("by all tables", a_catalog(a_table(1, "t", part=by())), a_catalog(a_table(1, "t", part=by())), [], ""),
+    ("a filter and back", a_catalog(a_table(1, "t", part=by("1", row_filter="f"))), a_catalog(a_table(1, "t", part=by("2", row_filter="f"))),
+     [PUBLICATION], "left and joined again"),
+    ("told by its filter", a_catalog(a_table(1, "t", part=by("1"))), a_catalog(a_table(1, "t", part=by("2", row_filter="f"))), [PUBLICATION], "row filter f"),
+    ("told by its columns", a_catalog(a_table(1, "t", part=by("1"))), a_catalog(a_table(1, "t", part=Part(None, (1,), False, ("2",)))),
+     [PUBLICATION], "another column list"),
+    ("told by its publication", a_catalog(a_table(1, "t", part=by("1"))),
+     a_catalog(a_table(1, "t", part=by("2")), publication=dataclasses.replace(PGSUB, oid=901)), [PUBLICATION], "made anew"),
+    ("sent by another one meanwhile", followed(A_B, a=by("1"), b=by("2")), followed(A_B, a=by("3"), b=by("2")), [], ""),
+    ("left both", followed(A_B, a=by("1"), b=by("2")), followed(A_B, a=by("3"), b=by("4")), [PUBLICATION], "left and joined again"),
+    ("from one to another", followed(A_B, a=by("1")), followed(A_B, b=by("2")), [PUBLICATION], "left and joined again"),
+    ("its Updates left", followed(A_INSERTS, a=by("1"), b=by("2")), followed(A_INSERTS, a=by("3"), b=by("2")), [PUBLICATION], "left and joined again"),
+    ("another publication is followed", followed({"a": PGSUB}, a=by("1")), followed({"b": PGSUB}, b=by("2")), [PUBLICATION] * 2, "not followed"),
+    ("options and back", a_catalog(publication=written("700")), a_catalog(publication=written("800")), [PUBLICATION], "pgsub was altered"),
+    ("another owner", a_catalog(publication=written("700")), a_catalog(publication=written("800", 20)), [], ""),
+    ("options that weren't known", a_catalog(), a_catalog(publication=written("800")), [], ""),
+    ("other options", a_catalog(publication=written("700")), a_catalog(publication=written("800", generated=True)), [PUBLICATION], "generated"),
+    ("attached again", a_catalog(ROOT, partitions=attached("7", "8", "9")), a_catalog(ROOT, partitions=attached("7", "18", "9")), [PUBLICATION],
+     "public.p1 (11) of public.root (10) was detached and attached again"),
+    ("attached again with what is below", a_catalog(ROOT, partitions=attached("7", "8", "9")), a_catalog(ROOT, partitions=attached("17", "8", "9")),
+     [PUBLICATION], "public.sub (13) of public.root (10)"),
+    ("attached when it wasn't known", a_catalog(ROOT, partitions=attached("", "", "")), a_catalog(ROOT, partitions=attached("7", "8", "9")), [], ""),
+    ("attached elsewhere", a_catalog(ROOT, partitions=(*TREE[:1], dataclasses.replace(TREE[1], since="8"))),
+     a_catalog(ROOT, partitions=attached("7", "18")), [PUBLICATION], "public.p1 (11)"),
     # tables that are new under a publication of all tables, or of a schema
     ("made under all tables", a_catalog(publication=ALL_TABLES),
      a_catalog(a_table(1001, "n", part=WHOLE, fresh=True), publication=ALL_TABLES), [""], "is new"),
@@ -135,6 +212,7 @@ class Readings(unittest.TestCase):
             (a_catalog(), a_catalog(publication=dataclasses.replace(PGSUB, oid=901)), About(publication="pgsub", is_missing=True)),
             (a_catalog(), a_catalog(publication=dataclasses.replace(PGSUB, actions=("insert", "update", "truncate"))),
              About(publication="pgsub", lacks="delete")),
+            (followed({"a": UPDATES, "b": INSERTS}, a=EACH, b=EACH), followed({"a": UPDATES, "b": INSERTS}, b=EACH), About((1,), lacks="update")),
             (a_catalog(types={500: MOOD}), a_catalog(types={500: {**MOOD, "501": "blue"}}), About(type_oid=500)),
         ):
             self.assertEqual([it.about for it in differences(before, now)], [about])
@@ -143,6 +221,21 @@ class Readings(unittest.TestCase):
         swapped = a_catalog(a_table(1, "u"), a_table(2, "t"))
         self.assertEqual(list(differences(a_catalog(T, U), swapped)), [])
         self.assertNotIn(NAMES, [it.kind for it in differences(a_catalog(T), swapped)])
+
+
+class Ways(unittest.TestCase):
+    def test_what_says_that_a_publication_has_a_table(self) -> None:
+        """Itself, or one that it is a partition of; others may have attached that to one of theirs."""
+        tree = {it.oid: it for it in attached("7", "8", "9")}
+        cases: list[tuple[int, dict[int, list[str]], list[str]]] = [
+            (11, {11: ["501"]}, ["501"]), (11, {10: ["502"]}, ["502/8/7"]), (11, {13: ["503", "504"], 10: ["502"]}, ["502/8/7", "503/8", "504/8"]),
+            (11, {12: ["505"]}, []), (10, {10: ["502"]}, ["502"]), (99, {99: ["506"]}, ["506"]), (99, {}, []),
+        ]
+        for oid, members, ways in cases:
+            self.assertEqual(sorted(ways_to(oid, members, tree)), ways)
+        leaf, alone = a_table(11, "p1"), a_table(99, "t")
+        note_since({11: leaf, 99: alone}, {"pgsub": {10: ["502"]}}, tree)
+        self.assertEqual((leaf.parts["pgsub"].since, alone.parts["pgsub"].since), (("502/8/7",), ()))
 
 
 class Definitions(unittest.TestCase):

@@ -14,7 +14,7 @@ from pgsub_connect.dropping import Dropper, ask_terminal, files_of
 from pgsub_connect.errors import FileError, Passing, ServerError, Unfit
 from tests.fake_server import FakeServer, Quiet, Row
 
-FILES = ("", "-wal", "-shm", ".connector", ".tables", ".copying", ".copying-wal", ".filter")
+FILES = ("", "-wal", "-shm", ".connector", ".tables", ".copying", ".copying-wal")
 
 
 class Dropping(Quiet):
@@ -81,6 +81,22 @@ class Dropping(Quiet):
     def test_the_checkpoint_goes_last(self) -> None:
         self.assertEqual(files_of(self.store)[-2:], [self.store + ".tables", self.store + ".connector"])
         self.assertEqual(len(files_of(self.store)), len(FILES))
+
+    def test_files_of_others_stay(self) -> None:
+        """Whatever they have in their names behind the store's."""
+        kept = [
+            "copy.db.export.sqlite", "copy.db.export.20261101", "copy.db.tables.db", "copy.db.connector.bak", "copy.db.copying.old", "copy.db.request.1",
+            "copy.db.filter.txt", "copy.db.export.pgsub-7.sqlite", "copy.db.base.db", "copy.db2.export.pgsub-7",
+        ]
+        own = [
+            "copy.db.export.pgsub-7", "copy.db.export.pgsub-7.pgsub-new", "copy.db.export.pgsub-7.request", "copy.db.base.pgsub-7", "copy.db-journal",
+            "copy.db.base.pgsub-7.copied.pgsub-7-wal", "copy.db.tables.new", "copy.db.copying.pgsub-new", "copy.db.pgsub-new", "copy.db.request",
+        ]
+        for name in (*kept, *own):
+            with open(os.path.join(self.folder, name), "wb"):
+                pass
+        self.run_it(yes=True)
+        self.assertEqual(self.left(), sorted([*kept, "copy.db2", "rows.db"]))
 
     def test_a_slot_that_stays_keeps_the_files(self) -> None:
         self.no = ("the slot", "the publication")

@@ -14,7 +14,7 @@ from collections.abc import Callable
 from typing import Any
 from unittest import mock
 
-from feed_text import Column, Line, entry_text
+from feed_text import About, Column, Line, entry_text
 from pgsub_connect.cli import Options, Start, stop_by_signals
 from pgsub_connect.errors import Passing, Unfit
 from pgsub_connect.feed import awaiting, tabling
@@ -226,6 +226,28 @@ class Following(FollowingCase):
         self.wait_for(0x200)
         self.assertEqual(self.end(signal.SIGTERM), 0)
         self.assertEqual(read(self.into)[1][0], Counter([(1, "a"), (2, "b"), (3, "c")]))
+
+
+    def test_an_added_tables_commit_that_is_cut_off(self) -> None:
+        """The filter was killed before the store had it: the table is added anew, at another LSN."""
+        self.feed.commit(0x100, [insert("1", "a", of=KEYED)])
+        size = self.feed.size
+        self.options.once = True
+
+        def run_it() -> object:
+            with logged():
+                tabling.run(self.options, never)
+            return read(self.into)
+
+        for end in (0x200, 0x300):
+            self.feed.at = 0x100
+            os.truncate(self.feed.path, size)
+            self.feed.commit(end, [truncate(KEYED), insert("1", "b", of=KEYED)], About(end - 1, 2, 0))
+            self.feed.confirm(end - 8)
+            self.assertEqual(run_it(), (0x100, (Counter([(1, "a")]), Counter())))
+        self.feed.commit(0x400, [insert("2", "c", of=KEYED)])
+        self.feed.confirm(0x400)
+        self.assertEqual(run_it(), (0x400, (Counter([(1, "b"), (2, "c")]), Counter())))
 
 
 class Transactions(FollowingCase):

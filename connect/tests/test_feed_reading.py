@@ -6,6 +6,7 @@ import os
 import random
 import re
 from pathlib import Path
+from unittest import mock
 
 import pgsub_connect.feed
 from feed_text import UNSENT, About, Column, Line, closing_line, segment_head
@@ -210,6 +211,54 @@ class Cutting(Case):
         self.assertEqual(commit.end, 0x300)
 
 
+class Own(Case):
+    """Commits of the connector's own, which don't come again where they are cut off."""
+
+    def own(self, end: int, *lines: Line) -> None:
+        self.feed.commit(end, lines, About(end - 1, 2, 0))
+
+    def test_they_wait_until_they_are_confirmed(self) -> None:
+        self.feed.commit(0x100, [insert("1", "a")], About(0xF0, 700, 0))
+        self.own(0x200, insert("2", "b"))
+        self.feed.commit(0x300)
+        reader = self.reader()
+        self.assertEqual([getattr(reader.next(), "end", None) for _ in range(3)], [0x100, None, None])
+        self.feed.confirm(0x1FF)
+        self.assertIsNone(reader.next())
+        self.feed.confirm(0x200)
+        self.assertEqual([getattr(reader.next(), "end", None) for _ in range(3)], [0x200, 0x300, None])
+        # (what a reader has, it passes over)
+        self.feed.confirm(0x100)
+        self.assertEqual(self.ends(0x200), [0x300])
+
+    def test_one_that_is_cut_off(self) -> None:
+        self.feed.commit(0x100)
+        before = self.file().stat().st_size
+        self.own(0x200, insert("2", "b"))
+        reader = self.reader()
+        self.assertEqual([getattr(reader.next(), "end", None) for _ in range(2)], [0x100, None])
+        os.truncate(self.file(), before)
+        self.feed.at = 0x100
+        self.feed.commit(0x180, [insert("3", "c")])
+        self.feed.confirm(0x200)
+        self.assertEqual([getattr(reader.next(), "end", None) for _ in range(2)], [0x180, None])
+
+    def test_the_segment_of_one_is_removed(self) -> None:
+        """What a reader still has open isn't the feed any more."""
+        self.feed.commit(0x100)
+        before = self.file().stat().st_size
+        self.feed.end()
+        self.own(0x200)
+        reader = self.reader()
+        self.assertEqual([getattr(reader.next(), "end", None) for _ in range(2)], [0x100, None])
+        self.file(0x100).unlink()
+        os.truncate(self.file(), before)
+        self.feed.path, self.feed.at = self.file(), 0x100
+        self.feed.commit(0x280)
+        self.feed.confirm(0x280)
+        self.assertEqual([getattr(reader.next(), "end", None) for _ in range(2)], [0x280, None])
+
+
 class Segments(Case):
     def test_by_their_bases(self) -> None:
         for end in (0x100, 0x200, 0x300):
@@ -258,6 +307,41 @@ class Segments(Case):
         self.file(0x200).rename(self.path / f"{0x250:016X}")
         with self.assertRaisesRegex(Unfit, "the segment that begins at 0/200 is gone"):
             slow.next()
+
+    def listings(self, reader: Reader, times: int = 5) -> int:
+        """How often a reader that has all lists the folder."""
+        with mock.patch("os.listdir", wraps=os.listdir) as listed:
+            for _ in range(times):
+                self.assertIsNone(reader.next())
+        return listed.call_count
+
+    def test_the_folder_is_not_listed_where_nothing_changed(self) -> None:
+        """It may have tens of thousands of names, and is looked at fifty times a second."""
+        self.feed.commit(0x100)
+        reader = self.reader()
+        reader.next()
+        self.assertEqual(self.listings(reader), 0)
+        self.feed.confirm(0x100)
+        self.assertEqual(self.listings(reader), 0)
+        self.feed.put(closing_line(0x100))
+        # (the next one isn't begun yet)
+        self.assertEqual((self.listings(reader), self.listings(reader)), (1, 0))
+        os.utime(self.path, (1000, 1000))
+        self.assertEqual(self.listings(reader), 1)
+        reader.listing.again = 0.0
+        self.assertEqual((self.listings(reader), self.listings(reader)), (1, 0))
+        self.feed.begin()
+        self.feed.commit(0x200)
+        commit = reader.next()
+        assert commit
+        self.assertEqual((commit.end, self.listings(reader)), (0x200, 0))
+
+    def test_names_in_small_letters(self) -> None:
+        self.feed.commit(0xA00)
+        self.feed.end()
+        self.feed.commit(0xB00)
+        self.file(0xA00).rename(self.path / f"{0xA00:016x}")
+        self.assertEqual(self.ends(), [0xA00, 0xB00])
 
     def test_no_folder(self) -> None:
         with self.assertRaisesRegex(FileError, "there is no feed"):

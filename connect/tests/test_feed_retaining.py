@@ -3,6 +3,7 @@
 from __future__ import annotations
 
 import os
+from unittest import mock
 
 from pgsub_connect.errors import FileError
 from pgsub_connect.feed.noting import Noted
@@ -74,3 +75,13 @@ class Retaining(FeedCase):
         (self.path / "readers/one").write_text("x")
         with self.assertRaisesRegex(FileError, "readers/one: 'x' is not an LSN"):
             self.left(Limits())
+
+    def test_an_lsn_is_noted_once_the_rows_are_on_the_disk(self) -> None:
+        """SQLite has a file's log beside that file, whatever links to it."""
+        (self.folder / "far").mkdir()
+        (self.folder / "far/rows.db-wal").touch()
+        (self.folder / "rows.db").symlink_to("far/rows.db")
+        synced = list[str]()
+        with mock.patch("os.fsync", lambda file: synced.append(os.path.relpath(os.readlink(f"/proc/self/fd/{file}"), self.folder))):
+            self.read(one=0x500)
+        self.assertEqual((synced[0], synced[-2:]), ("far/rows.db-wal", ["copy.feed/readers/one.new", "copy.feed/readers"]))

@@ -15,9 +15,13 @@ from feed_text import Cell, Column, Definition, Line
 from pgsub_connect.cli import FILE, UNFIT, USAGE, Options, main
 from pgsub_connect.errors import FileError, Passing, Unfit
 from pgsub_connect.exporting import run as export
-from pgsub_connect.feed import tabling
+from pgsub_connect.feed import beginning, tabling
 from pgsub_connect.feed.awaiting import Awaited
-from pgsub_connect.postgres import never
+from pgsub_connect.feed.noting import Noted
+from pgsub_connect.feed.reading import segments
+from pgsub_connect.feed.retaining import Limits, retire
+from pgsub_connect.postgres import Check, never
+from pgsub_connect.snapshots import copy
 
 from .feeds import ID, NAME, STOCK, FeedCase, delete, insert, table, truncate, update
 from .stores import Store
@@ -391,9 +395,10 @@ class Beginning(TablesCase):
         words = ["tables", "--feed", str(self.path), "--into", f"{self.folder}/no/rows.db"]
         with logged():
             self.assertEqual(main(words), FILE)
-        with self.assertRaises(SystemExit) as ended, contextlib.redirect_stderr(io.StringIO()):
-            main([*words, "--reader", "a/b"])
-        self.assertEqual(ended.exception.code, USAGE)
+        for name in ("a/b", ".a", "a.new"):
+            with self.assertRaises(SystemExit) as ended, contextlib.redirect_stderr(io.StringIO()):
+                main([*words, "--reader", name])
+            self.assertEqual(ended.exception.code, USAGE)
 
     def test_a_file_that_is_locked(self) -> None:
         self.after(insert("1", "a"))
@@ -428,6 +433,70 @@ class Beginning(TablesCase):
         with mock.patch("pgsub_connect.exporting.log"):
             self.run_it(store=str(self.folder / "copy.db"))
         self.assertEqual((self.rows("SELECT * FROM stock"), self.rows("SELECT lsn FROM pgsub_position")), ([(2, "b")], [("0/200",)]))
+
+    def store(self, lsn: int) -> str:
+        store = Store(str(self.folder / "copy.db"), lsn)
+        store.table(1, "stock", [(1, "id", 23, -1), (0, "name", 25, -1)])
+        store.row(1, "1", "a")
+        store.close()
+        return str(self.folder / "copy.db")
+
+    def beside_another_reader(self, **more: Any) -> list[int]:
+        """Begins while another reader keeps up, and returns the bases of the segments that stay."""
+        self.take(insert("1", "a"))
+        for _ in range(2):
+            self.take()
+            self.feed.end()
+        self.feed.confirm(0x300)
+
+        def go_on() -> None:
+            self.take(update(["1", "a"], ["2", "b"]))
+            for _ in range(2):
+                self.feed.end()
+                self.take()
+            Noted(str(self.path), "quick", None, 0o600).note(self.at, is_last=True)
+            retire(str(self.path), Limits(), self.at, 0.0)
+
+        def export_slowly(options: Options, check: Check) -> int:
+            status = export(options, check)
+            go_on()
+            return status
+
+        def copy_slowly(*words: Any) -> None:
+            copy(*words)
+            go_on()
+
+        patched = ("copy", copy_slowly) if "base" in more else ("export", export_slowly)
+        with mock.patch("pgsub_connect.exporting.log"), mock.patch.object(beginning, *patched):
+            self.run_it(reader="rows", **more)
+        self.assertEqual((self.rows("SELECT * FROM stock"), self.rows("SELECT lsn FROM pgsub_position")), ([(2, "b")], [("0/600",)]))
+        self.assertEqual((self.path / "readers/rows").read_text(), "0/600\n")
+        return [base for base, _ in segments(str(self.path))]
+
+    def test_what_a_new_reader_needs_stays(self) -> None:
+        with mock.patch.object(beginning, "is_followed", lambda _: True):
+            self.assertEqual(self.beside_another_reader(store=self.store(0x300)), [0x300, 0x400, 0x500])
+
+    def test_what_one_needs_that_begins_with_an_older_copy_stays(self) -> None:
+        self.assertEqual(self.beside_another_reader(store=self.store(0x200)), [0, 0x200, 0x300, 0x400, 0x500])
+
+    def test_what_one_needs_that_begins_with_an_export_stays(self) -> None:
+        base = str(self.folder / "base.db")
+        with logged():
+            export(Options(command="export", store=self.store(0x200), into=base), never)
+        self.assertEqual(self.beside_another_reader(base=base), [0x200, 0x300, 0x400, 0x500])
+
+    def test_a_new_reader_of_which_nothing_comes_keeps_nothing(self) -> None:
+        self.take()
+        with self.assertRaisesRegex(FileError, "there is no store"):
+            self.run_it(reader="rows", store=str(self.folder / "none.db"))
+        self.assertEqual(os.listdir(self.path / "readers"), [])
+        self.path.joinpath(self.feed.path.name).unlink()
+        os.rmdir(self.path / "readers")
+        with self.assertRaisesRegex(Passing, "the feed has no segment yet"):
+            self.run_it(reader="rows")
+        # (a follower begins in an empty folder)
+        self.assertEqual(os.listdir(self.path), [])
 
     def test_a_store_with_names_that_sqlite_cant_tell_apart(self) -> None:
         store = Store(str(self.folder / "copy.db"), 0x100)

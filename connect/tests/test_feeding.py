@@ -5,10 +5,12 @@ from __future__ import annotations
 import json
 import os
 import stat
+import subprocess
 import sys
 import time
 from collections.abc import Callable
 from pathlib import Path
+from typing import Any
 from unittest import mock
 
 from feed_text import lsn_text
@@ -82,6 +84,10 @@ class Followed(Case):
         reader.close()
         return found
 
+    def segments(self) -> dict[str, bytes]:
+        """What the segments have."""
+        return {name: Path(self.feed, name).read_bytes() for _, name in segments(self.feed)}
+
     def test_all_that_is_confirmed_is_told(self) -> None:
         self.server.to_send = [begin(0x100, 7), inserted(1), commit(0x100, 0x108), keepalive(0x400)]
         follower = self.fed()
@@ -127,10 +133,11 @@ class Followed(Case):
         known = Feeding(follower.options, self.checkpoint, self.progress, follower.watch.remembered)
         self.assertEqual(known.source(lambda: None), ("77", "shop", "pgsub"))
 
-    def follow_once(self) -> None:
-        self.server.to_send = [begin(0x100, 7), inserted(1), commit(0x100, 0x108)]
+    def follow_once(self, end: int = 0x108) -> None:
+        """Follows up to a commit with this end."""
+        self.server.to_send = [begin(end - 8, 7), inserted(1), commit(end - 8, end)]
         follower = self.fed()
-        self.run_until(follower, lambda: self.confirmed() == 0x108)
+        self.run_until(follower, lambda: self.confirmed() == end)
         assert follower.feeding
         follower.feeding.finish()
         self.unlock()
@@ -190,6 +197,65 @@ class Followed(Case):
         follower = self.fed()
         # (what a killed filter had stored isn't taken for counted)
         self.assertFalse(follower.filter.has_told_all or follower.filter.is_running())
+
+    def test_an_older_store_of_which_the_checkpoint_knows_nothing_more(self) -> None:
+        """Since that isn't there, or was put back with it: the feed itself tells that it has commits that were confirmed."""
+        self.follow_once()
+        checkpoint = Path(self.store + ".connector").read_bytes()
+        self.follow_once(0x208)
+        before = self.segments()
+        self.patch(feeding, "position_in", lambda path: int(Path(path).read_text()))
+        Path(self.store).write_text(str(0x108))
+        for put_back in (None, checkpoint):
+            os.unlink(self.store + ".connector")
+            if put_back:
+                Path(self.store + ".connector").write_bytes(put_back)
+            text = "the store is at 0/108, and the feed .*copy.db.feed has the commit up to 0/208, which was confirmed"
+            with self.assertRaisesRegex(Unfit, text):
+                self.fed()
+            self.unlock()
+            self.assertEqual(self.segments(), before)
+            self.fed(accept=["gap"])
+            self.unlock()
+
+    def test_what_a_right_store_may_lack(self) -> None:
+        """A commit that isn't confirmed, as where its filter was killed; and what a keepalive alone has confirmed."""
+        self.follow_once()
+        self.follow_once(0x208)
+        self.patch(feeding, "position_in", lambda path: int(Path(path).read_text()))
+        for position, confirmed in ((0x108, 0x207), (0x108, 0x108), (0x208, 0x400)):
+            Path(self.store).write_text(str(position))
+            os.unlink(self.store + ".connector")
+            replace_file(f"{self.feed}/{CONFIRMED}", f"{lsn_text(confirmed)}\n".encode())
+            self.fed()
+            self.unlock()
+
+    def test_a_commit_above_the_store_that_cant_be_read(self) -> None:
+        """As a power cut may leave one that isn't confirmed. A segment that begins above the store tells that there were others."""
+        self.follow_once()
+        self.follow_once(0x208)
+        self.patch(feeding, "position_in", lambda path: int(Path(path).read_text()))
+        Path(self.store).write_text(str(0x108))
+        os.unlink(self.store + ".connector")
+        path = Path(f"{self.feed}/{0x108:016X}")
+        path.write_bytes(path.read_bytes()[:-256] + 256 * b"x")
+        self.fed()
+        self.unlock()
+        os.unlink(self.store + ".connector")
+        Path(f"{self.feed}/{0x208:016X}").write_bytes(b"")
+        with self.assertRaisesRegex(Unfit, "has the commit up to 0/208, which was confirmed"):
+            self.fed()
+
+    def test_a_store_that_is_busy_is_waited_for(self) -> None:
+        """Unseen it would be opened with its feed later. None is of no use."""
+        self.patch(feeding, "AGAIN", 0)
+        for ends, position in (((FilterEnded(12, "busy"), FilterEnded(-9, ""), 0x50), 0x50), ((FilterEnded(3, "none"),), None)):
+            other = mock.Mock(start=mock.Mock(side_effect=ends), serve=mock.Mock(side_effect=FilterEnded(0, "")))
+            with mock.patch.object(feeding, "Filter", lambda *_, other=other: other):
+                self.assertEqual(feeding.opened_at(mock.Mock(), lambda: None), position)
+            self.assertEqual((other.start.call_count, other.kill.call_count), (len(ends), len(ends)))
+        self.assertEqual(self.said[0], "warning: the filter ended with status 12: busy: the store is tried again in 0 seconds")
+        self.assertEqual(len(self.said), 2)
 
     def test_a_feed_that_was_moved(self) -> None:
         self.follow_once()
@@ -319,6 +385,42 @@ class Kept(FeedCase):
         self.assertEqual(self.said, [f"warning: the feed can't be looked after: {self.path}/confirmed: No space left on device"])
 
 
+    def test_a_disk_that_is_full_loses_old_segments(self) -> None:
+        self.read("index", 0x250)
+        keeper = self.keeper()
+        with mock.patch("os.replace", side_effect=OSError(28, "No space left on device")):
+            keeper.tend(100.0)
+            # (between two tries nothing fails)
+            keeper.tend(100.3)
+            # (by a keepalive alone)
+            keeper.reached = lambda: Reached(0x700, 0x600)
+            keeper.tend(101.3)
+        self.assertEqual([base for base, _ in segments(str(self.path))], [0x200, 0x300, 0x400, 0x500])
+        self.assertEqual(self.progress.readers, {"index": 0x250})
+        told = [f"warning: the feed can't be looked after: {self.path}/confirmed: No space left on device"]
+        self.assertEqual([it for it in self.said if it.startswith("warning")], told)
+        keeper.tend(103.0)
+        self.assertEqual((read_confirmed(str(self.path)), keeper.causes), (0x700, {}))
+
+    def test_what_is_no_reader_is_passed_over(self) -> None:
+        self.read("index", 0x250)
+        (self.path / "readers/old").mkdir()
+        (self.path / "readers/.nfs0001").write_text("")
+        self.keeper().tend(100.0)
+        self.assertEqual([base for base, _ in segments(str(self.path))], [0x200, 0x300, 0x400, 0x500])
+        self.assertEqual((self.progress.readers, [it for it in self.said if it.startswith("warning")]), ({"index": 0x250}, []))
+
+    def test_a_reader_that_cant_be_read_keeps_all_and_hinders_nothing_else(self) -> None:
+        self.read("index", 0x250)
+        (self.path / "readers/other").write_text("x")
+        keeper = self.keeper()
+        keeper.tend(100.0)
+        keeper.tend(100.3)
+        keeper.tend(120.0)
+        self.assertEqual((len(segments(str(self.path))), read_confirmed(str(self.path))), (6, 0x600))
+        self.assertEqual(self.said, [f"warning: the feed can't be looked after: {self.path}/readers/other: 'x' is not an LSN, as 16/B374D848"])
+
+
 class Tables(FeedCase):
     """Tables that are kept by a process beside the follower."""
 
@@ -368,6 +470,15 @@ class Tables(FeedCase):
         self.assertEqual(self.progress.tables_error, "")
         self.assertTrue(any(it.startswith("info: tables: ") and it.endswith(f"from {lsn_text(0x100)}") for it in self.said), self.said)
 
+    def test_before_they_are_made_they_have_nothing(self) -> None:
+        """What a new reader needs is kept under its name: that isn't what it has."""
+        kept = Beside(self.options, self.progress)
+        Noted(str(self.path), "tables", None, 0o600).note(0x300, is_last=True)
+        with mock.patch.object(kept, "is_alive", lambda: True):
+            self.assertFalse(kept.has(0x300))
+            Path(self.into).write_text("")
+            self.assertTrue(kept.has(0x300))
+
     def test_they_end_where_the_follower_is_killed(self) -> None:
         kept = self.kept()
         self.assertTrue(wait_until(lambda: os.path.exists(self.into) and any("from 0/0" in it for it in self.said)), self.said)
@@ -393,6 +504,22 @@ class Tables(FeedCase):
         self.assertTrue(wait_until(lambda: tried.exists() and len(tried.read_text()) >= 3))
         self.assertEqual(self.progress.tables_error, "")
 
+    def test_a_fork_that_fails_is_tried_again(self) -> None:
+        self.feed.commit(0x100, [insert("1", "x")])
+        popen, failed = subprocess.Popen, list[BlockingIOError]()
+
+        def start(*words: Any, **more: Any) -> Any:
+            if not failed:
+                failed.append(BlockingIOError(11, "Resource temporarily unavailable"))
+                raise failed[0]
+            return popen(*words, **more)
+
+        with mock.patch("subprocess.Popen", start):
+            kept = self.kept()
+            self.assertTrue(wait_until(lambda: os.path.exists(kept.reader) and kept.has(0x100)), self.said)
+        self.assertTrue(kept.is_alive())
+        self.assertIn(f"warning: {self.into}: what follows can't be started now: Resource temporarily unavailable", self.said)
+
     def test_how_it_is_started(self) -> None:
         self.options.init, self.options.mode = "my.sql", 0o640
         options = arguments(words_of(self.options)[3:])
@@ -400,3 +527,11 @@ class Tables(FeedCase):
         self.assertEqual(options.store, self.options.store)
         self.assertEqual((options.reader, options.mode, options.while_input, options.once), ("tables", 0o640, True, False))
         self.assertEqual(options.init, "my.sql")
+
+    def test_modules_where_it_is_started_are_none_of_its_own(self) -> None:
+        """Whoever may write there would have their code run."""
+        for name in ("json", "argparse", "psycopg", "pgsub_connect"):
+            (self.folder / f"{name}.py").write_text(f"raise SystemExit('the {name} of somebody else')")
+        environment = {name: value for name, value in os.environ.items() if not name.startswith("PYTHON")}
+        done = subprocess.run([*words_of(self.options)[:3], "tables"], cwd=self.folder, env=environment, capture_output=True, check=False, timeout=60)
+        self.assertIn("the following arguments are required: --feed, --into", done.stderr.decode())

@@ -13,21 +13,22 @@ import unittest
 from collections.abc import Callable, Iterator, Sequence
 from unittest import mock
 
-from pgsub_connect import following, postgres, snapshots, watching
+from pgsub_connect import following, postgres, server, snapshots, watching
 from pgsub_connect.checkpoint import Checkpoint
 from pgsub_connect.cli import Options
-from pgsub_connect.errors import FilterFault, Passing, ServerError, Unfit
+from pgsub_connect.errors import FilterFault, Passing, ServerError, Unconnected, Unfit
 from pgsub_connect.filtering import Filter, FilterEnded, flushed
 from pgsub_connect.following import Follower
+from pgsub_connect.found import About
 from pgsub_connect.progress import Progress
 from pgsub_connect.remembered import Remembered
 from pgsub_connect.resting import read_request
 from pgsub_connect.server import Server
 from pgsub_connect.snapshots import Snapshots
-from pgsub_connect.texts import lsn_text
+from pgsub_connect.texts import lsn_text, parse_lsn
 
 from .fake_server import FakeServer, Quiet, Row
-from .small_server import SmallServer
+from .small_server import SmallServer, error
 from .vectors import a_catalog, a_table, begin, commit, insert, keepalive
 
 FAKE = os.path.join(os.path.dirname(os.path.abspath(__file__)), "fake_filter.py")
@@ -193,6 +194,27 @@ class Sessions(Case):
             follower, lambda: said in self.said and self.server.sessions >= 2 and self.asks() > 0
         )
 
+    def test_a_publication_that_the_server_passes_over(self) -> None:
+        """From 18 on it leaves out the changes of one that wasn't there yet at their place in the log, and tells that by a warning."""
+        text = 'skipped loading publication "late"'
+        self.server.notices = error(text, "55000", b"N", "LoadPublications") + error("careful", "01000", b"N")
+        self.server.to_send = [begin(0x100, 7), insert(1), commit(0x100, 0x108)]
+        follower = self.follower()
+        follower.options.publication = ["pgsub", "late"]
+        found = f"the server leaves out changes from before a publication was made: {text}"
+        self.run_until(follower, lambda: self.confirmed() == 0x108)
+        self.assertIn(f"warning: found: publication at 0/0: {found}", self.said)
+        self.assertEqual(follower.watch.remembered.found["publication"].texts, {found: About(publication="late", is_missing=True)})
+        self.assertEqual(list(self.checkpoint.read().found), ["publication"])
+        self.checkpoint.write(True, found={})
+        follower = self.follower_again(strict=True)
+        with self.assertRaisesRegex(Unfit, "leaves out changes"):
+            self.run_until(follower, lambda: False)
+
+    def follower_again(self, **options: object) -> Follower:
+        self.patch(Checkpoint, "lock", lambda *_: None)
+        return self.follower(**options)
+
     def asks(self) -> int:
         """How often the server was asked for an answer."""
         return sum(body[-1:] == b"\x01" for _, body in self.server.statuses)
@@ -211,6 +233,53 @@ class Sessions(Case):
 
         self.run_until(self.follower(silence=0.5), holds)
         self.assertEqual(self.server.sessions, 1)
+
+    def test_a_copy_that_takes_longer_than_the_silence(self) -> None:
+        """The server isn't heard meanwhile, so that is none of its silence."""
+        clock, taken = [100.0], list[float]()
+        self.patch(following, "time", mock.Mock(monotonic=lambda: clock[0], sleep=time.sleep))
+
+        def take(snapshots: Snapshots, position: int, tick: Callable[[], None]) -> None:
+            snapshots.asked = False
+            clock[0] += 100.0
+            taken.append(clock[0])
+
+        self.patch(Snapshots, "take", take)
+        self.server.answers_asking = False
+        follower = self.follower(silence=50.0)
+        follower.snapshots.path = self.folder + "/copied"
+        follower.snapshots.asked = True
+        # (passes of the session behind the copy)
+        passes = iter(range(10))
+        shows = follower.noting.show
+        self.patch(follower.noting, "show", lambda: (shows(), next(passes, 0) if taken else 0))
+        self.run_until(follower, lambda: bool(taken) and next(passes, None) is None)
+        self.assertEqual((self.server.sessions, [it for it in self.said if "said nothing" in it]), (1, []))
+
+    def test_a_server_that_hangs_while_a_table_is_added(self) -> None:
+        """Nothing of the session is read meanwhile, so it is asked on another connection."""
+        self.patch(postgres, "LEAST_LIMIT", 0.05)
+        self.patch(postgres, "CONNECT_LIMIT", 0.05)
+        self.patch(server, "QUICK", 0.05)
+        follower = self.follower(silence=30.0)
+        follower.connection = mock.Mock(unsent=False)
+        follower.last_sent, now, self.progress.server_started = time.monotonic(), time.monotonic(), 1000
+        for heard, lets_in, refusal, fails in (
+            (now, False, b"", False), (now - 40.0, True, b"", False), (now - 40.0, False, b"", True), (now - 40.0, True, error("no", "53300"), False),
+        ):
+            follower.heard, self.server.lets_in, self.server.refusal = heard, lets_in, refusal
+            if fails:
+                with self.assertRaisesRegex(ServerError, "the server said nothing for 30 seconds") as raised:
+                    follower.attend()
+                self.assertFalse(raised.exception.is_lasting())
+            else:
+                follower.attend()
+                self.assertLess(time.monotonic() - follower.heard, 20.0)
+        for started, silent in ((1000, "pg_postmaster_start_time"), (999, "")):
+            # (a server that was started since isn't the one that is waited for)
+            self.server.refusal, self.server.silent, follower.heard, self.progress.server_started = b"", silent, now - 40.0, started
+            with self.assertRaisesRegex(ServerError, "said nothing"):
+                follower.attend()
 
     def test_start_replication_that_isnt_answered(self) -> None:
         self.server.silent = "START_REPLICATION"
@@ -372,12 +441,31 @@ class Fits(Case):
         follower.position = 0x900
         self.connect(follower)
         self.assertEqual(self.checkpoint.read().timeline, 2)
+        text = "the server's commits from 0/500 to 0/900 are missing, and the store has others: verify --repair, then --accept history again"
+        self.assertEqual((self.checkpoint.read().found, list(follower.watch.remembered.found["history"].texts)), ({"history": "0/900"}, [text]))
+        self.assertIn(f"warning: found: history at 0/900: {text}", self.said)
         follower.disconnect()
         self.identity[1], self.started = "3", "3000"
         self.brain.answer("TIMELINE_HISTORY", [["x", "1\t0/500\treason\n2\t0/600\treason"]])
         with self.assertRaisesRegex(Unfit, "changes that the server hasn't"):
             self.connect(follower)
         self.assertIn("history", self.checkpoint.read().found)
+
+    def test_a_history_that_is_accepted_confirms_nothing_more(self) -> None:
+        """What a keepalive has confirmed above the position is of the other history: the new one's commits there are to come."""
+        self.identity[1] = "2"
+        for position, left, strict in ((0x900, "0/500", False), (0x500, "0/500", False), (0x900, "0/500", True), (0x900, "0/900", True)):
+            with self.subTest(position=position, left=left, strict=strict):
+                self.brain.answer("TIMELINE_HISTORY", [["x", f"1\t{left}\treason"]])
+                follower = self.follower_alone(accept=["history"], strict=strict)
+                self.checkpoint.write(False, phase="following", timeline=1, started=1, confirmed=0xA00, position=position, found={})
+                follower.position, follower.filter.status = position, b"r" + 4 * (0xA00).to_bytes(8, "big")
+                self.addCleanup(follower.disconnect)
+                found = position > parse_lsn(left)
+                with self.assertRaisesRegex(Unfit if found and strict else ServerError, "are missing" if found and strict else "started anew"):
+                    follower.connect()
+                known = self.checkpoint.read()
+                self.assertEqual((known.timeline, known.confirmed, "history" in known.found), (2, position, found))
 
     def test_plain_text_is_warned_of_once(self) -> None:
         """And not by a run whose copy has warned of it."""
@@ -443,9 +531,9 @@ class Fits(Case):
                     follower.start_replication(connection, self.server_now(1))
                 self.assertTrue(raised.exception.is_lasting())
 
-    def follower_alone(self) -> Follower:
+    def follower_alone(self, **options: object) -> Follower:
         self.patch(Checkpoint, "lock", lambda *_: None)
-        follower = self.follower()
+        follower = self.follower(**options)
         follower.filter.status = b"r" + bytes(33)
         return follower
 
@@ -466,6 +554,23 @@ class Fits(Case):
         with self.assertRaisesRegex(ServerError, "a standby whose log ends") as raised:
             self.follower_alone().check_server(self.server_now(1, standby=True), 0x2000000)
         self.assertFalse(raised.exception.is_lasting())
+
+    def test_a_new_primary_behind_what_a_keepalive_confirmed(self) -> None:
+        """The old one has written what isn't published behind the LSN at which the new one left it: the copy has nothing of that."""
+        self.brain.answer("TIMELINE_HISTORY", [["x", "1\t0/900\treason"]])
+        self.identity[1] = "2"
+        follower = self.follower()
+        self.checkpoint.write(False, phase="following", timeline=1, started=1, confirmed=0x2000000, position=0x500)
+        follower.position, follower.filter.status = 0x500, b"r" + 4 * (0x2000000).to_bytes(8, "big")
+        self.addCleanup(follower.disconnect)
+        with self.assertRaisesRegex(ServerError, "the filter is started anew on the server's new timeline") as raised:
+            follower.connect()
+        self.assertFalse(raised.exception.is_lasting())
+        self.assertEqual((self.checkpoint.read().confirmed, self.checkpoint.read().timeline), (0x900, 2))
+        follower.disconnect()
+        follower.filter.status = b"r" + 4 * (0x500).to_bytes(8, "big")
+        follower.connect()
+        self.assertIn("START_REPLICATION SLOT \"pgsub\" LOGICAL 0/500", self.brain.told("START_REPLICATION")[0])
 
     def test_protocols(self) -> None:
         for version, asked, proto, streams in (
@@ -498,9 +603,20 @@ class Errors(Case):
             self.note(ServerError("no route"), was_connected=False)
 
     def test_lasting_ones(self) -> None:
-        for sqlstate in ("28P01", "28000", "3D000", "42704", "42501", "55000", "0A000", "22023"):
+        for sqlstate in ("3D000", "42704", "42501", "55000", "0A000", "22023"):
             with self.assertRaises(ServerError):
                 self.note(ServerError("x", sqlstate))
+
+    def test_errors_of_connecting(self) -> None:
+        """A password that was just changed, or LDAP that is away, ends a start, and not a follower that was let in before."""
+        for error in (
+            ServerError("x", "28000"), Unconnected("x", "28P01"), Unconnected("x", "28000"), Unconnected("x", "55000"), Unconnected("x", "3D000"),
+        ):
+            self.note(error)
+            self.assertEqual(self.said, ["warning: x"])
+            self.said.clear()
+            with self.assertRaises(ServerError):
+                self.note(error, was_connected=False)
 
     def test_what_cant_be_streamed_comes_whole(self) -> None:
         self.patch(Checkpoint, "lock", lambda *_: None)

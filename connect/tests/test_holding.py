@@ -9,10 +9,11 @@ import json
 import os
 import time
 import unittest
-from collections.abc import Iterator
+from collections.abc import Callable, Iterator
 from unittest import mock
 
 from pgsub_connect import snapshots
+from pgsub_connect.errors import ServerError, Stopped
 from pgsub_connect.following import Follower
 from pgsub_connect.holding import Hold, count_below
 from pgsub_connect.postgres import never
@@ -92,6 +93,23 @@ class Holds(unittest.TestCase):
         self.follower.filter.is_running.return_value = False  # type: ignore[attr-defined]
         self.assertFalse(self.holds())
         self.assertEqual(self.taken(), [0x100])
+
+
+    def test_the_end_is_asked_for_while_it_is_copied(self) -> None:
+        """Then the session ends as at any other time."""
+        self.follower.connection = None
+
+        def take(_: int, tick: Callable[[], None]) -> None:
+            tick()
+            self.follower.stop_asked = True
+            tick()
+            self.fail("the signal isn't heard")
+
+        self.noting.ends.clear()
+        self.follower.snapshots.take.side_effect = take  # type: ignore[attr-defined]
+        self.follower.progress.state = "following"
+        self.assertFalse(self.holds())
+        self.assertEqual(self.follower.progress.state, "following")
 
 
 class Below(unittest.TestCase):
@@ -213,6 +231,47 @@ class Requests(StoreCase):
                 self.copy_it()
                 self.snapshots.wait()
                 self.assertEqual([it for it in os.listdir(self.folder) if it != "copy.db"], [])
+
+    def cut(self, error: Exception, **more: object) -> str | None:
+        """Begins a copy that was asked for, in which an error comes. What the request says then of an error."""
+        with contextlib.ExitStack() as going, mock.patch.object(snapshots, "CHUNK", 4096):
+            if more:
+                going.enter_context(self.asked(**more))
+                self.assertFalse(self.snapshots.is_due(0x130))
+                self.say(held="0/130", point="0/140")
+                self.assertFalse(self.snapshots.is_due(0x130))
+                self.snapshots.hold.passing([keepalive(0x140)], False)
+            else:
+                with open(self.request, "w", encoding="utf-8") as file:
+                    json.dump({"into": self.copy}, file)
+            self.assertTrue(self.snapshots.is_due(0x130))
+            with self.assertRaises(type(error)), logged():
+                self.snapshots.take(0x130, mock.Mock(side_effect=[None, error]))
+            self.assertIsNone(self.snapshots.finishing)
+            self.assertEqual(set(os.listdir(self.folder)), {"copy.db", "copy.db.request"})
+            found = read_request(self.request)
+            os.unlink(self.request)
+        return found.get("error")
+
+    def test_the_end_while_it_is_copied(self) -> None:
+        """Whoever asked is told, and nothing of the copy stays."""
+        cases: tuple[dict[str, object], ...] = ({}, {"hold": 10.0}, {"hold": 10.0, "repair": True})
+        for more in cases:
+            self.assertEqual(self.cut(Stopped(), **more), "the follower is about to end")
+
+    def test_a_session_that_is_lost_while_it_is_copied(self) -> None:
+        """Nothing of it stays, and it is copied again later: the request isn't answered."""
+        self.assertIsNone(self.cut(ServerError("lost")))
+
+    def test_one_that_nobody_waits_for(self) -> None:
+        """Where the session is lost it is taken anew, also one for which there was a signal."""
+        self.snapshots.path, self.snapshots.asked = self.copy, True
+        for error, again in ((ServerError("lost"), True), (Stopped(), False)):
+            self.assertTrue(self.snapshots.is_due(0x130))
+            with mock.patch.object(snapshots, "CHUNK", 4096), self.assertRaises(type(error)), logged():
+                self.snapshots.take(0x130, mock.Mock(side_effect=[None, error]))
+            self.assertEqual(os.listdir(self.folder), ["copy.db"])
+            self.assertEqual(self.snapshots.is_due(0x130), again)
 
     def test_who_asked_was_gone_before(self) -> None:
         self.say()

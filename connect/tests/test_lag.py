@@ -4,6 +4,7 @@ from __future__ import annotations
 
 import json
 import unittest
+from unittest import mock
 
 from pgsub_connect.lag import Lag
 from pgsub_connect.noting import EPOCH, Noting
@@ -54,6 +55,20 @@ class Behind(unittest.TestCase):
         self.lag.note_answer(100.0, 100.0, 110.0, 500)
         self.lag.waits_since = 113.0
         self.assertAlmostEqual(self.lag.seconds(105.0) or 0.0, 2.0)
+
+    def test_what_nobody_looks_at_doesnt_grow(self) -> None:
+        """Without a status file nobody asks how far it is behind."""
+        for now in range(1, 101):
+            self.lag.confirmed = now
+            self.lag.note_answer(float(now), float(now), None, now)
+        self.assertEqual((len(self.lag.asked), self.lag.seconds(101.0)), (1, 0.0))
+        with mock.patch("pgsub_connect.lag.MOST", 3):
+            self.lag = Lag()
+        for now in range(1, 101):
+            self.lag.note_answer(float(now), float(now), None, now)
+        self.assertEqual((len(self.lag.asked), self.lag.seconds(101.0)), (3, None))
+        self.lag.confirmed = 99
+        self.assertEqual(self.lag.seconds(101.0), 2.0)
 
     def test_clocks_never_make_it_negative(self) -> None:
         self.lag.waits_since = 2000.0

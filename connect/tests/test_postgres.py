@@ -9,8 +9,10 @@ import time
 import unittest
 from unittest import mock
 
+from psycopg import pq
+
 from pgsub_connect import postgres
-from pgsub_connect.errors import ServerError, Stopped
+from pgsub_connect.errors import ServerError, Stopped, Unconnected
 from pgsub_connect.postgres import COPY_BOTH, Connection, addresses_of, connect_limit, hosts_of, parameters
 
 from . import small_server
@@ -120,12 +122,46 @@ class Connects(Case):
             self.connect(f"host={self.folder} port=5444 user=u")
         self.assertEqual((raised.exception.sqlstate, raised.exception.is_lasting()), ("", False))
 
+    def test_a_lasting_error_of_one_address_of_a_host(self) -> None:
+        """It is the host's: no other address is tried, and none that can't be reached takes its SQLSTATE away."""
+        self.start(5433, refusal=error("password authentication failed", "28P01"))
+        settings = parameters(self.server.dsn())
+
+        def at(*ports: int) -> object:
+            return mock.patch.object(postgres, "addresses_of", lambda *_: [{**settings, "port": str(it)} for it in ports])
+
+        for ports, sqlstate in (((5444, 5433, 5432), "28P01"), ((5433, 5444), "28P01"), ((5444, 5445), "")):
+            with at(*ports), self.assertRaises(ServerError) as raised:  # type: ignore[attr-defined]
+                self.connect()
+            self.assertEqual((raised.exception.sqlstate, type(raised.exception)), (sqlstate, Unconnected))
+        with at(5444, 5432):  # type: ignore[attr-defined]
+            self.assertEqual(self.connect().raw.port, b"5432")
+        # (another host may let in whom this one doesn't)
+        self.assertEqual(self.connect(self.hosts(5433, 5432)).raw.port, b"5432")
+        with self.assertRaises(ServerError) as raised:
+            self.connect(self.hosts(5433, 5433))
+        self.assertEqual((raised.exception.sqlstate, type(raised.exception)), ("28", Unconnected))
+
     def hosts(self, *ports: int) -> str:
         return f"host={','.join([self.folder] * len(ports))} port={','.join(map(str, ports))} dbname=shop user=u"
 
     def test_several_hosts_find_the_primary(self) -> None:
         self.start(5433, standby=True)
         self.assertEqual(self.connect(self.hosts(5433, 5444, 5432)).raw.port, b"5432")
+
+    def test_a_primary_whose_transactions_are_read_only(self) -> None:
+        if pq.version() >= 140000:
+            self.server.read_only = "on"
+            self.start(5433, standby=True)
+            self.assertEqual(self.connect(self.hosts(5433, 5432)).raw.port, b"5432")
+
+    def test_the_verbosity_is_left_to_a_libpq_that_comes_with_psycopg(self) -> None:
+        """The system's one, of another version, would write into what isn't its own."""
+        raw = mock.Mock(pgconn_ptr=77)
+        for kind, calls in (("python", 1), ("c", 1), ("binary", 0)):
+            with mock.patch.object(pq, "__impl__", kind), mock.patch("ctypes.CDLL") as library:
+                postgres.set_verbosity(raw, 2)
+            self.assertEqual(library.return_value.PQsetErrorVerbosity.call_count, calls, kind)
 
     def test_standbys_alone_are_waited_for(self) -> None:
         """As where the primary restarts: another try may find it."""
@@ -138,8 +174,12 @@ class Connects(Case):
     def test_what_the_user_said_goes_before(self) -> None:
         self.start(5433, standby=True)
         self.assertEqual(self.connect(self.hosts(5433, 5432) + " target_session_attrs=any").raw.port, b"5433")
+        # (libpq 14 knows a primary from a standby, also one whose transactions are read-only)
+        for version, primary in ((140000, "primary"), (130011, "read-write")):
+            with mock.patch("psycopg.pq.version", return_value=version):
+                self.assertEqual([it["target_session_attrs"] for it in hosts_of(parameters("host=a,b"))], [primary] * 2)
         for dsn, wanted in (
-            ("host=a,b", "read-write"), ("host=a,b target_session_attrs=standby", "standby"), ("host=a,b target_session_attrs=any", "any"),
+            ("host=a,b target_session_attrs=standby", "standby"), ("host=a,b target_session_attrs=any", "any"),
         ):
             self.assertEqual([it["target_session_attrs"] for it in hosts_of(parameters(dsn))], [wanted] * 2)
         self.assertEqual(hosts_of(parameters("host=a")), [{"host": "a"}])

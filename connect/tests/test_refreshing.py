@@ -249,6 +249,22 @@ class Mended(Case):
         self.assertEqual([it.what for it in compared(remembered, again)], [CHANGED])
         self.assertEqual(remembered.added(1, remembered.found_of(1)), ["publication"])
 
+    def test_what_is_sent_of_a_table_no_more_stays_found(self) -> None:
+        """Where it has left one publication, and another one has its Inserts alone."""
+        remembered, part = self.remembered, Part(None, None, False)
+        few = dataclasses.replace(PGSUB, oid=901, actions=("insert", "delete", "truncate"))
+
+        def now(lsn: int, *names: str) -> Catalog:
+            table = dataclasses.replace(ONE, parts=dict.fromkeys(names, part))
+            return dataclasses.replace(a_catalog(table, lsn=lsn, names=["pgsub", "few"]), publications={"pgsub": PGSUB, "few": few})
+
+        remembered.begin_copy(now(100, "pgsub", "few"), 100)
+        self.assertEqual([it.what for it in compared(remembered, now(200, "few"))], [CHANGED])
+        self.assertEqual(remembered.added(1, remembered.found_of(1)), [])
+        self.assertEqual(compared(remembered, now(200, "few")), [])
+        self.assertEqual([it.what for it in compared(remembered, now(300, "pgsub", "few"))], [CHANGED])
+        self.assertEqual(remembered.added(1, remembered.found_of(1)), ["publication"])
+
 
 class Refreshes(Case):
     def test_nothing_to_do(self) -> None:

@@ -49,11 +49,12 @@ class Case(unittest.TestCase):
 
 class File(Case):
     def test_as_it_was(self) -> None:
-        shape, part = a_shape([(1, "\u20ac", 4_000_000_001, -1)], "i"), Part("(a > 'x')", (1, 3), True)
+        shape, part = a_shape([(1, "\u20ac", 4_000_000_001, -1)], "i"), Part("(a > 'x')", (1, 3), True, ("16401", "16388/741"))
         odd = a_table(4_000_000_000, 'we"ird \u00e4\n', shape, schema="s.x", part=part)
-        tree = (Partition(10, 0, "public.root", False), Partition(11, 10, "public.p", True, node=77))
+        tree = (Partition(10, 0, "public.root", False), Partition(11, 10, "public.p", True, node=77, since="741"))
         types = {5: {"name": "mood", "6": "sad"}}
-        first = a_catalog(T, odd, lsn=1 << 40, highest=7, partitions=tree, types=types, names=["pgsub", "other"])
+        publication = dataclasses.replace(PGSUB, owner=10, since="742")
+        first = a_catalog(T, odd, lsn=1 << 40, highest=7, publication=publication, partitions=tree, types=types, names=["pgsub", "other"])
         self.remembered.begin_copy(first, 1 << 41)
         self.remembered.look(dataclasses.replace(first, tables={T.oid: dataclasses.replace(T, shape=WIDER)}, lsn=1 << 42))
         self.note(3, "t", 1 << 43)
@@ -62,8 +63,31 @@ class File(Case):
         after = self.again()
         for field in ("catalog", "made", "sent", "names", "held", "found", "told", "left"):
             self.assertEqual(getattr(after, field), getattr(before, field), field)
+        kept = after.catalog and after.catalog.publications["pgsub"]
+        self.assertEqual(kept and (kept.owner, kept.since), (10, "742"))
         self.assertEqual(after.publications(), ["pgsub", "other"])
         self.assertFalse(after.is_urgent or after.is_changed)
+
+    def test_of_an_earlier_version(self) -> None:
+        """What it didn't keep is taken as it is found then; and it reads the file, too, which has what it knows where that was."""
+        part, publication = Part(None, None, False, ("16401",)), dataclasses.replace(PGSUB, owner=10, since="742")
+        root, leaf = a_table(10, "root", kind="p", part=part), Partition(11, 10, "public.p", True, since="741")
+        now = a_catalog(root, publication=publication, partitions=[Partition(10, 0, "public.root", False), leaf])
+        self.remembered.begin_copy(now, 100)
+        written = json.loads(json.dumps(self.remembered.written()))
+        self.assertEqual((written["tables"][0]["parts"], written["partitions"][1]), ({"pgsub": [None, None, False]}, [11, 10, "public.p", True, 0]))
+        del written["attached"], written["tables"][0]["since"], written["publications"]["pgsub"]["since"], written["publications"]["pgsub"]["owner"]
+        self.remembered.restore(written)
+        self.remembered.look(dataclasses.replace(now, lsn=200))
+        self.assertEqual(self.remembered.found, {})
+        for later in (
+            dataclasses.replace(now, lsn=300, tables={10: dataclasses.replace(root, parts={"pgsub": part._replace(since=("16402",))})}),
+            dataclasses.replace(now, lsn=300, partitions={**now.partitions, 11: dataclasses.replace(leaf, since="743")}),
+            dataclasses.replace(now, lsn=300, publications={"pgsub": dataclasses.replace(publication, since="743")}),
+        ):
+            self.remembered.begin_copy(now, 100)
+            self.again().look(later)
+            self.assertEqual(len(self.found("publication")), 1)
 
     def test_mode(self) -> None:
         self.remembered.begin(a_catalog(T))
@@ -184,6 +208,25 @@ class Looks(Case):
         self.remembered.accept(["all"])
         self.again().look(a_catalog(T, lsn=400))
         self.assertEqual(self.remembered.found, {})
+
+    def test_of_tables_whose_rows_were_removed_nothing_is_left(self) -> None:
+        """As of staging tables that come and go, where a publication has all tables."""
+        self.remembered.begin_copy(a_catalog(T), 100)
+        for oid in range(10, 20):
+            self.note(oid, "staging", 1000 * oid)
+            self.again().look(a_catalog(T, lsn=1000 * oid + 1))
+            self.remembered.want([], [oid])
+            self.remembered.added(oid, self.remembered.found_of(oid))
+        again = self.again()
+        self.assertEqual((again.left, list(again.sent), again.wanted, again.unwanted, again.found), (set(), [1], {}, set(), {}))
+        self.assertEqual((self.names(), again.held), ({"public.t": (1, [])}, {1: ("public", "t")}))
+        # (one whose rows stay is told)
+        for oid in (30, 31):
+            self.note(oid, "staging", 1000 * oid)
+            again.look(a_catalog(T, lsn=1000 * oid + 1))
+        again.want([], [31])
+        again.added(31)
+        self.assertEqual((len(self.found("names")), self.names()["public.staging"]), (1, (None, [30])))
 
     def test_many_tables(self) -> None:
         """Each of them is told and can be mended, and then nothing is left."""

@@ -35,9 +35,15 @@ class Files(Quiet):
         self.assertEqual((os.listdir(self.folder), self.said), (["status"], []))
 
     def test_a_link_isnt_followed(self) -> None:
-        os.symlink(self.folder + "/other", self.path + ".new")
+        os.symlink(self.folder + "/other", self.path + ".pgsub-new")
         Replaced(self.path, 0o600).write("x\n")
         self.assertEqual(sorted(os.listdir(self.folder)), ["status"])
+
+    def test_what_others_have_beside_it(self) -> None:
+        with open(self.path + ".new", "w", encoding="utf-8") as file:
+            file.write("mine")
+        Replaced(self.path, 0o600).write("x\n")
+        self.assertEqual(sorted(os.listdir(self.folder)), ["status", "status.new"])
 
     def test_a_cause_is_told_once(self) -> None:
         file = Replaced(self.folder + "/none/status", 0o600)

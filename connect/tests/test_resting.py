@@ -6,6 +6,7 @@ import contextlib
 import fcntl
 import json
 import os
+import shutil
 import sqlite3
 import stat
 import tempfile
@@ -111,6 +112,26 @@ class Held(Case):
         self.assertEqual(self.rows(), [(1, "x"), (2, "y")])
         self.assertEqual({suffix: os.stat(options.store + suffix).st_size for suffix in ("", "-wal")}, before)
         self.assertEqual(self.left() - {"copy.db-wal", "copy.db-shm"}, {"killed.db", "killed.db-wal", "rows.db"})
+
+    def test_a_log_of_a_store_that_is_named_by_a_link(self) -> None:
+        """SQLite has it beside the file that is meant."""
+        self.store.base.execute("PRAGMA journal_mode = WAL")
+        self.store.base.execute("PRAGMA wal_autocheckpoint = 0")
+        self.store.row(1, "2", "y")
+        os.mkdir(self.folder + "/far")
+        for suffix in ("", "-wal"):
+            shutil.copyfile(self.path + suffix, self.folder + "/far/killed.db" + suffix)
+        options = self.options()
+        options.store = self.folder + "/link.db"
+        os.symlink("far/killed.db", options.store)
+        with logged():
+            exporting.run(options, never)
+            self.assertEqual(self.rows(), [(1, "x"), (2, "y")])
+            snapshots = Snapshots(options.store, self.folder + "/snapshot.db", 0.0)
+            snapshots.take(0x130, never)
+            snapshots.wait()
+        with contextlib.closing(sqlite3.connect(self.folder + "/snapshot.db")) as base:
+            self.assertEqual(base.execute("SELECT count(*) FROM held").fetchone(), (2,))
 
     def test_no_rights(self) -> None:
         open(self.path + ".connector", "w").close()
@@ -240,16 +261,65 @@ class Taken(Case):
             self.assertEqual(taking.run(self.options(), never), 0)
         self.assertEqual(self.left(), {"rows.db"})
 
+    def left_after(self, path: str, names: list[str], age: float = 1e9) -> set[str]:
+        """Which of these files, of this age, are left once a name for one of this process was chosen."""
+        for name in names:
+            with open(f"{self.folder}/{name}", "w") as file:
+                os.utime(file.fileno(), (time.time() - age, time.time() - age))
+        own_name(path)
+        return self.left()
+
     def test_what_killed_runs_left(self) -> None:
-        names = [f"rows.db.{GONE}", f"rows.db.{GONE}-journal", f"rows.db.{os.getppid()}", "rows.db.2x", "rows.db.new"]
-        for name in names:
-            open(f"{self.folder}/{name}", "w").close()
-        own_name(self.into)
-        self.assertEqual(self.left(), set(names))
-        for name in names:
-            os.utime(f"{self.folder}/{name}", (0, 0))
-        own_name(self.into)
-        self.assertEqual(self.left(), set(names[2:]))
+        own = f"rows.db.pgsub-{GONE}"
+        gone = [own, own + "-journal", own + ".pgsub-new-wal", own + ".request", f"{own}.pgsub-{GONE}", f"{own}.copied.pgsub-{GONE}-wal"]
+        kept = [f"rows.db.pgsub-{os.getppid()}", f"rows.db.copied.pgsub-{GONE}", f"rows.db2.pgsub-{GONE}"]
+        self.assertEqual(self.left_after(self.into, gone + kept, age=60.0), {*gone, *kept})
+        self.assertEqual(self.left_after(self.into, gone + kept), set(kept))
+
+    def test_what_others_have_beside_it(self) -> None:
+        """Whatever their files' names are like, and whatever the numbers in these."""
+        kept = [
+            f"rows.db.{it}" for it in ("20261101", "20261125093000", GONE, f"{GONE}-journal", "new", "pgsub-2x", "pgsub-20261125093000", "pgsub-1.sqlite")
+        ]
+        self.assertEqual(self.left_after(self.into, kept), set(kept))
+        with logged():
+            self.assertEqual(exporting.run(self.options(), never), 0)
+        self.assertEqual(self.left(), {*kept, "rows.db"})
+
+    def leave_journal(self, path: str) -> None:
+        """Leaves what a transaction on another file has written to its journal, as where that was killed: whoever opens the file at
+        this path next takes it back there."""
+        with contextlib.closing(sqlite3.connect(self.folder + "/x", isolation_level=None)) as base:
+            base.executescript("PRAGMA synchronous = OFF; CREATE TABLE x (a); BEGIN; INSERT INTO x VALUES (1)")
+            shutil.copy(self.folder + "/x-journal", path + "-journal")
+        os.unlink(self.folder + "/x")
+
+    def test_a_journal_of_the_file_that_was_there(self) -> None:
+        """Or of one that a killed process was making."""
+        snapshots = Snapshots(self.path, self.into, 0.0)
+        for path in (self.into, self.into + ".pgsub-new"):
+            self.leave_journal(path)
+            with logged() as told:
+                snapshots.take(0x130, never)
+                snapshots.wait()
+            self.assertEqual(told, [f"{self.into}: the rows at 0/130"])
+            self.assertEqual(self.left(), {"rows.db"})
+            with contextlib.closing(sqlite3.connect(self.into)) as base:
+                self.assertEqual(base.execute("SELECT count(*) FROM held").fetchone(), (1,))
+        os.unlink(self.into)
+        self.leave_journal(self.into)
+        with logged():
+            self.assertEqual(exporting.run(self.options(), never), 0)
+        self.assertEqual(self.rows(), [(1, "x")])
+
+    def test_a_follower_s_copy_beside_files_of_others(self) -> None:
+        kept = ["rows.db.new", "copy.db.export.20261101", "copy.db.export.20261125093000"]
+        self.left_after(self.into, kept)
+        snapshots = Snapshots(self.path, self.into, 0.0)
+        with logged():
+            snapshots.take(0x130, never)
+            snapshots.wait()
+        self.assertEqual(self.left_after(self.path + ".export", kept), {*kept, "rows.db"})
 
 
 if __name__ == "__main__":

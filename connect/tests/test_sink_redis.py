@@ -18,10 +18,14 @@ from feed_text import Column, Line
 from pgsub_connect.cli import Options
 from pgsub_connect.errors import EngineError, FileError, Passing, Stopped, Unfit, UsageError
 from pgsub_connect.exporting import run as export
+from pgsub_connect.feed.noting import Noted
+from pgsub_connect.feed.retaining import Limits, retire
 from pgsub_connect.postgres import never
 from pgsub_connect.sinks import sinking
+from pgsub_connect.sinks.beginning import Base
 from pgsub_connect.sinks.redis_calls import Connection, Said, packed_command, raised
 from pgsub_connect.sinks.redis_disk import Disk
+from pgsub_connect.sinks.redis_engine import Redis
 from pgsub_connect.sinks.trailing import Trail
 
 from .fake_redis import FakeCalls, Stream
@@ -330,6 +334,25 @@ class Begins(RedisCase):
         self.assertEqual(self.server.rows(), stock(("1", "b"), ("2", None)))
         self.assertEqual([it for it in os.listdir(self.folder) if ".base" in it], [])
 
+    def test_what_it_needs_stays_while_it_begins(self) -> None:
+        """Another reader keeps up meanwhile."""
+        readers = self.path / "readers"
+        self.fails(FileError, "there is no store", reader="redis", store=self.store.path + ".none")
+        self.assertEqual(os.listdir(readers), [])
+        self.feed.end()
+        self.take()
+
+        def go_on(engine: Redis, base: Base) -> None:
+            begin(engine, base)
+            Noted(str(self.path), "quick", None, 0o600).note(self.at, is_last=True)
+            retire(str(self.path), Limits(), self.at, 0.0)
+
+        begin = Redis.begin
+        with mock.patch.object(Redis, "begin", go_on):
+            self.run_it(reader="redis", store=self.store.path, table=["stock"])
+        self.assertEqual((self.server.rows(), self.server.at()), (stock(("1", "b"), ("2", None)), "0/330"))
+        self.assertEqual((readers / "redis").read_text(), "0/130\n")
+
     def test_exports_that_dont_do(self) -> None:
         self.fails(FileError, "make it by `pgsub-connect export --text`", base=self.export(False))
         self.fails(FileError, "it is no export", base=self.store.path)
@@ -433,6 +456,19 @@ class Ends(RedisCase):
             self.run_it(reader="redis")
         self.assertEqual((self.path / "readers/redis").read_text(), "0/100\n")
 
+    def test_a_log_that_isnt_synced_is_rejected(self) -> None:
+        """What counts as on the disk may not be there, and segments would go."""
+        self.take(insert("1", "a"))
+        self.server.syncs[1] = b"no"
+        with mock.patch("pgsub_connect.sinks.redis_disk.LATE", -10.0):
+            self.fails(EngineError, "appendfsync is no, so it is never known what its disk has", reader="redis")
+        self.assertEqual((self.server.rows(), (self.path / "readers").exists()), ({}, False))
+        self.run_it()
+        self.server.info = b"aof_enabled:0\r\n"
+        self.run_it(reader="redis")
+        self.server.info, self.server.syncs = b"aof_enabled:1\r\naof_last_write_status:ok\r\n", Said("NOPERM no permissions")
+        self.assertRegex(self.run_it(reader="redis")[0], "doesn't tell whether it syncs its log .NOPERM")
+
     def test_urls(self) -> None:
         for words, text in (
             ({"stream": "s"}, "--stream is for NATS"), ({"url": "nats://h", "form": "streams"}, "--as is for Redis"),
@@ -466,7 +502,7 @@ class OnTheDisk(unittest.TestCase):
 
     def moment(self, info: str, save: bytes = b"3600 1", now: float = 1010.0) -> float:
         server = mock.Mock(wraps=None)
-        server.run.return_value = [info.replace(" ", "\r\n").encode(), [b"1000", b"0"], [b"save", save]]
+        server.run.return_value = [info.replace(" ", "\r\n").encode(), [b"1000", b"0"], [b"save", save], [b"appendfsync", b"everysec"]]
         return Disk(server).moment(now) - now
 
     def test_moments(self) -> None:
@@ -477,9 +513,23 @@ class OnTheDisk(unittest.TestCase):
         self.assertEqual(self.moment("aof_enabled:0 rdb_last_save_time:900 rdb_last_bgsave_time_sec:-1"), 900 - 2 - 1000)
         self.assertGreater(self.moment("aof_enabled:0", b""), 0)
 
+    def test_a_log_that_isnt_synced_any_more(self) -> None:
+        info, syncs = b"aof_enabled:1\r\naof_last_write_status:ok", [b"appendfsync", b"no"]
+        server = mock.Mock(where="Redis")
+        server.run.side_effect = lambda _: [info, [b"1000", b"0"], [b"save", b""], syncs]
+        disk, told = Disk(server), list[str]()
+        with mock.patch("pgsub_connect.log.warning", told.append):
+            self.assertEqual([disk.moment(1000.0), disk.moment(1001.0)], [0.0, 0.0])
+            self.assertEqual(told, ["Redis: appendfsync is no, so it isn't known any more what its disk has: the reader's LSN stays"])
+            syncs[1] = b"everysec"
+            # (what was written until then is synced a second later)
+            self.assertEqual([disk.moment(1002.0), disk.moment(1005.0)], [0.0, 1002.0])
+            syncs[:] = [b"no-appendfsync-on-rewrite", b"yes"]
+            self.assertEqual((disk.moment(1006.0), len(told)), (0.0, 2))
+
     def test_not_asked_too_often(self) -> None:
         calls = mock.Mock()
-        calls.run.return_value = [b"aof_enabled:0", [b"1", b"0"], [b"save", b""]]
+        calls.run.return_value = [b"aof_enabled:0", [b"1", b"0"], [b"save", b""], []]
         disk = Disk(calls)
         for at in range(10):
             disk.note(at)

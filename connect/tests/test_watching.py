@@ -72,6 +72,16 @@ class Found(Case):
             self.compare(self.watch("all", strict=True), a_catalog(dataclasses.replace(T, shape=WIDER), U, lsn=300))
         self.assertEqual((said, self.progress.found), ([], {}))
 
+    def test_a_gap_is_accepted_with_its_finding(self) -> None:
+        """That is called `slot`: the two words are one. So a strict start goes on."""
+        for word in ("gap", "slot", "all"):
+            with logged():
+                self.watch().note("slot", 200, "somebody else moved the slot")
+            self.assertEqual(list(self.checkpoint.read().found), ["slot"])
+            with logged() as said:
+                self.watch(word, strict=True)
+            self.assertEqual((said, self.checkpoint.read().found, Remembered(self.store).found), ([], {}, {}), word)
+
     def test_strict(self) -> None:
         with logged(), self.assertRaisesRegex(Unfit, "(?s)--accept.*publication: table public.u .2. joined"):
             self.compare(self.watch(strict=True), a_catalog(T, U, lsn=200))
@@ -213,6 +223,20 @@ class Words(Case):
         self.assertEqual(self.publications("--publication", "c"), ["c"])
         self.remembered.remove()
         self.assertEqual(self.publications(), ["pgsub"])
+
+    def test_the_publications_of_inserts_are_followed_again(self) -> None:
+        """The first run has made them beside those that are named, and its words are given again."""
+        self.remembered.begin(a_catalog(names=["shop", "shop_inserts", "other"]))
+        self.remembered.save()
+        keyless = ("--create", "--keyless", "inserts")
+        for words, names in (
+            (("--publication", "shop", *keyless), ["shop", "shop_inserts"]),
+            (("--publication", "shop", "--publication", "other", *keyless), ["shop", "shop_inserts", "other"]),
+            (("--publication", "shop", "--publication", "shop_inserts", *keyless), ["shop", "shop_inserts"]),
+            (("--publication", "shop"), ["shop"]), (keyless, ["shop", "shop_inserts", "other"]),
+        ):
+            self.assertEqual(self.publications(*words), names, words)
+        self.assertEqual(self.publications("--publication", "pgsub", *keyless), ["pgsub"])
 
     def test_names(self) -> None:
         with mock.patch("builtins.print") as said:

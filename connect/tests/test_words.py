@@ -67,6 +67,14 @@ class Words(Quiet):
         options = arguments("record --record f --create temporary --table t --transactions 3".split())
         self.assertEqual((options.create, options.table, options.transactions, options.streaming), ("temporary", ["t"], 3, False))
 
+    def test_each_help_tells_the_exit_status(self) -> None:
+        for name, parser in cli.parsers_of_commands()[1].items():
+            self.assertRegex(parser.format_help(), r"(?i)\bexit status\b", name)
+
+    def test_limits_in_the_help(self) -> None:
+        help_text = " ".join(cli.parsers_of_commands()[1]["follow"].format_help().split())
+        self.assertIn("(default: what may be buffered, at most 2147483643)", help_text)
+
     def settled(self, *words: str) -> Options:
         options = arguments(["follow", "--store", "/nonexistent/s", *words])
         settle_options(options)
@@ -207,13 +215,18 @@ class Compares(Quiet):
         self.assertEqual([it for it in self.server.commands if not it.startswith("SELECT")], [], "nothing is changed, and nothing locked")
 
     def test_different(self) -> None:
+        """What was added to the publication, or dropped, is no reason to stay down; what isn't published would stay so."""
         for tables, text in (
-            (("t",), "published too: public.u"), (("t", "public.u", "v"), "not published: public.v"), (("t", "public.u", "w"), "no such table: w"),
+            (("t",), "published too: public.u"), (("t", "public.u", "w"), "no such table: w"), (("w",), "no such table: w; published too: public.t, public.u"),
         ):
+            self.compare(*tables)
+            self.assertEqual(self.said.pop(), f"warning: --table isn't what is published, and what is published is followed: {text}")
+        for tables, text in ((("t", "public.u", "v"), "not published: public.v"), (("t", "v"), "not published: public.v; published too: public.u")):
             with self.assertRaisesRegex(ServerError, f"--table isn't what the store follows: {text}") as raised:
                 self.compare(*tables)
             self.assertTrue(raised.exception.is_lasting())
             self.assertEqual(self.server.opened, self.server.closed)
+        self.assertEqual(self.said, [])
 
     def test_tables_that_were_left_out(self) -> None:
         self.server.answer("SELECT DISTINCT c.oid, n.nspname, c.relname", [["3", "public", "v"]])

@@ -7,18 +7,21 @@ import dataclasses
 import os
 import sqlite3
 import urllib.parse
+from collections.abc import Iterator
 from typing import TYPE_CHECKING
 
 from ..errors import FileError, Passing, Unfit
 from ..exporting import run as export
+from ..naming import POSITION
 from ..placing import placed
 from ..postgres import Check
-from ..resting import own_name
+from ..resting import is_followed, own_name
 from ..snapshots import copy, remove
 from ..stored import APPLICATION_AT, MAGIC, is_export
-from ..texts import lsn_text
+from ..texts import lsn_text, parse_lsn
+from .noting import Noted
 from .polling import Poll
-from .reading import Reader
+from .reading import Reader, read_confirmed, segments
 from .rowsfile import APPLICATION, prepare
 
 if TYPE_CHECKING:
@@ -45,6 +48,34 @@ def check_file(path: str) -> None:
         raise FileError(f"--into {path}: there is no folder {folder}")
     if os.path.lexists(path) and not (os.path.isfile(path) and is_tables(path)):
         raise FileError(f"{path} is there and has no tables that follow a feed: remove it, or name another file")
+
+
+@contextlib.contextmanager
+def keeping(options: Options) -> Iterator[None]:
+    """Keeps the segments that a new reader with a name needs, while its first rows are made. Where that fails its name goes again."""
+    bases = [base for base, _ in segments(options.feed)] if options.reader else []
+    if not options.reader or not bases:
+        yield
+        return
+    at, noted = begins_at(options), Noted(options.feed, options.reader, None, options.mode)
+    was_there = os.path.exists(noted.path)
+    noted.note(max((it for it in bases if it <= at), default=bases[0]), is_last=True)
+    try:
+        yield
+    except BaseException:
+        if not was_there:
+            remove(noted.path)
+        raise
+
+
+def begins_at(options: Options) -> int:
+    """An LSN that a new reader's first rows aren't below, 0 where none is known."""
+    if options.base:
+        with contextlib.suppress(OSError, sqlite3.Error, TypeError, ValueError), contextlib.closing(opened(options.base)) as db:
+            return parse_lsn(db.execute(f"SELECT lsn FROM {POSITION}").fetchone()[0])
+        return 0
+    # (the copy that a follower makes has all that is confirmed)
+    return read_confirmed(options.feed) or 0 if options.store and is_followed(options.store) else 0
 
 
 def make(options: Options, check: Check) -> None:

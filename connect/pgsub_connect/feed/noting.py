@@ -50,7 +50,7 @@ class Noted:
 def sync_log(rows: str) -> None:
     """Has the disk have what is in the log of a file."""
     with contextlib.suppress(FileNotFoundError):
-        file = os.open(rows + LOG, os.O_RDONLY | os.O_CLOEXEC)
+        file = os.open(os.path.realpath(rows) + LOG, os.O_RDONLY | os.O_CLOEXEC)
         try:
             os.fsync(file)
         finally:

@@ -3,6 +3,9 @@
 A segment's name is its base, in 16 hexadecimal digits. A reader has an LSN of its own: it passes over the commits that don't end above
 it, and the first that it takes must be the one after it. A commit whose bytes aren't all there yet is waited for. Where the feed was
 written anew from some commit on, the reader goes on from its LSN.
+
+A crash may cut off what isn't confirmed. The server sends its commits again, each with the same end; but the connector's own, of rows that
+are added or repaired, end at an LSN that doesn't come again. So these are taken once they are confirmed.
 """
 
 from __future__ import annotations
@@ -10,9 +13,11 @@ from __future__ import annotations
 import contextlib
 import os
 import re
+import time
 from collections.abc import Iterator
 
 from ..errors import FileError, Unfit
+from ..replacing import XID
 from ..texts import lsn_text, parse_lsn
 from .decoding import COMMIT_SIZE, HEAD_SIZE, Decoder, read_commit, read_head, shown
 from .faults import COMMIT_LINE, COUNTS, NOT_A_FEED, ORDER, OTHER_FEED, Damaged
@@ -21,6 +26,8 @@ from .parts import Closing, Commit, Cursor, Head, Part
 NAME = re.compile(r"[0-9A-Fa-f]{16}")
 CONFIRMED = "confirmed"
 CHUNK = 1 << 20
+# How long a file system may give one time to two changes of a folder, in seconds.
+COARSE = 2.5
 
 
 def segments(folder: str) -> list[tuple[int, str]]:
@@ -45,6 +52,24 @@ def read_confirmed(folder: str) -> int | None:
         raise FileError(f"{path}: {error.strerror}") from None
     except ValueError as error:
         raise FileError(f"{path}: {error}") from None
+
+
+class Listing:
+    """The segments of a feed, of which there may be many: listed where the folder has another time, and once more a while after that."""
+
+    def __init__(self, folder: str) -> None:
+        self.folder = folder
+        self.changed, self.again = -1, 0.0
+        self.found: list[tuple[int, str]] = []
+
+    def segments(self) -> list[tuple[int, str]]:
+        with contextlib.suppress(OSError):
+            changed, now = os.stat(self.folder).st_mtime_ns, time.monotonic()
+            if changed != self.changed or now >= self.again:
+                self.again = now + COARSE if changed != self.changed else float("inf")
+                self.found, self.changed = segments(self.folder), changed
+            return self.found
+        return segments(self.folder)
 
 
 class Segment:
@@ -132,6 +157,7 @@ class Reader:
         self.folder, self.at = folder, at
         self.segment: Segment | None = None
         self.head: Head | None = None
+        self.listing = Listing(folder)
         self.decoder = Decoder()
         # where the next commit begins, and where the one before it ends
         self.offset = self.last = 0
@@ -171,10 +197,17 @@ class Reader:
         return self.step()
 
     def step(self) -> Commit | None:
+        confirmed = 0
         while (segment := self.segment or self.find()) is not None:
             found = segment.commit(self.offset)
             if isinstance(found, Commit) and self.offset + COMMIT_SIZE + found.bytes <= segment.size():
-                if self.takes(segment, found):
+                if found.xid == XID and found.end > max(confirmed, self.at or 0):
+                    confirmed = read_confirmed(self.folder) or 0
+                    self.look_after(segment)
+                    if confirmed < found.end:
+                        return None
+                    # (its line is read again: another commit may have been confirmed in its place)
+                elif self.takes(segment, found):
                     return found
             elif not self.go_on(segment, found if isinstance(found, Closing) else None):
                 self.look_after(segment)
@@ -234,15 +267,21 @@ class Reader:
         if closing and closing.last != self.last:
             text = f"the segment says that it ends at {lsn_text(closing.last)}, and its last commit at {lsn_text(self.last)}"
             raise Damaged(ORDER, segment.path, self.offset, text)
-        for base, name in segments(self.folder):
-            if base == self.last and base != segment.base:
-                return self.open(base, name) is not None
-            if base > self.last and closing:
-                raise Unfit(
-                    f"{self.folder}: the segment that begins at {lsn_text(self.last)} is gone, and the next one begins at"
-                    f" {lsn_text(base)}: commits are missing. Begin anew from an export"
-                )
+        if self.last != segment.base and (name := self.named(self.last)):
+            return self.open(self.last, name) is not None
+        # (a segment is looked for by its name as long as others may be begun: there may be many, and this is asked again and again)
+        after = [base for base, _ in self.listing.segments()[-1:] if base > self.last] if closing else []
+        if after and not self.named(self.last):
+            base = min(it for it, _ in self.listing.segments() if it > self.last)
+            raise Unfit(
+                f"{self.folder}: the segment that begins at {lsn_text(self.last)} is gone, and the next one begins at"
+                f" {lsn_text(base)}: commits are missing. Begin anew from an export"
+            )
         return False
+
+    def named(self, base: int) -> str | None:
+        """The name of the segment that begins there, None where there is none."""
+        return next((it for it in (f"{base:016X}", f"{base:016x}") if os.path.exists(os.path.join(self.folder, it))), None)
 
     def look_after(self, segment: Segment) -> None:
         """Lets go of a segment that was replaced, is gone, or was cut before where the reader is: it may end there now."""

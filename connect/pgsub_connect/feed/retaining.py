@@ -43,12 +43,12 @@ class Retired:
 
 
 def read_readers(folder: str) -> dict[str, int]:
-    """The LSN of each reader, by name."""
+    """The LSN of each reader, by name. What else may be there is passed over: folders, and what an NFS leaves of a file in use."""
     path, found = os.path.join(folder, READERS), dict[str, int]()
-    with contextlib.suppress(FileNotFoundError):
-        for name in os.listdir(path):
-            if not name.endswith(".new"):
-                found[name] = read_lsn(os.path.join(path, name))
+    with contextlib.suppress(FileNotFoundError), os.scandir(path) as there:
+        for it in there:
+            if not it.name.startswith(".") and not it.name.endswith(".new") and it.is_file():
+                found[it.name] = read_lsn(it.path)
     return found
 
 

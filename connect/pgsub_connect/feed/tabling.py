@@ -16,7 +16,7 @@ from ..postgres import Check
 from ..texts import lsn_text
 from .applying import Applier
 from .back import walk
-from .beginning import check_file, make
+from .beginning import check_file, keeping, make
 from .faults import Damaged
 from .initial import Init
 from .noting import Noted
@@ -42,7 +42,8 @@ PASSING = ("is locked", "is full")
 
 
 def plain_name(text: str) -> str:
-    if not text or text.startswith(".") or os.sep in text:
+    # (what ends so is a file that is being written)
+    if not text or text.startswith(".") or text.endswith(".new") or os.sep in text:
         raise argparse.ArgumentTypeError(f"{text!r} is no name for a file")
     return text
 
@@ -141,7 +142,8 @@ def keep(options: Options, check: Check) -> int:
     """Keeps the tables of a file. Returns its LSN at the end."""
     init = Init(options.init) if options.init else None
     if not os.path.exists(options.into):
-        make(options, check)
+        with keeping(options):
+            make(options, check)
     rows, is_orderly = Rows(options.into, init), False
     try:
         check_chosen(options, rows)

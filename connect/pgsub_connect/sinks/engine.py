@@ -50,6 +50,9 @@ class Engine(Protocol):
     def look(self) -> None:
         """Looks, while there is nothing to take, whether it can go on."""
 
+    def check_disk(self) -> None:
+        """Rejects settings under which it is never known what the engine's disk has."""
+
     def safe(self) -> int | None:
         """An LSN whose rows the engine has even if it is lost just now and comes back from its disk; None where that isn't known."""
 

@@ -154,6 +154,10 @@ class Nats:
         else:
             self.stream.wire.receive(0.0)
 
+    def check_disk(self) -> None:
+        # (a server doesn't tell how often it syncs)
+        pass
+
     def safe(self) -> int | None:
         return self.trail.pass_to(time.monotonic() - SYNCED)
 

@@ -5,6 +5,8 @@ from __future__ import annotations
 import time
 from typing import Any
 
+from .. import log
+from ..errors import EngineError
 from .redis_calls import Calls, Said
 from .trailing import Trail
 
@@ -12,6 +14,7 @@ from .trailing import Trail
 LATE, WRONG = 3.0, 2.0
 # How often it is asked, in seconds.
 OFTEN = 1.0
+INFO, SYNCS = ("INFO", "persistence"), ("CONFIG", "GET", "*appendfsync*")
 
 
 class Disk:
@@ -20,6 +23,18 @@ class Disk:
     def __init__(self, calls: Calls) -> None:
         self.calls, self.asked = calls, 0.0
         self.trail = Trail()
+        # when it had a log last that it doesn't sync
+        self.unsynced = 0.0
+
+    def check(self) -> None:
+        """Rejects a log that isn't synced: it is never known what of it the disk has."""
+        info, syncs = self.calls.run([INFO, SYNCS])
+        if isinstance(info, Said) or fields(info).get("aof_enabled") != "1":
+            return
+        if isinstance(syncs, Said):
+            log.warning(f"{self.calls.where}: it doesn't tell whether it syncs its log ({syncs}): that is taken for appendfsync everysec")
+        if text := unsynced(syncs):
+            raise EngineError(f"{self.calls.where}: {text}, so it is never known what its disk has: say appendfsync everysec, or no --reader")
 
     def note(self, at: int) -> None:
         self.trail.note(at, time.time())
@@ -33,18 +48,31 @@ class Disk:
 
     def moment(self, now: float) -> float:
         """All that was written before is on the disk."""
-        info, clock, saves = self.calls.run([("INFO", "persistence"), ("TIME",), ("CONFIG", "GET", "save")])
+        info, clock, saves, syncs = self.calls.run([INFO, ("TIME",), ("CONFIG", "GET", "save"), SYNCS])
         if isinstance(info, Said) or isinstance(clock, Said):
             return 0.0
         found = fields(info)
         if found.get("aof_enabled") == "1":
-            return now - LATE if found.get("aof_last_write_status") == "ok" else 0.0
+            self.note_syncs(unsynced(syncs), now)
+            return now - LATE if found.get("aof_last_write_status") == "ok" and now - self.unsynced > LATE else 0.0
         if not isinstance(saves, Said) and not any(saves[1:]):
             # (it keeps nothing, so after its end all begins anew)
             return now + 1
         took = max(0.0, float(found.get("rdb_last_bgsave_time_sec", "0")))
         ahead = int(clock[0]) - now
         return float(found.get("rdb_last_save_time", "0")) - took - WRONG - ahead
+
+    def note_syncs(self, text: str, now: float) -> None:
+        if text and not self.unsynced:
+            log.warning(f"{self.calls.where}: {text}, so it isn't known any more what its disk has: the reader's LSN stays")
+        self.unsynced = now if text else self.unsynced if now - self.unsynced <= LATE else 0.0
+
+
+def unsynced(syncs: Any) -> str:
+    """The setting by which a log isn't synced, "" where it is, or where that isn't told."""
+    found = {} if isinstance(syncs, Said) else dict(zip(syncs[::2], syncs[1::2]))
+    wrong = {b"appendfsync": b"no", b"no-appendfsync-on-rewrite": b"yes"}
+    return next((f"{name.decode()} is {value.decode()}" for name, value in wrong.items() if found.get(name) == value), "")
 
 
 def fields(info: Any) -> dict[str, str]:

@@ -240,6 +240,9 @@ class Redis:
             self.check_owner(found)
             self.check_lsn(found[0], self.lsn)
 
+    def check_disk(self) -> None:
+        self.disk.check()
+
     def safe(self) -> int | None:
         return self.disk.safe()
 

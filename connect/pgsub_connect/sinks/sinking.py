@@ -10,6 +10,7 @@ from typing import TYPE_CHECKING
 
 from .. import log
 from ..errors import Passing, Stopped, UsageError
+from ..feed.beginning import keeping
 from ..feed.faults import Damaged
 from ..feed.noting import Noted
 from ..feed.parts import Commit
@@ -191,8 +192,11 @@ def engine_of(options: Options, check: Check) -> Engine:
 def keep(options: Options, engine: Engine, check: Check) -> None:
     """Keeps what a feed has. A signal ends it."""
     wanted = wanted_of(options, check)
-    if not engine.open(wanted):
-        with base_of(options, wanted.chosen, check) as base:
+    is_there = engine.open(wanted)
+    if options.reader:
+        engine.check_disk()
+    if not is_there:
+        with keeping(options), base_of(options, wanted.chosen, check) as base:
             engine.begin(base)
     sink = Sink(options, engine, check)
     if not options.once:
