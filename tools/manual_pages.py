@@ -88,12 +88,12 @@ def roff_of(text: str) -> list[str]:
     return lines
 
 
-def page_of(name: str, helps: list[Help], date: str, version: str, other: str) -> str:
-    """A manual page. Raises Unreadable where an option of the helps isn't in it."""
+def page_of(name: str, helps: list[Help], date: str, version: str) -> str:
+    """A manual page, which names the others. Raises Unreadable where an option of the helps isn't in it."""
     lines = [f'.TH {name.upper()} 1 "{date}" "{version}"', ".SH NAME", rf"{escaped(name)} \- {ABOUT[name]}"]
     for it in helps:
         lines += [f".SH {' '.join([name, *it.words]).upper() if it.words else 'DESCRIPTION'}", *roff_of(it.text)]
-    lines += [".SH SEE ALSO", rf"\fB{escaped(other)}\fR(1)"]
+    lines += [".SH SEE ALSO", ", ".join(rf"\fB{escaped(it)}\fR(1)" for it in ABOUT if it != name)]
     text = "\n".join(lines) + "\n"
     plain = text.replace(r"\-", "-").replace(r"\fB", "")
     for it in helps:
@@ -104,5 +104,4 @@ def page_of(name: str, helps: list[Help], date: str, version: str, other: str) -
 
 def make(command: Path, name: str, date: str, version: str) -> str:
     first = ask(command, [])
-    other = next(it for it in ABOUT if it != name)
-    return page_of(name, [first, *(ask(command, [it]) for it in subcommands(first.text))], date, version, other)
+    return page_of(name, [first, *(ask(command, [it]) for it in subcommands(first.text))], date, version)

@@ -11,13 +11,13 @@ from pathlib import Path
 
 from . import texts
 
-# How many words each document may have, and all of docs/ together. What is left of the whole is for later parts.
+# How many words each document may have, and all of docs/ together.
 SHARES = {
     "README.md": 800,
     "docs/ARCHITECTURE.md": 1700,
     "docs/PROOFS.md": 3000,
     "docs/PROTOCOL.md": 3000,
-    "docs/OPERATING.md": 2800,
+    "docs/OPERATING.md": 2600,
     "docs/DECISIONS.md": 1300,
     "docs/PERFORMANCE.md": 1000,
     "docs/CONTRIBUTING.md": 1200,
@@ -49,6 +49,12 @@ CLAUSES = (
     "pgsub_core::left_is_start.start",
     "pgfollow::follow_live.followed",
     "pgrecovery::crashes_lose_nothing_confirmed.followed",
+    "pgruns::follow_file.ran",
+    "pgruns::follow_file.unopened",
+    "pgruns::apply_to_file.ran",
+    "pgruns::apply_to_file.unopened",
+    "pgruns::dump_file.ran",
+    "pgruns::dump_file.unopened",
 )
 # commands whose options aren't ours
 FOREIGN = ("rt", "psql", "git", "apt", "apt-get", "systemctl", "createdb", "journalctl", "pip", "sqlite3", "docker", "mypy", "python3", "sudo")
@@ -114,11 +120,6 @@ def check_words(tree: Tree) -> tuple[list[str], list[str]]:
     return wrong, told
 
 
-def places_to_fill(tree: Tree) -> list[str]:
-    """The comments that stand for a text which is still to come."""
-    return [f"{file}:{number}: {line.strip()}" for file in tree.documents() for number, line in enumerate(tree.text(file).splitlines(), 1) if "<!-- fill:" in line]
-
-
 def is_elsewhere(target: str) -> bool:
     return bool(re.match(r"[a-z][a-z0-9+.-]*:", target))
 
@@ -165,8 +166,6 @@ def patterns_of(tree: Tree, token: str) -> list[str] | None:
 def check_paths(tree: Tree, file: str) -> list[str]:
     wrong = []
     for line in texts.lines_of(tree.text(file)):
-        if line.is_code:
-            continue
         for found in PATH.finditer(URL.sub("", line.text)):
             patterns = patterns_of(tree, found[0])
             if patterns and not any(tree.has(it) for it in patterns):
@@ -180,7 +179,7 @@ def sources_of(tree: Tree, command: str) -> list[str] | None:
     if name == "pgsub":
         return [it for it in tree.files if it.startswith("crates/pgcommand/src/") or it == "pgsub"]
     if name in ("pgsub-connect", "pgsub-feed"):
-        return [it for it in tree.files if it.startswith(("connect/pgsub_connect/", "tools/connector/")) or Path(it).name == name]
+        return [it for it in tree.files if it.startswith("connect/pgsub_connect/") or Path(it).name == name]
     if command.startswith("bench/"):
         return [it for it in tree.files if it.startswith("bench/") and not it.endswith(".md")]
     if name == "install" and "install" in tree.files:

@@ -5,6 +5,7 @@ from collections import Counter
 
 import feed_replay
 import feed_text
+from feed_folder import Folder
 from stores.contents import make_tables
 
 from . import history
@@ -155,9 +156,17 @@ def write_store(path, contents):
 class Feeding(Reader):
     """A subscriber that writes the feed of what it stores."""
 
-    def __init__(self, version, writer):
+    # what it keeps the feed in
+    folder = Folder
+
+    def __init__(self, version, writer=None):
         super().__init__(version)
         self.writer, self.about, self.lines = writer, None, []
+
+    def restarted(self):
+        new = super().restarted()
+        new.writer = self.writer
+        return new
 
     def step(self, letter, fields, length):
         if letter in b"Cc":
@@ -167,8 +176,11 @@ class Feeding(Reader):
     def commit(self, xid, end):
         before, self.lines = self.position, []
         super().commit(xid, end)
-        if self.position > before:
-            self.writer.commit(end, self.lines, self.about)
+        if self.writer and self.position > before:
+            self.tell(end)
+
+    def tell(self, end):
+        self.writer.commit(end, self.lines, self.about)
 
     def apply(self, tables, it):
         lines = lines_of(tables, it)

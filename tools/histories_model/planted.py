@@ -3,7 +3,10 @@
 They are the model's reader with a bug, in place of the program.
 """
 
+import feed_folder
+
 from . import tables as model
+from .followed import Followed, exit_status
 from .reader import Reader
 from .recording import LONGEST, BadLine, sessions_of
 from .shown import Shown
@@ -242,11 +245,12 @@ class Planted:
 
     def __init__(self, reader, folder):
         self.reader, self.folder = reader, folder
-        self.files, self.stores = {}, {}
+        self.files, self.stores, self.feeds, self.beside = {}, {}, {}, {}
 
     def path_of(self, name):
-        """The name of a store that isn't there yet."""
-        self.stores.pop(name, None)
+        """The name of a store or of a feed that isn't there yet."""
+        for them in (self.stores, self.feeds, self.beside):
+            them.pop(name, None)
         return name
 
     def file(self, name, content):
@@ -260,6 +264,36 @@ class Planted:
     def store_findings(self, _store, _wanted):
         """Nothing: there is no file."""
         return []
+
+    def saved(self, store):
+        return self.stores.get(store)
+
+    def put_back(self, store, saved):
+        self.stores[store] = saved
+
+    def put_beside(self, feed, name, content):
+        segments = self.feeds[feed].segments if feed in self.feeds else {}
+        base = int(name, 16) if len(name) == 16 else None
+        if base in segments:
+            segments[base].text = content
+        else:
+            self.beside.setdefault(feed, {})[name] = content
+
+    def feed_findings(self, feed, wanted):
+        found = self.feeds[feed].files() if feed in self.feeds else {}
+        return feed_folder.differences({**found, **self.beside.get(feed, {})}, wanted)
+
+    def open_feed(self, reader, words):
+        """Opens the feed that a command keeps."""
+        told = dict(it[len("--feed") :].split("=", 1) for it in words if it.startswith("--feed") and "=" in it)
+        path = told.pop("") if "" in told else words[words.index("--feed") + 1] if "--feed" in words else None
+        reader.writer = None
+        if path:
+            numbers = {name: int(told.pop(name)) for name in [*told] if name.startswith("-segment")}
+            asked = {name[1:].replace("-", "_"): value for name, value in {**told, **numbers}.items()}
+            folder = self.feeds.get(path) or reader.folder()
+            folder.open(reader.position, feed_folder.Asked(**asked))
+            self.feeds[path] = reader.writer = folder
 
     def reader_for(self, words):
         """The reader that a command begins with: over its store, if it names one."""
@@ -275,11 +309,23 @@ class Planted:
         if words[0] == "dump":
             return reader
         content = self.files[name]
-        if "--raw" in words:
-            return reader.follow([content])
-        return reader.follow([reader.joined(chunks) for chunks in sessions_of(content)])
+        sessions = [content] if "--raw" in words else [reader.joined(chunks) for chunks in sessions_of(content)]
+        self.open_feed(reader, words)
+        return reader.follow(sessions)
 
-    def run(self, *words):
+    def follow(self, words, content):
+        reader = self.reader_for(words)
+        try:
+            self.open_feed(reader, words)
+        except feed_folder.NotOpened as why:
+            return 3, b"", f"pgsub: {why}\n".encode()
+        followed = Followed(reader).follow(content)
+        line = f"pgsub: {reader.fault}\n".encode() if reader.fault else b""
+        return exit_status(reader), followed.written, followed.told + line
+
+    def run(self, *words, given=None):
+        if words[0] == "follow":
+            return self.follow(words, self.files[given])
         recordings = words[-2:] if words[0] == "same" else words[-1:] if "--raw" not in words and words[0] != "dump" else ()
         if any(len(self.files[name]) > LONGEST for name in recordings):
             return 3, b"", b"pgsub: capture too long\n"
@@ -289,6 +335,8 @@ class Planted:
             read = self.read(words, words[-1])
         except BadLine as bad:
             return 3, b"", f"pgsub: capture line {bad}: not hexadecimal\n".encode()
+        except feed_folder.NotOpened as why:
+            return 3, b"", f"pgsub: {why}\n".encode()
         line = f"pgsub: {read.fault}\n".encode() if read.fault else b""
         if words[0] == "resume":
             out = f"position {lsn_text(read.position)}\nconfirmed {lsn_text(read.confirmed)}\n".encode()

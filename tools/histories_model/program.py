@@ -6,6 +6,7 @@ import shutil
 import signal
 from pathlib import Path
 
+import feed_folder
 from built import LARGE_STEPS
 from stores import sound
 
@@ -14,6 +15,7 @@ MEMORY = 1 << 30
 SECONDS = 2.0
 SECONDS_MEGABYTE = 1.0
 PATIENCE = 300.0
+LOG = "-wal"
 
 
 class TimedOut(Exception):
@@ -57,6 +59,26 @@ class Program:
     def store_findings(self, store, wanted):
         """What SQLite finds wrong with a store's file, after a run that has ended, or other than is wanted."""
         return sound.findings(Path(store), wanted)
+
+    def saved(self, store):
+        """The files of a store after a run that has ended, by what follows its name."""
+        return {suffix: Path(store + suffix).read_bytes() for suffix in ("", LOG) if os.path.exists(store + suffix)}
+
+    def put_back(self, store, saved):
+        """Gives a store the files that it had."""
+        for suffix in ("", LOG):
+            Path(store + suffix).unlink(missing_ok=True)
+        for suffix, content in saved.items():
+            Path(store + suffix).write_bytes(content)
+
+    def put_beside(self, feed, name, content):
+        """Gives a file of a feed's folder these bytes."""
+        os.makedirs(feed, feed_folder.FOLDER_MODE, exist_ok=True)
+        Path(feed, name).write_bytes(content)
+
+    def feed_findings(self, feed, wanted):
+        """What a feed's folder has after a run other than is wanted."""
+        return feed_folder.findings(Path(feed), wanted)
 
     def run(self, *words, given="/dev/null"):
         """Runs it: the status, standard output and standard error; a negative status is that of a signal."""

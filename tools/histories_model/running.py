@@ -16,8 +16,11 @@ from . import cases, program
 
 def run_case(name, call, runner, keep):
     """Runs one case in an empty folder; what differs, or None."""
-    for file in os.listdir(runner.folder):
-        os.unlink(os.path.join(runner.folder, file))
+    for it in os.scandir(runner.folder):
+        if it.is_dir():
+            shutil.rmtree(it.path)
+        else:
+            os.unlink(it.path)
     try:
         call(runner)
         return None

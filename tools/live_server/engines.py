@@ -119,10 +119,6 @@ class RedisServer(Engine):
         client = self.client()
         return {key: client.xrange(key) for key in client.scan_iter(count=1000, _type="stream")}
 
-    def bgsave(self) -> None:
-        """Has it write a copy of all to its disk."""
-        self.client().save()
-
 
 class NatsServer(Engine):
     """It has JetStream, in its folder."""

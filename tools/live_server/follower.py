@@ -9,7 +9,7 @@ import signal
 import subprocess
 import threading
 import time
-from collections.abc import Callable, Sequence
+from collections.abc import Callable, Iterator, Sequence
 from pathlib import Path
 from typing import Any
 
@@ -23,8 +23,20 @@ from .patience import Patience
 AGAIN = (7,)
 
 
+# A child that is on its way when its parent is stopped has begun by then, in seconds.
+BEGUN = 0.05
+
+
 def nothing() -> None:
     """Checks nothing."""
+
+
+def has_ended(pid: int) -> bool:
+    """Whether a process has ended, whoever is still to learn of that."""
+    try:
+        return Path(f"/proc/{pid}/stat").read_text(encoding="utf-8").rpartition(")")[2].split()[0] in "ZX"
+    except (FileNotFoundError, ProcessLookupError):
+        return True
 
 
 def children_of(pid: int, word: str) -> list[int]:
@@ -48,6 +60,16 @@ def tables_of(pid: int) -> list[int]:
     return children_of(pid, "tables")
 
 
+def kill_all(pids: Sequence[int]) -> bool:
+    """Kills processes. Returns whether one of them was there."""
+    killed = False
+    for pid in pids:
+        with contextlib.suppress(ProcessLookupError):
+            os.kill(pid, signal.SIGKILL)
+            killed = True
+    return killed
+
+
 class Supervisor(threading.Thread):
     """Keeps the connector running, as a service manager would."""
 
@@ -57,18 +79,20 @@ class Supervisor(threading.Thread):
         super().__init__(daemon=True)
         self.words, self.log = list(words), log
         self.begun, self.ended = threading.Event(), threading.Event()
+        # whoever holds it looks at what a killed connector has left
+        self.looking = threading.Lock()
         self.killed = False
         self.failure = ""
         self.starts = 0
 
     def run(self) -> None:
         while not self.ended.is_set() and not self.failure:
-            with open(self.log, "ab") as log:
+            with self.looking, open(self.log, "ab") as log:
                 self.killed = False
                 self.child = subprocess.Popen(self.words, stdout=log, stderr=log, stdin=subprocess.DEVNULL)
                 self.starts += 1
                 self.begun.set()
-                status = self.child.wait()
+            status = self.child.wait()
             if not self.ended.is_set() and not self.killed and status not in AGAIN:
                 self.failure = f"the connector ended with status {status}"
             self.ended.wait(0.3)
@@ -77,29 +101,41 @@ class Supervisor(threading.Thread):
         self.start()
         self.begun.wait()
 
-    def kill_connector(self) -> bool:
-        """Kills the connector. Returns whether one ran."""
-        if self.killed or self.child.poll() is not None:
-            return False
-        self.killed = True
-        self.child.send_signal(signal.SIGKILL)
-        return True
+    @contextlib.contextmanager
+    def stopped(self) -> Iterator[list[int]]:
+        """Has the connector stand still. Gives its filters."""
+        child = self.child
+        child.send_signal(signal.SIGSTOP)
+        try:
+            time.sleep(BEGUN)
+            yield filters_of(child.pid)
+        finally:
+            child.send_signal(signal.SIGCONT)
 
-    def kill_filter(self) -> bool:
-        """Kills the filter. Returns whether one ran."""
-        return self.kill_children(filters_of)
+    def kill_connector(self, look: Callable[[], None] = nothing) -> bool:
+        """Kills the connector, and looks at what is left once its filter has ended, too. Returns whether one ran."""
+        with self.looking:
+            if self.killed or self.child.poll() is not None:
+                return False
+            self.killed = True
+            with self.stopped() as filters:
+                self.child.send_signal(signal.SIGKILL)
+            wait_until(lambda: all(map(has_ended, (self.child.pid, *filters))), "the end of the connector and its filter")
+            look()
+            return True
+
+    def kill_filter(self, look: Callable[[], None] = nothing) -> bool:
+        """Kills the filter, and looks at what it has left before the connector starts another. Returns whether one ran."""
+        with self.stopped() as filters:
+            killed = kill_all(filters)
+            wait_until(lambda: all(map(has_ended, filters)), "the end of the filter")
+            if killed:
+                look()
+            return killed
 
     def kill_tables(self) -> bool:
         """Kills what keeps tables of SQLite. Returns whether it ran."""
-        return self.kill_children(tables_of)
-
-    def kill_children(self, of: Callable[[int], list[int]]) -> bool:
-        killed = False
-        for pid in of(self.child.pid):
-            with contextlib.suppress(ProcessLookupError):
-                os.kill(pid, signal.SIGKILL)
-                killed = True
-        return killed
+        return kill_all(tables_of(self.child.pid))
 
     def finish(self) -> None:
         """Ends the connector in the orderly way."""

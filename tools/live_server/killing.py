@@ -1,4 +1,7 @@
-"""A server under load, and a follower of which parts are killed. At the end the copy has to hold just the publisher's rows."""
+"""A server under load, and a follower of which parts are killed. At the end the copy has to hold just the publisher's rows.
+
+After each kill of what writes the store SQLite has to find its file sound.
+"""
 
 from __future__ import annotations
 
@@ -20,7 +23,7 @@ from .feeds import Reader, base_of, check_images, compare_tables, log_changes, r
 from .follower import Supervisor, checkpoint_of, is_adding, is_confirmed, wait_until
 from .load import LOGGED, SCHEMA, Mixed
 from .options import Options
-from .rows import compare, rows_of_server, rows_of_store
+from .rows import check_file, compare, rows_of_server, rows_of_store
 from .sessions import Session
 
 SLOT = "pgsub"
@@ -64,15 +67,16 @@ class Run:
         self.victims = FED_VICTIMS if self.fed else VICTIMS
         self.supervisor = Supervisor(words, Path(f"{self.store}.log"))
         self.counts = dict.fromkeys(self.victims, 0)
+        self.looks = 0
 
     def kill(self, victim: str) -> bool:
         """Kills one of the parts. Returns whether it was there."""
         if victim == "filter":
-            there = self.supervisor.kill_filter()
+            there = self.supervisor.kill_filter(self.look)
         elif victim == "tables":
             there = self.supervisor.kill_tables()
         elif victim == "connector":
-            there = self.supervisor.kill_connector()
+            there = self.supervisor.kill_connector(self.look)
         elif victim == "session":
             ended = "SELECT count(pg_terminate_backend(active_pid)) FROM pg_replication_slots WHERE active"
             there = self.cluster.value(ended) != "0"
@@ -85,6 +89,11 @@ class Run:
             self.cluster.start()
         self.counts[victim] += there
         return there
+
+    def look(self) -> None:
+        """Fails where the store's file isn't sound."""
+        check_file(self.store)
+        self.looks += self.store.exists()
 
     def end_connection(self) -> bool:
         """Ends one of the connector's connections. Returns whether one was there."""
@@ -151,7 +160,7 @@ class Run:
         count = compare(rows_of_server(self.cluster, "pgsub"), rows)
         self.check_left()
         fed = self.fed.compare() if self.fed else ""
-        return f"{count} rows at {position}, caught up in {waited:.1f} s{fed}"
+        return f"{count} rows at {position}, caught up in {waited:.1f} s, a sound file after {self.looks} kills{fed}"
 
     def check_left(self) -> None:
         """Fails where a copy has left a slot or a file, or changes found no row."""

@@ -1,4 +1,7 @@
-"""What a server has of published tables, what a store has, and whether these are the same. Nothing of the connector is used."""
+"""What a server has of published tables, what a store has, and whether these are the same. Nothing of the connector is used.
+
+What a store has is what the program dumps, and SQLite has to find the same in its file.
+"""
 
 from __future__ import annotations
 
@@ -8,6 +11,9 @@ import subprocess
 from collections.abc import Iterable, Iterator
 from pathlib import Path
 from typing import Dict, Optional, Tuple
+
+from stores import contents, sound
+from stores.form import cells_of
 
 from .cluster import Cluster
 from .errors import Failed
@@ -68,7 +74,42 @@ def rows_of_server(cluster: Cluster, *publications: str, database: str = "shop")
 
 
 def rows_of_store(program: Path, store: Path) -> tuple[Rows, str]:
-    """The rows that a store holds, and its position."""
+    """The rows that a store holds, and its position. Fails where its file isn't sound, or holds others."""
+    dumped = rows_of_dump(program, store)
+    read = rows_of_file(store)
+    if read[1] != dumped[1]:
+        raise Failed(f"{store.name} has the position {read[1]}, and the dump {dumped[1]}")
+    compare(dumped[0], read[0])
+    return dumped
+
+
+def need_none(store: Path, told: list[str]) -> None:
+    """Fails where SQLite has found something wrong with a store's file and its log."""
+    if told:
+        raise Failed("\n   ".join([f"the file {store.name}", *told]))
+
+
+def check_file(store: Path) -> None:
+    """Fails where something is wrong with these; they may hold no store yet."""
+    need_none(store, sound.findings_with_log(store))
+
+
+def rows_of_file(store: Path) -> tuple[Rows, str]:
+    """The rows and the position that SQLite reads in a store's file and its log, which have to be sound."""
+    with sound.copied(store) as base:
+        need_none(store, sound.findings_of(base))
+        held = contents.read(base)
+    rows: Rows = {}
+    for (oid, _), row in held.rows.items():
+        relation = held.relations[oid]
+        # (a cell is a letter, and for a text its length in four bytes and the text)
+        cells = tuple(None if it == b"n" else it[5:].decode() for it in cells_of(row.body))
+        rows.setdefault((relation.namespace or "pg_catalog", relation.name), collections.Counter())[cells] += row.copies
+    return rows, f"{held.position >> 32:X}/{held.position & 0xFFFFFFFF:X}"
+
+
+def rows_of_dump(program: Path, store: Path) -> tuple[Rows, str]:
+    """Those that the program dumps."""
     done = subprocess.run([program, "dump", "--store", store], capture_output=True, check=False)
     if done.returncode:
         raise Failed(f"dump: status {done.returncode}: {done.stderr.decode(errors='replace')}")

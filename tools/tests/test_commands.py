@@ -12,15 +12,20 @@ from .scripts import loaded
 
 commands = loaded("commands")
 
-# prints its first word, or its name for NAME, and the file of the second one, makes that of the third one, and ends with 3 where it can't
-# write
+# prints its first word, or its name for NAME, and the file of the second one, makes that of the third one, or with + or - before it writes
+# to it or removes it, and ends with 3 where it can't write
 PROGRAM = """#!/usr/bin/env python3
 import os, sys
 from pathlib import Path
 first = Path(sys.argv[0]).name if sys.argv[1] == "NAME" else sys.argv[1]
 left = first.encode() + b"".join(Path(it).read_bytes() for it in sys.argv[2:3])
 for it in sys.argv[3:]:
-    Path(it).touch()
+    if it[0] == "-":
+        Path(it[1:]).unlink()
+    elif it[0] == "+":
+        Path(it[1:]).write_text("more")
+    else:
+        Path(it).touch()
 try:
     while left:
         left = left[os.write(1, left):]
@@ -82,6 +87,10 @@ class Differences(Case):
 
     def test_a_file_that_is_made(self) -> None:
         self.fails("pgsub a in made: the file made was made", 'command = "pgsub a in made"\nfiles.in = []\nstdout = "a"')
+
+    def test_its_files_stay_as_they_are(self) -> None:
+        self.fails("pgsub a in +in: the file in was changed", 'command = "pgsub a in +in"\nfiles.in = []\nstdout = "a"')
+        self.fails("pgsub a in -in: the file in was removed", 'command = "pgsub a in -in"\nfiles.in = []\nstdout = "a"')
 
     def test_commands_that_print_the_same(self) -> None:
         table = '[default]\nstdout = "a"\n[[case]]\nshows = "two"\ncommands = ["pgsub a", "pgsub b"]\n[[case]]\ncommand = "pgsub a"'

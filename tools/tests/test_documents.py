@@ -52,12 +52,13 @@ class Paths(Made):
         self.assertEqual(self.wrong("check_paths", text), [])
 
     def test_what_is_no_path(self) -> None:
-        self.assertEqual(self.wrong("check_paths", "0/130 and/or `copy.db` https://a.b/docs/no.md 16/B374D848 `crates/low/out/x`\n\n```\ndocs/no.md\n```"), [])
+        self.assertEqual(self.wrong("check_paths", "0/130 and/or `copy.db` https://a.b/docs/no.md 16/B374D848 `crates/low/out/x`\n\n```\n$ cp copy.db rows.db\n```"), [])
 
     def test_paths_that_are_not(self) -> None:
         for path in ("crates/low/src/no.rt", "docs/NO.md", "low/No", "no.rt", "specs/No.antt", "tools/no"):
             with self.subTest(path=path):
                 self.assertEqual(self.wrong("check_paths", f"see `{path}`"), [f"there is no {path}"])
+                self.assertEqual(self.wrong("check_paths", f"```\n$ ./look {path}\n```"), [f"there is no {path}"])
 
 
 class Options(Made):
@@ -87,6 +88,9 @@ class Groups(Made):
 
 
 class Words(unittest.TestCase):
+    def test_the_shares_are_the_whole(self) -> None:
+        self.assertEqual(sum(share for file, share in checks.SHARES.items() if file.startswith("docs/")), checks.WHOLE)
+
     def test_words_are_those_of_wc(self) -> None:
         self.assertEqual(texts.words_of("one  two\n| three-four |\n\u00a0".encode()), 6)
 

@@ -55,15 +55,16 @@ docs for --dsn.
 
 class Page(unittest.TestCase):
     def test_lists(self) -> None:
-        text = page_of("pgsub", [Help([], CLAP), Help(["show"], SHOW)], "2026-11-25", "0.1", "pgsub-connect")
+        text = page_of("pgsub", [Help([], CLAP), Help(["show"], SHOW)], "2026-11-25", "0.1")
         self.assertIn('.TH PGSUB 1 "2026-11-25" "0.1"\n.SH NAME\npgsub \\- ', text)
         self.assertIn(".TP\n\\fBshow\\fR\nPrint it\n", text)
         self.assertIn(".TP\n\\fB\\-\\-proto <N>\\fR\nVersion, 1 or 2 [default: 2]\n\\&.and so on\n.TP\n", text)
         self.assertIn(".TP\n\\fB\\-h, \\-\\-help\\fR\nPrint help\n", text)
         self.assertIn(".SH PGSUB SHOW\n", text)
+        self.assertTrue(text.endswith(".SH SEE ALSO\n\\fBpgsub\\-connect\\fR(1), \\fBpgsub\\-feed\\fR(1)\n"), text[-99:])
 
     def test_argparse(self) -> None:
-        text = page_of("pgsub-connect", [Help([], ARGPARSE)], "2026-11-25", "0.1", "pgsub")
+        text = page_of("pgsub-connect", [Help([], ARGPARSE)], "2026-11-25", "0.1")
         told = "the longest message that is accepted (default: what may be\nbuffered, at most 1 GiB)\n"
         self.assertIn(f"\\fB\\-\\-max\\-frame BYTES\\fR\n{told}", text)
         self.assertIn("Carries. It says \\e and 'so'.\n", text)
@@ -74,7 +75,7 @@ class Page(unittest.TestCase):
         manual_pages.roff_of = lambda text: [it for it in lost(text) if "proto" not in it]
         self.addCleanup(setattr, manual_pages, "roff_of", lost)
         with self.assertRaisesRegex(Unreadable, "pgsub show: not in the page: --proto"):
-            page_of("pgsub", [Help(["show"], SHOW)], "", "", "pgsub-connect")
+            page_of("pgsub", [Help(["show"], SHOW)], "", "")
 
     def test_subcommands(self) -> None:
         self.assertEqual(subcommands(CLAP), ["show", "apply"])

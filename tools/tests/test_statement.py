@@ -72,6 +72,28 @@ class Found(unittest.TestCase):
         self.write("crates/low/specs/Calls.antt", calls)
         self.assertIn("low.specs.Calls: 4 definitions, 8 lines", self.stands_on())
 
+    def test_nested_modules_are_read_and_their_heads_belong_to_what_is_in_them(self) -> None:
+        calls = FILES["crates/low/specs/Calls.antt"].replace("IsLeft sessions × Row", "Within sessions × ℕ")
+        nested = """
+module _ {C : Type 0}
+    (row : C → Row) where
+  abbrev pub Around : C → Type 0
+  Around c = row c ≡ row c
+
+  module _ (place : C → Place) where
+    -- named only from outside
+    abbrev pub Within : ℕ → Type 0
+    Within n = n ≡ 0
+
+abbrev pub After : Type 0
+After = Unit
+"""
+        self.write("crates/low/specs/Calls.antt", calls + nested)
+        self.assertEqual(
+            self.stands_on(),
+            ["low.specs.Calls: 3 definitions, 6 lines", "low.specs.Server.Rows: 1 definitions, 2 lines", "4 definitions, 8 lines, 2 modules"],
+        )
+
 
 if __name__ == "__main__":
     unittest.main()

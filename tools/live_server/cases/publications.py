@@ -3,7 +3,7 @@
 from __future__ import annotations
 
 from ..errors import Failed
-from ..place import LOG, MISSED, SERVER, USAGE, Place
+from ..place import LOG, MISSED, SERVER, UNFIT, USAGE, Place
 from .case import Case
 
 
@@ -84,6 +84,92 @@ def partition_made(place: Place) -> None:
     if "sales5" not in place.follow("--strict"):
         raise Failed("the new partition isn't told")
     place.equal()
+
+
+def attached_again(place: Place, options: str, text: str) -> None:
+    """A partition is detached, loaded and attached between two looks."""
+    parted(place, options)
+    place.follow("--create")
+    place.run(
+        "ALTER TABLE sales DETACH PARTITION sales1", "INSERT INTO sales1 VALUES (12)",
+        "ALTER TABLE sales ATTACH PARTITION sales1 FOR VALUES FROM (10) TO (19)", "INSERT INTO sales VALUES (32)",
+    )
+    place.finds("publication", text, place.follow())
+    place.is_strict_about("publication")
+
+
+def partition_attached_again(place: Place) -> None:
+    """A partition is detached, loaded and attached again between two looks, under its root's name: told."""
+    attached_again(place, "WITH (publish_via_partition_root)", "was detached and attached again")
+
+
+def partition_attached_again_by_itself(place: Place) -> None:
+    """So it is where the partition comes under its own name."""
+    attached_again(place, "", "left and joined again")
+
+
+def table_left_and_joined(place: Place) -> None:
+    """A table leaves the publication, is changed, and joins again between two looks: told, until it was added. Another owner isn't."""
+    place.stock()
+    place.follow("--create")
+    place.run("CREATE ROLE owner", "ALTER PUBLICATION pgsub OWNER TO owner", "ALTER PUBLICATION pgsub SET TABLE stock", "VACUUM (FREEZE) pg_publication")
+    place.follow("--strict")
+    for statements in (
+        ("ALTER PUBLICATION pgsub DROP TABLE stock", "UPDATE stock SET quantity = quantity + 1", "ALTER PUBLICATION pgsub ADD TABLE stock"),
+        ("BEGIN; ALTER PUBLICATION pgsub DROP TABLE stock; ALTER PUBLICATION pgsub ADD TABLE stock; UPDATE stock SET quantity = quantity + 1; COMMIT",),
+    ):
+        place.run(*statements)
+        place.finds("publication", "public.stock", place.follow())
+        place.subcommand("add", "--dsn", place.dsn(), "--store", str(place.store), "--table", "stock")
+        place.follow()
+        place.equal()
+        place.follow("--strict")
+
+
+def options_and_back(place: Place) -> None:
+    """What a publication sends is altered and altered back between two looks: told."""
+    place.stock()
+    place.follow("--create")
+    place.run("ALTER PUBLICATION pgsub SET (publish = 'insert')")
+    place.run("UPDATE stock SET quantity = quantity + 1", "ALTER PUBLICATION pgsub SET (publish = 'insert, update, delete, truncate')")
+    place.finds("publication", "was altered, and has the options that it had", place.follow())
+    place.is_strict_about("publication")
+
+
+def another_publication(place: Place) -> None:
+    """A table is sent by another publication than before, or by one more, with other rows or other changes: told."""
+    place.run(
+        "CREATE TABLE stock (id int PRIMARY KEY, word text)", "INSERT INTO stock SELECT it, 'old' FROM generate_series(1, 10) it",
+        "CREATE TABLE other (id int PRIMARY KEY)", "CREATE PUBLICATION few FOR TABLE stock WHERE (id > 8)",
+        "CREATE PUBLICATION inserts FOR TABLE stock WITH (publish = 'insert')", "CREATE PUBLICATION pgsub FOR TABLE other",
+    )
+    words = [it for name in ("few", "inserts", "pgsub") for it in ("--publication", name)]
+    place.follow("--create", *words)
+    for statement, text in (
+        ("ALTER PUBLICATION pgsub ADD TABLE stock", "has the row filter none for updates and deletes now, and before (id > 8)"),
+        ("ALTER PUBLICATION few SET TABLE other", ""),
+        ("ALTER PUBLICATION pgsub DROP TABLE stock", "has no updates any more"),
+        ("ALTER PUBLICATION pgsub ADD TABLE stock", "has updates, deletes and truncates only from now on"),
+    ):
+        place.run(statement)
+        said = place.follow()
+        if text:
+            place.finds("publication", text, said)
+        place.follow("--accept", "publication")
+        place.follow("--strict")
+
+
+def made_later(place: Place) -> None:
+    """A slot is older than the publication, which was made by hand: the server leaves out the changes from before, which is told."""
+    place.run("CREATE TABLE stock (id int PRIMARY KEY)", f"SELECT pg_create_logical_replication_slot('{place.slot}', 'pgoutput')")
+    place.run("INSERT INTO stock VALUES (1)")
+    place.run("CREATE PUBLICATION pgsub FOR TABLE stock", "INSERT INTO stock VALUES (2)")
+    place.finds("publication", 'skipped loading publication "pgsub"', place.follow("--no-copy"))
+    place.ends(UNFIT, "skipped loading publication", "--strict")
+    place.subcommand("add", "--dsn", place.dsn(), "--store", str(place.store), "--table", "stock")
+    place.follow()
+    place.equal()
+    place.follow("--strict")
 
 
 def via_root(place: Place) -> None:
@@ -207,6 +293,12 @@ CASES = (
     Case("partition-attached", partition_attached),
     Case("partition-truncated", partition_truncated),
     Case("partition-made", partition_made),
+    Case("partition-attached-again", partition_attached_again),
+    Case("partition-attached-again-by-itself", partition_attached_again_by_itself),
+    Case("table-left-and-joined", table_left_and_joined),
+    Case("publication-altered-and-back", options_and_back),
+    Case("table-of-another-publication", another_publication, since=15),
+    Case("publication-made-later", made_later, since=18),
     Case("partitions-under-another-name", via_root),
     Case("partitions-under-another-name-while-following", via_root_while_following),
     Case("publication-of-inserts", inserts_only),

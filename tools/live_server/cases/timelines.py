@@ -38,8 +38,36 @@ def lacks_changes(place: Place) -> None:
     if "history" not in place.found():
         raise Failed(f"the checkpoint has {place.found()}")
     said = place.follow("--accept", "history", status=MISSED)
-    if place.checkpoint()["timeline"] != 2 or place.found() or "found: missing" not in said:
+    place.finds("history", "are missing, and the store has others", said)
+    if place.checkpoint()["timeline"] != 2 or "found: missing" not in said:
         raise Failed(f"the checkpoint has {place.checkpoint()}")
+    place.follow("--accept", "history")
+    if place.found():
+        raise Failed(f"the checkpoint has {place.found()}")
+
+
+def ends_before(place: Place) -> None:
+    """A promoted server that has all changes is followed, though its log ends before what a keepalive has confirmed."""
+    server = place.own_server()
+    place.stock()
+    place.run("CREATE TABLE unpublished (word text)")
+    place.follow("--create")
+    server.stop()
+    older = place.copy_of(server)
+    server.start()
+    for _ in range(3):
+        # (a large transaction would be streamed, and its commit be one of the store's, though it is empty)
+        place.run("INSERT INTO unpublished VALUES ('x')", "SELECT pg_switch_wal()")
+    place.follow()
+    server.stop()
+    older.promote()
+    place.cluster = older
+    said = place.follow()
+    if "from the timeline 1 to 2" not in said:
+        raise Failed(f"the timeline isn't told: {said}")
+    place.change()
+    place.follow("--strict")
+    place.equal()
 
 
 def has_all_changes(place: Place) -> None:
@@ -77,5 +105,6 @@ def older_timeline(place: Place) -> None:
 CASES = (
     Case("promoted-server-lacks-changes", lacks_changes),
     Case("promoted-server-has-all-changes", has_all_changes),
+    Case("promoted-server-ends-before-a-keepalive", ends_before),
     Case("server-of-before-a-promotion", older_timeline),
 )
