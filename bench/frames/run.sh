@@ -3,7 +3,7 @@
 #
 # Both run in turn, seven times. The medians are printed, in microseconds and GB a second.
 source "$(dirname "$0")/../common.sh"
-build deframing pglsn pgwire
+build deframing pglsn pgtuple pgwire
 gcc -O2 -o "$work/deframer" "$here/deframer.c"
 for _ in 1 2 3 4 5 6 7; do
     "$program" >> "$work/here"
