@@ -53,6 +53,24 @@ class Names(unittest.TestCase):
     def test_what_stands_in_no_function_has_no_name(self) -> None:
         self.assertEqual(end_of_name("A module"), set())
 
+    def test_the_head_of_a_block_tells_the_owner_that_a_check_prints(self) -> None:
+        for head, owner in (
+            ("impl Held {", ("Held", "")),
+            ("impl<'a, T: Makes<Other<T>>, const N: usize> Held<'a, T, N> {", ("Held", "")),
+            ("impl<T> Two<T, T> {", ("Two+T+T", "")),
+            ("impl Held<u8> {", ("Held+u8", "")),
+            ("impl<'a, T> Held<&'a mut T> {", ("Held+ref+T", "")),
+            ("impl<F: Start> Store<FileStore<FileFrom<F>>> {", ("Store+FileStore+FileFrom+F", "")),
+            ("impl<\n    D: Disk + Drop,\n    F: Fn(u8) -> Option<u8>,\n> Store<FileStore<D>, F>\nwhere\n    D: Copy,\n{", ("Store+FileStore+D+F", "")),
+            ("impl fmt::Display for Held {", ("Held", "Display")),
+            ("impl<T> Makes<Held<T>> for Two<T, u8> {", ("TwoU8", "MakesHeld")),
+            ("impl<'a, T> Makes<&'a str> for &'a Held<T> {", ("RefHeld", "MakesRefStr")),
+            ("pub trait Has<T>: Drop + Makes<T> {", ("Has", "")),
+        ):
+            with self.subTest(head):
+                text = f"{head}\n    fn name(&self) {{}}\n}}\n"
+                self.assertEqual([(it.owner, it.trait) for it in mutants.functions(text)], [owner])
+
 
 class Groups(unittest.TestCase):
     def mutant(self, name: str, start: int) -> Any:
