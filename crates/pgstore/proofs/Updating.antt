@@ -1,6 +1,6 @@
 -- The changes of a keyed table that are one statement: a row that was sent whole and stays at its
 -- place, and a row that goes.
-use Rattle.std.proofs.Common.{◌≡◌, ◌⊎◌, ◌≤◌, ◌-◌, ℕ, List, ◌∷◌, true, false, cond, Option, Some}
+use Rattle.std.proofs.Common.{◌≡◌, ◌⊎◌, ◌≤◌, ◌-◌, ℕ, List, [], ◌∷◌, Bool, true, false, cond, Option, Some}
 use Rattle.std.proofs.Common.{None, Ok, refl, sym, ap, subst, ◌∙◌, inl, inr, arith}
 use Rattle.std.specs.Prelude.{if◌then◌else◌, is_some, nat_lt, not}
 use Rattle.std.specs.Ordering.{nat_cmp, eq_by_cmp}
@@ -8,31 +8,77 @@ use Rattle.std.specs.Cmp.Lexicographic.{slice_cmp, nat_list_cmp_total}
 use Rattle.std.specs.FinMap as map
 use Rattle.std.specs.FinMap.{FinMap, get-remove, same_map, nat_cmp-IsAntisymmetric}
 use Rattle.std.specs.FinMap.{slice_cmp-IsAntisymmetric}
-use Rattle.std.proofs.lemmas.Bool.{cases_Bool}
+use Rattle.std.proofs.lemmas.Bool.{cases_Bool, or_parts}
 use Rattle.std.proofs.lemmas.Bool.Decides.{nat_tests}
 use Rattle.pgtuple.specs.declared.cell.Cell.{Cell}
 use Rattle.pgtuple.specs.Cells.{tuple_spelling}
 use Rattle.pgtuple.specs.Limits.{IsWireTuple}
 use Rattle.pglogical.specs.declared.message.RelationDef.{RelationDef}
+use Rattle.pglogical.specs.declared.message.Column.{Column}
 use Rattle.pglogical.specs.declared.message.OldKind.{OldKind}
-use Rattle.pgrel.specs.Identity.{keyed, has_unchanged, identity, lacks_identity, new_has_width}
-use Rattle.pgrel.specs.Identity.{old_has_width, searched_identity}
+use Rattle.pgrel.specs.Identity.{keyed, key_cells, is_unchanged, has_unchanged, identity, resolved}
+use Rattle.pgrel.specs.Identity.{lacks_identity, new_has_width, old_has_width, searched_identity}
 use Rattle.pgrel.specs.declared.fault.RelFault.TheVariants.{Width}
 use Rattle.pgrel.proofs.Rows.{sent_stays}
 use Rattle.pgtables.specs.Kept as stored
 use Rattle.pgrows.specs.Rows.{with_row_if_there}
 use Rattle.pgapply.specs.declared.op.Op.TheVariants.{Update, Delete}
-use Rattle.pgapply.specs.Value.{Row, Rows, Tables, most_copies}
+use Rattle.pgapply.specs.Value.{Row, Rows, Tables, identity_key, most_copies}
 use Rattle.pgapply.specs.Apply.{with_row, without_row, rows_after}
 use Rattle.pgapply.proofs.KeepsForm.{new_checked, refused, same_ok, same_place}
 use Rattle.pgstore.specs.Spelled.{IsChanging}
-use Rattle.pgstore.specs.Acts.{IsFound, MakesOf, StaysWhole, taken_row}
+use Rattle.pgstore.specs.Acts.{IsFound, KeepsPlace, MakesOf, StaysWhole, taken_row}
 use Rattle.pgstore.proofs.Acting.{moved_same, was_there}
 use Rattle.pgstore.proofs.Deciding.{updated_not, updated_one, deleted_not, deleted_one}
 
 cases_Option : {X : Type 0} (o : Option X) → (o ≡ None) ⊎ ((x : X) × (o ≡ Some x))
 cases_Option None = inl refl
 cases_Option (Some x) = inr (x, refl)
+
+-- the key cells of a row stay, whatever fills in its others
+pub keys_stay : (columns : List Column) (cells olds : List Cell) → has_unchanged (key_cells columns cells) ≡ false
+    → key_cells columns (resolved cells olds) ≡ key_cells columns cells
+keys_stay [] cells olds sent = refl
+keys_stay (column ∷ columns) [] olds sent = refl
+keys_stay (column ∷ columns) (cell ∷ cells) [] sent = refl
+keys_stay (column ∷ columns) (cell ∷ cells) (old ∷ olds) sent = stay column.key (keys_stay columns cells olds) sent
+  where
+    stay : (key : Bool) → (has_unchanged (key_cells columns cells) ≡ false
+        → key_cells columns (resolved cells olds) ≡ key_cells columns cells)
+        → has_unchanged (if key then cell ∷ key_cells columns cells else key_cells columns cells) ≡ false
+        → (if key then (if is_unchanged cell then old else cell) ∷ key_cells columns (resolved cells olds)
+        else key_cells columns (resolved cells olds))
+        ≡ (if key then cell ∷ key_cells columns cells else key_cells columns cells)
+    stay true rest sent =
+        let parts = or_parts (is_unchanged cell) (has_unchanged (key_cells columns cells)) sent in
+        let here : (if is_unchanged cell then old else cell) ≡ cell = ap (λ b. if b then old else cell) parts.0 in
+        λ i. here i ∷ rest parts.1 i
+    stay false rest sent = rest sent
+
+-- the identity in a keyed table
+keys_of : (def : RelationDef) (cells : List Cell) → keyed def ≡ true → identity def cells ≡ key_cells def.columns cells
+keys_of def cells key = ap (λ b. if b then key_cells def.columns cells else cells) key
+
+-- a row whose key was sent has its identity, whatever fills in its other cells
+pub kept_place : (def : RelationDef) (place : List ℕ) (row olds : List Cell) → KeepsPlace def place row
+    → place ≡ identity_key def (resolved row olds)
+kept_place def place row olds keeps =
+    keeps.place_is ∙ ap tuple_spelling
+    (keys_of def row keeps.keyed ∙ sym (keys_stay def.columns row olds keeps.sent) ∙ sym (keys_of def (resolved row olds) keeps.keyed))
+
+-- a row with which no old row was sent has the identity by which its row is searched
+pub searched_kept : (def : RelationDef) (row searched : List Cell) → keyed def ≡ true
+    → searched_identity def None (Some row) ≡ Ok searched
+    → KeepsPlace def (tuple_spelling searched) row
+searched_kept def row searched key e =
+    let old = (refused (not (old_has_width def None)) Width _ searched e).1 in
+    let widths = (refused (not (new_has_width def (Some row))) _ _ searched old).1 in
+    let known = refused (has_unchanged (identity def row)) _ _ searched (refused (lacks_identity def None) _ _ searched widths).1 in
+    record {
+      keyed = key;
+      place_is = ap tuple_spelling (sym (same_ok known.1));
+      sent = ap has_unchanged (sym (keys_of def row key)) ∙ known.0;
+    }
 
 -- a row that was sent whole, and no old row with it, stays at the place where its row is searched
 pub searched_whole : (def : RelationDef) (row searched : List Cell) → keyed def ≡ true → has_unchanged row ≡ false

@@ -10,7 +10,7 @@ use Rattle.pgtuple.specs.declared.cell.Cell.{Cell}
 use Rattle.pgtuple.specs.Cells.{tuple_spelling}
 use Rattle.pgtuple.specs.Limits.{IsWireTuple}
 use Rattle.pglogical.specs.declared.message.RelationDef.{RelationDef}
-use Rattle.pgrel.specs.Identity.{keyed, has_unchanged, resolved}
+use Rattle.pgrel.specs.Identity.{keyed, key_cells, has_unchanged, resolved}
 use Rattle.pgtables.specs.Kept as stored
 use Rattle.pgtables.specs.Kept.{tables_in}
 use Rattle.pgrows.specs.Rows.{Keeps, Makes, database, state, tables_of}
@@ -39,6 +39,12 @@ pub record StaysWhole (def : RelationDef) (place : List ℕ) (cells : List Cell)
   pub place_is : place ≡ identity_key def cells
   pub width : length cells ≡ length def.columns
   pub sent : has_unchanged cells ≡ false
+
+-- a row of a keyed table whose key cells were all sent, at its own place
+pub record KeepsPlace (def : RelationDef) (place : List ℕ) (cells : List Cell) : Type 0 where
+  pub keyed : keyed def ≡ true
+  pub place_is : place ≡ identity_key def cells
+  pub sent : has_unchanged (key_cells def.columns cells) ≡ false
 
 -- a row that was found at its place
 pub record IsFound (rows : Rows) (place : List ℕ) (there : stored.Copies) (was : Row) : Type 0 where
@@ -92,6 +98,10 @@ Refuses g old def change e = (v : Tables) (rows : Rows) → IsChanging v def row
 abbrev pub taken_row : ℕ → List ℕ → stored.Copies → stored.Tables → stored.Tables
 taken_row oid place there t = if nat_lt 1 there.copies
     then stored.with_row oid place (record { body = there.body; copies = there.copies - 1 }) t else stored.without_row oid place t
+
+-- these cells take the place of those of a row that was found
+abbrev pub refilled_row : ℕ → List ℕ → stored.Copies → List Cell → stored.Tables → stored.Tables
+refilled_row oid place there cells t = stored.with_row oid place (record { body = tuple_spelling cells; copies = there.copies }) t
 
 -- a copy more of a row of a bag
 pub record AddsCopy {S : Type 0} (g : Ghosts S) (def : RelationDef) (place body : List ℕ) (there : stored.Copies)

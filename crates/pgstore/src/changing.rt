@@ -15,7 +15,7 @@ ghost use Rattle.pgapply.specs.Apply.{with_row, rows_after};
 ghost use Rattle.pgapply.specs.Stored.{IsOwnFault};
 ghost use Rattle.pgstore.specs.Acts.{IsNewRow, Adds, Changes, Goes, Refuses, Moves, RefusesToMove};
 ghost use Rattle.pgstore.specs.Acts.{Replaces, RefusesToReplace, AddsCopy, RefusesCopy, StaysWhole};
-ghost use Rattle.pgstore.specs.Acts.{TellsMissing, taken_row};
+ghost use Rattle.pgstore.specs.Acts.{KeepsPlace, TellsMissing, refilled_row, taken_row};
 
 use crate::encoded::{encode, encode_identity, encode_searched, read_tuple, reborrow_prior};
 use crate::fault::Refusal;
@@ -118,6 +118,27 @@ fn add_row<S: Alter>(
     add_again(rows, def, identity, body)
 }
 
+/// A row takes the place of the one that was found, in as many copies.
+fn put_in_place<S: Alter>(
+    rows: &mut Rows<S>,
+    alloc: Global,
+    oid: u32,
+    identity: &[u8],
+    there: &StoredRow,
+    row: &TupleRef<'_>,
+) -> Result<(), Refusal>
+    ensures made { HasCleanDisk (state S.Store rows.new) →
+        OnOk result (Makes S.Store (refilled_row oid identity.now there.now row.now) rows.old
+        rows.new) }
+    ensures tuple { IsWireTuple row.now }
+    ensures fault { IfErr result IsOwnFault }
+    ensures goes { Goes S.Store rows.old rows.new }
+{
+    let body = encode(alloc, row)?;
+    rows.put_row(oid, identity, body.as_slice(), there.copies())?;
+    Ok(())
+}
+
 /// A row replaces the one that was found: that one goes, or one copy of it, and the new one comes.
 fn move_row<S: Alter>(
     rows: &mut Rows<S>,
@@ -136,16 +157,16 @@ fn move_row<S: Alter>(
     ensures goes { Goes S.Store rows.old rows.new }
 {
     let next = encode_identity(alloc, def, row)?;
-    let body = encode(alloc, row)?;
     if next.as_slice() == identity {
-        rows.put_row(def.oid, identity, body.as_slice(), there.copies())?;
-        return Ok(());
+        return put_in_place(rows, alloc, def.oid, identity, there, row);
     }
+    let body = encode(alloc, row)?;
     take_row(rows, def.oid, identity, there)?;
     add_row(rows, def, next.as_slice(), body.as_slice())
 }
 
-/// A row, its missing cells filled in from the one that was found, replaces that one.
+/// A row, its missing cells filled in from the one that was found, replaces that one. Where it is
+/// known to keep its place, its identity isn't encoded again.
 fn replace_row<S: Alter>(
     rows: &mut Rows<S>,
     alloc: Global,
@@ -153,8 +174,10 @@ fn replace_row<S: Alter>(
     identity: &[u8],
     there: &StoredRow,
     row: &TupleRef<'_>,
+    keeps_place: bool,
 ) -> Result<(), Refusal>
     requires width { length row.now ≡ length def.now.columns }
+    requires place { keeps_place ≡ true → KeepsPlace def.now identity.now row.now }
     ensures made { HasCleanDisk (state S.Store rows.new) →
         OnOk result (Replaces S.Store rows.old rows.new def.now identity.now there.now
         row.now) }
@@ -168,7 +191,21 @@ fn replace_row<S: Alter>(
         return Err(Refusal::new(StoreFault::NotAStore));
     }
     let next = resolve(alloc, row, &was)?;
+    if keeps_place {
+        return put_in_place(rows, alloc, def.oid, identity, there, &next.borrowed());
+    }
     move_row(rows, alloc, def, identity, there, &next.borrowed())
+}
+
+/// Whether the row of a keyed table was sent with no old row. Then its identity is the one that is
+/// searched, whatever cells of it weren't sent.
+#[tactic(auto, using(crate::proofs::Updating::searched_kept))]
+fn keeps_place(def: &RelationDef, prior: &Option<(OldKind, TupleRef<'_>)>) -> bool
+    ensures { result ≡ true → (row searched : List Cell) →
+        searched_identity def.now prior.now (Some row) ≡ Ok searched →
+        KeepsPlace def.now (tuple_spelling searched) row }
+{
+    prior.is_none() && keyed(def)
 }
 
 /// Whether a row of a keyed table was sent whole, and no old row with it. Then its identity is the
@@ -261,7 +298,8 @@ fn update<S: Alter>(
     match rows.find_row(def.oid, bytes)? {
         None => Ok(true),
         Some(there) => {
-            replace_row(rows, alloc, def, bytes, &there, row)?;
+            let keeps_place = keeps_place(def, prior);
+            replace_row(rows, alloc, def, bytes, &there, row, keeps_place)?;
             Ok(false)
         }
     }
