@@ -57,9 +57,12 @@ class Found(unittest.TestCase):
         file.parent.mkdir(parents=True, exist_ok=True)
         file.write_text(text, encoding="utf-8")
 
+    def printed(self, *options: str) -> str:
+        words = [sys.executable, str(self.top / "tools/statement"), "--clause", "low::follow.safe", *options]
+        return subprocess.run(words, capture_output=True, text=True, check=True).stdout
+
     def stands_on(self) -> list[str]:
-        words = [sys.executable, str(self.top / "tools/statement"), "--clause", "low::follow.safe"]
-        return subprocess.run(words, capture_output=True, text=True, check=True).stdout.splitlines()[:-1]
+        return self.printed().splitlines()[:-1]
 
     def test_definitions_are_found_in_folders_and_lines_counted(self) -> None:
         self.assertEqual(
@@ -93,6 +96,8 @@ After = Unit
             self.stands_on(),
             ["low.specs.Calls: 3 definitions, 6 lines", "low.specs.Server.Rows: 1 definitions, 2 lines", "4 definitions, 8 lines, 2 modules"],
         )
+        heads = "module _ {C : Type 0}\n    (row : C → Row) where\nmodule _ (place : C → Place) where\n"
+        self.assertIn(f"-- named only from outside\n{heads}abbrev pub Within : ℕ → Type 0\nWithin n = n ≡ 0\n", self.printed("--text"))
 
 
 if __name__ == "__main__":
