@@ -136,6 +136,16 @@ class Refusals(unittest.TestCase):
         self.assertEqual(self.refusal("Held::push", self.CALLEE, wrong, self.WAITS), "")
 
 
+class Files(unittest.TestCase):
+    def test_those_that_a_killed_gate_has_hidden_are_found(self) -> None:
+        folder = Path(self.enterContext(tempfile.TemporaryDirectory()))
+        for name in ("mutants/c.edit", "must-fail/a.edit", "mutants/must-fail/b.edit", "mutants/must-fail/b.md"):
+            (folder / name).parent.mkdir(parents=True, exist_ok=True)
+            (folder / name).touch()
+        self.assertEqual([it.name for it in mutants.files_of_gate(folder)], ["a.edit", "b.edit"])
+        self.assertEqual([it.name for it in mutants.files_of_mutants(folder)], ["a.edit", "b.edit", "c.edit"])
+
+
 class BesideProofs(unittest.TestCase):
     def ended(self, *results: tuple[int, int], line: str = "5 passed, 0 failed") -> tuple[int, str]:
         """The status and the last line, where so many mutants of each crate were tried, and so many not refused."""
