@@ -57,8 +57,8 @@ class Found(unittest.TestCase):
         file.parent.mkdir(parents=True, exist_ok=True)
         file.write_text(text, encoding="utf-8")
 
-    def printed(self, *options: str) -> str:
-        words = [sys.executable, str(self.top / "tools/statement"), "--clause", "low::follow.safe", *options]
+    def printed(self, *options: str, clause: str = "low::follow.safe") -> str:
+        words = [sys.executable, str(self.top / "tools/statement"), "--clause", clause, *options]
         return subprocess.run(words, capture_output=True, text=True, check=True).stdout
 
     def stands_on(self) -> list[str]:
@@ -69,6 +69,11 @@ class Found(unittest.TestCase):
             self.stands_on(),
             ["low.specs.Calls: 2 definitions, 4 lines", "low.specs.Server.Rows: 1 definitions, 2 lines", "3 definitions, 6 lines, 2 modules"],
         )
+
+    def test_a_clause_may_make_a_record_of_several_fields(self) -> None:
+        clause = "    ensures kept { Follows (record { store = 0; ledger = { 1 } }) result }\n    ensures safe { Row }\n"
+        self.write("crates/low/src/keeping.rt", f"use Rattle.low.specs.Calls.{{Follows}};\n\npub fn keep(a: u8) -> u8\n{clause}{{\n    0\n}}\n")
+        self.assertEqual(self.printed(clause="low::keep.kept"), self.printed())
 
     def test_a_record_that_is_made_counts(self) -> None:
         calls = FILES["crates/low/specs/Calls.antt"].replace("IsLeft sessions = sessions ≡ 0", "IsLeft sessions = place_of sessions ≡ place_of 0")
