@@ -5,7 +5,9 @@ import os
 import re
 import shutil
 import subprocess
+import sys
 import threading
+import time
 from collections.abc import Callable, Collection, Iterator
 from typing import Protocol
 
@@ -25,7 +27,7 @@ class Proofs:
     """A command that proves crates: which it has proved so far, and its counts once it has ended."""
 
     def __init__(self, say: Callable[..., None]) -> None:
-        self.say = say
+        self.say, self.began = say, time.time()
         self.changed = threading.Condition()
         self.proved: set[str] = set()
         self.has_ended = False
@@ -89,12 +91,17 @@ class Beside:
                 changed.notify_all()
 
 
-def links(libraries: Collection[Library], room: str) -> dict[str, str]:
-    """Links built libraries into a folder of one's own, since `rt ci` may take them away at its end. Returns where each one's folder is then."""
+def links(libraries: Collection[Library], room: str, began: float) -> dict[str, str]:
+    """Links built libraries into a folder of one's own. Returns where each one's folder is then.
+
+    At its end `rt ci` puts back what was built before it, of other sources maybe: over that a mutant could be refused for a wrong reason, so
+    one that is older than the run ends all. (A link has the time of its folder.)"""
     found = {}
     for it in libraries:
         made = f"{it.folder}/out/rlib"
-        shutil.copytree(f"{made}/{it.name}.rlib", f"{room}/{it.name}/{it.name}.rlib", copy_function=link)
+        linked = shutil.copytree(f"{made}/{it.name}.rlib", f"{room}/{it.name}/{it.name}.rlib", copy_function=link)
+        if os.stat(linked).st_mtime < began:
+            sys.exit(f"mutants: `rt ci` ended before {it.name} was linked, and took it away: run this again")
         found[made] = f"{room}/{it.name}"
     return found
 

@@ -235,9 +235,20 @@ def statement_of(tree: Tree, clauses: Sequence[str]) -> str:
     return subprocess.run([tree.top / "tools/statement", *words], capture_output=True, text=True, check=True).stdout
 
 
+def section_of(text: str, heading: str) -> str:
+    """The text under a heading of the second level."""
+    return f"\n{text}".partition(f"\n## {heading}\n")[2].partition("\n## ")[0]
+
+
+def is_module(tree: Tree, name: str) -> bool:
+    """Whether a name is that of a module of definitions, as CRATE/MODULE."""
+    crate, _, module = name.partition("/")
+    return f"crates/{crate}/specs/{module}.antt" in tree.files
+
+
 def check_statement(tree: Tree) -> list[str]:
-    """PROOFS names each module of the definitions that its clauses stand on, and says how many the theorem itself has."""
-    told = tree.text("docs/PROOFS.md")
+    """PROOFS lists just the modules of the definitions that its clauses stand on, and says how many the theorem itself has."""
+    told = section_of(tree.text("docs/PROOFS.md"), "Reading the statement")
     try:
         all_of_them, theorem = statement_of(tree, CLAUSES), statement_of(tree, [THEOREM])
     except subprocess.CalledProcessError as error:
@@ -245,6 +256,8 @@ def check_statement(tree: Tree) -> list[str]:
     modules = [it.replace(".specs.", "/").replace(".", "/") for it in re.findall(r"^(\w+\.specs\.[\w.]+): \d", all_of_them, re.M)]
     named = {span for line in texts.lines_of(told) for span in texts.spans_of(line.text)}
     wrong = [f"docs/PROOFS.md doesn't name {it}" for it in modules if it not in named]
+    more = sorted(it for it in named.difference(modules) if is_module(tree, it))
+    wrong += [f"docs/PROOFS.md names {it}, on which none of its clauses stands" for it in more]
     count = re.search(r"^(\d+) definitions, (\d+) lines", theorem, re.M)
     if not count or f"{count[1]} definitions in {count[2]} lines" not in told:
         wrong.append(f"docs/PROOFS.md doesn't say that the theorem stands on {count[0] if count else 'nothing'}")

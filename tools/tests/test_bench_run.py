@@ -72,10 +72,11 @@ class Running(unittest.TestCase):
         for words, name in cases:
             self.assertEqual([*self.kept(*words)], [name])
 
-    def test_no_path_of_the_machine_is_told(self) -> None:
+    def test_the_command_is_told_without_paths_of_the_machine(self) -> None:
         for words, told in (
             (["--program", "/bin/true", "--turns", "5"], " --turns 5"), (["--program=/bin/true", "--folder=/srv"], ""),
             (["/srv/session.raw", "--folder", "/srv"], " session.raw"),
+            (["--only", "1 a transaction"], " --only '1 a transaction'"),
         ):
             (text,) = self.kept(*words).values()
             self.assertEqual(text.splitlines()[0], f"# `bench/run growth{told}`")

@@ -1,5 +1,6 @@
 """What is tried beside a run of `rt ci`: when it begins, how much at once, and over which libraries."""
 
+import os
 import sys
 import tempfile
 import threading
@@ -83,17 +84,27 @@ class Turns(unittest.TestCase):
 
 
 class Libraries(unittest.TestCase):
+    def setUp(self) -> None:
+        self.top = self.enterContext(tempfile.TemporaryDirectory())
+        self.low = types.SimpleNamespace(name="pglsn", folder=f"{self.top}/crates/pglsn")
+        self.began = Proofs(lambda line: None).began
+        self.made = Path(self.low.folder, "out/rlib/pglsn.rlib")
+        self.made.mkdir(parents=True)
+        (self.made / "format").write_text("1")
+        os.utime(self.made, (self.began + 1, self.began + 1))
+
     def test_a_check_is_over_links_that_outlast_the_run(self) -> None:
-        with tempfile.TemporaryDirectory() as top:
-            low = types.SimpleNamespace(name="pglsn", folder=f"{top}/crates/pglsn")
-            made = Path(low.folder, "out/rlib/pglsn.rlib")
-            made.mkdir(parents=True)
-            (made / "format").write_text("1")
-            folders = links([low], f"{top}/room")
-            words = moved(["--extern", f"pglsn={made}", "-L", f"dependency={made.parent}", "src/lib.rt"], folders)
-            self.assertEqual(words, ["--extern", f"pglsn={top}/room/pglsn/pglsn.rlib", "-L", f"dependency={top}/room/pglsn", "src/lib.rt"])
-            (made / "format").unlink()
-            self.assertEqual(Path(top, "room/pglsn/pglsn.rlib/format").read_text(), "1")
+        folders = links([self.low], f"{self.top}/room", self.began)
+        words = moved(["--extern", f"pglsn={self.made}", "-L", f"dependency={self.made.parent}", "src/lib.rt"], folders)
+        room = f"{self.top}/room/pglsn"
+        self.assertEqual(words, ["--extern", f"pglsn={room}/pglsn.rlib", "-L", f"dependency={room}", "src/lib.rt"])
+        (self.made / "format").unlink()
+        self.assertEqual(Path(room, "pglsn.rlib/format").read_text(), "1")
+
+    def test_one_from_before_the_run_came_back_at_its_end(self) -> None:
+        os.utime(self.made, (self.began - 1, self.began - 1))
+        with self.assertRaisesRegex(SystemExit, "pglsn"):
+            links([self.low], f"{self.top}/room", self.began)
 
 
 if __name__ == "__main__":

@@ -87,6 +87,34 @@ class Groups(Made):
         self.assertEqual(len(self.groups_wrong(tests + "- **Wire**: `low`, `high`.\n")), 1)
 
 
+# prints that a statement has one module
+STATEMENT = """#!/bin/sh
+echo "low.specs.Texts: 1 definitions, 2 lines"
+echo "1 definitions, 2 lines, 1 modules"
+"""
+
+
+class Statement(Made):
+    def statement_wrong(self, text: str, elsewhere: str = "") -> list[str]:
+        self.write("tools/statement", STATEMENT)
+        (self.top / "tools/statement").chmod(0o755)
+        self.write("crates/low/specs/Parts/Old.antt", "")
+        self.write("docs/PROOFS.md", f"## Reading the statement\n\n{text}\n\n## Open\n\n{elsewhere}\n")
+        return checks.check_statement(checks.Tree(self.top))
+
+    def test_the_same(self) -> None:
+        text = "1 definitions in 2 lines, `low/Texts` (`low/proofs/Old.antt`, and/or `low/src`)."
+        self.assertEqual(self.statement_wrong(text, "`low/Parts/Old`"), [])
+
+    def test_others(self) -> None:
+        count = "1 definitions in 2 lines"
+        self.assertEqual(self.statement_wrong(count, "`low/Texts`"), ["docs/PROOFS.md doesn't name low/Texts"])
+        told = ["docs/PROOFS.md names low/Parts/Old, on which none of its clauses stands"]
+        self.assertEqual(self.statement_wrong(f"{count}, `low/Texts`, `low/Parts/Old`."), told)
+        told = ["docs/PROOFS.md doesn't say that the theorem stands on 1 definitions, 2 lines"]
+        self.assertEqual(self.statement_wrong("2 definitions in 2 lines, `low/Texts`"), told)
+
+
 class Words(unittest.TestCase):
     def test_the_shares_are_the_whole(self) -> None:
         self.assertEqual(sum(share for file, share in checks.SHARES.items() if file.startswith("docs/")), checks.WHOLE)

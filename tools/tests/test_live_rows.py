@@ -9,6 +9,7 @@ import signal
 import subprocess
 import sys
 import tempfile
+import time
 import unittest
 from pathlib import Path
 
@@ -33,6 +34,8 @@ position 1/30
 PROGRAM = """#!/bin/sh
 cat "$0.txt"
 """
+# in seconds
+LONG = 1.0
 # stands for the connector: it says which child it has, which stands for the filter and ends with its input, and starts another if that ends
 CONNECTOR = """
 import subprocess, sys
@@ -135,9 +138,14 @@ class Killed(unittest.TestCase):
             self.supervisor.check()
         self.assertEqual((len(self.filters(2)), len(self.seen), self.supervisor.starts), (2, 1, 1))
 
+    def look_long(self) -> None:
+        """The same, for longer than it takes to start a connector again."""
+        time.sleep(LONG)
+        self.look()
+
     def test_the_connector(self) -> None:
         first = self.filters(1)
-        self.assertTrue(self.supervisor.kill_connector(self.look))
+        self.assertTrue(self.supervisor.kill_connector(self.look_long))
         self.assertEqual(self.seen[0], first)
         self.filters(2)
         self.assertGreaterEqual(self.supervisor.starts, 2)

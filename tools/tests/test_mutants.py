@@ -136,6 +136,34 @@ class Refusals(unittest.TestCase):
         self.assertEqual(self.refusal("Held::push", self.CALLEE, wrong, self.WAITS), "")
 
 
+class Files(unittest.TestCase):
+    def test_those_that_a_killed_gate_has_hidden_are_found(self) -> None:
+        folder = Path(self.enterContext(tempfile.TemporaryDirectory()))
+        for name in ("mutants/c.edit", "must-fail/a.edit", "mutants/must-fail/b.edit", "mutants/must-fail/b.md"):
+            (folder / name).parent.mkdir(parents=True, exist_ok=True)
+            (folder / name).touch()
+        self.assertEqual([it.name for it in mutants.files_of_gate(folder)], ["a.edit", "b.edit"])
+        self.assertEqual([it.name for it in mutants.files_of_mutants(folder)], ["a.edit", "b.edit", "c.edit"])
+
+
+class BesideProofs(unittest.TestCase):
+    def ended(self, *results: tuple[int, int], line: str = "5 passed, 0 failed") -> tuple[int, str]:
+        """The status and the last line, where so many mutants of each crate were tried, and so many not refused."""
+        said: list[str] = []
+        self.enterContext(mock.patch.object(mutants.Proofs, "run", lambda proofs, *command: proofs.end(line, 0)))
+        self.enterContext(mock.patch.object(mutants, "say", lambda *lines: said.extend(lines)))
+        status: int = mutants.try_beside_proofs(results, lambda it: it, types.SimpleNamespace(jobs=1))
+        return status, said[-1]
+
+    def test_crates_and_mutants_are_counted(self) -> None:
+        self.assertEqual(self.ended((3, 0), (0, 0), (2, 0)), (0, "10 passed, 0 failed"))
+        self.assertEqual(self.ended((3, 1), (2, 2)), (1, "7 passed, 3 failed"))
+        self.assertEqual(self.ended((3, 0), line="4 passed, 1 failed"), (1, "7 passed, 1 failed"))
+
+    def test_where_there_is_no_mutant_nothing_was_tried(self) -> None:
+        self.assertEqual(self.ended((0, 0), (0, 0)), (1, "5 passed, 1 failed"))
+
+
 class Kept(unittest.TestCase):
     def setUp(self) -> None:
         self.folder = Path(self.enterContext(tempfile.TemporaryDirectory()))

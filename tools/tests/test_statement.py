@@ -57,15 +57,23 @@ class Found(unittest.TestCase):
         file.parent.mkdir(parents=True, exist_ok=True)
         file.write_text(text, encoding="utf-8")
 
+    def printed(self, *options: str, clause: str = "low::follow.safe") -> str:
+        words = [sys.executable, str(self.top / "tools/statement"), "--clause", clause, *options]
+        return subprocess.run(words, capture_output=True, text=True, check=True).stdout
+
     def stands_on(self) -> list[str]:
-        words = [sys.executable, str(self.top / "tools/statement"), "--clause", "low::follow.safe"]
-        return subprocess.run(words, capture_output=True, text=True, check=True).stdout.splitlines()[:-1]
+        return self.printed().splitlines()[:-1]
 
     def test_definitions_are_found_in_folders_and_lines_counted(self) -> None:
         self.assertEqual(
             self.stands_on(),
             ["low.specs.Calls: 2 definitions, 4 lines", "low.specs.Server.Rows: 1 definitions, 2 lines", "3 definitions, 6 lines, 2 modules"],
         )
+
+    def test_a_clause_may_make_a_record_of_several_fields(self) -> None:
+        clause = "    ensures kept { Follows (record { store = 0; ledger = { 1 } }) result }\n    ensures safe { Row }\n"
+        self.write("crates/low/src/keeping.rt", f"use Rattle.low.specs.Calls.{{Follows}};\n\npub fn keep(a: u8) -> u8\n{clause}{{\n    0\n}}\n")
+        self.assertEqual(self.printed(clause="low::keep.kept"), self.printed())
 
     def test_a_record_that_is_made_counts(self) -> None:
         calls = FILES["crates/low/specs/Calls.antt"].replace("IsLeft sessions = sessions ≡ 0", "IsLeft sessions = place_of sessions ≡ place_of 0")
@@ -93,6 +101,8 @@ After = Unit
             self.stands_on(),
             ["low.specs.Calls: 3 definitions, 6 lines", "low.specs.Server.Rows: 1 definitions, 2 lines", "4 definitions, 8 lines, 2 modules"],
         )
+        heads = "module _ {C : Type 0}\n    (row : C → Row) where\nmodule _ (place : C → Place) where\n"
+        self.assertIn(f"-- named only from outside\n{heads}abbrev pub Within : ℕ → Type 0\nWithin n = n ≡ 0\n", self.printed("--text"))
 
 
 if __name__ == "__main__":
