@@ -168,6 +168,8 @@ class Kept(unittest.TestCase):
     def setUp(self) -> None:
         self.folder = Path(self.enterContext(tempfile.TemporaryDirectory()))
         self.enterContext(mock.patch.dict(os.environ, XDG_CACHE_HOME=str(self.folder / "cache")))
+        self.enterContext(mock.patch.object(mutants, "TOP", self.folder))
+        (self.folder / "crates.txt").write_text("# crates\nlow: std\nown staticlib: low\nowner: own\n")
         (self.folder / "KIT-ID").write_text("kit 1\n")
         (self.folder / "low").write_text("fn low() {}\n")
         (self.folder / "own").write_text("fn own() {}\n")
@@ -191,6 +193,15 @@ class Kept(unittest.TestCase):
                 self.assertFalse(self.refused().has(self.edit))
                 (self.folder / name).write_text(before)
         self.assertTrue(self.refused().has(self.edit))
+
+    def test_of_the_crates_only_those_below_count(self) -> None:
+        self.refused().keep(self.edit)
+        for line, still in (("owner: own", True), ("own staticlib: low", False), ("low: std", False)):
+            with self.subTest(line):
+                before = (self.folder / "crates.txt").read_text()
+                (self.folder / "crates.txt").write_text(before.replace(f"\n{line}\n", f"\n{line} more\n"))
+                self.assertEqual(self.refused().has(self.edit), still)
+                (self.folder / "crates.txt").write_text(before)
 
     def test_a_cache_that_cannot_be_written_keeps_nothing(self) -> None:
         (self.folder / "cache").write_text("no folder\n")
