@@ -481,6 +481,19 @@ class Ends(RedisCase):
             self.run_it(reader="redis")
         self.assertEqual((self.path / "readers/redis").read_text(), "0/100\n")
 
+    def test_a_reader_that_gets_a_name_later(self) -> None:
+        """Redis has all that was written, and its disk may have none of it yet."""
+        self.take(insert("1", "a"))
+        self.feed.end()
+        self.take(insert("2", "b"))
+        self.run_it()
+        with mock.patch("pgsub_connect.sinks.redis_disk.LATE", 1000.0):
+            self.run_it(reader="redis")
+        self.assertEqual((self.path / "readers/redis").read_text(), "0/0\n")
+        with mock.patch("pgsub_connect.sinks.redis_disk.LATE", -10.0):
+            self.run_it(reader="redis")
+        self.assertEqual((self.path / "readers/redis").read_text(), "0/200\n")
+
     def test_a_log_that_isnt_synced_is_rejected(self) -> None:
         """What counts as on the disk may not be there, and segments would go."""
         self.take(insert("1", "a"))

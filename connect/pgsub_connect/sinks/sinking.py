@@ -15,7 +15,7 @@ from ..feed.faults import Damaged
 from ..feed.noting import Noted
 from ..feed.parts import Commit
 from ..feed.polling import Poll
-from ..feed.reading import Reader, read_confirmed
+from ..feed.reading import Reader, read_confirmed, segments
 from ..feed.tabling import plain_name
 from ..postgres import Check
 from ..texts import lsn_text
@@ -97,8 +97,8 @@ class Sink:
         self.poll = Poll(self.reader, not options.once, check)
         self.noted = Noted(options.feed, options.reader, None, options.mode) if options.reader else None
         if self.noted and not os.path.exists(self.noted.path):
-            # (so that nothing goes before that is known to be on a disk)
-            self.noted.note(engine.at, is_last=True)
+            # (so that nothing goes before that is known to be on a disk, not even of what is written already)
+            self.noted.note(min([engine.at, *(base for base, _ in segments(options.feed)[:1])]), is_last=True)
         self.check = check
         # since when commits wait to be settled
         self.begun: float | None = None
