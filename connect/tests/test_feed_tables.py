@@ -607,6 +607,16 @@ class Initial(TablesCase):
         self.assertEqual(self.rows("SELECT count(*) FROM stock"), [(1,)])
 
 
+    def test_a_disk_that_is_full(self) -> None:
+        """It may have room later, so whatever starts this again goes on."""
+        self.take(insert("1", "a"))
+        self.run_it()
+        self.write("PRAGMA max_page_count = 1; CREATE TABLE large AS SELECT zeroblob(1000000)")
+        with logged(), self.assertRaisesRegex(Passing, "disk is full"):
+            tabling.run(self.options(init=self.init), never)
+        self.assertEqual((self.rows("SELECT * FROM stock"), self.tables()), ([(1, "a")], ["stock"]))
+
+
 class Waiting(TablesCase):
     def test_what_is_there(self) -> None:
         self.take(insert("1", "a"))
