@@ -24,7 +24,7 @@ from . import log
 from .catalog import Column, Shape
 from .copying import PASSING
 from .differences import PUBLICATION
-from .errors import NoSlot, Passing, ServerError, Stopped, Unfit
+from .errors import NoSlot, Passing, ServerError, Stopped, Unconnected, Unfit
 from .found import About
 from .meeting import Source
 from .publishing import Column as TableColumn
@@ -346,7 +346,8 @@ class Adder:
         self.close()
         sqlstate = error.sqlstate if isinstance(error, ServerError) else ""
         text = f"{self.remembered.text_of(self.oid)}: {reason(error)}"
-        if sqlstate and not sqlstate.startswith((*PASSING, *GONE)):
+        # (whom the server has let in before it may let in again)
+        if sqlstate and not isinstance(error, Unconnected) and not sqlstate.startswith((*PASSING, *GONE)):
             self.counts[self.oid, sqlstate] += 1
             if isinstance(error, ServerError) and error.is_lasting() or self.counts[self.oid, sqlstate] >= ATTEMPTS:
                 self.refuse(self.oid, text)

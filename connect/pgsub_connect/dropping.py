@@ -21,6 +21,7 @@ from .placing import OF_STORE
 from .postgres import TICK, Check, Connection, never
 from .resting import own_files
 from .server import settle
+from .snapshots import OF_FILE
 from .texts import identifier, literal
 
 if TYPE_CHECKING:
@@ -88,7 +89,9 @@ def files_of(store: str) -> list[str]:
     with contextlib.suppress(FileNotFoundError):
         there = sorted(os.listdir(folder or "."))
     asked = [os.path.join(folder, name) for name in there if any(it.fullmatch(name) for it in patterns)]
-    return [path for path in (*asked, *(store + it for it in OF_STORE)) if os.path.lexists(path)]
+    # (the program has its own ones beside what a link leads to)
+    meant = [os.path.realpath(store) + it for it in (*OF_FILE[1:], "")] if os.path.islink(store) else []
+    return [path for path in (*asked, *meant, *(store + it for it in OF_STORE)) if os.path.lexists(path)]
 
 
 Ask = Callable[[str], bool]

@@ -21,7 +21,7 @@ from .naming import OLD, POSITION, TABLES, name_columns, name_tables, names_of
 from .placing import check_into, placed
 from .postgres import Check
 from .remembered import Relation, Remembered
-from .resting import at_rest
+from .resting import at_rest, failed
 from .stored import APPLICATION, check_store, choose, is_export, opened, read_position, read_relations
 from .texts import counted, identifier, lsn_text
 from .values import Malformed, Read, Unlike, Value, kind_of, read_row
@@ -226,4 +226,4 @@ def export(path: str, new: str, options: Options, check: Check) -> tuple[int, in
     except Malformed:
         raise FileError(f"{options.store}: a malformed row or definition: the disk, or another program, has spoiled the file") from None
     except sqlite3.Error as error:
-        raise FileError(f"{options.store}, {options.into}: {error}") from None
+        raise failed(error, f"{options.store}, {options.into}") from None

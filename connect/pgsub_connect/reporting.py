@@ -98,7 +98,8 @@ def replace(path: str, text: str, mode: int) -> None:
         os.unlink(new)
     number = os.open(new, os.O_WRONLY | os.O_CREAT | os.O_EXCL | os.O_CLOEXEC, mode)
     try:
-        with open(number, "w", encoding="utf-8") as file:
+        # (a path may be no UTF-8)
+        with open(number, "w", encoding="utf-8", errors="replace") as file:
             # (whatever the umask leaves of it; some file systems have no modes)
             with contextlib.suppress(PermissionError):
                 os.fchmod(number, mode)

@@ -8,6 +8,7 @@ import fcntl
 import json
 import os
 import re
+import sqlite3
 import struct
 import time
 from collections.abc import Iterator
@@ -24,6 +25,8 @@ SHARED_FIRST, SHARED_SIZE = 0x40000002, 510
 # How long a follower may take until it begins to copy, in seconds, and how often it is looked after.
 PATIENCE = 300.0
 LOOK = 0.1
+# What SQLite says of a disk that is full.
+FULL = "is full"
 # After how many seconds a file that a killed process has left is removed.
 STALE = 3600.0
 # What a file that a process makes for itself has in its name behind another one's: its id, as nobody else names files. Beside it there
@@ -55,8 +58,17 @@ def at_rest(store: str, beside: str, check: Check) -> Iterator[tuple[str, bool]]
         stack.callback(remove_files, copied)
         for suffix in (LOG, ""):
             copy(os.path.realpath(store) + suffix, copied + suffix, 0o600, check)
-        fold(copied)
+        try:
+            fold(copied)
+        except sqlite3.Error as error:
+            raise failed(error, store) from None
         yield copied, True
+
+
+def failed(error: sqlite3.Error, told: str) -> FileError | Passing:
+    """What ends it where SQLite can't read or write files, which are told: a disk that is full may have room later."""
+    text = f"{told}: {error}"
+    return Passing(text) if FULL in str(error) else FileError(text)
 
 
 def check_there(store: str) -> None:

@@ -3,13 +3,14 @@
 from __future__ import annotations
 
 import os
+import sqlite3
 from typing import TYPE_CHECKING
 
 from . import log
 from .errors import FileError, Passing, Stopped
 from .placing import check_into, placed
 from .postgres import Check
-from .resting import at_rest
+from .resting import at_rest, failed
 from .snapshots import LOG, copy, fold, position_in, remove
 from .stored import check_store, is_store
 from .texts import lsn_text
@@ -49,4 +50,7 @@ def put(path: str, new: str, is_own: bool, check: Check) -> None:
             pass
     remove(new)
     copy(path, new, 0o600, check)
-    fold(new)
+    try:
+        fold(new)
+    except sqlite3.Error as error:
+        raise failed(error, new) from None

@@ -82,6 +82,17 @@ class Dropping(Quiet):
         self.assertEqual(files_of(self.store)[-2:], [self.store + ".tables", self.store + ".connector"])
         self.assertEqual(len(files_of(self.store)), len(FILES))
 
+    def test_a_store_by_a_link(self) -> None:
+        """The rows go, and with them the log that the program has beside them; what is of another follower there stays."""
+        os.mkdir(self.folder + "/far")
+        for suffix in ("", "-wal", ".connector"):
+            with open(f"{self.folder}/far/shop.db{suffix}", "wb"):
+                pass
+        os.unlink(self.store)
+        os.symlink("far/shop.db", self.store)
+        self.run_it(yes=True)
+        self.assertEqual((self.left(), os.listdir(self.folder + "/far")), (["copy.db2", "far", "rows.db"], ["shop.db.connector"]))
+
     def test_files_of_others_stay(self) -> None:
         """Whatever they have in their names behind the store's."""
         kept = [

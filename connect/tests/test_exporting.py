@@ -423,7 +423,7 @@ class Files(Case):
 
     def test_a_disk_that_is_full(self) -> None:
         with mock.patch.object(exporting.Export, "begin", side_effect=sqlite3.OperationalError("database or disk is full")):
-            with self.assertRaisesRegex(FileError, "disk is full"):
+            with self.assertRaisesRegex(Passing, "disk is full"):
                 run(self.options(), never)
         self.assertEqual(self.left(), [])
 

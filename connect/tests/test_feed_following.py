@@ -19,6 +19,8 @@ from pgsub_connect.cli import Options, Start, stop_by_signals
 from pgsub_connect.errors import Passing, Unfit
 from pgsub_connect.feed import awaiting, tabling
 from pgsub_connect.feed.faults import Damaged
+from pgsub_connect.feed.parts import Commit
+from pgsub_connect.feed.polling import Poll
 from pgsub_connect.feed.rowsfile import Rows
 from pgsub_connect.postgres import never
 
@@ -186,6 +188,30 @@ class Following(FollowingCase):
         self.feed.confirm(self.feed.at + 1)
         with logged():
             self.assertEqual(tabling.run(self.options, never), 0)
+
+    def test_what_is_confirmed_behind_the_last_look(self) -> None:
+        """Then that isn't the last one: what the feed has up to the LSN may have come since."""
+        self.feed.commit(0x100, [insert("1", "a", of=KEYED)])
+        self.feed.commit(0x200, [insert("2", "b", of=KEYED)], About(0x1FF, 2, 0))
+        self.options.once, self.options.at = True, 0x200
+        look, settle = Poll.next, tabling.Tables.settle
+
+        def look_before(poll: Poll) -> Commit | None:
+            commit = look(poll)
+            if commit is None:
+                self.feed.confirm(0x200)
+            return commit
+
+        def settle_before(tables: tabling.Tables) -> None:
+            settle(tables)
+            self.feed.confirm(0x200)
+
+        with logged(), mock.patch.object(tabling.Tables, "settle", settle_before), self.assertRaisesRegex(Passing, "has reached 0/100, and 0/200 not"):
+            tabling.run(self.options, never)
+        self.feed.confirm(0x100)
+        with logged(), mock.patch.object(Poll, "next", look_before):
+            self.assertEqual(tabling.run(self.options, never), 0)
+        self.assertEqual(read(self.into), (0x200, (Counter([(1, "a"), (2, "b")]), Counter())))
 
     def test_many_commits_in_one_transaction(self) -> None:
         for end in range(0x100, 0x10000, 0x100):

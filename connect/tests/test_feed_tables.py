@@ -434,10 +434,10 @@ class Beginning(TablesCase):
             self.run_it(store=str(self.folder / "copy.db"))
         self.assertEqual((self.rows("SELECT * FROM stock"), self.rows("SELECT lsn FROM pgsub_position")), ([(2, "b")], [("0/200",)]))
 
-    def store(self, lsn: int) -> str:
+    def store(self, lsn: int, name: str = "a") -> str:
         store = Store(str(self.folder / "copy.db"), lsn)
         store.table(1, "stock", [(1, "id", 23, -1), (0, "name", 25, -1)])
-        store.row(1, "1", "a")
+        store.row(1, "1", name)
         store.close()
         return str(self.folder / "copy.db")
 
@@ -485,6 +485,23 @@ class Beginning(TablesCase):
         with logged():
             export(Options(command="export", store=self.store(0x200), into=base), never)
         self.assertEqual(self.beside_another_reader(base=base), [0x200, 0x300, 0x400, 0x500])
+
+    def test_what_one_needs_that_goes_back_behind_the_copy_stays(self) -> None:
+        self.take(insert("1", "a"))
+        self.feed.end()
+        self.take(update(["1", "a"], ["1", "b"]))
+        self.feed.end()
+        self.take()
+        self.feed.confirm(0x300)
+
+        def export_slowly(options: Options, check: Check) -> int:
+            status = export(options, check)
+            retire(str(self.path), Limits(), self.at, 0.0)
+            return status
+
+        with mock.patch.object(beginning, "is_followed", lambda _: True), mock.patch.object(beginning, "export", export_slowly):
+            self.run_it(reader="rows", store=self.store(0x300, "b"), at=0x100)
+        self.assertEqual((self.rows("SELECT * FROM stock"), self.rows("SELECT lsn FROM pgsub_position")), ([(1, "a")], [("0/100",)]))
 
     def test_a_new_reader_of_which_nothing_comes_keeps_nothing(self) -> None:
         self.take()
@@ -588,6 +605,16 @@ class Initial(TablesCase):
         with self.assertRaisesRegex(FileError, "table stock: UNIQUE constraint failed: stock.name: an index"):
             self.run_it()
         self.assertEqual(self.rows("SELECT count(*) FROM stock"), [(1,)])
+
+
+    def test_a_disk_that_is_full(self) -> None:
+        """It may have room later, so whatever starts this again goes on."""
+        self.take(insert("1", "a"))
+        self.run_it()
+        self.write("PRAGMA max_page_count = 1; CREATE TABLE large AS SELECT zeroblob(1000000)")
+        with logged(), self.assertRaisesRegex(Passing, "disk is full"):
+            tabling.run(self.options(init=self.init), never)
+        self.assertEqual((self.rows("SELECT * FROM stock"), self.tables()), ([(1, "a")], ["stock"]))
 
 
 class Waiting(TablesCase):

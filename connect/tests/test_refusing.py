@@ -7,7 +7,7 @@ import unittest
 from pgsub_connect import adding
 from pgsub_connect.checkpoint import Checkpoint
 from pgsub_connect.dropping import read_known
-from pgsub_connect.errors import NoSlot, Passing, ServerError, Unfit
+from pgsub_connect.errors import NoSlot, Passing, ServerError, Unconnected, Unfit
 from pgsub_connect.found import About
 from pgsub_connect.remembered import Remembered
 
@@ -37,7 +37,7 @@ class InTheWay(Case):
 
     def test_for_a_while(self) -> None:
         for moment, errors in (
-            ("Source", (ServerError("lost"), Unfit("another server"))), ("make_slot", (NoSlot("late"), ServerError("lost", "08006"))),
+            ("Source", (ServerError("lost"), Unfit("another server"), Unconnected("another password", "28P01"))), ("make_slot", (NoSlot("late"), ServerError("lost", "08006"))),
             ("see", (Passing("changed: nothing was compared"),)), ("COPY", (ServerError("gone", "42P01"), ServerError("lost"))),
             ("block", (ServerError("ended", "57P01"),)),
         ):

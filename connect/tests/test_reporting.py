@@ -78,6 +78,14 @@ class Files(Quiet):
         with open(self.path + ".prom", encoding="utf-8") as file:
             self.assertIn('pgsub_state{slot="pgsub",store="copy.db",state="stopped"} 1\n', file.read())
 
+    def test_a_path_that_is_no_utf_8(self) -> None:
+        """Prometheus reads nothing else, and whoever reads the status file sees it replaced each second."""
+        reporter = Reporter(Options(store=os.fsdecode(b"copy\xff.db"), status_file=self.path, metrics_file=self.path + ".prom"), Progress())
+        reporter.write()
+        self.assertEqual(sorted(os.listdir(self.folder)), ["status", "status.prom"])
+        with open(self.path + ".prom", encoding="utf-8") as file:
+            self.assertIn('store="copy?.db"', file.read())
+
     def test_the_heartbeat_is_that_of_the_main_loop(self) -> None:
         progress = Progress()
         progress.heartbeat = 1e9

@@ -17,7 +17,7 @@ from collections.abc import Iterator
 from unittest import mock
 
 from pgsub_connect import exporting, resting, taking
-from pgsub_connect.cli import PASSING, Options, main
+from pgsub_connect.cli import FILE, PASSING, Options, main
 from pgsub_connect.errors import FileError, Passing, Stopped
 from pgsub_connect.postgres import never
 from pgsub_connect.resting import at_rest, own_name
@@ -132,6 +132,19 @@ class Held(Case):
             snapshots.wait()
         with contextlib.closing(sqlite3.connect(self.folder + "/snapshot.db")) as base:
             self.assertEqual(base.execute("SELECT count(*) FROM held").fetchone(), (2,))
+
+    def test_a_disk_that_is_full(self) -> None:
+        """Also where SQLite tells it, as of its own writes, that passes: what starts these again goes on. A spoiled file doesn't."""
+        open(self.path + "-wal", "wb").write(b"x")
+        errors = (("database or disk is full", PASSING), ("file is not a database", FILE))
+        for command, function in (("export", "resting.fold"), ("snapshot", "resting.fold"), ("export", "exporting.Export.run"), ("snapshot", "taking.fold")):
+            if function != "resting.fold" and os.path.exists(self.path + "-wal"):
+                os.unlink(self.path + "-wal")
+            for text, status in errors:
+                with logged() as told, mock.patch(f"pgsub_connect.{function}", side_effect=sqlite3.DatabaseError(text)):
+                    self.assertEqual(main([command, "--store", self.path, "--into", self.into]), status, (function, told))
+                self.assertRegex(told[-1], f"error: .*copy.db.*: {text}" if function != "taking.fold" else f"error: .*rows.db.*: {text}")
+                self.assertEqual(self.left() - {"copy.db-wal"}, set())
 
     def test_no_rights(self) -> None:
         open(self.path + ".connector", "w").close()

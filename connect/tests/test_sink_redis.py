@@ -14,11 +14,13 @@ from unittest import mock
 
 from feed_load import Load
 from feed_replay import Replay, replay
-from feed_text import Column, Line
+from feed_text import About, Column, Line
 from pgsub_connect.cli import Options
 from pgsub_connect.errors import EngineError, FileError, Passing, Stopped, Unfit, UsageError
 from pgsub_connect.exporting import run as export
 from pgsub_connect.feed.noting import Noted
+from pgsub_connect.feed.parts import Commit
+from pgsub_connect.feed.polling import Poll
 from pgsub_connect.feed.retaining import Limits, retire
 from pgsub_connect.postgres import never
 from pgsub_connect.sinks import sinking
@@ -446,6 +448,29 @@ class Ends(RedisCase):
         self.feed.confirm(0x400)
         self.run_it(until=0x400)
 
+    def test_what_is_confirmed_behind_the_last_look(self) -> None:
+        """Then that isn't the last one: what the feed has up to the LSN may have come since."""
+        self.take(insert("1", "a"))
+        self.feed.commit(0x200, [insert("2", "b")], About(0x1FF, 2, 0))
+        look, settle = Poll.next, sinking.Sink.settle
+
+        def look_before(poll: Poll) -> Commit | None:
+            commit = look(poll)
+            if commit is None:
+                self.feed.confirm(0x200)
+            return commit
+
+        def settle_before(sink: sinking.Sink) -> None:
+            settle(sink)
+            self.feed.confirm(0x200)
+
+        with mock.patch.object(sinking.Sink, "settle", settle_before):
+            self.fails(Passing, "the feed has reached 0/100, and 0/200 not yet", until=0x200)
+        self.feed.confirm(0x100)
+        with mock.patch.object(Poll, "next", look_before):
+            self.run_it(until=0x200)
+        self.assertEqual((self.server.rows(), self.server.at()), (stock(("1", "a"), ("2", "b")), "0/200"))
+
     def test_a_reader_is_noted(self) -> None:
         self.take(insert("1", "a"))
         with mock.patch("pgsub_connect.sinks.redis_disk.LATE", 1000.0):
@@ -455,6 +480,19 @@ class Ends(RedisCase):
         with mock.patch("pgsub_connect.sinks.redis_disk.LATE", -10.0):
             self.run_it(reader="redis")
         self.assertEqual((self.path / "readers/redis").read_text(), "0/100\n")
+
+    def test_a_reader_that_gets_a_name_later(self) -> None:
+        """Redis has all that was written, and its disk may have none of it yet."""
+        self.take(insert("1", "a"))
+        self.feed.end()
+        self.take(insert("2", "b"))
+        self.run_it()
+        with mock.patch("pgsub_connect.sinks.redis_disk.LATE", 1000.0):
+            self.run_it(reader="redis")
+        self.assertEqual((self.path / "readers/redis").read_text(), "0/0\n")
+        with mock.patch("pgsub_connect.sinks.redis_disk.LATE", -10.0):
+            self.run_it(reader="redis")
+        self.assertEqual((self.path / "readers/redis").read_text(), "0/200\n")
 
     def test_a_log_that_isnt_synced_is_rejected(self) -> None:
         """What counts as on the disk may not be there, and segments would go."""

@@ -58,6 +58,8 @@ def keeping(options: Options) -> Iterator[None]:
         yield
         return
     at, noted = begins_at(options), Noted(options.feed, options.reader, None, options.mode)
+    # (the rows may be taken back from there)
+    at = at if options.at is None else min(at, options.at)
     was_there = os.path.exists(noted.path)
     noted.note(max((it for it in bases if it <= at), default=bases[0]), is_last=True)
     try:

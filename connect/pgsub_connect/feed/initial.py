@@ -7,6 +7,7 @@ from collections.abc import Iterator
 
 from .. import log
 from ..errors import FileError
+from ..resting import FULL
 
 # What passes: a table that isn't there yet, and what is there already.
 PASSED = ("no such ", "already exists")
@@ -54,6 +55,9 @@ class Init:
         try:
             db.execute(statement)
         except sqlite3.OperationalError as error:
+            if FULL in str(error):
+                # (whatever else is written would tell the same)
+                raise
             if not any(it in str(error) for it in PASSED):
                 raise FileError(f"{self.path}: {error}: {statement[:100]}") from None
             if statement not in self.told:

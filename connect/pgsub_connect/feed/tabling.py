@@ -78,6 +78,8 @@ class Tables:
         # of the open transaction: since when, how many changes it has, and where the last commit of it ends
         self.begun, self.changes, self.end = 0.0, 0, rows.at
         self.is_checked = False
+        # whether all up to the LSN at which to end was confirmed before the feed was looked at last
+        self.is_confirmed = False
 
     def follow(self) -> None:
         """Takes commit after commit, several in one transaction where they are there, up to the end that was asked for."""
@@ -92,13 +94,19 @@ class Tables:
 
     def is_at_end(self, commit: Commit | None) -> bool:
         if commit is None:
-            return self.options.once
+            return self.options.once and not self.looks_again()
         return self.options.at is not None and commit.end > self.options.at
+
+    def looks_again(self) -> bool:
+        """Whether all up to the LSN at which to end was confirmed since the feed was looked at: some of it may have come since."""
+        until, was_confirmed = self.options.at, self.is_confirmed
+        self.is_confirmed = was_confirmed or until is not None and (read_confirmed(self.options.feed) or 0) >= until
+        return self.is_confirmed and not was_confirmed
 
     def check_reached(self, above: Commit | None) -> None:
         """Rejects an end below the LSN at which to end, where the feed may still get commits up to it."""
         until = self.options.at
-        if until is None or above or self.rows.at >= until or (read_confirmed(self.options.feed) or 0) >= until:
+        if until is None or above or self.rows.at >= until or self.is_confirmed:
             return
         raise Passing(f"{self.options.feed}: the feed has reached {lsn_text(self.rows.at)}, and {lsn_text(until)} not yet")
 

@@ -15,7 +15,7 @@ from ..feed.faults import Damaged
 from ..feed.noting import Noted
 from ..feed.parts import Commit
 from ..feed.polling import Poll
-from ..feed.reading import Reader, read_confirmed
+from ..feed.reading import Reader, read_confirmed, segments
 from ..feed.tabling import plain_name
 from ..postgres import Check
 from ..texts import lsn_text
@@ -97,11 +97,13 @@ class Sink:
         self.poll = Poll(self.reader, not options.once, check)
         self.noted = Noted(options.feed, options.reader, None, options.mode) if options.reader else None
         if self.noted and not os.path.exists(self.noted.path):
-            # (so that nothing goes before that is known to be on a disk)
-            self.noted.note(engine.at, is_last=True)
+            # (so that nothing goes before that is known to be on a disk, not even of what is written already)
+            self.noted.note(min([engine.at, *(base for base, _ in segments(options.feed)[:1])]), is_last=True)
         self.check = check
         # since when commits wait to be settled
         self.begun: float | None = None
+        # whether all up to the LSN at which to end was confirmed before the feed was looked at last
+        self.is_confirmed = False
 
     def follow(self) -> None:
         """Takes commit after commit, up to the end that was asked for."""
@@ -120,13 +122,19 @@ class Sink:
 
     def is_at_end(self, commit: Commit | None) -> bool:
         if commit is None:
-            return self.options.once
+            return self.options.once and not self.looks_again()
         return isinstance(self.options.until, int) and commit.end > self.options.until
+
+    def looks_again(self) -> bool:
+        """Whether all up to the LSN at which to end was confirmed since the feed was looked at: some of it may have come since."""
+        until, was_confirmed = self.options.until, self.is_confirmed
+        self.is_confirmed = was_confirmed or isinstance(until, int) and (read_confirmed(self.options.feed) or 0) >= until
+        return self.is_confirmed and not was_confirmed
 
     def check_reached(self, above: Commit | None) -> None:
         """Rejects an end below the LSN at which to end, where the feed may still get commits up to it."""
         until, at = self.options.until, self.engine.at
-        if not isinstance(until, int) or above or at >= until or (read_confirmed(self.options.feed) or 0) >= until:
+        if not isinstance(until, int) or above or at >= until or self.is_confirmed:
             return
         raise Passing(f"{self.options.feed}: the feed has reached {lsn_text(at)}, and {lsn_text(until)} not yet")
 
