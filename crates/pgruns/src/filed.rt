@@ -31,7 +31,7 @@ ghost use Rattle.pgruns.specs.Filed.{position_of};
 ghost use Rattle.pgsub_cli.specs.Storing.{PrintsOver, status_of_unopened};
 
 use crate::closing::{Closing, close_told, followed_status, run_status};
-use crate::new_file::{has_single_byte, make_file};
+use crate::new_file::{make_file, ready_file};
 use pgapply::StoreFault;
 use pgfollow::{Clock, Link};
 use pgorder::Version;
@@ -92,8 +92,8 @@ fn open_there<F: Start>(
         HasCleanDisk (connection.state over_files conn) →
         StaysAsFound over_files (image_at F.Start) conn)) }
 {
-    if has_single_byte(rt, path) {
-        return Err((Refusal::new(StoreFault::NotAStore), None));
+    if let Err(fault) = ready_file(rt, path) {
+        return Err((Refusal::new(fault), None));
     }
     Store::open_or_return(alloc, rt, path, cache, start)
 }

@@ -12,7 +12,7 @@ ghost use Rattle.pgruns.specs.NewFile.{new_page};
 use pgapply::StoreFault;
 use std::alloc::AllocError;
 use std::fs::{File, OpenOptions};
-use std::io::Write;
+use std::io::{Read, Write};
 use std::os::unix::fs::{MetadataExt, OpenOptionsExt};
 use std::path::Path;
 use std::{fs, io};
@@ -49,10 +49,21 @@ fn is_special(path: &str) -> bool {
     path == ":memory:" || path.starts_with("file:")
 }
 
-/// Whether the file at the path has a single byte. The SQL library would take it for an empty one
-/// and make a store of it, as SQLite does.
-pub(crate) fn has_single_byte(rt: &HostRuntime, path: &str) -> bool {
-    fs::metadata(rt, path).is_ok_and(|about| about.len() == 1)
+/// The byte that a file has, if it has a single one.
+fn single_byte(rt: &HostRuntime, path: &str) -> Option<u8> {
+    if fs::metadata(rt, path).ok()?.len() != 1 {
+        return None;
+    }
+    let mut byte = [0];
+    File::open(rt, path).ok()?.read_exact(&mut byte).ok()?;
+    Some(byte[0])
+}
+
+/// Whether the file at the path has a single byte that no run wrote. The SQL library would take it
+/// for an empty one and make a store of it, as SQLite does. A byte of 0 is what a run leaves that
+/// was killed while the library made the file.
+fn has_foreign_byte(rt: &HostRuntime, path: &str) -> bool {
+    matches!(single_byte(rt, path), Some(1..))
 }
 
 /// The path with a suffix.
@@ -98,6 +109,30 @@ fn sync_folder(rt: &HostRuntime, path: &str) {
     }
 }
 
+/// The name under which such a database is written, before it gets that of the store.
+fn part_of(rt: &HostRuntime, path: &str) -> Result<String, AllocError> {
+    beside(rt, path, ".pgsub-new")
+}
+
+/// Readies the file at a path, where one is, for the SQL library. That opens none with two names,
+/// as a run leaves that was killed before it took the first one away: this does it then.
+///
+/// # Errors
+///
+/// `NotAStore` where the file has a single byte that no run wrote; `Memory`.
+pub(crate) fn ready_file(rt: &HostRuntime, path: &str) -> Result<(), StoreFault>
+    ensures { IfErr result (λ fault. IsOwnFault fault ⊎ (fault ≡ StoreFault.NotAStore)) }
+{
+    let part = part_of(rt, path)?;
+    if fs::metadata(rt, part.as_str()).is_ok_and(|about| about.nlink() > 1) {
+        let _ = fs::remove_file(rt, part.as_str());
+    }
+    if has_foreign_byte(rt, path) {
+        return Err(StoreFault::NotAStore);
+    }
+    Ok(())
+}
+
 /// Makes such a database at the path, if neither it nor its log is there. It comes whole or not at
 /// all, and never replaces a file that another process makes: the run alone that made a part writes
 /// it, a part gets its second name once it is whole, and only then may another run take its first
@@ -106,28 +141,20 @@ fn sync_folder(rt: &HostRuntime, path: &str) {
 ///
 /// # Errors
 ///
-/// `NotAStore` where the file has a single byte; `Memory`.
+/// Those of `ready_file`.
 pub(crate) fn make_file(rt: &HostRuntime, path: &str) -> Result<(), StoreFault>
     ensures { IfErr result (λ fault. IsOwnFault fault ⊎ (fault ≡ StoreFault.NotAStore)) }
 {
     if is_special(path) {
         return Ok(());
     }
-    let part = beside(rt, path, ".pgsub-new")?;
-    if fs::metadata(rt, part.as_str()).is_ok_and(|about| about.nlink() > 1) {
-        // Its run was killed before it took the first name away; the library opens no file with
-        // two.
-        let _ = fs::remove_file(rt, part.as_str());
-    }
-    if has_single_byte(rt, path) {
-        return Err(StoreFault::NotAStore);
-    }
+    ready_file(rt, path)?;
     if fs::metadata(rt, path).is_ok() {
         return Ok(());
     }
     let log = beside(rt, path, "-wal")?;
     if fs::metadata(rt, log.as_str()).is_err() {
-        link_new(rt, part.as_str(), path);
+        link_new(rt, part_of(rt, path)?.as_str(), path);
     }
     sync_folder(rt, path);
     Ok(())
