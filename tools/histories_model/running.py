@@ -8,6 +8,7 @@ import tempfile
 import time
 import traceback
 from queue import Empty
+from typing import NamedTuple
 
 from built import add_program, check_program
 
@@ -50,8 +51,24 @@ def work(made, options, folder, worker, queue):
     queue.put(worker)
 
 
+class Ended(NamedTuple):
+    """How many cases were run, how many of them differ, and whether an interrupt ended it."""
+
+    done: int
+    differ: int
+    interrupted: bool
+
+    def tell(self, seconds):
+        """What is printed last."""
+        return f"{self.done} cases, {self.differ} differ, {'interrupted after ' if self.interrupted else ''}{seconds:.0f} s"
+
+    def status(self):
+        """The exit status. It isn't 0 where cases are left that may differ, or there was none."""
+        return int(self.differ > 0 or self.interrupted or not self.done)
+
+
 def run_all(made, options, folder):
-    """Runs all cases that `made` gives, and prints those that differ; how many were run, and how many differ."""
+    """Runs all cases that `made` gives, and prints those that differ."""
     began = time.monotonic()
     signal.signal(signal.SIGTERM, signal.default_int_handler)
     queue = multiprocessing.Queue()
@@ -60,29 +77,31 @@ def run_all(made, options, folder):
         worker.start()
     done = differ = 0
     running = len(workers)
-    while running and differ < options.stop_after:
-        try:
-            told = queue.get(timeout=10)
-        except KeyboardInterrupt:
-            break
-        except Empty:
-            if any(worker.is_alive() for worker in workers):
+    interrupted = False
+    try:
+        while running and differ < options.stop_after:
+            try:
+                told = queue.get(timeout=10)
+            except Empty:
+                if any(worker.is_alive() for worker in workers):
+                    continue
+                told, running = "the tool failed: a worker was killed", 0
+            if isinstance(told, int):
+                running -= 1
                 continue
-            told, running = "the tool failed: a worker was killed", 0
-        if isinstance(told, int):
-            running -= 1
-            continue
-        done += 1
-        if told:
-            differ += 1
-            print(told, flush=True)
-        if done % 5000 == 0:
-            print(f"{done} cases, {differ} differ, {time.monotonic() - began:.0f} s", flush=True)
+            done += 1
+            if told:
+                differ += 1
+                print(told, flush=True)
+            if done % 5000 == 0:
+                print(f"{done} cases, {differ} differ, {time.monotonic() - began:.0f} s", flush=True)
+    except KeyboardInterrupt:
+        interrupted = True
     for worker in workers:
         if running:
             worker.terminate()
         worker.join()
-    return done, differ
+    return Ended(done, differ, interrupted)
 
 
 def add_options(parser):

@@ -1,6 +1,7 @@
 -- A worked live run as bytes: two sessions, with a CopyDone between them, read in seven parts that
 -- are cut anywhere. What each part leaves of the subscriber and its rows, and the statuses that are
--- written after it, follow from the bytes. PostgreSQL documentation, Streaming Replication Protocol.
+-- written after it, follow from the bytes. PostgreSQL documentation, Streaming Replication
+-- Protocol.
 use Rattle.std.proofs.Common.{◌≡◌, ◌≤◌, ◌++◌, [], ◌∷◌, List, ℕ, false, Some, refl, arith, ap, ◌∙◌}
 use Rattle.std.proofs.Common.{sym, subst, inl, None}
 use Rattle.std.specs.List.{AllByRecursion, flat_map}
