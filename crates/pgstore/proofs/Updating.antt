@@ -1,5 +1,5 @@
--- The changes of a keyed table that are one statement: a row that was sent whole and stays at its
--- place, and a row that goes.
+-- The changes of a keyed table that keep a row's place or end it: a row that was sent whole, one of
+-- which cells are filled in, and one that goes.
 use Rattle.std.proofs.Common.{◌≡◌, ◌⊎◌, ◌≤◌, ◌-◌, ℕ, List, [], ◌∷◌, Bool, true, false, cond, Option}
 use Rattle.std.proofs.Common.{Some, None, Ok, refl, sym, ap, subst, ◌∙◌, inl, inr, arith}
 use Rattle.std.specs.Prelude.{if◌then◌else◌, is_some, nat_lt, not}
