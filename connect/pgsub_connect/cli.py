@@ -628,6 +628,8 @@ def follow(options: Options) -> int:
     """Follows to the end that was asked for; the exit status."""
     start = Start()
     stop_by_signals(start)
+    if options.snapshot:
+        taking.check_copied(options.store, options.snapshot, "--snapshot")
     if not (options.create or options.no_copy or any(os.path.exists(options.store + it) for it in ("", ".connector"))):
         # (before there is a file that would stay)
         raise no_store(options)
