@@ -224,6 +224,12 @@ class Others(RedisCase):
         self.fails(Unfit, "take another database", form="streams")
         self.assertEqual(self.server.data[b"pgsub:sink"], before)
 
+    def test_a_sink_that_is_rejected_for_settings_ends_none(self) -> None:
+        before = self.server.data[b"pgsub:sink"]
+        self.server.syncs[1] = b"no"
+        self.fails(EngineError, "appendfsync is no", reader="redis")
+        self.assertEqual(self.server.data[b"pgsub:sink"], before)
+
     def test_the_lsn_is_written(self) -> None:
         self.server.before_exec = lambda: self.server.do([b"SET", b"pgsub:lsn", b"0/50"]) and None
         self.fails(Unfit, "pgsub:lsn is 0/50 in place of 0/100")
