@@ -507,6 +507,13 @@ class Ends(RedisCase):
         with mock.patch("pgsub_connect.sinks.redis_disk.LATE", -10.0):
             self.fails(EngineError, "appendfsync is no, so it is never known what its disk has", reader="redis")
         self.assertEqual((self.server.rows(), (self.path / "readers").exists()), ({}, False))
+        for syncs, text in (
+            ("no no", "appendfsync is no, .*: say appendfsync everysec, or no --reader"),
+            ("everysec yes", "no-appendfsync-on-rewrite is yes, .*: say no-appendfsync-on-rewrite no, or no --reader"),
+            ("no yes", "appendfsync is no and no-app.* is yes, .*: say appendfsync everysec and no-appendfsync-on-rewrite no, or"),
+        ):
+            self.server.syncs[1::2] = [it.encode() for it in syncs.split()]
+            self.fails(EngineError, text, reader="redis")
         self.run_it()
         self.server.info = b"aof_enabled:0\r\n"
         self.run_it(reader="redis")
