@@ -3,6 +3,7 @@
 from __future__ import annotations
 
 import contextlib
+import errno
 import fcntl
 import json
 import os
@@ -145,6 +146,14 @@ class Held(Case):
                     self.assertEqual(main([command, "--store", self.path, "--into", self.into]), status, (function, told))
                 self.assertRegex(told[-1], f"error: .*copy.db.*: {text}" if function != "taking.fold" else f"error: .*rows.db.*: {text}")
                 self.assertEqual(self.left() - {"copy.db-wal"}, set())
+
+    def test_a_disk_that_is_full_is_told(self) -> None:
+        """The system says of a write only that there is no room."""
+        open(self.path + "-wal", "wb").write(b"x")
+        for command in ("export", "snapshot"):
+            with logged() as told, mock.patch("pgsub_connect.snapshots.copied", side_effect=OSError(errno.ENOSPC, "No space left on device")):
+                self.assertEqual(main([command, "--store", self.path, "--into", self.into]), PASSING)
+            self.assertEqual((told[-1], self.left()), (f"error: {self.into}: No space left on device", {"copy.db-wal"}))
 
     def test_no_rights(self) -> None:
         open(self.path + ".connector", "w").close()
