@@ -263,22 +263,30 @@ def read_partitions(connection: Connection, names: list[str]) -> dict[int, Parti
     }
 
 
-# By publication and the OID of a relation: the OIDs of what says that the publication has it, itself or by its schema.
+# By publication and the OID of a relation: the OIDs of what says that the publication has it, itself or by its schema, that with who
+# put it there.
 Members = dict[str, dict[int, list[str]]]
+# Which transaction has put a relation `c` into its schema: that it depends on that is written when it is made, or moved. (It depends on no
+# other one; if this were said, the server might look for each by way of all that the schema has.)
+PUT = (
+    "pg_catalog.pg_depend d ON d.classid = 'pg_catalog.pg_class'::pg_catalog.regclass AND d.objid = c.oid AND d.objsubid = 0"
+    " AND d.refclassid = 'pg_catalog.pg_namespace'::pg_catalog.regclass"
+)
 
 
 def read_members(connection: Connection, names: list[str]) -> Members:
-    """The relations that the publications list, or whose schemas they do. What left a list and joined it again has another OID there."""
+    """The relations that the publications list, or whose schemas they do. What left a list and joined it again has another OID there, and
+    what left a schema was put there by another transaction."""
     listed = f"p.pubname IN ({listed_names(names)})"
     query = (
-        "SELECT p.pubname, r.prrelid, r.oid FROM pg_catalog.pg_publication p JOIN pg_catalog.pg_publication_rel r ON r.prpubid = p.oid"
+        "SELECT p.pubname, r.prrelid, r.oid::pg_catalog.text FROM pg_catalog.pg_publication p JOIN pg_catalog.pg_publication_rel r ON r.prpubid = p.oid"
         f" WHERE {listed}"
     )
     if connection.version() >= 150000:
         query += (
-            " UNION ALL SELECT p.pubname, c.oid, s.oid FROM pg_catalog.pg_publication p"
-            " JOIN pg_catalog.pg_publication_namespace s ON s.pnpubid = p.oid"
-            f" JOIN pg_catalog.pg_class c ON c.relnamespace = s.pnnspid AND c.relkind IN ('r', 'p') WHERE {listed}"
+            " UNION ALL SELECT p.pubname, c.oid, s.oid::pg_catalog.text || COALESCE('@' || d.xmin::pg_catalog.text, '')"
+            " FROM pg_catalog.pg_publication p JOIN pg_catalog.pg_publication_namespace s ON s.pnpubid = p.oid"
+            f" JOIN pg_catalog.pg_class c ON c.relnamespace = s.pnnspid AND c.relkind IN ('r', 'p') LEFT JOIN {PUT} WHERE {listed}"
         )
     members: Members = {}
     for name, relation, entry in connection.rows(query, QUICK):
@@ -294,7 +302,8 @@ def note_since(tables: dict[int, Table], members: Members, partitions: dict[int,
 
 
 def ways_to(oid: int, members: dict[int, list[str]], partitions: dict[int, Partition]) -> Iterator[str]:
-    """What says that a publication has a relation, or one above it: `16401`, `16388/741` of one that transaction 741 has attached."""
+    """What says that a publication has a relation, or one above it: `16401`, `16388/741` of one that transaction 741 has attached,
+    `16390@742` of one that transaction 742 has put into a schema."""
     way = ""
     while oid:
         yield from (entry + way for entry in members.get(oid, ()))

@@ -37,7 +37,7 @@ from .remembered import Remembered, print_names
 from .reporting import Reporter
 from .sinks import sinking
 from .snapshots import Snapshots
-from .texts import parse_lsn
+from .texts import is_utf_8, parse_lsn
 
 ABOUT = """\
 Follows a PostgreSQL server: carries the change stream of a slot to `pgsub follow`, and the program's statuses back.
@@ -525,15 +525,30 @@ def check_files(options: Options) -> None:
     check_apart(options.store, written, read)
 
 
+def check_words(options: Options) -> None:
+    """Rejects what isn't UTF-8 of what the server or the program `pgsub` is told, which says so itself once all rows are copied."""
+    told = [("--slot", options.slot), *((f"--{name}", it) for name in ("publication", "table") for it in getattr(options, name))]
+    if options.command == "follow":
+        # (the program is told the whole path of a feed)
+        told += [("--store", options.store), ("--pgsub", options.pgsub), ("--feed", os.path.abspath(options.feed) if options.feed else "")]
+    for option, text in told:
+        if not is_utf_8(text):
+            raise UsageError(f"{option} {text}: that isn't UTF-8")
+    if not is_utf_8(options.dsn):
+        # (there may be a password in it)
+        raise UsageError("the connection string isn't UTF-8")
+
+
 def settle_options(options: Options) -> None:
     """Fills in what stands elsewhere: the connection string of a file, the program, the limits."""
     if options.command in ("status", "wait"):
         return
     check_files(options)
     if options.dsn_file:
-        with open(options.dsn_file, encoding="utf-8") as file:
+        with open(options.dsn_file, encoding="utf-8", errors="surrogateescape") as file:
             options.dsn = file.readline().strip()
-    elif {"password", "sslpassword"} & parameters(options.dsn).keys():
+    check_words(options)
+    if not options.dsn_file and {"password", "sslpassword"} & parameters(options.dsn).keys():
         log.warning("the password on the command line can be read by every account: use ~/.pgpass, PGPASSWORD or --dsn-file")
     if options.command == "verify" and options.tables:
         options.store = options.store or tables_verifying.store_of(options.tables)
@@ -628,6 +643,8 @@ def follow(options: Options) -> int:
     """Follows to the end that was asked for; the exit status."""
     start = Start()
     stop_by_signals(start)
+    if options.snapshot:
+        taking.check_copied(options.store, options.snapshot, "--snapshot")
     if not (options.create or options.no_copy or any(os.path.exists(options.store + it) for it in ("", ".connector"))):
         # (before there is a file that would stay)
         raise no_store(options)

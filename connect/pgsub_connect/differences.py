@@ -12,6 +12,7 @@ Each difference has the kind of fault that it may be in the copy:
 from __future__ import annotations
 
 import itertools
+import re
 from collections.abc import Iterable, Iterator
 from typing import NamedTuple
 
@@ -21,6 +22,8 @@ from .found import NOTHING, About
 NAMES, PUBLICATION, VALUES = "names", "publication", "values"
 KINDS = (NAMES, PUBLICATION, VALUES)
 TRUNCATE = ACTIONS[3]
+# Who has put a table into a schema, as `ways_to` has it.
+PUT = re.compile("@[0-9]+")
 # How many columns, labels and the like a text names.
 NAMED = 20
 
@@ -207,7 +210,12 @@ def stays(old: Part | None, new: Part) -> bool:
     """Whether a publication had a table all the time between two readings."""
     if old is None or old.since is None or new.since is None:
         return old is not None
-    return old.since == new.since or not set(old.since).isdisjoint(new.since)
+    return old.since == new.since or any(is_same_way(one, other) for one in old.since for other in new.since)
+
+
+def is_same_way(one: str, other: str) -> bool:
+    """Whether by both a publication has a table all the time. An earlier version of this program didn't keep who put it into a schema."""
+    return one == other or ("@" in one) != ("@" in other) and PUT.sub("", one) == PUT.sub("", other)
 
 
 def filter_text(ways: Iterable[str | None]) -> str:

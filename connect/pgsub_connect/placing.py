@@ -46,12 +46,12 @@ def check_apart(store: str, written: Sequence[tuple[str, str]], read: Sequence[t
                 raise UsageError(f"{option} {path} and {other} {its}: each needs a file of its own")
 
 
-def check_into(store: str, into: str, is_earlier: Callable[[str], bool], what: str) -> None:
-    """Rejects a file to write that is there and isn't an earlier one, or is one of the store's files."""
-    check_apart(store, [("--into", into)], [])
+def check_into(store: str, into: str, is_earlier: Callable[[str], bool], what: str, option: str = "--into") -> None:
+    """Rejects a file to write that is there and isn't an earlier one, or is one of the store's files. An option names it."""
+    check_apart(store, [(option, into)], [])
     folder = os.path.dirname(os.path.realpath(into))
     if not os.path.isdir(folder):
-        raise FileError(f"--into {into}: there is no folder {folder}")
+        raise FileError(f"{option} {into}: there is no folder {folder}")
     if not os.path.lexists(into):
         return
     try:
@@ -59,7 +59,7 @@ def check_into(store: str, into: str, is_earlier: Callable[[str], bool], what: s
     except OSError as error:
         raise FileError(f"{into}: {error.strerror}") from None
     if not is_good:
-        raise FileError(f"{into} is there and isn't {what}: remove it, or name another file")
+        raise FileError(f"{option} {into} is there and isn't {what}: remove it, or name another file")
 
 
 @contextlib.contextmanager

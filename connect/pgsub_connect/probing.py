@@ -137,5 +137,6 @@ def run(options: Options) -> int:
         text, code = f"{path}: not a status file", NO_FILE
     else:
         code = BAD if wrong else FINE
-    sys.stdout.write(f"{text}\n")
+    # (a path may be no UTF-8)
+    sys.stdout.write(f"{log.escaped(text)}\n")
     return code

@@ -56,8 +56,13 @@ def at_rest(store: str, beside: str, check: Check) -> Iterator[tuple[str, bool]]
             return
         copied = own_name(beside + ".copied")
         stack.callback(remove_files, copied)
-        for suffix in (LOG, ""):
-            copy(os.path.realpath(store) + suffix, copied + suffix, 0o600, check)
+        try:
+            for suffix in (LOG, ""):
+                copy(os.path.realpath(store) + suffix, copied + suffix, 0o600, check)
+        except OSError as error:
+            # (a write that fails names no file)
+            error.filename = error.filename or beside
+            raise
         try:
             fold(copied)
         except sqlite3.Error as error:

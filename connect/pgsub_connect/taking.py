@@ -24,9 +24,14 @@ def is_snapshot(path: str) -> bool:
     return is_store(path) and not os.path.exists(path + ".connector") and not os.path.exists(path + LOG)
 
 
+def check_copied(store: str, path: str, option: str = "--into") -> None:
+    """Rejects to replace a file by a copy of a store, unless it is such a copy itself. An option names it."""
+    check_into(store, path, is_snapshot, "an earlier copy of a store", option)
+
+
 def run(options: Options, check: Check) -> int:
     """Copies a store; the exit status."""
-    check_into(options.store, options.into, is_snapshot, "an earlier copy of a store")
+    check_copied(options.store, options.into)
     try:
         with at_rest(options.store, options.into, check) as (path, is_own), placed(options.into, options.mode) as new:
             check_store(path, options.store)

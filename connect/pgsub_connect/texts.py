@@ -1,4 +1,4 @@
-"""LSNs and SQL names."""
+"""LSNs, SQL names, and texts of the command line."""
 
 from __future__ import annotations
 
@@ -32,3 +32,12 @@ def identifier(text: str) -> str:
 
 def counted(number: int, thing: str) -> str:
     return f"{number} {thing}" if number == 1 else f"{number} {thing}s"
+
+
+def is_utf_8(text: str) -> bool:
+    """Whether a word of the command line, or the like, was UTF-8: bytes that aren't have become surrogates."""
+    try:
+        text.encode()
+    except UnicodeEncodeError:
+        return False
+    return True

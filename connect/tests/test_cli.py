@@ -90,6 +90,38 @@ class Apart(Quiet):
         self.settle("status", "--status-file", "DIR/copy.db.connector")
 
 
+class Words(Quiet):
+    """What isn't UTF-8 is refused where the server or the program is told it."""
+
+    def refused(self, text: str, *words: str) -> None:
+        with self.assertRaisesRegex(UsageError, text):
+            settle_options(arguments(words))
+
+    def test_no_utf_8(self) -> None:
+        self.addCleanup(os.umask, os.umask(0o022))
+        word, folder = os.fsdecode(b"a\xff"), self.make_folder()
+        for option in ("--slot", "--publication", "--feed", "--pgsub", "--table"):
+            more = ("--create",) if option == "--table" else ()
+            self.refused(f"^{option} .*a\udcff: that isn't UTF-8$", "follow", "--store", folder + "/copy.db", option, word, *more)
+        self.refused("^--store .*: that isn't UTF-8$", "follow", "--store", word)
+        dsn = Path(folder, "dsn")
+        dsn.write_bytes(b"password=a\xff\n")
+        for words in (("--dsn", f"password={word}"), ("--dsn-file", str(dsn))):
+            self.refused("^the connection string isn't UTF-8$", "check", *words)
+        self.addCleanup(os.chdir, os.getcwd())
+        os.mkdir(os.path.join(folder, word))
+        os.chdir(os.path.join(folder, word))
+        self.refused("^--feed .*a\udcff/feed: that isn't UTF-8$", "follow", "--store", "copy.db", "--feed", "feed")
+        self.assertEqual(os.listdir(), [])
+
+    def test_files_that_are_opened_here(self) -> None:
+        self.addCleanup(os.umask, os.umask(0o022))
+        word = os.path.join(self.make_folder(), os.fsdecode(b"a\xff"))
+        settle_options(arguments(["follow", "--store", "copy.db", "--tables", word, "--feed", "feed", "--snapshot", word + "s", "--status-file", word + "t"]))
+        settle_options(arguments(["export", "--store", word, "--into", word + "x"]))
+        settle_options(arguments(["tables", "--feed", word, "--into", word + "x"]))
+
+
 class Modules(unittest.TestCase):
     def test_each_is_listed_once(self) -> None:
         listed = re.findall(r"`(\w+)`", (pgsub_connect.__doc__ or "").partition("|---|")[2])

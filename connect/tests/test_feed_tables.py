@@ -15,11 +15,12 @@ from feed_text import Cell, Column, Definition, Line
 from pgsub_connect.cli import FILE, UNFIT, USAGE, Options, main
 from pgsub_connect.errors import FileError, Passing, Unfit
 from pgsub_connect.exporting import run as export
-from pgsub_connect.feed import beginning, tabling
+from pgsub_connect.feed import awaiting, beginning, tabling
 from pgsub_connect.feed.awaiting import Awaited
 from pgsub_connect.feed.noting import Noted
 from pgsub_connect.feed.reading import segments
 from pgsub_connect.feed.retaining import Limits, retire
+from pgsub_connect.feed.viewing import View
 from pgsub_connect.postgres import Check, never
 from pgsub_connect.snapshots import copy
 
@@ -640,6 +641,19 @@ class Waiting(TablesCase):
         self.feed.folder, self.feed.path = self.path, self.path / self.feed.path.name
         self.feed.confirm(0x180)
         self.run_it()
+        self.assertTrue(self.has_all(0x180))
+
+    def test_a_feed_whose_path_is_no_utf_8(self) -> None:
+        """Whether the file is made by it, or goes on there."""
+        self.take(insert("1", "a"))
+        for name in (b"moved\xff.feed", b"again\xc3.feed"):
+            self.path = self.path.rename(self.folder / os.fsdecode(name))
+            self.feed.folder, self.feed.path = self.path, self.path / self.feed.path.name
+            self.run_it()
+            self.assertEqual(awaiting.read_file(self.into), (0x100, str(self.path)))
+            with contextlib.closing(View(self.into, never)) as view:
+                self.assertEqual(view.folder, str(self.path))
+        self.feed.confirm(0x180)
         self.assertTrue(self.has_all(0x180))
 
     def has_all(self, lsn: int, feed: str | None = None) -> bool:

@@ -5,6 +5,7 @@ from __future__ import annotations
 import contextlib
 import io
 import json
+import os
 import tempfile
 import time
 import unittest
@@ -80,6 +81,12 @@ class Probes(unittest.TestCase):
         self.assertEqual(self.run_it("--status-file", self.path), (3, f"{self.path}: No such file or directory\n"))
         for it in ([], "x", {}, {"state": "following"}, {"state": 5, "heartbeat": 7}, {"state": "following", "heartbeat": "x"}):
             self.assertEqual(self.probe(status=it), (3, f"{self.path}: not a status file\n"), it)
+
+    def test_a_path_that_is_no_utf_8(self) -> None:
+        with contextlib.redirect_stdout(io.TextIOWrapper(io.BytesIO(), encoding="utf-8")) as out:
+            self.assertEqual(cli.main(["status", "--status-file", os.fsdecode(b"/none\xff")]), 3)
+            out.seek(0)
+            self.assertEqual(out.read(), "/none\\udcff: No such file or directory\n")
 
     def test_usage(self) -> None:
         for words in ("", "--status-file x --max-lag 60", "--status-file x --max-lag -1s", "--status-file x --max-lag 1sB",

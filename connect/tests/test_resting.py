@@ -3,6 +3,7 @@
 from __future__ import annotations
 
 import contextlib
+import errno
 import fcntl
 import json
 import os
@@ -17,7 +18,7 @@ from collections.abc import Iterator
 from unittest import mock
 
 from pgsub_connect import exporting, resting, taking
-from pgsub_connect.cli import FILE, PASSING, Options, main
+from pgsub_connect.cli import FILE, PASSING, USAGE, Options, main
 from pgsub_connect.errors import FileError, Passing, Stopped
 from pgsub_connect.postgres import never
 from pgsub_connect.resting import at_rest, own_name
@@ -146,6 +147,14 @@ class Held(Case):
                 self.assertRegex(told[-1], f"error: .*copy.db.*: {text}" if function != "taking.fold" else f"error: .*rows.db.*: {text}")
                 self.assertEqual(self.left() - {"copy.db-wal"}, set())
 
+    def test_a_disk_that_is_full_is_told(self) -> None:
+        """The system says of a write only that there is no room."""
+        open(self.path + "-wal", "wb").write(b"x")
+        for command in ("export", "snapshot"):
+            with logged() as told, mock.patch("pgsub_connect.snapshots.copied", side_effect=OSError(errno.ENOSPC, "No space left on device")):
+                self.assertEqual(main([command, "--store", self.path, "--into", self.into]), PASSING)
+            self.assertEqual((told[-1], self.left()), (f"error: {self.into}: No space left on device", {"copy.db-wal"}))
+
     def test_no_rights(self) -> None:
         open(self.path + ".connector", "w").close()
         with mock.patch("os.open", side_effect=PermissionError(13, "Permission denied")):
@@ -268,6 +277,24 @@ class Taken(Case):
             file.write("mine")
         with self.assertRaisesRegex(FileError, "is there and isn't an earlier copy"):
             taking.run(self.options(), never)
+
+    def test_what_a_follower_has_to_leave(self) -> None:
+        """What isn't an earlier copy is refused as by `snapshot`, before anything is made."""
+        other, mine, copied = (f"{self.folder}/{it}" for it in ("other.db", "mine.db", "copied.db"))
+        for path in (other, copied):
+            shutil.copy(self.path, path)
+        open(other + ".connector", "w").close()
+        with contextlib.closing(sqlite3.connect(mine)) as base:
+            base.execute("CREATE TABLE t (a)")
+        new = self.folder + "/new.db"
+        words = ["follow", "--store", new, "--create", "--table", "t", "--dsn", f"host={self.folder}/none", "--snapshot"]
+        for path in (other, mine):
+            with logged() as told:
+                self.assertEqual(main([*words, path]), FILE)
+            self.assertEqual(told, [f"error: --snapshot {path} is there and isn't an earlier copy of a store: remove it, or name another file"])
+            self.assertFalse(os.path.exists(new + ".connector"))
+        with logged() as told:
+            self.assertEqual((main([*words, new + "-wal"]), main([*words, copied])), (USAGE, PASSING), told)
 
     def test_on_another_disk(self) -> None:
         with self.followed(), logged(), mock.patch("os.rename", side_effect=OSError(18, "Invalid cross-device link")):

@@ -12,7 +12,7 @@ from unittest import mock
 
 from feed_text import Line
 from pgsub_connect.cli import Options
-from pgsub_connect.errors import EngineError, Passing, TooLarge, Unfit, UsageError
+from pgsub_connect.errors import EngineError, FileError, Passing, TooLarge, Unfit, UsageError
 from pgsub_connect.exporting import run as export
 from pgsub_connect.feed.identifying import subject
 from pgsub_connect.postgres import never
@@ -155,7 +155,8 @@ class GoesOn(NatsCase):
         self.server.before = lambda: self.server.add("pgsub.x", b"", b"{}")
         self.fails(Passing, "wrong last sequence: 4")
 
-    def test_a_base(self) -> None:
+    def export(self) -> str:
+        """A base of two rows."""
         store = Store(str(self.folder / "copy.db"), 0x100)
         self.addCleanup(store.close)
         store.table(1, "stock")
@@ -163,6 +164,29 @@ class GoesOn(NatsCase):
         store.row(1, "2", None)
         path = str(self.folder / "export.db")
         export(Options(command="export", store=store.path, into=path, text=True), never)
+        return path
+
+    def test_a_part_of_a_base_that_another_sink_publishes(self) -> None:
+        """It stays, whether there is something to begin with or not: that sink goes on, whatever goes meanwhile."""
+        base = self.export()
+        self.take()
+        self.server.accepts = 1
+        self.fails(Passing, "connection", base=base)
+        self.server.accepts = None
+        self.fails(FileError, "it is no export", base=base + "-none")
+        self.assertEqual(self.server.ids(), ["0/100:base:0"])
+
+        def publish(_: float) -> None:
+            if self.server.last == 1:
+                self.server.add("pgsub.public.stock", header_bytes({"Nats-Msg-Id": "0/100:base:1"}), b"{}")
+
+        with mock.patch("time.sleep", publish), mock.patch("pgsub_connect.sinks.nats_engine.STILL", 0.01):
+            self.fails(Passing, "another sink publishes the rows of a base there", base=base)
+        self.assertEqual(self.server.ids(), ["0/100:base:0", "0/100:base:1"])
+
+    @mock.patch("pgsub_connect.sinks.nats_engine.STILL", 0.0)
+    def test_a_base(self) -> None:
+        path = self.export()
         self.take()
         self.take(delete("1", "a"))
         expected = ["0/100:base:0", "0/100:base:1", "0/100:commit", "0/200:0", "0/200:commit"]

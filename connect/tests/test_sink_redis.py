@@ -18,6 +18,7 @@ from feed_text import About, Column, Line
 from pgsub_connect.cli import Options
 from pgsub_connect.errors import EngineError, FileError, Passing, Stopped, Unfit, UsageError
 from pgsub_connect.exporting import run as export
+from pgsub_connect.feed.beginning import opened
 from pgsub_connect.feed.noting import Noted
 from pgsub_connect.feed.parts import Commit
 from pgsub_connect.feed.polling import Poll
@@ -224,6 +225,12 @@ class Others(RedisCase):
         self.fails(Unfit, "take another database", form="streams")
         self.assertEqual(self.server.data[b"pgsub:sink"], before)
 
+    def test_a_sink_that_is_rejected_for_settings_ends_none(self) -> None:
+        before = self.server.data[b"pgsub:sink"]
+        self.server.syncs[1] = b"no"
+        self.fails(EngineError, "appendfsync is no", reader="redis")
+        self.assertEqual(self.server.data[b"pgsub:sink"], before)
+
     def test_the_lsn_is_written(self) -> None:
         self.server.before_exec = lambda: self.server.do([b"SET", b"pgsub:lsn", b"0/50"]) and None
         self.fails(Unfit, "pgsub:lsn is 0/50 in place of 0/100")
@@ -360,6 +367,33 @@ class Begins(RedisCase):
         self.fails(FileError, "it is no export", base=self.store.path)
         self.store.table(3, "odd", [(1, "A", 25, -1), (0, "a", 25, -1)])
         self.fails(Unfit, r"public.odd \(3\): names of columns are equal but for case", base=self.export())
+
+    def test_another_sink_begins_meanwhile(self) -> None:
+        """It is ended by one that has something to begin with, and as long as it hasn't begun itself."""
+        base, told = self.export(), list[str]()
+
+        def fail() -> None:
+            self.server.before_exec = lambda: None
+            before = self.server.data[b"pgsub:sink"]
+            self.fails(FileError, "it is no export", base=self.store.path)
+            self.assertEqual(self.server.data[b"pgsub:sink"], before)
+
+        self.server.before_exec = fail
+        self.run_it(base=base)
+        self.assertEqual((self.server.rows(), self.server.at()), (stock(("1", "b"), ("2", None)), "0/230"))
+        self.server.data.clear()
+
+        def exported(*_: Any) -> Any:
+            # (as long as an export takes, say)
+            with mock.patch("pgsub_connect.sinks.beginning.opened", opened):
+                told.extend(self.run_it(base=base))
+            return opened(base)
+
+        with mock.patch("pgsub_connect.sinks.beginning.opened", exported):
+            self.fails(Unfit, "pgsub:lsn is 0/230 in place of none", base=base)
+        self.take(insert("3", "c"))
+        self.run_it()
+        self.assertEqual((self.server.rows(), len(told)), (stock(("1", "b"), ("2", None), ("3", "c")), 1))
 
     def test_cut_off(self) -> None:
         base = self.export()
@@ -501,6 +535,13 @@ class Ends(RedisCase):
         with mock.patch("pgsub_connect.sinks.redis_disk.LATE", -10.0):
             self.fails(EngineError, "appendfsync is no, so it is never known what its disk has", reader="redis")
         self.assertEqual((self.server.rows(), (self.path / "readers").exists()), ({}, False))
+        for syncs, text in (
+            ("no no", "appendfsync is no, .*: say appendfsync everysec, or no --reader"),
+            ("everysec yes", "no-appendfsync-on-rewrite is yes, .*: say no-appendfsync-on-rewrite no, or no --reader"),
+            ("no yes", "appendfsync is no and no-app.* is yes, .*: say appendfsync everysec and no-appendfsync-on-rewrite no, or"),
+        ):
+            self.server.syncs[1::2] = [it.encode() for it in syncs.split()]
+            self.fails(EngineError, text, reader="redis")
         self.run_it()
         self.server.info = b"aof_enabled:0\r\n"
         self.run_it(reader="redis")

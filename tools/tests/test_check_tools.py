@@ -1,10 +1,13 @@
-"""What is counted of the unit tests."""
+"""What is counted of the unit tests, those of the tools and those of the connector."""
 
 import unittest
+from unittest import mock
+
+from tested import results_of
 
 from .scripts import loaded
 
-check_tools = loaded("check_tools")
+check_connector = loaded("check_connector")
 
 
 class Sample(unittest.TestCase):
@@ -28,7 +31,7 @@ class Sample(unittest.TestCase):
 
 class Counted(unittest.TestCase):
     def results(self, *names: str) -> tuple[int, int]:
-        passed, wrong = check_tools.results_of(unittest.TestSuite(map(Sample, names)))
+        passed, wrong = results_of(unittest.TestSuite(map(Sample, names)))
         return passed, len(wrong)
 
     def test_one_that_passes(self) -> None:
@@ -42,6 +45,12 @@ class Counted(unittest.TestCase):
 
     def test_one_that_passes_and_should_not(self) -> None:
         self.assertEqual(self.results("well_against_all_hope"), (0, 1))
+
+    def test_those_of_the_connector(self) -> None:
+        for name, passed, text in (("well", 1, ""), ("left_out", 0, "is skipped: psycopg is needed"), ("wrong_twice", 0, "AssertionError: wrong")):
+            with self.subTest(name), mock.patch.object(check_connector.Tests, "found", [Sample(name)]):
+                count, wrong = check_connector.run_test(0)
+                self.assertEqual((count, text in "".join(wrong), bool(wrong)), (passed, True, bool(text)))
 
 
 if __name__ == "__main__":

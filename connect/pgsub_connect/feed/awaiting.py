@@ -15,7 +15,7 @@ from ..postgres import Check
 from ..texts import lsn_text, parse_lsn
 from .beginning import is_tables, opened
 from .reading import Reader, read_confirmed
-from .rowsfile import FEED
+from .rowsfile import read_folder
 
 if TYPE_CHECKING:
     from ..cli import Options
@@ -38,8 +38,7 @@ def add_options(parser: argparse.ArgumentParser) -> None:
 def read_file(path: str) -> tuple[int, str]:
     """The LSN of a file of tables, and the folder of its feed."""
     with contextlib.closing(opened(path)) as db:
-        lsn, folder = db.execute(f"SELECT lsn, folder FROM {POSITION}, {FEED}").fetchone()
-    return parse_lsn(lsn), str(folder)
+        return parse_lsn(db.execute(f"SELECT lsn FROM {POSITION}").fetchone()[0]), read_folder(db)
 
 
 class Awaited:

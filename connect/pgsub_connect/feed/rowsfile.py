@@ -181,9 +181,9 @@ class Rows:
 
     def note_folder(self, folder: str) -> None:
         """Notes where the feed is, for those who wait."""
-        if self.db.execute(f"SELECT folder FROM {FEED}").fetchone()[0] != folder:
+        if read_folder(self.db) != folder:
             self.begin()
-            self.db.execute(f"UPDATE {FEED} SET folder = ?", (folder,))
+            self.db.execute(f"UPDATE {FEED} SET folder = CAST(? AS TEXT)", (path_bytes(folder),))
             self.settle(self.at)
 
     def check_source(self, head: Head) -> None:
@@ -317,13 +317,24 @@ class Rows:
         self.is_init_due = False
 
 
+def path_bytes(path: str) -> bytes:
+    """A path for SQLite, which takes no text for one that is no UTF-8."""
+    return path.encode(errors="surrogateescape")
+
+
+def read_folder(db: sqlite3.Connection) -> str:
+    """The folder of the feed."""
+    folder: bytes = db.execute(f"SELECT CAST(folder AS BLOB) FROM {FEED}").fetchone()[0]
+    return folder.decode(errors="surrogateescape")
+
+
 def prepare(db: sqlite3.Connection, folder: str, chosen: Iterable[str], is_base: bool) -> None:
     """Makes a new file, or an export, one that follows a feed."""
     db.execute("BEGIN IMMEDIATE")
     for statement in (() if is_base else SCHEMA) + MORE:
         db.execute(statement)
     names = sorted(set(chosen))
-    db.execute(f"INSERT INTO {FEED} VALUES (?, NULL, NULL, NULL, ?)", (folder, json.dumps(names)))
+    db.execute(f"INSERT INTO {FEED} VALUES (CAST(? AS TEXT), NULL, NULL, NULL, ?)", (path_bytes(folder), json.dumps(names)))
     taken = dict[str, Relation]()
     for name, schema, table, oid in db.execute(f"SELECT * FROM {TABLES}").fetchall():
         if not names or set(names) & names_of(schema, table):

@@ -51,7 +51,7 @@ class Engine(Protocol):
         """Looks, while there is nothing to take, whether it can go on."""
 
     def check_disk(self) -> None:
-        """Rejects settings under which it is never known what the engine's disk has."""
+        """Rejects settings under which it is never known what the engine's disk has. It alters nothing."""
 
     def safe(self) -> int | None:
         """An LSN whose rows the engine has even if it is lost just now and comes back from its disk; None where that isn't known."""

@@ -104,6 +104,12 @@ class JetStream:
         self.most = min(self.wire.most, most) if most > 0 else self.wire.most
         return found
 
+    def last(self) -> int:
+        """The sequence of the last message that is there now, or was."""
+        found = self.need(f"STREAM.INFO.{self.stream}", {})
+        assert found is not None
+        return int(found["state"]["last_seq"])
+
     def message(self, **which: Any) -> Stored | None:
         """A message by its `seq`, or the last one of a subject, `last_by_subj`."""
         found = self.need(f"STREAM.MSG.GET.{self.stream}", which, NO_MESSAGE)

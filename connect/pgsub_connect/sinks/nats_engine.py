@@ -31,6 +31,8 @@ ROOM = 32 << 20
 SYNCED = 150.0
 # How often it is looked whether the server is there, in seconds.
 OFTEN = 20.0
+# For how long nobody may publish to a stream with a part of a base until that goes, in seconds.
+STILL = 2.0
 
 
 class Nats:
@@ -42,6 +44,8 @@ class Nats:
         self.looked = time.monotonic()
         # of the commit of which a part is published already: where it ends, and the number of the last change
         self.part: tuple[int, int] | None = None
+        # whether there is a part of a base
+        self.has_left = False
         self.trail = Trail()
 
     # ---- what is there
@@ -61,9 +65,8 @@ class Nats:
             raise Unfit(f"{self.stream.where}: messages are there, and {found}: take another one, or remove it to begin anew")
         commit = last if read.n is None else self.stream.message(last_by_subj=f"{self.name}.{COMMIT}")
         if commit is None and read.n == -1:
-            # (the rows of a base, of which a part was published)
-            log.warning(f"{self.stream.where}: its {last.sequence} messages are a part of a base: they go, and it begins anew")
-            self.stream.purge()
+            # (the rows of a base, of which a part was published; they go once there is something to begin with)
+            self.has_left = True
             return False
         self.go_on(commit, read.lsn, read.n)
         return True
@@ -80,7 +83,20 @@ class Nats:
         self.trail.note(at, time.monotonic())
         self.part = None if n is None else (lsn, n)
 
+    def remove_left(self) -> None:
+        """Removes the part of a base that a sink has left. One that publishes it still would go on, and never know of it."""
+        end = time.monotonic() + STILL
+        while time.monotonic() < end:
+            self.check()
+            time.sleep(STILL / 20)
+        if self.stream.last() != self.stream.sequence:
+            raise Passing(f"{self.stream.where}: another sink publishes the rows of a base there")
+        log.warning(f"{self.stream.where}: its {self.stream.sequence} messages are a part of a base: they go, and it begins anew")
+        self.stream.purge()
+
     def begin(self, base: Base) -> None:
+        if self.has_left:
+            self.remove_left()
         for relation, n, row in numbered(base.tables(), base.rows):
             if not n % 1000:
                 self.check()

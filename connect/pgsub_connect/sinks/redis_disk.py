@@ -3,6 +3,7 @@
 from __future__ import annotations
 
 import time
+from collections.abc import Iterable
 from typing import Any
 
 from .. import log
@@ -15,6 +16,8 @@ LATE, WRONG = 3.0, 2.0
 # How often it is asked, in seconds.
 OFTEN = 1.0
 INFO, SYNCS = ("INFO", "persistence"), ("CONFIG", "GET", "*appendfsync*")
+# Settings with the value by which a log isn't synced, and the one to say in its place.
+UNSYNCED = {b"appendfsync": (b"no", "everysec"), b"no-appendfsync-on-rewrite": (b"yes", "no")}
 
 
 class Disk:
@@ -33,8 +36,9 @@ class Disk:
             return
         if isinstance(syncs, Said):
             log.warning(f"{self.calls.where}: it doesn't tell whether it syncs its log ({syncs}): that is taken for appendfsync everysec")
-        if text := unsynced(syncs):
-            raise EngineError(f"{self.calls.where}: {text}, so it is never known what its disk has: say appendfsync everysec, or no --reader")
+        if names := unsynced(syncs):
+            better = " and ".join(f"{it.decode()} {UNSYNCED[it][1]}" for it in names)
+            raise EngineError(f"{self.calls.where}: {told(names)}, so it is never known what its disk has: say {better}, or no --reader")
 
     def note(self, at: int) -> None:
         self.trail.note(at, time.time())
@@ -53,7 +57,7 @@ class Disk:
             return 0.0
         found = fields(info)
         if found.get("aof_enabled") == "1":
-            self.note_syncs(unsynced(syncs), now)
+            self.note_syncs(told(unsynced(syncs)), now)
             return now - LATE if found.get("aof_last_write_status") == "ok" and now - self.unsynced > LATE else 0.0
         if not isinstance(saves, Said) and not any(saves[1:]):
             # (it keeps nothing, so after its end all begins anew)
@@ -68,11 +72,14 @@ class Disk:
         self.unsynced = now if text else self.unsynced if now - self.unsynced <= LATE else 0.0
 
 
-def unsynced(syncs: Any) -> str:
-    """The setting by which a log isn't synced, "" where it is, or where that isn't told."""
+def unsynced(syncs: Any) -> list[bytes]:
+    """The settings by which a log isn't synced; none where it is, or where that isn't told."""
     found = {} if isinstance(syncs, Said) else dict(zip(syncs[::2], syncs[1::2]))
-    wrong = {b"appendfsync": b"no", b"no-appendfsync-on-rewrite": b"yes"}
-    return next((f"{name.decode()} is {value.decode()}" for name, value in wrong.items() if found.get(name) == value), "")
+    return [name for name, (wrong, _) in UNSYNCED.items() if found.get(name) == wrong]
+
+
+def told(names: Iterable[bytes]) -> str:
+    return " and ".join(f"{name.decode()} is {UNSYNCED[name][0].decode()}" for name in names)
 
 
 def fields(info: Any) -> dict[str, str]:

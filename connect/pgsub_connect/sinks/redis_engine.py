@@ -100,21 +100,25 @@ class Redis:
         self.relations = Relations(wanted.chosen, self.form.is_keyed_only, self.form)
         self.about: dict[str, Any] = {**wanted.source(), "tables": list(wanted.chosen), "as": self.form.name}
         lsn, about = self.run([("MGET", LSN, FEED)])[0]
-        if lsn is not None:
-            self.check_about(about)
-        # (from now on no other sink's MULTI has an effect)
-        self.run([("SET", SINK, self.owner)])
-        self.lsn = self.run([WATCH, ASK])[1][0]
-        about, tables, loading = self.run([("MGET", FEED, TABLES, LOADING)])[0]
-        if self.lsn is None:
-            self.left = json.loads(loading or b"[]")
+        if lsn is None:
+            # (another one may begin just now, and goes on as long as there is nothing to begin with here)
             return False
+        self.check_about(about)
+        self.take_over()
+        about, tables = self.run([("MGET", FEED, TABLES)])[0]
+        if self.lsn is None:
+            raise Passing(f"{self.calls.where}: {LSN} was removed just now")
         self.check_about(about)
         if tables is None:
             raise Unfit(f"{self.calls.where}: something else has removed {TABLES}: remove {LSN} and the rows to begin anew")
         self.relations.load(tables.decode())
         self.reach(parse_lsn(self.lsn.decode()))
         return True
+
+    def take_over(self) -> None:
+        """From now on no other sink's MULTI has an effect."""
+        self.run([("SET", SINK, self.owner)])
+        self.lsn = self.run([WATCH, ASK])[1][0]
 
     def check_about(self, about: bytes | None) -> None:
         """Rejects what is of another feed, or of other tables."""
@@ -177,6 +181,11 @@ class Redis:
 
     def begin(self, base: Base) -> None:
         form = self.form
+        # (before this one takes over, since another one may have begun, and be fine)
+        self.check_lsn(self.run([ASK])[0][0], None)
+        self.take_over()
+        self.check_lsn(self.lsn, None)
+        self.left = json.loads(self.run([("MGET", LOADING)])[0][0] or b"[]")
         self.transact([*form.removals(self.left), ("DEL", LOADING)], self.lsn)
         form.check_new()
         tables = [it for it in map(self.relations.describe, base.tables()) if it]

@@ -200,10 +200,10 @@ def engine_of(options: Options, check: Check) -> Engine:
 def keep(options: Options, engine: Engine, check: Check) -> None:
     """Keeps what a feed has. A signal ends it."""
     wanted = wanted_of(options, check)
-    is_there = engine.open(wanted)
     if options.reader:
+        # (first of all, since another sink that is fine is ended once this one has begun)
         engine.check_disk()
-    if not is_there:
+    if not engine.open(wanted):
         with keeping(options), base_of(options, wanted.chosen, check) as base:
             engine.begin(base)
     sink = Sink(options, engine, check)
