@@ -299,7 +299,7 @@ feeds_6 = record {
   };
   take = takes_item fed_5 [] update_read refl
       (takes_item fed_5 ((11, update_t 49 98) ∷ []) delete_read refl
-      (takes_commit fed_5 items_11 commit_11_read refl described_11 folds_11 missing_11 takes_none));
+      (takes_commit (record fed_5 { received = 744 }) items_11 commit_11_read refl described_11 folds_11 missing_11 takes_none));
   left = refl;
   unclosed = refl;
 }

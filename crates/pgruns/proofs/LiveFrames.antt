@@ -1,6 +1,7 @@
 -- The frames of the worked live run as bytes, and the messages that are read of them. PostgreSQL
 -- documentation, Message Formats (CopyData, CopyDone), Streaming Replication Protocol (XLogData,
--- Primary keepalive message) and Logical Replication Message Formats.
+-- Primary keepalive message) and Logical Replication Message Formats. Their LSNs are small, so that
+-- they are easy to read: no server's log begins so low.
 use Rattle.std.proofs.Common.{◌≡◌, ◌++◌, [], ◌∷◌, List, ℕ, true, false, refl, pos, Ok}
 use Rattle.std.specs.Str.{is_utf8, chars}
 use lib.Utf8.{encode}
@@ -58,7 +59,7 @@ update = xlog (short 2 208) (85 ∷ 0 ∷ 0 ∷ 64 ∷ 0 ∷ 78 ∷ 0 ∷ 2 ∷ 
 
 -- Delete of the row with key 3
 abbrev pub delete : List ℕ
-delete = xlog (short 2 208) (68 ∷ 0 ∷ 0 ∷ 64 ∷ 0 ∷ 75 ∷ 0 ∷ 2 ∷ 116 ∷ 0 ∷ 0 ∷ 0 ∷ 1 ∷ 51 ∷ 110 ∷ [])
+delete = xlog (short 2 232) (68 ∷ 0 ∷ 0 ∷ 64 ∷ 0 ∷ 75 ∷ 0 ∷ 2 ∷ 116 ∷ 0 ∷ 0 ∷ 0 ∷ 1 ∷ 51 ∷ 110 ∷ [])
 
 abbrev pub commit_11 : List ℕ
 commit_11 = xlog (short 3 48) (67 ∷ 0 ∷ (short 3 0 ++ (short 3 48 ++ short 0 0)))
@@ -104,7 +105,7 @@ unfolding payload_at message_at message_of update_at prior_at xid_at number_at b
     tuples.cell_at tuples.cells_at
 update_read = record { body = _; carries = refl; reads = refl }
 
-pub delete_read : Reads delete 720 (alone (delete_t 51))
+pub delete_read : Reads delete 744 (alone (delete_t 51))
 unfolding payload_at message_at message_of delete_at xid_at number_at byte_at bytes_at row_at is_utf8 chars encode tuples.tuple_at
     tuples.number_at tuples.length_at tuples.bytes_at tuples.text_at tuples.text_cell_at tuples.binary_cell_at tuples.cell_at
     tuples.cells_at

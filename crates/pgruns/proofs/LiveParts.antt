@@ -29,7 +29,7 @@ holds store tables = store.tables ≡ tables
 abbrev pub stands : Store → ℕ
 stands store = store.position
 
--- a crash loses nothing
+-- a crash loses nothing of this store
 abbrev pub reopens : Store → Store → Type 0
 reopens store other = other ≡ store
 
@@ -84,7 +84,7 @@ module _ {m m' : Misses} {old new : Subscribed} {part : List ℕ} (fed : FeedsPa
     counts = fed.take.counts;
   }
 
-  -- of one that memory fails behind these frames, the same stands
+  -- the same is true of a subscriber for which memory runs out behind these frames
   until : IsFedUntil now old part (record new { closed = true }) fault.Memory
   until = record {
     fs = fed.fs;

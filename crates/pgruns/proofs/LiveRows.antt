@@ -1,7 +1,7 @@
--- A worked live run as bytes: two sessions, with a CopyDone between them, read in seven parts that
--- are cut anywhere. What each part leaves of the subscriber and its rows, and the statuses that are
--- written after it, follow from the bytes. PostgreSQL documentation, Streaming Replication
--- Protocol.
+-- A worked live run as bytes: two sessions, with a CopyDone between them, read in seven parts, most
+-- of them cut inside a frame. What each part leaves of the subscriber and its rows, and the
+-- statuses that are written after it, follow from the bytes. PostgreSQL documentation, Streaming
+-- Replication Protocol.
 use Rattle.std.proofs.Common.{◌≡◌, ◌≤◌, ◌++◌, [], ◌∷◌, List, ℕ, false, Some, refl, arith, ap, ◌∙◌}
 use Rattle.std.proofs.Common.{sym, subst, inl, None}
 use Rattle.std.specs.List.{AllByRecursion, flat_map}
@@ -183,7 +183,7 @@ told_safely m s statuses safe each = record {
 }
 
 -- After each part the store holds the history's rows up to its position; all that a status confirms
--- then is stored, and is in what a crash leaves.
+-- then is stored, and is in what a crash leaves, which of this store is all.
 are_told_safely : AreToldSafely holds stands reopens history start steps
 are_told_safely = (
   told_safely nothing_missed fed_1 [] safe_0 tt,

@@ -52,11 +52,12 @@ safe_0 = record {
 
 -- ---- the bytes
 
--- the transaction of xid 10, and CopyDone
+-- the transaction of xid 10, and CopyDone, which ends a session where its bytes are recorded
 abbrev pub session_1 : List ℕ
 session_1 = framed 50 begin_10 ++ (framed 69 relation ++ (framed 49 insert ++ (framed 55 commit_10 ++ copy_done)))
 
--- the same again, the transaction of xid 11, and a keepalive that asks for a reply
+-- the same again, as where the status that confirmed it was lost, the transaction of xid 11, and a
+-- keepalive that asks for a reply
 abbrev pub session_2 : List ℕ
 session_2 = framed 50 begin_10 ++ (framed 69 relation ++ (framed 49 insert ++ (framed 55 commit_10
     ++ (framed 50 begin_11 ++ (framed 49 update ++ (framed 44 delete ++ (framed 55 commit_11 ++ framed 22 keepalive)))))))
@@ -68,7 +69,7 @@ complete_10 = data_at 480 (begin 512 10) ∷ data_at 480 (alone (item.Relation t
     ∷ data_at 560 (commit 512 560) ∷ []
 
 abbrev complete_11 : List Sent
-complete_11 = data_at 720 (begin 768 11) ∷ data_at 720 (alone (update_t 49 98)) ∷ data_at 720 (alone (delete_t 51))
+complete_11 = data_at 720 (begin 768 11) ∷ data_at 720 (alone (update_t 49 98)) ∷ data_at 744 (alone (delete_t 51))
     ∷ data_at 816 (commit 768 816) ∷ Keepalive 896 (pos 0) true ∷ []
 
 abbrev pub complete_1 : List Sent
@@ -188,9 +189,9 @@ update_fits : IsWireSent (data_at 720 (alone (update_t 49 98)))
 unfolding message_spelling item_spelling tuple_spelling is_utf8 chars encode
 update_fits = data_fits 720 (alone (update_t 49 98)) (omega arith) (tt, (omega arith, tt, two_texts 49 98 refl refl)) (omega arith)
 
-delete_fits : IsWireSent (data_at 720 (alone (delete_t 51)))
+delete_fits : IsWireSent (data_at 744 (alone (delete_t 51)))
 unfolding message_spelling item_spelling tuple_spelling is_utf8 chars encode
-delete_fits = data_fits 720 (alone (delete_t 51)) (omega arith) (tt, (omega arith, one_text 51 refl)) (omega arith)
+delete_fits = data_fits 744 (alone (delete_t 51)) (omega arith) (tt, (omega arith, one_text 51 refl)) (omega arith)
 
 fits_11 : AllByRecursion IsWireSent complete_11
 fits_11 = (

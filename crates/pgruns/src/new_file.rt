@@ -49,6 +49,18 @@ fn is_special(path: &str) -> bool {
     path == ":memory:" || path.starts_with("file:")
 }
 
+/// The path with a suffix.
+fn beside(rt: &HostRuntime, path: &str, end: &str) -> Result<String, AllocError> {
+    let mut name = String::from_str(rt.alloc(), path)?;
+    name.push_str(end)?;
+    Ok(name)
+}
+
+/// The log of the database at a path.
+fn log_of(rt: &HostRuntime, path: &str) -> Result<String, AllocError> {
+    beside(rt, path, "-wal")
+}
+
 /// The byte that a file has, if it has a single one.
 fn single_byte(rt: &HostRuntime, path: &str) -> Option<u8> {
     if fs::metadata(rt, path).ok()?.len() != 1 {
@@ -60,17 +72,26 @@ fn single_byte(rt: &HostRuntime, path: &str) -> Option<u8> {
 }
 
 /// Whether the file at the path has a single byte that no run wrote. The SQL library would take it
-/// for an empty one and make a store of it, as SQLite does. A byte of 0 is what a run leaves that
-/// was killed while the library made the file.
-fn has_foreign_byte(rt: &HostRuntime, path: &str) -> bool {
-    matches!(single_byte(rt, path), Some(1..))
+/// for an empty one and make a store of it, as SQLite does. A byte of 0 with a log beside it is
+/// what a run leaves that was killed while the library made the file.
+fn has_foreign_byte(rt: &HostRuntime, path: &str) -> Result<bool, AllocError> {
+    let log = log_of(rt, path)?;
+    Ok(match single_byte(rt, path) {
+        None => false,
+        Some(0) => fs::metadata(rt, log.as_str()).is_err(),
+        Some(1..) => true,
+    })
 }
 
-/// The path with a suffix.
-fn beside(rt: &HostRuntime, path: &str, end: &str) -> Result<String, AllocError> {
-    let mut name = String::from_str(rt.alloc(), path)?;
-    name.push_str(end)?;
-    Ok(name)
+/// Whether two names are of one file, neither of them a link to the other.
+fn are_one_file(rt: &HostRuntime, name: &str, other: &str) -> bool {
+    match (
+        fs::symlink_metadata(rt, name),
+        fs::symlink_metadata(rt, other),
+    ) {
+        (Ok(one), Ok(two)) => one.ino() == two.ino() && one.dev() == two.dev(),
+        _ => false,
+    }
 }
 
 /// Writes such a database to a new file, and to the disk.
@@ -79,15 +100,17 @@ fn write_new(file: &mut File) -> io::Result<()> {
     file.sync_all()
 }
 
+/// The options by which a file is made that only its owner reads, unless one is there.
+fn making() -> OpenOptions {
+    let mut options = OpenOptions::new();
+    options.write(true).create_new(true).mode(MODE);
+    options
+}
+
 /// Writes such a database at the one path, and gives it the other path as a second name, unless
 /// another file has that. It keeps the first name only where its run is killed.
 fn link_new(rt: &HostRuntime, part: &str, path: &str) {
-    let made = OpenOptions::new()
-        .write(true)
-        .create_new(true)
-        .mode(MODE)
-        .open(rt, part);
-    let Ok(mut file) = made else {
+    let Ok(mut file) = making().open(rt, part) else {
         // Another run has made it, and may be writing it.
         return;
     };
@@ -114,8 +137,20 @@ fn part_of(rt: &HostRuntime, path: &str) -> Result<String, AllocError> {
     beside(rt, path, ".pgsub-new")
 }
 
-/// Readies the file at a path, where one is, for the SQL library. That opens none with two names,
-/// as a run leaves that was killed before it took the first one away: this does it then.
+/// Takes the first name of a file away that has that of a store too: its run was killed before it
+/// could, and the SQL library opens no file with two.
+fn leave_one_name(rt: &HostRuntime, path: &str) -> Result<(), AllocError> {
+    let Ok(file) = fs::canonicalize(rt, path) else {
+        return Ok(());
+    };
+    let part = part_of(rt, file.as_str())?;
+    if are_one_file(rt, part.as_str(), file.as_str()) {
+        let _ = fs::remove_file(rt, part.as_str());
+    }
+    Ok(())
+}
+
+/// Readies the file at a path, where one is, for the SQL library.
 ///
 /// # Errors
 ///
@@ -123,11 +158,8 @@ fn part_of(rt: &HostRuntime, path: &str) -> Result<String, AllocError> {
 pub(crate) fn ready_file(rt: &HostRuntime, path: &str) -> Result<(), StoreFault>
     ensures { IfErr result (λ fault. IsOwnFault fault ⊎ (fault ≡ StoreFault.NotAStore)) }
 {
-    let part = part_of(rt, path)?;
-    if fs::metadata(rt, part.as_str()).is_ok_and(|about| about.nlink() > 1) {
-        let _ = fs::remove_file(rt, part.as_str());
-    }
-    if has_foreign_byte(rt, path) {
+    leave_one_name(rt, path)?;
+    if has_foreign_byte(rt, path)? {
         return Err(StoreFault::NotAStore);
     }
     Ok(())
@@ -136,8 +168,9 @@ pub(crate) fn ready_file(rt: &HostRuntime, path: &str) -> Result<(), StoreFault>
 /// Makes such a database at the path, if neither it nor its log is there. It comes whole or not at
 /// all, and never replaces a file that another process makes: the run alone that made a part writes
 /// it, a part gets its second name once it is whole, and only then may another run take its first
-/// name away. Where a part is left of a run that was killed while it wrote, or no file can be made
-/// here, the SQL library makes it, or tells why it can't.
+/// name away. Where a part is left of a run that was killed while it wrote, or no file has two
+/// names here, the SQL library makes it, in an empty file that only its owner reads, or tells why
+/// it can't.
 ///
 /// # Errors
 ///
@@ -152,10 +185,11 @@ pub(crate) fn make_file(rt: &HostRuntime, path: &str) -> Result<(), StoreFault>
     if fs::metadata(rt, path).is_ok() {
         return Ok(());
     }
-    let log = beside(rt, path, "-wal")?;
+    let (part, log) = (part_of(rt, path)?, log_of(rt, path)?);
     if fs::metadata(rt, log.as_str()).is_err() {
-        link_new(rt, part_of(rt, path)?.as_str(), path);
+        link_new(rt, part.as_str(), path);
     }
+    let _empty = making().open(rt, path);
     sync_folder(rt, path);
     Ok(())
 }
