@@ -314,14 +314,15 @@ class Order(Copying):
         self.assertEqual(remembered.found, {})
 
     def test_a_table_that_is_published_beside_the_slot_is_named(self) -> None:
-        """So what is told of it goes once it is added."""
+        """What is told of it says its name."""
         self.patch(copying, "read_catalog", lambda *_: a_catalog(a_table(16385, "stock")))
         both = [STOCK, dataclasses.replace(STOCK, oid=16395, name="more")]
         looks = iter([[STOCK], both, both])
         self.patch(copying, "published_tables", lambda *_: next(looks))
         self.copier().run()
         remembered = Remembered(self.store)
-        self.assertEqual((self.later(), len(remembered.found_of(16395))), ({16395: ""}, 1))
+        text = "table public.more (16395) isn't copied yet: it was published while the slot was made"
+        self.assertEqual((self.later(), remembered.found_of(16395)), ({16395: ""}, [text]))
 
     def test_a_table_that_others_keep_locked_is_added_by_itself(self) -> None:
         self.patch(reading, "PATIENCE", 0.02)
@@ -583,7 +584,7 @@ class Kept(Copying):
         self.assertEqual(Remembered(self.store).copied, {})
 
     def test_a_table_that_was_published_meanwhile(self) -> None:
-        """What is told of it names it, so that it goes once the table is added."""
+        """What is told of it says its name, and goes once the table is added."""
         self.patch(copying, "read_catalog", lambda *_: a_catalog(a_table(16385, "stock"), a_table(16390, "other")))
         self.cut()
         self.position = 2
@@ -591,6 +592,7 @@ class Kept(Copying):
         self.copier().run()
         remembered = Remembered(self.store)
         self.assertEqual(remembered.wanted, {16390: "", 16395: ""})
+        self.assertEqual(remembered.found_of(16395), ["table public.more (16395) isn't copied yet: its copy was interrupted"])
         for oid in (16390, 16395):
             self.assertEqual(len(remembered.found_of(oid)), 1)
             remembered.added(oid, remembered.found_of(oid))
