@@ -29,14 +29,14 @@ from .filtering import Filter, FilterEnded
 from .following import Follower
 from .limits import LONGEST_FRAME, MOST_PAGES, default_buffered
 from .making import inserts_of
-from .placing import check_apart
+from .placing import check_apart, check_meant
 from .postgres import Check, parameters
 from .progress import Progress
 from .recording import LONGEST, Aside, Recorder, Recording
 from .remembered import Remembered, print_names
 from .reporting import Reporter
 from .sinks import sinking
-from .snapshots import Snapshots
+from .snapshots import Snapshots, part_of
 from .texts import is_utf_8, parse_lsn
 
 ABOUT = """\
@@ -531,6 +531,7 @@ def check_words(options: Options) -> None:
     if options.command == "follow":
         # (the program is told the whole path of a feed)
         told += [("--store", options.store), ("--pgsub", options.pgsub), ("--feed", os.path.abspath(options.feed) if options.feed else "")]
+        told += [] if os.path.exists(options.store) else [("--store", part_of(options.store))]
     for option, text in told:
         if not is_utf_8(text):
             raise UsageError(f"{option} {text}: that isn't UTF-8")
@@ -645,6 +646,7 @@ def follow(options: Options) -> int:
     stop_by_signals(start)
     if options.snapshot:
         taking.check_copied(options.store, options.snapshot, "--snapshot")
+    check_meant(options.store)
     if not (options.create or options.no_copy or any(os.path.exists(options.store + it) for it in ("", ".connector"))):
         # (before there is a file that would stay)
         raise no_store(options)
@@ -654,7 +656,7 @@ def follow(options: Options) -> int:
     feeding = Feeding(options, checkpoint, progress, remembered)
     feeding.check()
     recording = Aside(Recording(options.record, True, options.bytes, options.mode)) if options.record else None
-    copier = Copier(options, checkpoint, make_filter(options, checkpoint, options.store + ".copying"), progress, remembered)
+    copier = Copier(options, checkpoint, make_filter(options, checkpoint, part_of(options.store)), progress, remembered)
     child = make_filter(options, checkpoint, options.store)
     snapshots = Snapshots(options.store, options.snapshot, options.snapshot_every, options.mode)
     follower = Follower(options, checkpoint, child, progress, recording, snapshots, remembered, feeding)

@@ -4,7 +4,8 @@ The rows are read under the snapshot that a temporary slot exports, of which the
 is a transaction, and their LSNs are 1, 2, 3 .. The last transaction is empty and ends at the slot's consistent point P, so a store is at
 that LSN exactly if no more rows come in this way.
 
-The filter works on `STORE.copying`, which gets its own name once it is at P. What a fault leaves, by the checkpoint's phase:
+The filter works on `STORE.copying`, which gets its own name once it is at P. Where a link has the store's name, both are where it leads.
+What a fault leaves, by the checkpoint's phase:
 
 | Phase | The lasting slot | How it goes on |
 |---|---|---|
@@ -40,8 +41,9 @@ from .messages import begin, commit, frame
 from .postgres import QUICK, Check, Connection, never
 from .publishing import Table, are_so_named, estimated_rows, published_tables, sizes_of, stored_in
 from .reading import GONE, LOCK_TIMEOUT, Left, Part, Readers, take_snapshot
+from .resting import hold
 from .server import Server, identify, is_lost, settle, settle_for_slot, slot_position, tell_plain_text
-from .snapshots import sync_folder
+from .snapshots import COPYING, meant, sync_folder
 from .texts import counted, identifier, literal, lsn_text, parse_lsn
 from .waiting import Waiting, lock_text
 
@@ -102,9 +104,9 @@ class Copier:
     def __init__(
         self, options: Options, checkpoint: Checkpoint, child: Filter, progress: Progress, remembered: Remembered
     ) -> None:
-        self.options, self.store = options, options.store
+        self.options, self.store = options, meant(options.store)
         self.checkpoint, self.filter, self.progress, self.remembered = checkpoint, child, progress, remembered
-        self.part = self.store + ".copying"
+        self.part = self.store + COPYING
         self.stop_asked = self.was_connected = False
         self.plain: Connection | None = None
         self.holder: Connection | None = None
@@ -124,6 +126,9 @@ class Copier:
         log_path = self.store + LOG
         if os.path.exists(log_path) and self.checkpoint.known.phase not in (known_of.COPYING, known_of.SLOT, known_of.COPIED):
             raise Unfit(f"{log_path} is the log of a store that is gone: remove it to begin anew")
+        if os.path.exists(self.part):
+            # (the checkpoint of another name of this store doesn't keep its connector away)
+            os.close(hold(self.part))
         tries = Tries()
         try:
             while not self.attempted(tries):
@@ -238,7 +243,7 @@ class Copier:
             is_ours = (known.system, known.slot, known.confirmed) == (server.system, options.slot, slot_at)
             if not is_ours or known.phase not in (known_of.SLOT, known_of.COPIED) or known.phase == known_of.COPIED and not self.is_complete(slot_at):
                 raise Unfit(
-                    f"the slot {options.slot} is there already, and there is no store {self.store}: drop the slot, or name"
+                    f"the slot {options.slot} is there already, and there is no store {options.store}: drop the slot, or name"
                     " another one, or say --no-copy to begin where it is, without the rows from before"
                 )
             options.publication = self.remembered.publications() or options.publication

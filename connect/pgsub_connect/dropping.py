@@ -17,11 +17,11 @@ from . import log
 from .checkpoint import Known, has_name
 from .errors import FileError, Passing, Unfit
 from .making import inserts_of, oid_of, other_slots
-from .placing import OF_STORE
+from .placing import OF_COPY, OF_STORE
 from .postgres import TICK, Check, Connection, never
 from .resting import own_files
 from .server import settle
-from .snapshots import OF_FILE
+from .snapshots import OF_FILE, meant
 from .texts import identifier, literal
 
 if TYPE_CHECKING:
@@ -90,8 +90,8 @@ def files_of(store: str) -> list[str]:
         there = sorted(os.listdir(folder or "."))
     asked = [os.path.join(folder, name) for name in there if any(it.fullmatch(name) for it in patterns)]
     # (the program has its own ones beside what a link leads to)
-    meant = [os.path.realpath(store) + it for it in (*OF_FILE[1:], "")] if os.path.islink(store) else []
-    return [path for path in (*asked, *meant, *(store + it for it in OF_STORE)) if os.path.lexists(path)]
+    linked = [meant(store) + it for it in (*OF_COPY, *OF_FILE[1:], "")] if os.path.islink(store) else []
+    return [path for path in (*asked, *linked, *(store + it for it in OF_STORE)) if os.path.lexists(path)]
 
 
 Ask = Callable[[str], bool]

@@ -8,13 +8,12 @@ from collections.abc import Callable, Iterator, Sequence
 
 from .errors import FileError, UsageError
 from .resting import own_name, remove_files
-from .snapshots import LOG, OF_FILE, remove, sync_folder
+from .snapshots import COPYING, NEW, OF_FILE, meant, remove, sync_folder
 
-# What follows a store's name in those of its own files, the checkpoint last: as long as it is there, a start tells what is missing.
-OF_STORE = (
-    ".copying", ".copying-wal", ".copying-shm", ".copying-journal", ".copying.pgsub-new", ".pgsub-new", LOG, "-shm", "-journal", "",
-    ".request", ".tables.new", ".tables", ".connector",
-)
+# What follows a store's name in those of an initial copy's files.
+OF_COPY = (*(COPYING + it for it in OF_FILE), COPYING + NEW)
+# What follows it in those of all its own files, the checkpoint last: as long as it is there, a start tells what is missing.
+OF_STORE = (*OF_COPY, NEW, *OF_FILE[1:], "", ".request", ".tables.new", ".tables", ".connector")
 Identity = str | tuple[int, int]
 
 
@@ -44,6 +43,16 @@ def check_apart(store: str, written: Sequence[tuple[str, str]], read: Sequence[t
         for other, its in (*written[at + 1 :], *read):
             if not files.isdisjoint(identities(*(its + it for it in OF_FILE))):
                 raise UsageError(f"{option} {path} and {other} {its}: each needs a file of its own")
+
+
+def check_meant(store: str) -> None:
+    """Rejects a link as a store's name where it leads to no place for a file."""
+    path = meant(store)
+    folder = os.path.dirname(path)
+    if os.path.islink(path):
+        raise FileError(f"--store {store}: the link leads to itself")
+    if path != store and not os.path.isdir(folder):
+        raise FileError(f"--store {store} leads to {path}: there is no folder {folder}")
 
 
 def check_into(store: str, into: str, is_earlier: Callable[[str], bool], what: str, option: str = "--into") -> None:

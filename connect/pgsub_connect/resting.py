@@ -18,7 +18,7 @@ from . import log
 from .checkpoint import has_name
 from .errors import FileError, Passing
 from .postgres import Check
-from .snapshots import LOG, NEW, OF_FILE, copy, fold, remove
+from .snapshots import LOG, NEW, OF_FILE, copy, fold, part_of, remove
 
 # Where SQLite, and so the program, locks a file: the bytes of its readers.
 SHARED_FIRST, SHARED_SIZE = 0x40000002, 510
@@ -81,7 +81,7 @@ def check_there(store: str) -> None:
         return
     if os.path.exists(store):
         raise FileError(f"{store}: not a file")
-    if os.path.exists(store + ".copying"):
+    if os.path.exists(part_of(store)):
         raise Passing(f"there is no store {store} yet: its first rows are being copied, or their copy was interrupted")
     raise FileError(f"there is no store {store}")
 

@@ -21,8 +21,8 @@ from .texts import lsn_text, parse_lsn
 LOG = "-wal"
 # A file, and what SQLite may have beside it. Whoever opens another file in its place would take that for its own: a journal takes it back.
 OF_FILE = ("", LOG, "-shm", "-journal")
-# What a file that is being made has behind its name.
-NEW = ".pgsub-new"
+# What a file that is being made has behind its name, and the one of an initial copy.
+NEW, COPYING = ".pgsub-new", ".copying"
 CHUNK = 1 << 22
 # How often a request is looked for, and what has become of one for which the stream is held, in seconds.
 LOOK, SOON = 0.5, 0.05
@@ -262,6 +262,16 @@ class Snapshots:
         """Waits for a copy that is being made."""
         if self.finishing:
             self.finishing.join()
+
+
+def meant(store: str) -> str:
+    """The file that a store's name means: the one that a link leads to, also where that isn't there yet."""
+    return os.path.realpath(store) if os.path.islink(store) else store
+
+
+def part_of(store: str) -> str:
+    """The file of an initial copy that isn't complete: beside the one whose name it gets, so in the same file system."""
+    return meant(store) + COPYING
 
 
 def remove(path: str) -> None:

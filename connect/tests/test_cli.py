@@ -7,11 +7,13 @@ import re
 import stat
 import unittest
 from pathlib import Path
+from unittest import mock
 
 import pgsub_connect
 from pgsub_connect.checkpoint import Checkpoint
-from pgsub_connect.cli import arguments, settle_options
-from pgsub_connect.errors import UsageError
+from pgsub_connect.cli import Options, arguments, follow, settle_options
+from pgsub_connect.errors import FileError, UsageError
+from pgsub_connect.placing import check_meant
 from pgsub_connect.remembered import replace_file
 
 from .fake_server import Quiet
@@ -68,6 +70,18 @@ class Apart(Quiet):
         for name in ("copy.db", "shop.db", "copy.db-wal", "shop.db.connector"):
             self.refused("of the store itself", "follow", "--store", "DIR/shop.db", "--snapshot", f"DIR/{name}")
 
+    def test_a_link_that_leads_nowhere(self) -> None:
+        """That is told before anything is made. A file that isn't there yet is made where it leads."""
+        link, before = self.folder + "/shop.db", sorted([*os.listdir(self.folder), "shop.db"])
+        for path, text in (("shop.db", "the link leads to itself"), ("far/shop.db", f"there is no folder {os.path.realpath(self.folder)}/far")):
+            os.symlink(path, link)
+            with self.assertRaisesRegex(FileError, f"--store {link}.*: {text}"), mock.patch("pgsub_connect.cli.stop_by_signals"):
+                follow(Options(store=link, create="permanent"))
+            self.assertEqual(sorted(os.listdir(self.folder)), before)
+            os.unlink(link)
+        os.symlink("far.db", link)
+        check_meant(link)
+
     def test_the_same_file_twice(self) -> None:
         os.link(self.folder + "/other", self.folder + "/again")
         names = (("--snapshot", "s"), ("--status-file", "status"), ("--metrics-file", "metrics"), ("--record", "r"), ("--tables", "t"), ("--feed", "f"))
@@ -104,6 +118,8 @@ class Words(Quiet):
             more = ("--create",) if option == "--table" else ()
             self.refused(f"^{option} .*a\udcff: that isn't UTF-8$", "follow", "--store", folder + "/copy.db", option, word, *more)
         self.refused("^--store .*: that isn't UTF-8$", "follow", "--store", word)
+        os.symlink(word, folder + "/link")
+        self.refused("^--store .*/a\udcff.copying: that isn't UTF-8$", "follow", "--store", folder + "/link")
         dsn = Path(folder, "dsn")
         dsn.write_bytes(b"password=a\xff\n")
         for words in (("--dsn", f"password={word}"), ("--dsn-file", str(dsn))):

@@ -2,8 +2,10 @@
 
 from __future__ import annotations
 
+import contextlib
 import dataclasses
 import os
+import sqlite3
 import time
 import unittest
 from collections.abc import Callable, Sequence
@@ -23,6 +25,7 @@ from pgsub_connect.messages import InsertHeads, begin, commit, frame, inserts, r
 from pgsub_connect.progress import Progress
 from pgsub_connect.publishing import Column, Table
 from pgsub_connect.remembered import Remembered
+from pgsub_connect.snapshots import part_of
 from tests.fake_server import FakeServer, Quiet, Row
 from tests.row_filter import Store, Subscriber
 from tests.vectors import PGSUB, a_catalog, a_table
@@ -134,7 +137,7 @@ class Copying(Quiet):
     def copier(self, **options: object) -> Copier:
         self.checkpoint = Checkpoint(self.store)
         self.addCleanup(os.close, self.checkpoint.file)
-        self.filter = FakeFilter(self.store + ".copying")
+        self.filter = FakeFilter(part_of(self.store))
         self.progress = Progress()
         chosen = Options(store=self.store, publication=["pgsub"], create="permanent", **options)  # type: ignore[arg-type]
         self.remembered = Remembered(self.store)
@@ -227,6 +230,54 @@ class Sent(Copying):
         os.umask(os.umask(0o022))
         self.copier(mode=0o640).run()
         self.assertEqual(os.stat(self.store).st_mode & 0o777, 0o640)
+
+
+class Linked(Copying):
+    """A link has the store's name."""
+
+    def setUp(self) -> None:
+        super().setUp()
+        self.far = os.path.join(self.folder, "far")
+        os.mkdir(self.far)
+        os.symlink("far/shop.db", self.store)
+        real = FakeFilter.start
+
+        def start(fake: FakeFilter, check: Callable[[], None]) -> int:
+            with open(fake.path + "-wal", "ab"):
+                return real(fake, check)
+
+        self.patch(FakeFilter, "start", start)
+
+    def test_the_file_is_where_it_leads(self) -> None:
+        """So is the program's log; the connector has its own ones beside the link."""
+        self.copier().run()
+        self.assertEqual((os.readlink(self.store), sorted(os.listdir(self.far))), ("far/shop.db", ["shop.db", "shop.db-wal"]))
+        self.assertEqual(sorted(os.listdir(self.folder)), ["copy.db", "copy.db.connector", "copy.db.tables", "far"])
+
+    def test_what_was_complete_gets_its_name_there(self) -> None:
+        """Cut off between the two renames."""
+        copier = self.copier()
+        self.slots = [["pgoutput", "t", "f", str(POINT)]]
+        self.checkpoint.write(True, phase=known_of.COPIED, system="77", slot="pgsub", confirmed=POINT, position=POINT)
+        for suffix in (".copying", "-wal"):
+            with open(f"{self.far}/shop.db{suffix}", "wb"):
+                pass
+        copier.run()
+        self.assertEqual((self.filter.sent, sorted(os.listdir(self.far))), (b"", ["shop.db", "shop.db-wal"]))
+
+    def test_the_log_of_a_store_that_is_gone(self) -> None:
+        with open(self.far + "/shop.db-wal", "wb"):
+            pass
+        with self.assertRaisesRegex(Unfit, "far/shop.db-wal is the log of a store that is gone"):
+            self.copier().run()
+
+    def test_rows_that_come_by_another_name_stay(self) -> None:
+        """As where the file's own name is a store, too, or another link's."""
+        with contextlib.closing(sqlite3.connect(part_of(self.store))) as base:
+            base.execute("BEGIN EXCLUSIVE")
+            with self.assertRaisesRegex(Passing, "far/shop.db.copying: another program has it open"):
+                self.copier().run()
+        self.assertEqual((os.path.exists(part_of(self.store)), self.server.commands), (True, []))
 
 
 class Order(Copying):

@@ -83,9 +83,9 @@ class Dropping(Quiet):
         self.assertEqual(len(files_of(self.store)), len(FILES))
 
     def test_a_store_by_a_link(self) -> None:
-        """The rows go, and with them the log that the program has beside them; what is of another follower there stays."""
+        """The rows go, and with them the log that the program has beside them, and an initial copy; what is of another follower there stays."""
         os.mkdir(self.folder + "/far")
-        for suffix in ("", "-wal", ".connector"):
+        for suffix in ("", "-wal", ".copying", ".copying-wal", ".connector"):
             with open(f"{self.folder}/far/shop.db{suffix}", "wb"):
                 pass
         os.unlink(self.store)

@@ -372,6 +372,13 @@ class Files(Case):
             with self.assertRaisesRegex(kind, text):
                 run(self.options(), never)
             open(self.path + ".copying", "w").close()
+        os.mkdir(self.folder + "/far")
+        os.symlink("far/shop.db", self.path)
+        for kind, text in ((FileError, "there is no store"), (Passing, "its first rows are being copied")):
+            with self.assertRaisesRegex(kind, text):
+                run(self.options(), never)
+            open(self.folder + "/far/shop.db.copying", "w").close()
+        os.unlink(self.path)
         os.mkdir(self.path)
         with self.assertRaisesRegex(FileError, "not a file"):
             run(self.options(), never)
