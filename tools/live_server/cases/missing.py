@@ -15,8 +15,10 @@ COUNT = re.compile(r"^pgsub_missing_total\{[^}]*\} (\d+)$", re.M)
 
 
 def unpublished(place: Place, *commands: str) -> None:
-    """Runs commands while the table isn't in the publication, of which nothing tells once it is there again."""
+    """Runs commands while the table isn't in the publication, and accepts that it left: nothing tells any more what the copy lacks."""
     place.run("ALTER PUBLICATION pgsub DROP TABLE stock", *commands, "ALTER PUBLICATION pgsub ADD TABLE stock")
+    place.finds("publication", "left and joined again", place.follow())
+    place.follow("--accept", "publication")
 
 
 def check_count(place: Place, count: int) -> None:
@@ -53,10 +55,10 @@ def missed_rows(place: Place) -> None:
 def missed_while_following(place: Place) -> None:
     """With --strict the first one ends the following, once it is counted."""
     place.stock()
-    child = place.start("--create", "--strict")
-    place.catch_up(child)
+    place.follow("--create")
     place.change()
     unpublished(place, "INSERT INTO stock VALUES (7, 7)")
+    child = place.start("--strict")
     place.catch_up(child)
     place.run("DELETE FROM stock WHERE sku = 7")
     place.has_ended(child, UNFIT, "missing: 1 change found no row")
