@@ -30,6 +30,11 @@ class Case(unittest.TestCase):
         for first, second in pairs:
             subprocess.run(["dpkg", "--compare-versions", first, "lt", second], check=True)
 
+    def test_packages_made_in_the_checkout_are_no_change_of_it(self) -> None:
+        for name, status in (("pgsub_0.1.0+1.gabc_amd64.deb", 0), ("pgsub-0.1.0+1.gabc-x86_64.tar.gz", 0), ("SHA256SUMS", 0), ("pgsub", 1)):
+            with self.subTest(name):
+                self.assertEqual(subprocess.run(["git", "-C", TOP, "check-ignore", "-q", name]).returncode, status)
+
     def test_scripts_are_of_the_shell(self) -> None:
         for script in SCRIPTS.iterdir():
             subprocess.run(["sh", "-n", script], check=True)
