@@ -61,7 +61,7 @@ def check_into(store: str, into: str, is_earlier: Callable[[str], bool], what: s
     folder = os.path.dirname(os.path.realpath(into))
     if not os.path.isdir(folder):
         raise FileError(f"{option} {into}: there is no folder {folder}")
-    if not os.path.lexists(into):
+    if not os.path.lexists(meant(into)):
         return
     try:
         is_good = os.path.isfile(into) and is_earlier(into)
@@ -73,7 +73,9 @@ def check_into(store: str, into: str, is_earlier: Callable[[str], bool], what: s
 
 @contextlib.contextmanager
 def placed(into: str, mode: int) -> Iterator[str]:
-    """Gives the name of a new empty file, which gets the name `into` and the mode at the end. An error leaves nothing of it."""
+    """Gives the name of a new empty file, which gets the name `into` and the mode at the end. A link stays, and leads to it. An error leaves
+    nothing of it."""
+    into = meant(into)
     new = own_name(into)
     try:
         remove_files(new)

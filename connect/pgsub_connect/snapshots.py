@@ -183,7 +183,7 @@ class Snapshots:
             self.hold.is_copied = True
         else:
             self.hold.end()
-        path = into or self.path
+        path = into or meant(self.path or "")
         assert path
         if into is None:
             self.asked = False
@@ -264,9 +264,9 @@ class Snapshots:
             self.finishing.join()
 
 
-def meant(store: str) -> str:
-    """The file that a store's name means: the one that a link leads to, also where that isn't there yet."""
-    return os.path.realpath(store) if os.path.islink(store) else store
+def meant(path: str) -> str:
+    """The file that a name means: the one that a link leads to, also where that isn't there yet."""
+    return os.path.realpath(path) if os.path.islink(path) else path
 
 
 def part_of(store: str) -> str:

@@ -337,6 +337,22 @@ class Files(Case):
         self.export()
         self.assertEqual(self.rows("SELECT name FROM t"), [("x",), ("y",)])
 
+    def test_a_link_leads_to_it(self) -> None:
+        """It stays, whether what it leads to is there already or not."""
+        os.mkdir(self.folder + "/far")
+        os.symlink("far/rows.db", self.into)
+        for count in (1, 2):
+            with logged():
+                run(self.options(), never)
+            self.assertTrue(os.path.islink(self.into))
+            self.assertEqual(os.listdir(self.folder + "/far"), ["rows.db"])
+            self.assertEqual(self.rows("SELECT count(*) FROM t"), [(count,)])
+            self.store.row(1, f"{count + 1}", "y")
+        os.unlink(self.into)
+        os.symlink("rows.db", self.into)
+        with self.assertRaisesRegex(FileError, "rows.db"):
+            run(self.options(), never)
+
     def test_anything_else_is_kept(self) -> None:
         with open(self.into, "w") as file:
             file.write("mine")

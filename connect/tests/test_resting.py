@@ -352,6 +352,17 @@ class Taken(Case):
             self.assertEqual(exporting.run(self.options(), never), 0)
         self.assertEqual(self.rows(), [(1, "x")])
 
+    def test_a_follower_s_copy_that_a_link_leads_to(self) -> None:
+        os.mkdir(self.folder + "/far")
+        os.symlink("far/rows.db", self.into)
+        snapshots = Snapshots(self.path, self.into, 0.0)
+        for _ in range(2):
+            with logged() as told:
+                snapshots.take(0x130, never)
+                snapshots.wait()
+            self.assertEqual(told, [f"{self.folder}/far/rows.db: the rows at 0/130"])
+            self.assertEqual((os.path.islink(self.into), os.listdir(self.folder + "/far")), (True, ["rows.db"]))
+
     def test_a_follower_s_copy_beside_files_of_others(self) -> None:
         kept = ["rows.db.new", "copy.db.export.20261101", "copy.db.export.20261125093000"]
         self.left_after(self.into, kept)
