@@ -14,7 +14,7 @@ from unittest import mock
 
 from feed_load import Load
 from feed_replay import Replay, replay
-from feed_text import About, Column, Line
+from feed_text import About, Column, Line, Writer
 from pgsub_connect.cli import Options
 from pgsub_connect.errors import EngineError, FileError, Passing, Stopped, Unfit, UsageError
 from pgsub_connect.exporting import run as export
@@ -230,6 +230,16 @@ class Others(RedisCase):
         self.server.syncs[1] = b"no"
         self.fails(EngineError, "appendfsync is no", reader="redis")
         self.assertEqual(self.server.data[b"pgsub:sink"], before)
+
+    def test_a_sink_whose_feed_lacks_commits_ends_none(self) -> None:
+        """As one that was begun anew does, once and once more."""
+        before = self.server.data[b"pgsub:sink"]
+        for it in self.path.iterdir():
+            it.unlink()
+        for base in (0x200, 0x180):
+            Writer(self.path, base).commit(base + 0x20)
+            self.fails(Unfit, "0/100")
+            self.assertEqual(self.server.data[b"pgsub:sink"], before)
 
     def test_the_lsn_is_written(self) -> None:
         self.server.before_exec = lambda: self.server.do([b"SET", b"pgsub:lsn", b"0/50"]) and None

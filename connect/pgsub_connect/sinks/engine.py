@@ -19,6 +19,8 @@ class Wanted:
 
     head: Head
     chosen: tuple[str, ...]
+    # raises an Unfit where the feed lacks commits after an LSN
+    check_after: Callable[[int], None]
 
     def source(self) -> dict[str, str]:
         return {"system": self.head.system, "database": self.head.database, "slot": self.head.slot}

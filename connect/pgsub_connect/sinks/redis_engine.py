@@ -103,7 +103,9 @@ class Redis:
         if lsn is None:
             # (another one may begin just now, and goes on as long as there is nothing to begin with here)
             return False
+        # (before this one takes over, since another one that is fine would end)
         self.check_about(about)
+        wanted.check_after(parse_lsn(lsn.decode()))
         self.take_over()
         about, tables = self.run([("MGET", FEED, TABLES)])[0]
         if self.lsn is None:

@@ -180,7 +180,15 @@ def wanted_of(options: Options, check: Check) -> Wanted:
             poll.rest()
         if reader.head is None:
             raise Passing(f"{options.feed}: the feed has no segment yet")
-        return Wanted(reader.head, tuple(sorted(set(options.table))))
+        return Wanted(reader.head, tuple(sorted(set(options.table))), lambda at: check_after(options, at, check))
+
+
+def check_after(options: Options, at: int, check: Check) -> None:
+    """Rejects a feed that lacks commits after an LSN, as one that was begun anew does."""
+    with contextlib.closing(Reader(options.feed, at)) as reader:
+        poll = Poll(reader, not options.once, check)
+        while poll.next() is None and poll.wrong is not None:
+            poll.rest()
 
 
 def engine_of(options: Options, check: Check) -> Engine:
