@@ -36,9 +36,9 @@ from .texts import counted, lsn_text
 
 if TYPE_CHECKING:
     from .checkpoint import Checkpoint
-    from .cli import Options
     from .holding import Hold
     from .noting import Noting
+    from .options import Options
     from .progress import Progress
     from .watching import Watch
 

@@ -15,7 +15,7 @@ from .server import END, exact_end, postmaster_start, waits_for
 from .texts import counted, literal, parse_lsn
 
 if TYPE_CHECKING:
-    from .cli import Options
+    from .options import Options
 
 # After how many seconds the server is asked again: where a file shows it, and where none does, so that only warnings come of it.
 SHOWN, UNSHOWN = 2.0, 60.0

@@ -23,7 +23,7 @@ from .filtering import KEPT
 from .progress import Progress
 
 if TYPE_CHECKING:
-    from .cli import Options
+    from .options import Options
 
 READER = "tables"
 # The statuses that another try doesn't mend; one that was killed by a signal has none above 0. And that of one that can't be started now.

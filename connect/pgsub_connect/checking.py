@@ -17,7 +17,7 @@ from .postgres import Check, Connection, never
 from .texts import counted
 
 if TYPE_CHECKING:
-    from .cli import Options
+    from .options import Options
 
 OK, WARNING, ERROR = "ok", "warning", "error"
 # what a version of the server has first

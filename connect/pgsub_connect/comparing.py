@@ -13,7 +13,7 @@ from .server import settle
 from .texts import literal
 
 if TYPE_CHECKING:
-    from .cli import Options
+    from .options import Options
 
 
 def require_published(options: Options, check: Check) -> None:

@@ -49,7 +49,7 @@ from .waiting import Waiting, lock_text
 
 if TYPE_CHECKING:
     from .checkpoint import Checkpoint
-    from .cli import Options
+    from .options import Options
     from .progress import Progress
     from .remembered import Remembered
 

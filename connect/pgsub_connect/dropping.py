@@ -25,7 +25,7 @@ from .snapshots import OF_FILE, meant
 from .texts import identifier, literal
 
 if TYPE_CHECKING:
-    from .cli import Options
+    from .options import Options
 
 # Beside which names processes make files for themselves: copies that a follower is asked for, and exports with which a sink begins.
 ASKED = (".export", ".base")

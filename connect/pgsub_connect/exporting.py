@@ -27,7 +27,7 @@ from .texts import counted, identifier, lsn_text
 from .values import Malformed, Read, Unlike, Value, kind_of, read_row
 
 if TYPE_CHECKING:
-    from .cli import Options
+    from .options import Options
 
 # The first version of SQLite with STRICT tables and columns of type ANY.
 OLDEST = (3, 37, 0)

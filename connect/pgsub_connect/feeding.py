@@ -41,7 +41,7 @@ from .snapshots import position_in
 from .texts import counted, lsn_text
 
 if TYPE_CHECKING:
-    from .cli import Options
+    from .options import Options
     from .progress import Progress
 
 # How often what is confirmed is written where a keepalive alone has moved it, and else; how often the readers are looked at, and how

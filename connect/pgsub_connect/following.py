@@ -35,7 +35,7 @@ from .texts import counted, identifier, lsn_text, replication_literal
 from .watching import Watch
 
 if TYPE_CHECKING:
-    from .cli import Options
+    from .options import Options
 
 # After how many seconds a lost session is begun anew, at first and at most.
 FIRST_DELAY, LONGEST_DELAY = 1.0, 60.0

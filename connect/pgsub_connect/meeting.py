@@ -25,7 +25,7 @@ from .texts import lsn_text
 from .waiting import Waiting
 
 if TYPE_CHECKING:
-    from .cli import Options
+    from .options import Options
 
 # How long a follower may take until it holds the stream, in seconds: it may be about to connect, or to open its store; and so long may
 # tables be locked by others. And for how much longer than a slot may take it may hold it: who asked lets it go before, unless it hangs.

@@ -20,8 +20,8 @@ from .remembered import Remembered
 from .texts import counted, lsn_text
 
 if TYPE_CHECKING:
-    from .cli import Options
     from .filtering import Missing
+    from .options import Options
 
 # After how many seconds more of them are told at the earliest.
 AGAIN = 10.0

@@ -15,7 +15,7 @@ from . import log
 from .texts import counted
 
 if TYPE_CHECKING:
-    from .cli import Options
+    from .options import Options
 
 ABOUT = """\
 tell how a follower with --status-file is, as a probe does

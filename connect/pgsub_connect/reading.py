@@ -28,7 +28,7 @@ from .server import settle
 from .texts import literal
 
 if TYPE_CHECKING:
-    from .cli import Options
+    from .options import Options
 
 # How many bytes a part has about, how many are encoded at a time, and how many parts of a connection wait at most.
 PART, BLOCK, AHEAD = 4 << 20, 1 << 17, 2

@@ -17,7 +17,7 @@ from .server import STREAMS, log_end, settle, settle_for_slot, tell_plain_text, 
 from .texts import counted, identifier, lsn_text, replication_literal
 
 if TYPE_CHECKING:
-    from .cli import Options
+    from .options import Options
 
 LONGEST = 64 << 20
 EPOCH = 946684800

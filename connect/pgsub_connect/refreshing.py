@@ -29,7 +29,7 @@ from .server import settle
 from .texts import counted
 
 if TYPE_CHECKING:
-    from .cli import Options
+    from .options import Options
 
 DONE, LEFT = 0, 1
 MISSING, CHANGED, EXTRA, OTHER = "missing", "changed", "extra", "other"

@@ -40,8 +40,8 @@ from .texts import counted, lsn_text
 
 if TYPE_CHECKING:
     from .checkpoint import Checkpoint
-    from .cli import Options
     from .noting import Noting
+    from .options import Options
     from .remembered import Remembered
     from .snapshots import Snapshots
     from .watching import Watch

@@ -16,7 +16,7 @@ from .progress import Progress
 from .snapshots import NEW
 
 if TYPE_CHECKING:
-    from .cli import Options
+    from .options import Options
 
 INTERVAL = 1.0
 # over how many intervals the rate is taken

@@ -27,7 +27,7 @@ from .snapshots import remove
 from .texts import counted
 
 if TYPE_CHECKING:
-    from .cli import Options
+    from .options import Options
 
 DONE, REFUSED = 0, 1
 # How long a follower may take until it has answered a request, in seconds: it may be about to connect, or to open its store.

@@ -8,7 +8,7 @@ from .filtering import FRAME_TOO_LARGE, SPOOL_FULL, FilterEnded
 from .limits import LONGEST_FRAME
 
 if TYPE_CHECKING:
-    from .cli import Options
+    from .options import Options
 
 # Below so many bytes no transaction is why a filter is killed.
 LEAST = 1 << 20

@@ -16,7 +16,7 @@ from .stored import check_store, is_store
 from .texts import lsn_text
 
 if TYPE_CHECKING:
-    from .cli import Options
+    from .options import Options
 
 
 def is_snapshot(path: str) -> bool:

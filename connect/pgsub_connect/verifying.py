@@ -34,7 +34,7 @@ from .texts import counted, lsn_text
 from .values import Malformed
 
 if TYPE_CHECKING:
-    from .cli import Options
+    from .options import Options
 
 EQUAL, DIFFERENT = 0, 1
 # How much of a value is shown.

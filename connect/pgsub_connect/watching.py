@@ -17,7 +17,7 @@ from .remembered import Remembered
 from .server import settle
 
 if TYPE_CHECKING:
-    from .cli import Options
+    from .options import Options
 
 # After how many seconds the file is written where nothing in it is urgent, the publications are looked at again, and that is tried
 # again where it failed; and after how many they are looked at where no message says that anything has changed.

@@ -14,10 +14,10 @@ from unittest import mock
 
 from pgsub_connect import adding, following, postgres, watching
 from pgsub_connect.checkpoint import Checkpoint
-from pgsub_connect.cli import Options
 from pgsub_connect.dropping import read_known
 from pgsub_connect.filtering import Filter
 from pgsub_connect.following import Follower
+from pgsub_connect.options import Options
 from pgsub_connect.progress import Progress
 from pgsub_connect.remembered import Remembered
 from pgsub_connect.snapshots import Snapshots

@@ -7,7 +7,7 @@ from typing import Any
 from unittest import mock
 
 from feed_text import Line
-from pgsub_connect.cli import Options
+from pgsub_connect.options import Options
 from pgsub_connect.postgres import never
 from pgsub_connect.sinks import sinking
 

@@ -8,9 +8,10 @@ import tempfile
 import unittest
 from unittest import mock
 
-from pgsub_connect import builds, cli
+from pgsub_connect import builds
 from pgsub_connect.errors import Passing
 from pgsub_connect.filtering import Filter
+from pgsub_connect.words import version
 
 FAKE = os.path.join(os.path.dirname(os.path.abspath(__file__)), "fake_filter.py")
 TEXT = "version 0.1.0+1\ncommit abc\nkit a-kit logic 1\nprogram 0123456789abcdef\n"
@@ -48,8 +49,8 @@ class Case(unittest.TestCase):
     def test_the_same(self) -> None:
         self.own()
         self.child.start()
-        self.assertIn("0.1.0+1", cli.version())
-        self.assertIn("a-kit logic 1", cli.version())
+        self.assertIn("0.1.0+1", version())
+        self.assertIn("a-kit logic 1", version())
 
     def test_another(self) -> None:
         self.own()

@@ -11,10 +11,11 @@ from unittest import mock
 
 from pgsub_connect import checking, facts
 from pgsub_connect.checking import ERROR, OK, WARNING, Purpose, Result, results
-from pgsub_connect.cli import Options, arguments
 from pgsub_connect.errors import ServerError, UsageError
 from pgsub_connect.facts import Facts, Publication, Role, Slot, TableFacts, server_facts, slot_facts, source_wanted
 from pgsub_connect.making import Wanted
+from pgsub_connect.options import Options
+from pgsub_connect.words import arguments
 from tests.fake_server import FakeServer, connection_to
 
 SETTINGS = {

@@ -11,10 +11,12 @@ from unittest import mock
 
 import pgsub_connect
 from pgsub_connect.checkpoint import Checkpoint
-from pgsub_connect.cli import Options, arguments, follow, settle_options
+from pgsub_connect.cli import follow
 from pgsub_connect.errors import FileError, UsageError
+from pgsub_connect.options import Options
 from pgsub_connect.placing import check_meant
 from pgsub_connect.remembered import replace_file
+from pgsub_connect.words import arguments, settle_options
 
 from .fake_server import Quiet
 

@@ -17,11 +17,11 @@ from pgsub_connect import copying, making, reading, waiting
 from pgsub_connect.catalog import Catalog, Partition
 from pgsub_connect.catalog import Table as CatalogTable
 from pgsub_connect.checkpoint import Checkpoint
-from pgsub_connect.cli import Options
 from pgsub_connect.copying import CHANGED, Copier, Tries, altered_tables, create_slot
 from pgsub_connect.errors import Passing, ServerError, Stopped, Unfit, UsageError
 from pgsub_connect.filtering import Filter, FilterEnded
 from pgsub_connect.messages import InsertHeads, begin, commit, frame, inserts, relation
+from pgsub_connect.options import Options
 from pgsub_connect.progress import Progress
 from pgsub_connect.publishing import Column, Table
 from pgsub_connect.remembered import Remembered

@@ -9,9 +9,9 @@ from unittest import mock
 
 from pgsub_connect import dropping
 from pgsub_connect.checkpoint import Checkpoint
-from pgsub_connect.cli import Options
 from pgsub_connect.dropping import Dropper, ask_terminal, files_of
 from pgsub_connect.errors import FileError, Passing, ServerError, Unfit
+from pgsub_connect.options import Options
 from tests.fake_server import FakeServer, Quiet, Row
 
 FILES = ("", "-wal", "-shm", ".connector", ".tables", ".copying", ".copying-wal")

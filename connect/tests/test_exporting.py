@@ -13,9 +13,10 @@ from typing import Any
 from unittest import mock
 
 from pgsub_connect import exporting
-from pgsub_connect.cli import FILE, UNFIT, USAGE, Options, main
+from pgsub_connect.cli import FILE, UNFIT, USAGE, main
 from pgsub_connect.errors import FileError, Passing, Stopped, Unfit, UsageError
 from pgsub_connect.exporting import run
+from pgsub_connect.options import Options
 from pgsub_connect.postgres import never
 from pgsub_connect.remembered import Relation, Remembered
 

@@ -15,13 +15,14 @@ from typing import Any
 from unittest import mock
 
 from feed_text import About, Column, Line, entry_text
-from pgsub_connect.cli import Options, Start, stop_by_signals
+from pgsub_connect.cli import Start, stop_by_signals
 from pgsub_connect.errors import Passing, Unfit
 from pgsub_connect.feed import awaiting, tabling
 from pgsub_connect.feed.faults import Damaged
 from pgsub_connect.feed.parts import Commit
 from pgsub_connect.feed.polling import Poll
 from pgsub_connect.feed.rowsfile import Rows
+from pgsub_connect.options import Options
 from pgsub_connect.postgres import never
 
 from .feeds import ID, NAME, FeedCase, delete, insert, table, truncate, update

@@ -12,7 +12,7 @@ from typing import Any
 from unittest import mock
 
 from feed_text import Cell, Column, Definition, Line
-from pgsub_connect.cli import FILE, UNFIT, USAGE, Options, main
+from pgsub_connect.cli import FILE, UNFIT, USAGE, main
 from pgsub_connect.errors import FileError, Passing, Unfit
 from pgsub_connect.exporting import run as export
 from pgsub_connect.feed import awaiting, beginning, tabling
@@ -21,6 +21,7 @@ from pgsub_connect.feed.noting import Noted
 from pgsub_connect.feed.reading import segments
 from pgsub_connect.feed.retaining import Limits, retire
 from pgsub_connect.feed.viewing import View
+from pgsub_connect.options import Options
 from pgsub_connect.postgres import Check, never
 from pgsub_connect.snapshots import copy
 

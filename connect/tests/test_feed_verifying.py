@@ -14,14 +14,14 @@ from unittest import mock
 
 from feed_text import Column as TextColumn
 from feed_text import Definition, Line
-from pgsub_connect import cli
-from pgsub_connect.cli import Options
 from pgsub_connect.errors import FileError, Passing, Stopped, Unfit
 from pgsub_connect.feed import tabling, verifying
 from pgsub_connect.feed.trail import Gone, Trail
 from pgsub_connect.meeting import chosen
+from pgsub_connect.options import Options
 from pgsub_connect.postgres import never
 from pgsub_connect.publishing import Column, Table
+from pgsub_connect.words import arguments
 
 from .fake_server import connection_to
 from .feeds import ID, NAME, delete, insert, table, truncate, update
@@ -388,7 +388,7 @@ class Trails(VerifyCase):
 class Words(TablesCase):
     def rejected(self, *words: str) -> None:
         with contextlib.redirect_stderr(io.StringIO()), self.assertRaises(SystemExit) as ended:
-            cli.arguments(["verify", *words])
+            arguments(["verify", *words])
         self.assertEqual(ended.exception.code, 2)
 
     def test_what_goes_together(self) -> None:
@@ -396,7 +396,7 @@ class Words(TablesCase):
         for words in (["--with", "x"], ["--digests"], ["--feed", "x"]):
             self.rejected("--store", "x", *words)
         self.rejected("--tables", "x", "--repair")
-        self.assertEqual(cli.arguments(["verify", "--tables", "a", "--with", "b"]).other, "b")
+        self.assertEqual(arguments(["verify", "--tables", "a", "--with", "b"]).other, "b")
 
     def test_which_store(self) -> None:
         """The publications are those of the store beside whose feed it is."""

@@ -17,7 +17,6 @@ from feed_text import lsn_text
 from pgsub_connect import beside, feeding
 from pgsub_connect.beside import Beside, words_of
 from pgsub_connect.checkpoint import Checkpoint
-from pgsub_connect.cli import Options, arguments
 from pgsub_connect.errors import FileError, Unfit
 from pgsub_connect.feed.noting import Noted, make_folder
 from pgsub_connect.feed.reading import CONFIRMED, Reader, read_confirmed, segments
@@ -25,8 +24,10 @@ from pgsub_connect.feeding import Feeding, Keeper, Reached
 from pgsub_connect.filtering import FilterEnded
 from pgsub_connect.following import Follower
 from pgsub_connect.metrics import metrics_text
+from pgsub_connect.options import Options
 from pgsub_connect.progress import Progress
 from pgsub_connect.remembered import Remembered, replace_file
+from pgsub_connect.words import arguments
 
 from .fake_server import Quiet
 from .feeds import FeedCase, insert

@@ -15,11 +15,11 @@ from unittest import mock
 
 from pgsub_connect import following, postgres, server, snapshots, watching
 from pgsub_connect.checkpoint import Checkpoint
-from pgsub_connect.cli import Options
 from pgsub_connect.errors import FilterFault, Passing, ServerError, Unconnected, Unfit
 from pgsub_connect.filtering import Filter, FilterEnded, flushed
 from pgsub_connect.following import Follower
 from pgsub_connect.found import About
+from pgsub_connect.options import Options
 from pgsub_connect.progress import Progress
 from pgsub_connect.remembered import Remembered
 from pgsub_connect.resting import read_request

@@ -12,11 +12,11 @@ from unittest import mock
 
 from pgsub_connect import meeting
 from pgsub_connect.checkpoint import FOLLOWING, Known
-from pgsub_connect.cli import Options
 from pgsub_connect.copying import CHANGED
 from pgsub_connect.errors import NoSlot, Passing, ServerError, Stopped, Unfit
 from pgsub_connect.holding import write_request
 from pgsub_connect.meeting import Request, Source
+from pgsub_connect.options import Options
 from pgsub_connect.postgres import Check, never
 from pgsub_connect.publishing import Table
 from pgsub_connect.snapshots import Snapshots, position_in

@@ -12,14 +12,16 @@ from unittest import mock
 
 from pgsub_connect import cli
 from pgsub_connect.checkpoint import Checkpoint, Counted, Known
-from pgsub_connect.cli import MISSED, UNFIT, Options
+from pgsub_connect.cli import MISSED, UNFIT
 from pgsub_connect.errors import Passing, ServerError, Unfit
 from pgsub_connect.filtering import FilterEnded, Missing, flushed
 from pgsub_connect.following import Follower
 from pgsub_connect.missing import Misses, texts_of
+from pgsub_connect.options import Options
 from pgsub_connect.postgres import Connection
 from pgsub_connect.progress import Progress
 from pgsub_connect.remembered import Remembered
+from pgsub_connect.words import ENDS, KINDS
 
 from .fake_server import Quiet
 from .test_following import FAKE, Case
@@ -558,8 +560,8 @@ class Statuses(FollowCase):
         self.assertEqual(self.command("--strict", "--accept", "missing", "--until", "0/118"), 0)
 
     def test_help(self) -> None:
-        self.assertIn("9 ended as asked, but changes found no", cli.ENDS)
-        self.assertIn("missing", cli.KINDS)
+        self.assertIn("9 ended as asked, but changes found no", ENDS)
+        self.assertIn("missing", KINDS)
 
 
 if __name__ == "__main__":

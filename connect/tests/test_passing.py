@@ -11,10 +11,10 @@ from collections.abc import Sequence
 from unittest import mock
 
 from pgsub_connect.checkpoint import Checkpoint
-from pgsub_connect.cli import Options
 from pgsub_connect.errors import ServerError
 from pgsub_connect.filtering import PIECE, REJECTED, ROOM, Filter, FilterEnded
 from pgsub_connect.following import Follower
+from pgsub_connect.options import Options
 from pgsub_connect.progress import Progress
 from pgsub_connect.recording import Aside, Recording
 from pgsub_connect.remembered import Remembered

@@ -9,9 +9,9 @@ import unittest
 from unittest import mock
 
 from pgsub_connect import cli
-from pgsub_connect.cli import Options
 from pgsub_connect.errors import UsageError
 from pgsub_connect.filtering import COPY_DONE, flushed
+from pgsub_connect.options import Options
 from pgsub_connect.postgres import Connection
 from pgsub_connect.recording import Recorder, Recording
 

@@ -16,13 +16,14 @@ from unittest import mock
 
 from pgsub_connect import refreshing, requesting, resting, snapshots
 from pgsub_connect.catalog import Catalog, Part, Partition
-from pgsub_connect.cli import Options, arguments
 from pgsub_connect.errors import FileError, Passing, ServerError, Stopped, Unfit
 from pgsub_connect.found import NOTHING, About
+from pgsub_connect.options import Options
 from pgsub_connect.postgres import Check, never
 from pgsub_connect.refreshing import CHANGED, EXTRA, MISSING, OTHER, Told, compared
 from pgsub_connect.remembered import Remembered
 from pgsub_connect.snapshots import Snapshots
+from pgsub_connect.words import arguments
 
 from .fake_server import FakeServer, Quiet
 from .small_world import table

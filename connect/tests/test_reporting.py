@@ -11,9 +11,9 @@ from unittest import mock
 from pgsub_connect import asking, reporting, server
 from pgsub_connect.asking import Asker, SlotWarning
 from pgsub_connect.checkpoint import Counted
-from pgsub_connect.cli import Options
 from pgsub_connect.errors import ServerError
 from pgsub_connect.metrics import metrics_text
+from pgsub_connect.options import Options
 from pgsub_connect.progress import STATES, Progress
 from pgsub_connect.reporting import Replaced, Reporter, program_version
 

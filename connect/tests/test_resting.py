@@ -18,8 +18,9 @@ from collections.abc import Iterator
 from unittest import mock
 
 from pgsub_connect import exporting, resting, taking
-from pgsub_connect.cli import FILE, PASSING, USAGE, Options, main
+from pgsub_connect.cli import FILE, PASSING, USAGE, main
 from pgsub_connect.errors import FileError, Passing, Stopped
+from pgsub_connect.options import Options
 from pgsub_connect.postgres import never
 from pgsub_connect.resting import at_rest, own_name
 from pgsub_connect.snapshots import Snapshots

@@ -11,10 +11,10 @@ from typing import Any
 from unittest import mock
 
 from feed_text import Line
-from pgsub_connect.cli import Options
 from pgsub_connect.errors import EngineError, FileError, Passing, TooLarge, Unfit, UsageError
 from pgsub_connect.exporting import run as export
 from pgsub_connect.feed.identifying import subject
+from pgsub_connect.options import Options
 from pgsub_connect.postgres import never
 from pgsub_connect.sinks.nats_messages import read_id
 from pgsub_connect.sinks.nats_wire import Wire, header_bytes, read_headers

@@ -15,7 +15,6 @@ from unittest import mock
 from feed_load import Load
 from feed_replay import Replay, replay
 from feed_text import About, Column, Line, Writer
-from pgsub_connect.cli import Options
 from pgsub_connect.errors import EngineError, FileError, Passing, Stopped, Unfit, UsageError
 from pgsub_connect.exporting import run as export
 from pgsub_connect.feed.beginning import opened
@@ -23,6 +22,7 @@ from pgsub_connect.feed.noting import Noted
 from pgsub_connect.feed.parts import Commit
 from pgsub_connect.feed.polling import Poll
 from pgsub_connect.feed.retaining import Limits, retire
+from pgsub_connect.options import Options
 from pgsub_connect.postgres import never
 from pgsub_connect.sinks import sinking
 from pgsub_connect.sinks.beginning import Base

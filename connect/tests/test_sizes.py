@@ -4,9 +4,10 @@ from __future__ import annotations
 
 import unittest
 
-from pgsub_connect.cli import REJECTED, Options, status_of
+from pgsub_connect.cli import REJECTED, status_of
 from pgsub_connect.filtering import FRAME_TOO_LARGE, MEMORY, SPOOL_FULL, FilterEnded
 from pgsub_connect.limits import LONGEST_FRAME
+from pgsub_connect.options import Options
 from pgsub_connect.sizes import LEAST, Kills, KilledTwice, text_of
 
 from .test_passing import Case, Source

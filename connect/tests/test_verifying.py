@@ -13,10 +13,10 @@ from unittest import mock
 
 from pgsub_connect import cli, requesting, verifying
 from pgsub_connect.checkpoint import FOLLOWING, Known
-from pgsub_connect.cli import Options
 from pgsub_connect.digests import NotText, Plan, Summing, fields_of, text_of
 from pgsub_connect.errors import FileError, NoSlot, Passing, Stopped, Unfit, Unrepaired
 from pgsub_connect.meeting import Source
+from pgsub_connect.options import Options
 from pgsub_connect.postgres import never
 from pgsub_connect.publishing import Column, Table
 from pgsub_connect.sides import Copy, Sides

@@ -10,12 +10,13 @@ from unittest import mock
 from pgsub_connect import cli
 from pgsub_connect.catalog import Catalog
 from pgsub_connect.checkpoint import Checkpoint
-from pgsub_connect.cli import Options
 from pgsub_connect.errors import ServerError, Unfit
+from pgsub_connect.options import Options
 from pgsub_connect.postgres import never
 from pgsub_connect.progress import Progress
 from pgsub_connect.remembered import Relation, Remembered
 from pgsub_connect.watching import Watch
+from pgsub_connect.words import arguments, settle_options
 
 from .vectors import ID, NAME, PGSUB, a_catalog, a_shape, a_table, logged
 
@@ -211,8 +212,8 @@ class Words(Case):
         if store:
             with open(self.store, "w", encoding="ascii") as file:
                 file.write("a store")
-        options = cli.arguments(["follow", "--store", self.store, "--pgsub", "/bin/true", *words])
-        cli.settle_options(options)
+        options = arguments(["follow", "--store", self.store, "--pgsub", "/bin/true", *words])
+        settle_options(options)
         return options.publication
 
     def test_the_default_publications_are_those_that_were_followed(self) -> None:

@@ -15,12 +15,14 @@ from collections.abc import Callable
 from unittest import mock
 
 from pgsub_connect import cli, comparing
-from pgsub_connect.cli import BUG, FILE, PASSING, REJECTED, SERVER, UNFIT, USAGE, Options, arguments, main, settle_options
+from pgsub_connect.cli import BUG, FILE, PASSING, REJECTED, SERVER, UNFIT, USAGE, main
 from pgsub_connect.comparing import require_published
 from pgsub_connect.dropping import ask_terminal
 from pgsub_connect.errors import FileError, FilterFault, Passing, ServerError, Stopped, Unfit, UsageError
 from pgsub_connect.filtering import FilterEnded
+from pgsub_connect.options import Options
 from pgsub_connect.sizes import KilledTwice
+from pgsub_connect.words import arguments, parsers_of_commands, settle_options
 
 from .fake_server import FakeServer, Quiet, Row
 
@@ -68,11 +70,11 @@ class Words(Quiet):
         self.assertEqual((options.create, options.table, options.transactions, options.streaming), ("temporary", ["t"], 3, False))
 
     def test_each_help_tells_the_exit_status(self) -> None:
-        for name, parser in cli.parsers_of_commands()[1].items():
+        for name, parser in parsers_of_commands()[1].items():
             self.assertRegex(parser.format_help(), r"(?i)\bexit status\b", name)
 
     def test_limits_in_the_help(self) -> None:
-        help_text = " ".join(cli.parsers_of_commands()[1]["follow"].format_help().split())
+        help_text = " ".join(parsers_of_commands()[1]["follow"].format_help().split())
         self.assertIn("(default: what may be buffered, at most 2147483643)", help_text)
 
     def settled(self, *words: str) -> Options:
@@ -96,7 +98,7 @@ class Words(Quiet):
         self.assertEqual(self.said, [])
 
     def test_limits(self) -> None:
-        with mock.patch.object(cli, "default_buffered", lambda: 1 << 28):
+        with mock.patch("pgsub_connect.words.default_buffered", lambda: 1 << 28):
             self.assertEqual((self.settled().max_buffered, self.settled().max_frame), (1 << 28, 1 << 28))
         options = self.settled("--max-buffered", "5000000000")
         self.assertEqual((options.max_buffered, options.max_frame), (5000000000, 2147483643))

@@ -18,7 +18,7 @@ from .reading import Reader, read_confirmed
 from .rowsfile import read_folder
 
 if TYPE_CHECKING:
-    from ..cli import Options
+    from ..options import Options
 
 ABOUT = """\
 wait until tables that follow a feed have all that was committed up to an LSN

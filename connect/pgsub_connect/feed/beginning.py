@@ -25,7 +25,7 @@ from .reading import Reader, read_confirmed, segments
 from .rowsfile import APPLICATION, prepare
 
 if TYPE_CHECKING:
-    from ..cli import Options
+    from ..options import Options
 
 
 def is_tables(path: str) -> bool:

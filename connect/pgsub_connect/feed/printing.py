@@ -10,11 +10,12 @@ import sys
 from collections.abc import Callable, Sequence
 
 from .. import log
-from ..cli import Start, TellVersion, guarded, lsn, stop_by_signals
+from ..cli import Start, guarded, stop_by_signals
 from ..errors import Stopped
 from ..naming import names_of
 from ..postgres import Check
 from ..remembered import Relation
+from ..words import TellVersion, lsn
 from .bulk import Bulk
 from .formats import FORMATS, Format
 from .polling import Poll

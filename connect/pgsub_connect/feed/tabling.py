@@ -26,7 +26,7 @@ from .reading import Reader, read_confirmed
 from .rowsfile import Rows
 
 if TYPE_CHECKING:
-    from ..cli import Options
+    from ..options import Options
 
 ABOUT = """\
 keep ordinary tables of SQLite that follow a feed

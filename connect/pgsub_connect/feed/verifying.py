@@ -41,7 +41,7 @@ from .trail import Trail
 from .viewing import View, check_tables
 
 if TYPE_CHECKING:
-    from ..cli import Options
+    from ..options import Options
 
 # For how long feed and tables may take to have all commits up to the LSN, in seconds.
 PATIENCE = 60.0

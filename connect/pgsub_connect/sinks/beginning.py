@@ -23,7 +23,7 @@ from ..stored import is_export
 from ..texts import identifier, parse_lsn
 
 if TYPE_CHECKING:
-    from ..cli import Options
+    from ..options import Options
 
 
 class Base:

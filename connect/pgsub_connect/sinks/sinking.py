@@ -25,7 +25,7 @@ from .engine import Engine, Wanted
 from .redis_engine import Redis
 
 if TYPE_CHECKING:
-    from ..cli import Options
+    from ..options import Options
 
 ABOUT = """\
 write a feed to Redis or to NATS JetStream
