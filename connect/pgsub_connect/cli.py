@@ -101,7 +101,8 @@ def follow(options: Options) -> int:
     follower = Follower(options, checkpoint, child, progress, recording, snapshots, remembered, feeding)
     snapshot_by_signal(snapshots)
     stop_by_signals(copier, follower)
-    copier.stop_asked = follower.stop_asked = start.stop_asked
+    if start.stop_asked:
+        copier.stop_asked = follower.stop_asked = True
     reporter, asker = Reporter(options, progress) if options.status_file or options.metrics_file else None, Asker(options, progress)
     asker.start()
     if reporter:
@@ -217,7 +218,7 @@ def guarded(call: Callable[[], int]) -> int:
         log.error(str(error))
         return next(status for kind, status in STATUSES.items() if isinstance(error, kind))
     except OSError as error:
-        log.error(f"{error.filename or 'a file'}: {error.strerror}")
+        log.error(f"{error.filename or 'a file'}: {error.strerror or error}")
         return PASSING if error.errno in PASSING_ERRORS else FILE
     except Exception:  # noqa: BLE001
         log.error(f"a bug: {traceback.format_exc().rstrip()}")

@@ -120,20 +120,20 @@ def within(least: int, most: int) -> Callable[[str], int]:
     return number
 
 
-def within_seconds(most: float) -> Callable[[str], float]:
+def within_seconds(most: float, least: float = 0.1) -> Callable[[str], float]:
     def seconds(text: str) -> float:
         try:
             number = float(text)
         except ValueError:
-            number = 0.0
-        if not 0.1 <= number <= most:
-            raise argparse.ArgumentTypeError(f"{text!r} is no number of seconds from 0.1 to {most:.0f}")
+            number = -1.0
+        if not least <= number <= most:
+            raise argparse.ArgumentTypeError(f"{text!r} is no number of seconds from {least} to {most:.0f}")
         return number
 
     return seconds
 
 
-seconds = within_seconds(86400.0)
+seconds, any_seconds = within_seconds(86400.0), within_seconds(float(1 << 31), 0)
 
 
 def add_server(parser: argparse.ArgumentParser) -> None:
@@ -174,7 +174,7 @@ def add_following(parser: argparse.ArgumentParser) -> None:
     add("--metrics-file", metavar="FILE", help="replace this file each second by the same as Prometheus' text format")
     add("--snapshot", metavar="FILE",
         help="copy the store to this file for readers, which can't open the store itself: at SIGUSR1, and as --snapshot-every says")
-    add("--snapshot-every", type=float, default=0.0, metavar="N", help="replace the snapshot each N seconds (default: at SIGUSR1 alone)")
+    add("--snapshot-every", type=any_seconds, default=0.0, metavar="N", help="replace the snapshot each N seconds (default: at SIGUSR1 alone)")
     add_feeding(parser)
     add = parser.add_argument_group("recording").add_argument
     add("--record", metavar="FILE", help="add the sessions to this recording, a .pgx file")
@@ -243,8 +243,8 @@ def add_recording(parser: argparse.ArgumentParser) -> None:
     add_longest(add)
     add("--start", type=lsn, default=0, metavar="LSN", help="where to start (default: where the slot is)")
     add("--until", type=lsn_or_now, metavar="LSN|now", help="stop once all that was committed up to this LSN, or up to now, is recorded")
-    add("--seconds", type=float, metavar="N", help="stop after N seconds")
-    add("--transactions", type=int, metavar="N", help="stop after N commits")
+    add("--seconds", type=any_seconds, metavar="N", help="stop after N seconds")
+    add("--transactions", type=within(0, 1 << 62), metavar="N", help="stop after N commits")
     add("--confirm", type=lsn, default=0, metavar="LSN",
         help="confirm what was recorded up to this LSN, so that the server may forget it (default: nothing)")
     add("--streaming", action="store_true", help="stream large transactions while they run (--proto 2)")

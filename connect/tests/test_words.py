@@ -54,7 +54,9 @@ class Words(Quiet):
             "follow --store s --feed f --feed-max-age x", "follow --store s --feed-segment-seconds 5", "tables --into r", "wait 0/5",
             "sink --feed f", "sink http://h --feed f", "sink redis://h", "sink redis://h --url-file u --feed f", "sink nats://h --feed f --stream a.b",
             "sink redis://h --feed f --as x", "sink redis://h --feed f --base b --store s", "sink redis://h --feed f --reader a/b",
-            "sink redis://h --feed f --until now",
+            "sink redis://h --feed f --until now", "follow --store s --snapshot f --snapshot-every nan", "record --record f --seconds nan",
+            "follow --store s --snapshot f --snapshot-every -1", "record --record f --seconds inf", "record --record f --transactions -1",
+            "wait 0/5 --tables r --within nan", "wait 0/5 --tables r --within -1",
         ):
             self.assertIn("usage: ", self.rejected(words), words)
 

@@ -12,6 +12,7 @@ from typing import TYPE_CHECKING
 from ..errors import FileError, Passing, Stopped
 from ..naming import POSITION
 from ..postgres import Check
+from ..probing import duration
 from ..texts import lsn_text, parse_lsn
 from .beginning import is_tables, opened
 from .reading import Reader, read_confirmed
@@ -32,7 +33,7 @@ def add_options(parser: argparse.ArgumentParser) -> None:
     add = parser.add_argument
     add("--tables", metavar="FILE", required=True, help="the file with the tables")
     add("--feed", metavar="FOLDER", help="the feed (default: the one that the file follows)")
-    add("--within", metavar="N", type=float, default=60.0, help="give up after N seconds (default: 60)")
+    add("--within", metavar="TIME", type=duration, default=60.0, help="give up after this time, as 30s or 5min (default: 60s)")
 
 
 def read_file(path: str) -> tuple[int, str]:
