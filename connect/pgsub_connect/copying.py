@@ -40,7 +40,7 @@ from .making import REFUSED, Look, Maker, Wanted, has_publication
 from .messages import begin, commit, frame
 from .postgres import QUICK, Check, Connection, never
 from .publishing import Table, are_so_named, estimated_rows, published_tables, sizes_of, stored_in
-from .reading import GONE, LOCK_TIMEOUT, Left, Part, Readers, take_snapshot
+from .reading import LOCK_TIMEOUT, Left, Part, Readers, take_snapshot
 from .resting import hold
 from .server import Server, identify, is_lost, settle, settle_for_slot, slot_position, tell_plain_text
 from .snapshots import COPYING, meant, sync_folder

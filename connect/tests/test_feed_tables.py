@@ -11,7 +11,7 @@ from collections.abc import Sequence
 from typing import Any
 from unittest import mock
 
-from feed_text import Cell, Column, Definition, Line
+from feed_text import Cell, Column, Line
 from pgsub_connect.cli import FILE, UNFIT, USAGE, main
 from pgsub_connect.errors import FileError, Passing, Unfit
 from pgsub_connect.exporting import run as export

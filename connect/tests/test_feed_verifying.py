@@ -13,7 +13,6 @@ from typing import Any
 from unittest import mock
 
 from feed_text import Column as TextColumn
-from feed_text import Definition, Line
 from pgsub_connect.errors import FileError, Passing, Stopped, Unfit
 from pgsub_connect.feed import tabling, verifying
 from pgsub_connect.feed.trail import Gone, Trail

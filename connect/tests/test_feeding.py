@@ -2,7 +2,6 @@
 
 from __future__ import annotations
 
-import json
 import os
 import stat
 import subprocess
@@ -16,7 +15,6 @@ from unittest import mock
 from feed_text import lsn_text
 from pgsub_connect import beside, feeding
 from pgsub_connect.beside import Beside, words_of
-from pgsub_connect.checkpoint import Checkpoint
 from pgsub_connect.errors import FileError, Unfit
 from pgsub_connect.feed.noting import Noted, make_folder
 from pgsub_connect.feed.reading import CONFIRMED, Reader, read_confirmed, segments

@@ -12,7 +12,7 @@ from types import SimpleNamespace
 from typing import cast
 from unittest import mock
 
-from pgsub_connect import mending, sides
+from pgsub_connect import sides
 from pgsub_connect.digests import Plan, Queries, text_of
 from pgsub_connect.meeting import Source
 from pgsub_connect.mending import Changes, Mender, NoChange, changes_of

@@ -23,7 +23,6 @@ from pgsub_connect.progress import Progress
 from pgsub_connect.remembered import Remembered
 from pgsub_connect.words import ENDS, KINDS
 
-from .fake_server import Quiet
 from .test_following import FAKE, Case
 from .vectors import a_catalog, a_table, begin, commit, delete, insert, keepalive
 

@@ -11,7 +11,7 @@ from stores.contents import make_tables
 from . import history
 from . import tables as model
 from .reader import Reader
-from .wire import NULL, UNSENT, Column, Definition, binary, text
+from .wire import NULL, UNSENT, Column, Definition, text
 
 # types of which each number is a value, and a type that isn't known
 NUMBERS, TEXTS = (20, 21, 23, 25, 700, 701, 1043, 1700, 99999), (25, 1043, 99999)

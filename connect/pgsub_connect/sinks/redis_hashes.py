@@ -12,7 +12,7 @@ from collections.abc import Iterable, Iterator, Sequence
 from typing import Union
 
 from ..errors import Unfit
-from ..feed.identifying import NULL, key_of, row_text
+from ..feed.identifying import NULL, row_text
 from ..feed.parts import Cell, Cells, Change, Missed
 from ..postgres import Check
 from .redis_calls import Calls, Command, Said, raised

@@ -14,7 +14,6 @@ from feed_replay import commits, lsn_of, replay
 from feed_text import Column, Definition, Line, Writer
 
 from ..engines import Engine, NatsServer, RedisServer
-from ..errors import Failed
 from ..feeds import log_changes, segments
 from ..follower import Supervisor, wait_until
 from ..load import LOGGED, SCHEMA, Mixed
