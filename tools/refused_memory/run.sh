@@ -1,12 +1,14 @@
 #!/usr/bin/env bash
 # Runs the tests of crates, and the stored run of a program, with each request for memory refused in turn.
 #
-#   tools/refused_memory/run.sh [--all] [--built] CRATE[/WORD]..
+#   tools/refused_memory/run.sh [--all] [--built] [--most N] CRATE[/WORD]..
 #
 #   CRATE/WORD  only the tests whose names have the word
 #   --all       each test runs once with all its requests refused, and has to pass all the same; for tests of calls that take no memory,
 #               as tests_parts/first_faults and tests_parts/without_memory
-#   --built     the tests are those that an earlier `rt test` has built; else they are proved and built first, which can take minutes
+#   --built     tests and program are those that an earlier run of `rt` has built; else they are proved and built first, which can take
+#               minutes
+#   --most N    of a test that makes more requests, N are refused: one at random of each Nth part. The seed is printed; SEED sets it
 #
 # Each runs once for each request that it makes, with this one refused in place of the C library's answer. A line for each tells its
 # requests, and how often it passed all the same, stopped, and crashed. A test stops with its own error or assertion. A program passes
@@ -27,10 +29,15 @@ ulimit -c 0
 bad=0
 every=
 built=
+most=
 while [[ "${1:-}" = --* ]]; do
     case "$1" in
         --all) every=yes ;;
         --built) built=yes ;;
+        --most)
+            most="${2-}"
+            [[ "$most" =~ ^[1-9][0-9]{0,8}$ ]] || { echo "run.sh: --most needs a number" >&2; exit 2; }
+            shift ;;
         *) echo "run.sh: there is no option $1" >&2; exit 2 ;;
     esac
     shift
@@ -70,11 +77,15 @@ end_of_program() {
 
 # refuse_each NAME END COMMAND..: END says how a run of the command ended
 refuse_each() {
-    local name="$1" end="$2" all n status ended passed=0 stopped=0 crashed=0
+    local name="$1" end="$2" all tries at n status ended passed=0 stopped=0 crashed=0
     shift 2
     run_refusing 0 "$@" || { cat "$work/out" "$work/err"; return 1; }
     all="$(cat "$work/count")"
-    for ((n = 1; n <= all; n++)); do
+    tries="$all"
+    [ -z "$most" ] || [ "$all" -le "$most" ] || tries="$most"
+    for ((at = 0; at < tries; at++)); do
+        n=$((at * all / tries))
+        n=$((n + 1 + (RANDOM << 15 | RANDOM) % ((at + 1) * all / tries - n)))
         status=0
         run_refusing "$n" "$@" 2> "$work/shell" || status=$?
         ended="$("$end" "$status")"
@@ -88,9 +99,10 @@ refuse_each() {
                 ;;
         esac
     done
+    [ "$tries" -eq "$all" ] || all="$tries of $all"
     echo "$name: $all requests, $passed passed, $stopped stopped, $crashed crashed"
     [ "$crashed" -eq 0 ] || bad=1
-    case "$name" in *refused_memory_changes_nothing) [ "$passed" -eq "$all" ] || bad=1 ;; esac
+    case "$name" in *refused_memory_changes_nothing) [ "$passed" -eq "$tries" ] || bad=1 ;; esac
 }
 
 # refuse_all NAME COMMAND..: the command with all its requests refused
@@ -125,13 +137,17 @@ refuse_program() {
     mapfile -t words < "$folder/args"
     stored="$folder/stdout"
     wanted="$(cat "$folder/status" 2> "$work/shell" || echo 0)"
-    # here it finds no file, but it is built
-    rm -f "$folder/out/$1"
-    (cd "$folder" && "${RT:-rt}" run -- "${words[@]}") > "$work/log" 2>&1 || [ -x "$folder/out/$1" ] || { tail "$work/log"; exit 1; }
+    if [ -z "$built" ] || [ ! -x "$folder/out/$1" ]; then
+        # here it finds no file, but it is built
+        rm -f "$folder/out/$1"
+        (cd "$folder" && "${RT:-rt}" run -- "${words[@]}") > "$work/log" 2>&1 || [ -x "$folder/out/$1" ] || { tail "$work/log"; exit 1; }
+    fi
     cd "$folder/data"
     refuse_each "$1 ${words[*]}" end_of_program "$folder/out/$1" "${words[@]}"
 }
 
+[ -z "$most" ] || RANDOM="${SEED:=$RANDOM}"
+[ -z "$most" ] || echo "SEED=$SEED"
 for words in "$@"; do
     crate="${words%%/*}"
     word="${words#"$crate"}"
