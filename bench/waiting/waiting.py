@@ -42,20 +42,26 @@ class Commits:
         return times
 
     def times_waiting_for(self, follower: Follower) -> list[float]:
-        """The same, where each waits for a follower."""
+        """The same, where each waits for a follower, as it did when that began."""
         end = self.servers.last_commit(self.next())
+        self.set_standby(follower.slot)
         follower.start()
         self.servers.wait_for(follower, "flush_lsn", end)
-        self.set_standby(follower.slot)
+        self.wait_for_standby(follower.slot)
         times = self.times()
         self.set_standby("")
+        self.wait_for_standby("")
         follower.stop()
         return times
 
     def set_standby(self, name: str) -> None:
         """Has the commits wait for a standby, or for none."""
-        run = self.servers.publisher.run
+        run, session = self.servers.publisher.run, self.servers.session
         run(f"ALTER SYSTEM SET synchronous_standby_names = '{name}'", "SELECT pg_reload_conf()", database="postgres")
+        wait_until(lambda: session.value("SHOW synchronous_standby_names") == name, f"naming {name or NOBODY}", LIMIT)
+
+    def wait_for_standby(self, name: str) -> None:
+        """Waits until the server has the commits wait for the standby that is named, or for none."""
         query = "SELECT coalesce(string_agg(application_name, ''), '') FROM pg_stat_replication WHERE sync_state = 'sync'"
         wait_until(lambda: self.servers.session.value(query) == name, f"waiting for {name or NOBODY}", LIMIT)
 

@@ -16,6 +16,7 @@ from collections.abc import Sequence
 from typing import NamedTuple
 
 from . import builds, log
+from .awake import Awake
 from .errors import FilterFault, Passing
 from .postgres import Check, never
 from .texts import parse_lsn
@@ -256,13 +257,16 @@ class Filter:
                 self.child.stdin.close()
 
     def serve(
-        self, timeout: float, reads: Sequence[int] = (), writes: Sequence[int] = ()
+        self, timeout: float, reads: Sequence[int] = (), writes: Sequence[int] = (), awake: Awake | None = None
     ) -> tuple[list[int], list[int], list[bytes]]:
-        """Waits until something is ready, moves bytes both ways, and returns what of `reads` and `writes` is ready and the
-        filter's new statuses. What it said before these is read then, too."""
+        """Waits until something is ready, asleep or awake at first, moves bytes both ways, and returns what of `reads` and `writes` is
+        ready and the filter's new statuses. What it said before these is read then, too."""
         takes = [self.down] if self.waiting and self.takes else []
         tells = [self.up, self.err] if self.speaks else [self.up]
-        readable, writable, _ = select.select([*tells, *reads], [*takes, *writes], [], timeout)
+        if awake:
+            readable, writable = awake.select([*tells, *reads], [*takes, *writes], timeout)
+        else:
+            readable, writable, _ = select.select([*tells, *reads], [*takes, *writes], [], timeout)
         if self.takes and self.down in writable:
             self.write()
         statuses = self.read_statuses() if self.up in readable else []

@@ -12,6 +12,7 @@ from typing import TYPE_CHECKING
 from . import checkpoint as known_of
 from . import log, sizes
 from .adding import Adder
+from .awake import NEEDED, Awake, processors
 from .checkpoint import Checkpoint, check_gap
 from .differences import PUBLICATION
 from .errors import LOGIN, FileError, FilterFault, Passing, ServerError, Stopped, Unconnected, Unfit
@@ -94,6 +95,8 @@ class Follower:
         self.until = options.until if isinstance(options.until, int) else None
         # whether whole transactions are asked for because of tables that are added, or rows that are repaired
         self.is_whole = False
+        # how statuses and commits are waited for where commits at the server wait for this
+        self.for_statuses, self.for_commits = (Awake(), Awake()) if processors() >= NEEDED else (None, None)
 
     def run(self) -> None:
         """Follows until a signal asks for the end. Raises where going on makes no sense."""
@@ -460,7 +463,7 @@ class Follower:
                 return
             room, listens = not self.holds_for_snapshot() and self.filter.has_room(), time.monotonic()
             readable, writable, statuses = self.serve(
-                self.longest_wait(bool(more) and room), [socket] if room else [], [socket] if connection.unsent else []
+                self.longest_wait(bool(more) and room), [socket] if room else [], [socket] if connection.unsent else [], self.awake()
             )
             # (what else takes long, as a copy of the store does, is none of the server's silence)
             silent = 0.0 if socket in readable or not room else silent + time.monotonic() - listens
@@ -501,6 +504,12 @@ class Follower:
             return True
         self.adder.step()
         return False
+
+    def awake(self) -> Awake | None:
+        """Waits for what the filter says of a commit, or for the next one, where commits at the server wait for that."""
+        if not self.progress.is_waited_for:
+            return None
+        return self.for_statuses if self.noting.ends else self.for_commits
 
     def longest_wait(self, has_more: bool) -> float:
         """For how many seconds a session waits at most until something comes. `has_more`: something has come already."""
@@ -622,12 +631,12 @@ class Follower:
             self.watch.remembered.find(PUBLICATION, self.position, text, about)
 
     def serve(
-        self, timeout: float, reads: Sequence[int] = (), writes: Sequence[int] = ()
+        self, timeout: float, reads: Sequence[int] = (), writes: Sequence[int] = (), awake: Awake | None = None
     ) -> tuple[list[int], list[int], list[bytes]]:
         """Serves the filter. What it says of changes that found no row is on the disk before anybody sees the statuses that follow."""
         statuses: list[bytes] = []
         try:
-            readable, writable, statuses = self.filter.serve(timeout, reads, writes)
+            readable, writable, statuses = self.filter.serve(timeout, reads, writes, awake)
             return readable, writable, statuses
         finally:
             self.note_missing(statuses)

@@ -138,6 +138,8 @@ BUGS = (
         "        self.filter.push_payloads(payloads)\n        self.noting.note_all(payloads)\n",
         "        self.noting.note_all(payloads)\n        self.filter.push_payloads(payloads)\n", ("test_missing",)),
     Bug("commits wait for a keepalive's turn", "following.py", "if self.progress.is_waited_for else QUIET", "if False else QUIET", ("test_following",)),
+    Bug("it is waited awake though no commit waits", "following.py", "        if not self.progress.is_waited_for:\n            return None\n", "", ("test_following",)),
+    Bug("what was waited for awake in vain is waited for so again", "awake.py", "min(2 * self.sleeps + 1, RARELY)", "0", ("test_awake",)),
     Bug("what was counted before a rejection is told as not counted", "filtering.py", "self.close(ended.has_told_all())", "self.close(False)",
         ("test_missing",)),
     Bug("what a killed filter has stored is taken for counted", "filtering.py", "            self.has_told_all = has_told_all", "            self.has_told_all = True",

@@ -14,6 +14,7 @@ from collections.abc import Callable, Iterator, Sequence
 from unittest import mock
 
 from pgsub_connect import following, postgres, server, snapshots, watching
+from pgsub_connect.awake import Awake
 from pgsub_connect.checkpoint import Checkpoint
 from pgsub_connect.errors import FilterFault, Passing, ServerError, Unconnected, Unfit
 from pgsub_connect.filtering import Filter, FilterEnded, flushed
@@ -146,6 +147,36 @@ class Sessions(Case):
         self.assertEqual(follower.quiet(), 2.0 * following.PART)
         self.progress.is_waited_for = False
         self.assertEqual(follower.quiet(), 30.0)
+
+    def test_it_waits_awake_where_commits_wait_for_it(self) -> None:
+        """For the next commit, and for what the filter says of the last one."""
+        with mock.patch.object(following, "processors", return_value=2.0):
+            follower = self.follower()
+        waits = set[tuple[bool, str | None]]()
+        serve = follower.filter.serve
+
+        def note(timeout: float, reads: Sequence[int] = (), writes: Sequence[int] = (), awake: Awake | None = None) -> object:
+            if self.progress.state == "following":
+                waits.add((bool(follower.noting.ends), {follower.for_statuses: "status", follower.for_commits: "commit"}.get(awake)))
+            return serve(timeout, reads, writes, awake)
+
+        self.patch(follower.filter, "serve", note)
+        for standbys, kinds in (("", {None}), ("*", {"status", "commit"})):
+            waits.clear()
+            self.brain.answer("SHOW synchronous_standby_names", [[standbys]])
+            follower.stop_asked, end = False, self.confirmed() + 0x100
+            self.server.to_send = [begin(end - 8, 7), insert(1), commit(end - 8, end)]
+            self.run_until(follower, lambda: self.confirmed() == end)
+            self.assertEqual({kind for _, kind in waits}, kinds)
+        self.assertEqual(waits, {(True, "status"), (False, "commit")})
+
+    def test_it_sleeps_where_the_filter_needs_the_processor(self) -> None:
+        with mock.patch.object(following, "processors", return_value=1.5):
+            follower = self.follower()
+        self.progress.is_waited_for = True
+        self.assertIsNone(follower.awake())
+        follower.noting.ends.append(0x100)
+        self.assertIsNone(follower.awake())
 
     def test_the_catalog_is_read_on_another_connection(self) -> None:
         """A session's process would decode older changes by what it has in its caches."""

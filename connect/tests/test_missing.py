@@ -11,6 +11,7 @@ from pathlib import Path
 from unittest import mock
 
 from pgsub_connect import cli
+from pgsub_connect.awake import Awake
 from pgsub_connect.checkpoint import Checkpoint, Counted, Known
 from pgsub_connect.cli import MISSED, UNFIT
 from pgsub_connect.errors import Passing, ServerError, Unfit
@@ -227,10 +228,10 @@ class Calls(FollowCase):
         serve, consume = follower.filter.serve, Connection.consume
 
         def serves(
-            timeout: float, reads: Sequence[int] = (), writes: Sequence[int] = ()
+            timeout: float, reads: Sequence[int] = (), writes: Sequence[int] = (), awake: Awake | None = None
         ) -> tuple[list[int], list[int], list[bytes]]:
             waiting.append(follower.filter.waiting)
-            readable, writable, statuses = serve(timeout, reads, writes)
+            readable, writable, statuses = serve(timeout, reads, writes, awake)
             is_ready.append(not (readable or writable) or any(it in (*readable, *writable) for it in reads))
             return readable, writable, statuses
 
