@@ -3,7 +3,7 @@
 | What | Modules |
 |---|---|
 | command line | `cli`, `words`, `options`, `errors`, `log`, `texts`, `limits`, `builds` |
-| following | `following`, `filtering`, `awake`, `noting`, `checkpoint`, `skipping`, `sizes`, `recording` |
+| following | `following`, `fitting`, `confirming`, `filtering`, `awake`, `noting`, `checkpoint`, `skipping`, `sizes`, `recording` |
 | publication, slot and first rows | `making`, `publishing`, `comparing`, `copying`, `reading`, `messages`, `waiting` |
 | one table within the stream | `replacing`, `adding`, `requesting`, `refreshing` |
 | the server | `postgres`, `server`, `catalog`, `facts` |

@@ -36,6 +36,7 @@ from .texts import counted, lsn_text
 
 if TYPE_CHECKING:
     from .checkpoint import Checkpoint
+    from .confirming import Confirming
     from .holding import Hold
     from .noting import Noting
     from .options import Options
@@ -57,19 +58,11 @@ EPOCH = 946684800
 class Stream(Protocol):
     """The follower, as far as tables are added by it."""
 
-    position: int
-
     def serve_server(self) -> None:
         """Keeps the server content while something else is waited for. Raises where the end was asked for."""
 
     def attend(self) -> None:
         """Keeps server and filter content in a session while something else is waited for. Raises where the end was asked for."""
-
-    def is_stored(self) -> bool:
-        """Whether the store has all commits that were passed on."""
-
-    def reached(self) -> int:
-        """An LSN that no commit or keepalive that was passed on is above."""
 
     def push(self, frames: bytes) -> None:
         """Gives the filter frames, and waits until it has room."""
@@ -83,11 +76,11 @@ class Adder:
     """The tables that are being added."""
 
     def __init__(
-        self, options: Options, checkpoint: Checkpoint, progress: Progress, remembered: Remembered, watch: Watch, noting: Noting, hold: Hold,
-        stream: Stream,
+        self, options: Options, checkpoint: Checkpoint, progress: Progress, remembered: Remembered, watch: Watch, noting: Noting,
+        confirming: Confirming, hold: Hold, stream: Stream,
     ) -> None:
         self.options, self.checkpoint, self.progress, self.remembered = options, checkpoint, progress, remembered
-        self.watch, self.noting, self.hold, self.stream = watch, noting, hold, stream
+        self.watch, self.noting, self.confirming, self.hold, self.stream = watch, noting, confirming, hold, stream
         self.leaving = Leaving()
         self.phase, self.oid, self.point = IDLE, 0, 0
         self.source: Source | None = None
@@ -213,12 +206,12 @@ class Adder:
 
     def step(self) -> None:
         """Goes on with a table, where that is possible now. Called between payloads."""
-        if self.phase == SENT and self.stream.position >= self.point:
+        if self.phase == SENT and self.confirming.position >= self.point:
             self.finish(self.oid, self.point)
             self.phase, self.delay, self.next_try = IDLE, 0.0, 0.0
         elif self.phase == IDLE and self.leaving.points and not self.hold.is_held and time.monotonic() >= self.next_try:
             self.prepare()
-        elif self.phase == HELD and self.stream.is_stored():
+        elif self.phase == HELD and self.confirming.is_stored():
             self.meet()
         elif self.phase == GOING and self.hold.is_there:
             self.send()
@@ -257,7 +250,7 @@ class Adder:
         assert self.source
         try:
             point, snapshot = self.source.make_slot(SLOT)
-            if point <= (reached := self.stream.reached()):
+            if point <= (reached := self.confirming.reached()):
                 raise Passing(f"its slot is at {lsn_text(point)}, and the stream at {lsn_text(reached)}: is it of a standby behind?")
             self.source.see(snapshot)
         except (ServerError, Passing, Unfit, NoSlot) as error:
@@ -279,10 +272,11 @@ class Adder:
         Unless it was altered behind P, which makes nothing wrong of the rows at P, but of their values then.
         """
         self.texts = self.remembered.found_of(self.oid) if self.is_gone else []
-        if not self.is_gone and self.table and self.watch.look_again(self.stream.attend, self.stream.position) and self.remembered.catalog:
-            now = self.remembered.catalog.tables.get(self.oid)
-            if now and now.shape == relation_of(self.table).shape:
-                self.texts = self.remembered.found_of(self.oid)
+        if self.is_gone or not self.table or not self.watch.look_again(self.stream.attend, self.confirming.position):
+            return
+        now = self.remembered.catalog.tables.get(self.oid) if self.remembered.catalog else None
+        if now and now.shape == relation_of(self.table).shape:
+            self.texts = self.remembered.found_of(self.oid)
 
     def send(self) -> None:
         """Passes on the rows. Where that fails the session ends, since a part of their transaction was passed on."""
@@ -366,7 +360,7 @@ class Adder:
             self.checkpoint.write_adding({it: lsn for it, lsn in self.checkpoint.adding().items() if it != oid})
         self.remembered.refuse(oid, why)
         text = f"table {self.remembered.text_of(oid)} can't be added: {why}"
-        self.remembered.find(PUBLICATION, self.stream.position, text, About((oid,)))
+        self.remembered.find(PUBLICATION, self.confirming.position, text, About((oid,)))
         self.progress.state = "following"
         self.show()
         self.watch.keep()

@@ -114,7 +114,7 @@ def follow(options: Options) -> int:
             follower.was_connected = copier.was_connected
         elif options.table or options.all_tables:
             require_published(options, follower.check_stop)
-        feeding.begin(child, follower.stored, follower.check_stop)
+        feeding.begin(child, follower.confirming.stored, follower.check_stop)
         follower.run()
         progress.state = "stopped"
     except Stopped:

@@ -106,7 +106,7 @@ def without_received(payload: bytes) -> bytes:
     return payload[:1] + payload[9:17] + payload[9:]
 
 
-def confirming(payload: bytes, lsn: int) -> bytes:
+def lowered(payload: bytes, lsn: int) -> bytes:
     """A status that confirms less than another one: up to this LSN."""
     return payload[:9] + 2 * lsn.to_bytes(8, "big") + payload[25:]
 

@@ -1,4 +1,7 @@
-"""Follows a server: sessions one after the other, with the filter kept alive between them."""
+"""Follows a server: sessions one after the other, with the filter kept alive between them.
+
+What is looked at before a session is in the module `fitting`, and which statuses are passed on in `confirming`.
+"""
 
 from __future__ import annotations
 
@@ -9,26 +12,27 @@ import time
 from collections.abc import Sequence
 from typing import TYPE_CHECKING
 
-from . import checkpoint as known_of
 from . import log, sizes
 from .adding import Adder
 from .awake import NEEDED, Awake, processors
-from .checkpoint import Checkpoint, check_gap
+from .checkpoint import Checkpoint
+from .confirming import Confirming
 from .differences import PUBLICATION
 from .errors import LOGIN, FileError, FilterFault, Passing, ServerError, Stopped, Unconnected, Unfit
-from .feeding import Feeding, Reached
-from .filtering import MISSED, PIECE, Filter, FilterEnded, asking, confirming, flushed
+from .feeding import Feeding
+from .filtering import MISSED, PIECE, Filter, FilterEnded
+from .fitting import Fitting
 from .found import NOTHING, About
 from .missing import Misses
-from .noting import Noting, final_lsn
+from .noting import Noting
 from .postgres import COPY_BOTH, Connection
 from .progress import Progress
 from .recording import Aside
 from .remembered import Remembered
 from .repairing import Repairing
 from .server import (
-    ABORTS_IN_VERSION_1, STREAMS, Server, identify, is_lost, left_at, log_end, postmaster_start, sender_timeout, settle, slot_position,
-    tell_plain_text, tell_version_1, waits_for,
+    ABORTS_IN_VERSION_1, STREAMS, Server, identify, is_lost, log_end, postmaster_start, sender_timeout, settle, tell_plain_text,
+    tell_version_1, waits_for,
 )
 from .skipping import Skipping
 from .snapshots import SOON, Snapshots
@@ -47,9 +51,6 @@ OPENED_AFTER = (1, 2, 4, 8, 15, 30)
 # An error that the server doesn't expect of itself. PostgreSQL 15 has one (`could not map filenode .. to relation OID`) where it
 # streams a transaction beside a TRUNCATE, at each try. The same transaction comes well once it is whole, or not at all.
 INTERNAL = "XX000"
-# How often a position that a keepalive alone has moved is passed on, in seconds. Each time costs a sync of the checkpoint. Where commits
-# at the server wait for that, as those of tables that aren't published do: so often that at most a part in so many of the time is spent.
-QUIET, PART = 1.0, 5
 # How often the server is asked how far it has read its log, where the copy is to be taken at an LSN, in seconds.
 ASK = 0.3
 # What a standby says that can't be followed: it has no such feature, or the slot is one that it only keeps for its promotion.
@@ -66,7 +67,7 @@ class Follower:
         snapshots: Snapshots, remembered: Remembered, feeding: Feeding | None = None,
     ) -> None:
         self.options = options
-        self.checkpoint, self.filter, self.progress, self.recording = checkpoint, child, progress, recording
+        self.filter, self.progress, self.recording = child, progress, recording
         self.snapshots, self.feeding = snapshots, feeding
         self.stop_asked = False
         self.connection = None
@@ -78,20 +79,14 @@ class Follower:
         self.watch = Watch(options, checkpoint, progress, remembered)
         self.misses = Misses(options, checkpoint, progress, remembered)
         self.skipping = Skipping(options.skip, checkpoint, progress, remembered)
-        self.adder = Adder(options, checkpoint, progress, remembered, self.watch, self.noting, snapshots.hold, self)
-        self.repairing = Repairing(options, checkpoint, progress, remembered, self.watch, self.noting, snapshots, self)
-        snapshots.adds, snapshots.is_streaming, snapshots.reached = self.adder.take, self.is_streaming, self.reached
+        self.fitting = Fitting(options, checkpoint, self.watch)
+        self.confirming = confirming = Confirming(checkpoint, child, progress, self.noting, self.misses)
+        self.adder = Adder(options, checkpoint, progress, remembered, self.watch, self.noting, confirming, snapshots.hold, self)
+        self.repairing = Repairing(options, checkpoint, progress, remembered, self.watch, self.noting, confirming, snapshots, self)
+        snapshots.adds, snapshots.is_streaming, snapshots.reached = self.adder.take, self.is_streaming, confirming.reached
         self.kills = sizes.Kills()
-        # the greatest end of a commit that was passed on and is confirmed
-        self.position = 0
-        self.last_sent = self.last_moved = 0.0
         # when the server was heard last, as far as anything of it was waited for
         self.heard = time.monotonic()
-        # how long a position that a keepalive alone has moved took to be noted
-        self.noted_in = 0.0
-        # the last status that was passed on, and one that moves a position by a keepalive alone and waits for its time
-        self.told = b""
-        self.held: bytes | None = None
         self.until = options.until if isinstance(options.until, int) else None
         # whether whole transactions are asked for because of tables that are added, or rows that are repaired
         self.is_whole = False
@@ -197,40 +192,38 @@ class Follower:
         """
         if self.stop_asked:
             return False
-        if not self.snapshots.is_due(self.position):
+        if not self.snapshots.is_due(self.confirming.position):
             return self.snapshots.hold.stops()
-        if self.filter.is_running():
-            self.forget_confirmed(self.filter.confirmed())
-            if self.noting.ends or self.filter.waiting:
-                return True
+        if self.filter.is_running() and not self.confirming.is_stored():
+            return True
         if self.snapshots.hold.keeps:
             self.repairing.look()
         state, self.progress.state = self.progress.state, "copying the store"
         with contextlib.suppress(Stopped):
             # (whoever has called this sees that, and ends)
-            self.snapshots.take(self.position, self.serve_server)
+            self.snapshots.take(self.confirming.position, self.serve_server)
         self.progress.state = state
         return self.snapshots.hold.stops()
 
     def tick(self) -> None:
         """Keeps server and status file content while something takes long."""
         self.progress.beat()
-        if self.connection and self.filter.is_running() and time.monotonic() - self.last_sent >= self.heartbeat:
-            self.release()
-            self.send(self.told)
+        confirming = self.confirming
+        if confirming.connection and self.filter.is_running() and time.monotonic() - confirming.last_sent >= self.heartbeat:
+            confirming.repeat()
 
     def start_filter(self) -> None:
         if self.filter.is_running():
             return
         self.progress.state = "opening the store"
-        self.position = self.open_store()
+        position = self.open_store()
+        self.confirming.begin_store(position)
         if self.feeding:
             self.feeding.note_opened()
-        if self.misses.begin_filter(self.position, self.filter.has_told_all):
+        if self.misses.begin_filter(position, self.filter.has_told_all):
             self.watch.show()
         self.noting.begin_store()
-        self.held = None
-        self.progress.note_confirmed(self.position, self.position)
+        self.progress.note_confirmed(position, position)
 
     def open_store(self) -> int:
         """Starts the filter. A store that somebody else has open, to dump it say, is waited for."""
@@ -264,7 +257,7 @@ class Follower:
                 time.sleep(min(left, SLEEP))
                 continue
             try:
-                self.note_statuses(self.serve(min(left, STEP))[2])
+                self.confirming.note_statuses(self.serve(min(left, STEP))[2])
             except FilterEnded as ended:
                 self.note_end(ended)
             self.tend_misses()
@@ -283,30 +276,10 @@ class Follower:
         self.progress.server_started, self.progress.is_standby = server.started, server.is_standby
         self.progress.was_promoted = False
         self.choose_protocol(connection.version())
-        at = self.filter.confirmed()
-        self.check_server(server, at)
-        slot_at = slot_position(connection, options.slot)
-        if slot_at is None:
-            if server.is_standby:
-                raise ServerError(f"the server is a standby without the slot {options.slot}")
-            raise Unfit(f"the server has no slot {options.slot}")
-        self.check_timeline(connection, server)
-        self.fit(slot_at, server)
-        # (on another connection: what a session's process has in its caches, it would decode older changes by)
-        if not self.watch.look_again(self.check_stop, self.position):
-            self.noting.wants_look = True
-        self.skipping.begin_session(self.filter.confirmed())
-        adds, repairs = self.adder.begin_session(self.position, self.streams), self.repairing.begin_session(self.streams)
-        self.is_whole = adds or repairs
-        self.noting.begin_session()
-        if options.until == "now" and self.until is None:
-            self.until = log_end(connection)
-        timeout = sender_timeout(connection)
-        self.heartbeat = min(options.heartbeat, timeout / 3) if timeout else options.heartbeat
-        self.progress.name = connection.parameter("application_name")
-        self.progress.is_waited_for = waits_for(connection.text("SHOW synchronous_standby_names"), self.progress.name)
+        at, slot_at = self.filter.confirmed(), self.fit(connection, server)
+        self.prepare(connection)
         self.start_replication(connection, server)
-        self.check_slot()
+        self.fitting.check_slot(self.confirming.position, self.check_stop)
         # (what comes later isn't what was accepted)
         options.accept = []
         self.was_connected = True
@@ -315,6 +288,38 @@ class Follower:
         if self.recording:
             self.recording.begin_session(connection, dataclasses.replace(options, proto=self.proto, streaming=self.is_streaming()), at)
         return connection
+
+    def fit(self, connection: Connection, server: Server) -> int:
+        """Checks that store, server and slot fit together, and notes whose changes the store has. Returns from where the slot sends."""
+        fitting, position, confirmed = self.fitting, self.confirming.position, self.filter.confirmed()
+        fitting.check_server(server, confirmed, position)
+        slot_at = fitting.find_slot(connection, server)
+        shared = fitting.check_timeline(connection, server, position)
+        if shared is not None and confirmed > shared:
+            # (what a keepalive confirmed above that LSN is of the other history)
+            self.finish_filter()
+            raise ServerError("the filter is started anew on the server's new timeline")
+        fitting.check_start(slot_at, position)
+        self.confirming.begin_session(connection)
+        fitting.note_server(server, confirmed, position)
+        return slot_at
+
+    def prepare(self, connection: Connection) -> None:
+        """Has what takes part in a session begin it, which tells what it asks for, and reads the settings that it depends on."""
+        options, progress = self.options, self.progress
+        # (on another connection: what a session's process has in its caches, it would decode older changes by)
+        if not self.watch.look_again(self.check_stop, self.confirming.position):
+            self.noting.wants_look = True
+        self.skipping.begin_session(self.filter.confirmed())
+        adds, repairs = self.adder.begin_session(self.confirming.position, self.streams), self.repairing.begin_session(self.streams)
+        self.is_whole = adds or repairs
+        self.noting.begin_session()
+        if options.until == "now" and self.until is None:
+            self.until = log_end(connection)
+        timeout = sender_timeout(connection)
+        self.heartbeat = min(options.heartbeat, timeout / 3) if timeout else options.heartbeat
+        progress.name = connection.parameter("application_name")
+        progress.is_waited_for = waits_for(connection.text("SHOW synchronous_standby_names"), progress.name)
 
     def start_replication(self, connection: Connection, server: Server) -> None:
         """Asks for the changes. A standby rejects that where it has no slots of its own, until it is promoted."""
@@ -341,100 +346,6 @@ class Follower:
             self.filter.proto = self.proto
             self.start_filter()
 
-    def check_server(self, server: Server, at: int) -> None:
-        """Checks that this is the server whose changes the store has, and that it has all of them. On another timeline it needn't be
-        beyond what a keepalive alone has confirmed: a standby that was promoted never had what isn't published behind its last commit."""
-        known, options = self.checkpoint.known, self.options
-        if known.system and (server.system, server.database, options.slot) != (known.system, known.database, known.slot):
-            raise Unfit(
-                f"the store follows slot {known.slot} of database {known.database} of the server {known.system}, "
-                f"and not slot {options.slot} of {server.database} of {server.system}"
-            )
-        least = at if known.timeline in (0, server.timeline) else self.position
-        if server.log_end >= least:
-            return
-        ends = f"log ends at {lsn_text(server.log_end)}, before the store at {lsn_text(least)}"
-        if server.is_standby:
-            raise ServerError(f"the server is a standby whose {ends}")
-        raise Unfit(f"the server's {ends}: it lost changes")
-
-    def check_timeline(self, connection: Connection, server: Server) -> None:
-        """Checks that what the store has is in the server's history too, where its timeline isn't that of the last session.
-
-        A server that was promoted or put back has a timeline of its own. It left the old one at an LSN; what the store has above
-        that is of commits that the server hasn't, and the server has others there. But a standby that was promoted since without being started anew has all that it
-        ever sent.
-        """
-        known = self.checkpoint.known
-        if not known.timeline or server.timeline == known.timeline:
-            return
-        if known.started and known.started == server.started:
-            log.info(f"the server was promoted while it was followed: it is on the timeline {server.timeline} now")
-            return
-        left = left_at(connection, server.timeline, known.timeline) if server.timeline > known.timeline else None
-        if left is None or self.position > left:
-            self.note_history(server, left)
-        shared = max(left or 0, self.position)
-        log.warning(f"the server went on from the timeline {known.timeline} to {server.timeline} at {lsn_text(left or 0)}")
-        # What a keepalive confirmed above that LSN is of the other history.
-        self.checkpoint.write(True, timeline=server.timeline, confirmed=min(known.confirmed, shared))
-        self.watch.show()
-        if self.filter.confirmed() > shared:
-            self.finish_filter()
-            raise ServerError("the filter is started anew on the server's new timeline")
-
-    def note_history(self, server: Server, left: int | None) -> None:
-        """Notes that the server has another history than the store. Where that is accepted, it sends nothing that ends up to the store's
-        position, so its own commits up to there are passed over, and that is what is found then."""
-        known, position = self.checkpoint.known, lsn_text(self.position)
-        if not self.options.accepts("history"):
-            at = "never" if left is None else f"at {lsn_text(left)}"
-            text = (
-                f"the store is at {position} of the timeline {known.timeline}, which the server's timeline"
-                f" {server.timeline} left {at}: the store has changes that the server hasn't"
-            )
-            self.watch.note("history", self.position, text)
-            raise Unfit(f"{text}. Copy anew, or take it as it is by --accept history")
-        after = "below" if left is None else f"from {lsn_text(left)} to"
-        text = f"the server's commits {after} {position} are missing, and the store has others: verify --repair, then --accept history again"
-        self.watch.note("history", self.position, text)
-        log.warning(f"found: history at {position}: {text}")
-
-    def check_slot(self) -> None:
-        """Checks the slot again once it is ours: what somebody confirmed since it was looked at would be passed over."""
-        connection = Connection(self.options.dsn, name=f"{self.options.slot} check", check=self.check_stop)
-        try:
-            settle(connection)
-            slot_at = slot_position(connection, self.options.slot)
-        finally:
-            connection.close()
-        if slot_at is None:
-            raise ServerError("another server answered")
-        try:
-            check_gap(self.checkpoint.known, self.position, slot_at)
-        except Unfit as error:
-            self.watch.note("slot", slot_at, str(error))
-            raise
-
-    def fit(self, slot_at: int, server: Server) -> None:
-        """Rejects a gap between store and slot, unless it was said to be wanted; notes whose changes the store has."""
-        known, position = self.checkpoint.known, self.position
-        if self.options.accepts("gap") or (known.phase == known_of.NEW and self.options.no_copy and position == 0):
-            log.warning(f"whatever changed before {lsn_text(slot_at)} and isn't in the store stays missing")
-            self.options.accept = [it for it in self.options.accept if it not in ("gap", "slot", "all")]
-            self.checkpoint.forget_server()
-            self.checkpoint.write(False, confirmed=max(slot_at, position), position=position)
-        else:
-            check_gap(known, position, slot_at)
-        self.note_missing([])
-        # (the session's statuses say what the filter confirms, also where the last session ended before that was noted)
-        self.told = self.filter.status
-        confirmed = max(self.filter.confirmed(), self.checkpoint.known.confirmed)
-        self.checkpoint.write(
-            True, confirmed=confirmed, phase=known_of.FOLLOWING, system=server.system, timeline=server.timeline, started=server.started,
-            database=server.database, slot=self.options.slot, position=max(position, self.checkpoint.known.position),
-        )
-
     def is_streaming(self) -> bool:
         """Whether large transactions are to come while they run."""
         return self.streams and not self.skipping.is_pending and not self.is_whole
@@ -454,7 +365,7 @@ class Follower:
         """
         connection = self.connect()
         self.progress.state = "following"
-        self.last_sent, self.held = 0.0, None
+        confirming = self.confirming
         began, silent = time.monotonic(), 0.0
         more: bool | None = True
         socket, is_wrapped = connection.socket(), connection.is_wrapped()
@@ -467,8 +378,8 @@ class Follower:
             )
             # (what else takes long, as a copy of the store does, is none of the server's silence)
             silent = 0.0 if socket in readable or not room else silent + time.monotonic() - listens
-            if statuses or self.held:
-                self.forward(statuses)
+            if statuses or confirming.held:
+                confirming.forward(statuses)
             # (what was read already of an encrypted connection doesn't wake select, nor what is read where a flush would block)
             if room and not more and (socket in readable or socket in writable or is_wrapped or not (readable or writable)):
                 connection.consume()
@@ -479,7 +390,7 @@ class Follower:
                 self.note_left_out(connection.left_out)
             self.tend_misses()
             self.noting.show()
-            self.noting.wants_look = self.watch.tend(self.noting.wants_look, self.serve_server, self.position)
+            self.noting.wants_look = self.watch.tend(self.noting.wants_look, self.serve_server, confirming.position)
             if more is None:
                 log.warning("the server ended the session")
                 return
@@ -513,16 +424,18 @@ class Follower:
 
     def longest_wait(self, has_more: bool) -> float:
         """For how many seconds a session waits at most until something comes. `has_more`: something has come already."""
-        wait = 0.0 if has_more else self.heartbeat - (time.monotonic() - self.last_sent)
-        if self.held:
-            wait = min(wait, self.quiet() - (time.monotonic() - self.last_moved))
+        confirming = self.confirming
+        wait = 0.0 if has_more else self.heartbeat - (time.monotonic() - confirming.last_sent)
+        if confirming.held:
+            wait = min(wait, confirming.quiet() - (time.monotonic() - confirming.last_moved))
         if self.snapshots.hold.into:
             wait = min(wait, SOON)
         return max(0.0, min(wait, STEP))
 
     def is_over(self) -> bool:
         """Whether the end was asked for, or what was asked for is stored."""
-        if self.until is not None and self.filter.confirmed() >= self.until and (not self.feeding or self.feeding.is_read(self.position)):
+        is_stored = self.until is not None and self.filter.confirmed() >= self.until
+        if is_stored and (not self.feeding or self.feeding.is_read(self.confirming.position)):
             self.stop_asked = True
         return self.stop_asked
 
@@ -532,9 +445,8 @@ class Follower:
         if silent > limit:
             raise ServerError(f"the server said nothing for {limit:.0f} seconds")
         waits = self.snapshots.hold.is_going()
-        if time.monotonic() - self.last_sent >= (ASK if waits else min(self.heartbeat, limit / 4)):
-            self.release()
-            self.send(asking(self.told) if waits or silent > limit / 2 else self.told)
+        if time.monotonic() - self.confirming.last_sent >= (ASK if waits else min(self.heartbeat, limit / 4)):
+            self.confirming.repeat(asks=waits or silent > limit / 2)
 
     def renew(self, connection: Connection) -> None:
         """Ends a session so that another one begins, with whole transactions where rows come from here, or again without."""
@@ -546,7 +458,7 @@ class Follower:
         """Keeps server and filter content in a session while something else is waited for."""
         self.check_stop()
         if self.filter.is_running():
-            self.forward(self.serve(0)[2])
+            self.confirming.forward(self.serve(0)[2])
             self.misses.tell()
         self.require_server()
         self.keep_alive(0.0)
@@ -568,27 +480,13 @@ class Follower:
             raise ServerError(f"the server said nothing for {limit:.0f} seconds")
         self.heard = time.monotonic()
 
-    def stored(self) -> Reached:
-        """What the store has, for another thread. (Each of the two is at most what it has, whenever it is looked at.)"""
-        return Reached(max(self.checkpoint.known.confirmed, self.filter.confirmed()), self.position)
-
-    def is_stored(self) -> bool:
-        """Whether the store has all commits that were passed on."""
-        self.forget_confirmed(self.filter.confirmed())
-        return not self.noting.ends and not self.filter.waiting
-
-    def reached(self) -> int:
-        """An LSN that no commit or keepalive that was passed on is above."""
-        begun = final_lsn(self.noting.begun) if self.noting.begun else 0
-        return max(self.position, self.filter.confirmed(), begun, int.from_bytes(self.progress.sent_to, "big"))
-
     def push(self, frames: bytes) -> None:
         """Gives the filter frames, and waits until it has room."""
         self.heard = time.monotonic()
         self.filter.push(frames)
         self.attend()
         while not self.filter.has_room():
-            self.forward(self.serve(STEP)[2])
+            self.confirming.forward(self.serve(STEP)[2])
             self.attend()
 
     def serve_server(self) -> None:
@@ -628,7 +526,7 @@ class Follower:
             names = sorted((name for name in self.options.publication if name in text), key=len)
             about = About(publication=names[-1], is_missing=True) if names else NOTHING
             text = f"the server leaves out changes from before a publication was made: {text}"
-            self.watch.remembered.find(PUBLICATION, self.position, text, about)
+            self.watch.remembered.find(PUBLICATION, self.confirming.position, text, about)
 
     def serve(
         self, timeout: float, reads: Sequence[int] = (), writes: Sequence[int] = (), awake: Awake | None = None
@@ -639,13 +537,7 @@ class Follower:
             readable, writable, statuses = self.filter.serve(timeout, reads, writes, awake)
             return readable, writable, statuses
         finally:
-            self.note_missing(statuses)
-
-    def note_missing(self, statuses: Sequence[bytes]) -> None:
-        """Notes durably what is new of changes that found no row, in the commits up to the last of these statuses."""
-        if self.misses.is_news(self.filter.missing):
-            position = self.noting.stored(flushed(statuses[-1]), self.position) if statuses else self.position
-            self.misses.note(self.filter.missing, position)
+            self.confirming.note_missing(statuses)
 
     def tend_misses(self) -> None:
         """Tells what is new of changes that found no row. Raises where the following is to be strict."""
@@ -653,78 +545,6 @@ class Follower:
         if self.misses.is_new:
             self.misses.is_new = False
             self.watch.show()
-
-    def note_statuses(self, statuses: list[bytes]) -> None:
-        """Notes the last status."""
-        if not statuses:
-            return
-        confirmed = flushed(statuses[-1])
-        self.forget_confirmed(confirmed)
-        self.checkpoint.note(confirmed, self.position)
-        self.progress.counted = self.checkpoint.counted
-        self.progress.note_confirmed(confirmed, self.position)
-
-    def forget_confirmed(self, confirmed: int) -> None:
-        """Forgets the ends of commits that are stored."""
-        self.position = self.noting.confirm(confirmed, self.position)
-
-    def forward(self, statuses: list[bytes]) -> None:
-        """Passes on the last of new statuses, which confirms what those before it do.
-
-        What is above the last commit was moved by a keepalive alone, and may wait, since noting it costs a sync. A commit at the
-        server may wait for the rest.
-        """
-        for status in statuses[-1:]:
-            lsn = flushed(status)
-            if self.noting.ends and self.noting.ends[-1] == lsn:
-                # (the last commit that was passed on is stored: there is nothing to look up first)
-                self.pass_on(status)
-                return
-            self.forget_confirmed(lsn)
-            if self.checkpoint.known.confirmed < self.position < lsn:
-                self.pass_on(confirming(status, self.position))
-            if lsn <= max(self.position, self.checkpoint.known.confirmed) or self.noting.asked:
-                self.pass_on(status)
-            else:
-                self.held = status
-        if self.held and time.monotonic() - self.last_moved >= self.quiet():
-            self.release()
-
-    def quiet(self) -> float:
-        """After how many seconds a position that a keepalive alone has moved is passed on again."""
-        return min(QUIET, PART * self.noted_in) if self.progress.is_waited_for else QUIET
-
-    def pass_on(self, status: bytes) -> None:
-        """Sends a status, and notes it: first where only this tells the next start of it, and else afterwards.
-
-        What else the checkpoint has of a commit is on the disk before: which of its changes found no row since the status was read, that
-        it was skipped since its end was passed on, and what was found by its Relation messages since these were passed on.
-        """
-        lsn, began = flushed(status), time.monotonic()
-        if lsn > self.checkpoint.known.confirmed:
-            self.last_moved = began
-        if self.noting.asked is not None and lsn >= self.noting.asked:
-            self.noting.asked = None
-        self.held = None
-        if lsn > self.noting.stored(lsn, self.position):
-            self.note_statuses([status])
-            self.noted_in = time.monotonic() - began
-        self.told = status
-        try:
-            self.send(status)
-        finally:
-            # (where that waits until now, the store itself has all that is confirmed)
-            self.note_statuses([status])
-
-    def release(self) -> None:
-        """Passes on the status that waits."""
-        if self.held:
-            self.pass_on(self.held)
-
-    def send(self, status: bytes) -> None:
-        assert self.connection
-        self.last_sent = time.monotonic()
-        self.connection.send(status)
 
     def end_session_by_ourselves(self) -> None:
         """Ends the filter's input, sends what it still confirms, and ends the session."""
@@ -734,12 +554,11 @@ class Follower:
             while True:
                 self.progress.beat()
                 for status in self.serve(STEP)[2][-1:]:
-                    self.pass_on(status)
-                if time.monotonic() - self.last_sent >= self.heartbeat:
-                    self.release()
-                    self.send(self.told)
+                    self.confirming.pass_on(status)
+                if time.monotonic() - self.confirming.last_sent >= self.heartbeat:
+                    self.confirming.repeat()
         except FilterEnded as ended:
-            self.release()
+            self.confirming.release()
             check_end(ended)
         if self.connection:
             self.connection.end_copy()
@@ -752,12 +571,12 @@ class Follower:
         try:
             while True:
                 self.progress.beat()
-                self.note_statuses(self.serve(STEP)[2])
+                self.confirming.note_statuses(self.serve(STEP)[2])
         except FilterEnded as ended:
             check_end(ended)
 
     def disconnect(self) -> None:
-        self.held = None
+        self.confirming.end_session()
         self.adder.end_session()
         self.repairing.end_session()
         self.snapshots.hold.end_session()

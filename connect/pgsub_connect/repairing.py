@@ -40,6 +40,7 @@ from .texts import counted, lsn_text
 
 if TYPE_CHECKING:
     from .checkpoint import Checkpoint
+    from .confirming import Confirming
     from .noting import Noting
     from .options import Options
     from .remembered import Remembered
@@ -53,8 +54,6 @@ LETTERS = (b"R", b"I", b"U", b"D")
 
 class Stream(Protocol):
     """The follower, as far as rows are repaired by it."""
-
-    position: int
 
     def attend(self) -> None:
         """Keeps server and filter content in a session while something else is waited for. Raises where the end was asked for."""
@@ -103,10 +102,10 @@ class Repairing:
 
     def __init__(
         self, options: Options, checkpoint: Checkpoint, progress: Progress, remembered: Remembered, watch: Watch, noting: Noting,
-        snapshots: Snapshots, stream: Stream,
+        confirming: Confirming, snapshots: Snapshots, stream: Stream,
     ) -> None:
         self.options, self.checkpoint, self.progress, self.remembered, self.watch = options, checkpoint, progress, remembered, watch
-        self.noting, self.snapshots, self.hold, self.stream = noting, snapshots, snapshots.hold, stream
+        self.noting, self.confirming, self.snapshots, self.hold, self.stream = noting, confirming, snapshots, snapshots.hold, stream
         # whether the session asks for whole transactions because of this, and whether it ends since a repair is stored
         self.is_whole = self.ends_session = False
         # whether the progress was told that the stream is held for a repair
@@ -136,12 +135,12 @@ class Repairing:
         self.ends_session = self.is_shown = False
 
     def is_stored(self) -> bool:
-        return self.hold.is_sent and self.hold.point is not None and self.stream.position >= self.hold.point
+        return self.hold.is_sent and self.hold.point is not None and self.confirming.position >= self.hold.point
 
     def look(self) -> None:
         """Looks at the publications before the copy is taken: what was found up to here is of rows that are compared then."""
         self.texts = set()
-        if self.watch.look_again(self.stream.attend, self.stream.position):
+        if self.watch.look_again(self.stream.attend, self.confirming.position):
             self.texts = {text for found in self.remembered.found.values() for text in found.texts}
 
     def step(self) -> None:

@@ -12,7 +12,7 @@ from collections.abc import Callable, Sequence
 from pathlib import Path
 from unittest import mock
 
-from pgsub_connect import adding, following, postgres, watching
+from pgsub_connect import adding, confirming, following, postgres, watching
 from pgsub_connect.checkpoint import Checkpoint
 from pgsub_connect.dropping import read_known
 from pgsub_connect.filtering import Filter
@@ -148,8 +148,8 @@ class Case(Quiet):
         self.server = WorldServer(self.folder, self.brain, self.world)
         self.addCleanup(self.server.close)
         for where, name, by in (
-            (postgres, "TICK", 0.02), (following, "STEP", 0.02), (following, "QUIET", 0.05), (following, "SLEEP", 0.02), (following, "ASK", 0.02),
-            (following, "FIRST_DELAY", 0.01), (adding, "FIRST_DELAY", 0.02), (adding, "Source", WorldSource),
+            (postgres, "TICK", 0.02), (following, "STEP", 0.02), (following, "SLEEP", 0.02), (following, "ASK", 0.02),
+            (confirming, "QUIET", 0.05), (following, "FIRST_DELAY", 0.01), (adding, "FIRST_DELAY", 0.02), (adding, "Source", WorldSource),
             (watching.Watch, "compare", lambda *_: True), (watching.Watch, "look_again", lambda *_: True),
         ):
             self.patch(where, name, by)

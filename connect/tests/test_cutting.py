@@ -98,7 +98,7 @@ class Cuts(Case):
         real = Follower.start_replication
 
         def start(follower: Follower, *words: object) -> None:
-            noted.append(dict(Checkpoint.read(follower.checkpoint).adding))
+            noted.append(dict(Checkpoint.read(follower.confirming.checkpoint).adding))
             real(follower, *words)  # type: ignore[arg-type]
 
         self.patch(Follower, "start_replication", start)

@@ -61,7 +61,7 @@ class Followed(Case):
         follower.feeding = it = Feeding(follower.options, self.checkpoint, self.progress, follower.watch.remembered)
         it.check()
         self.addCleanup(it.finish)
-        it.begin(follower.filter, follower.stored, follower.check_stop)
+        it.begin(follower.filter, follower.confirming.stored, follower.check_stop)
         return follower
 
     def follower(self, **options: object) -> Follower:

@@ -13,7 +13,7 @@ import unittest
 from collections.abc import Callable, Iterator, Sequence
 from unittest import mock
 
-from pgsub_connect import following, postgres, server, snapshots, watching
+from pgsub_connect import confirming, following, postgres, server, snapshots, watching
 from pgsub_connect.awake import Awake
 from pgsub_connect.checkpoint import Checkpoint
 from pgsub_connect.errors import FilterFault, Passing, ServerError, Unconnected, Unfit
@@ -57,7 +57,7 @@ class Case(Quiet):
         self.server = SmallServer(self.folder, self.brain)
         self.addCleanup(self.server.close)
         for where, name, by in (
-            (postgres, "TICK", 0.02), (following, "STEP", 0.02), (following, "QUIET", 0.3),
+            (postgres, "TICK", 0.02), (following, "STEP", 0.02), (confirming, "QUIET", 0.3),
             (following, "SLEEP", 0.02), (following, "FIRST_DELAY", 0.02),
         ):
             self.patch(where, name, by)
@@ -104,6 +104,11 @@ class Case(Quiet):
             raise raised[0]
         self.assertTrue(held, self.said)
 
+    def set_clock(self, clock: list[float]) -> None:
+        """Has a follower's time be what the list says."""
+        for where in (following, confirming):
+            self.patch(where, "time", mock.Mock(monotonic=lambda: clock[0], sleep=time.sleep))
+
     def confirmed(self) -> int:
         return flushed(self.server.statuses[-1][1]) if self.server.statuses else 0
 
@@ -125,28 +130,28 @@ class Sessions(Case):
         began = time.monotonic()
         self.run_until(follower, lambda: self.confirmed() == 0x1000 + 1999)
         # (one each time that what waits is passed on, and a few at the beginning and the end)
-        self.assertLess(synced.call_count, 6 + (time.monotonic() - began) / following.QUIET)
+        self.assertLess(synced.call_count, 6 + (time.monotonic() - began) / confirming.QUIET)
         self.assertGreaterEqual(self.checkpoint.read().confirmed, 0x1000 + 1999)
 
     def test_a_keepalive_that_asks_is_answered_at_once(self) -> None:
-        self.patch(following, "QUIET", 30.0)
+        self.patch(confirming, "QUIET", 30.0)
         follower = self.follower()
-        follower.last_moved = time.monotonic()
+        follower.confirming.last_moved = time.monotonic()
         self.server.to_send = [keepalive(0x1000, asks=True)]
         self.run_until(follower, lambda: self.confirmed() == 0x1000)
 
     def test_a_keepalive_for_which_commits_wait_is_passed_on_at_once(self) -> None:
         """As soon as the syncs take a small part of the time."""
-        self.patch(following, "QUIET", 30.0)
+        self.patch(confirming, "QUIET", 30.0)
         self.brain.answer("SHOW synchronous_standby_names", [["*"]])
         follower = self.follower()
-        follower.last_moved = time.monotonic()
+        follower.confirming.last_moved = time.monotonic()
         self.server.to_send = [keepalive(0x1000)]
         self.run_until(follower, lambda: self.confirmed() == 0x1000)
-        follower.noted_in = 2.0
-        self.assertEqual(follower.quiet(), 2.0 * following.PART)
+        follower.confirming.noted_in = 2.0
+        self.assertEqual(follower.confirming.quiet(), 2.0 * confirming.PART)
         self.progress.is_waited_for = False
-        self.assertEqual(follower.quiet(), 30.0)
+        self.assertEqual(follower.confirming.quiet(), 30.0)
 
     def test_it_waits_awake_where_commits_wait_for_it(self) -> None:
         """For the next commit, and for what the filter says of the last one."""
@@ -192,11 +197,11 @@ class Sessions(Case):
 
     def test_a_status_that_waited_at_the_end_of_a_session_is_noted(self) -> None:
         """The next session repeats it, so it has to be on the disk before."""
-        self.patch(following, "QUIET", 30.0)
+        self.patch(confirming, "QUIET", 30.0)
         follower = self.follower()
-        follower.last_moved = time.monotonic()
+        follower.confirming.last_moved = time.monotonic()
         ends = iter([True])
-        self.patch(follower.adder, "wants_session", lambda: follower.held is not None and next(ends, False))
+        self.patch(follower.adder, "wants_session", lambda: follower.confirming.held is not None and next(ends, False))
 
         def holds() -> bool:
             # (a session's first status passes on what waits)
@@ -256,7 +261,7 @@ class Sessions(Case):
         (By a clock that goes on here, so that a busy machine does no harm.)
         """
         clock = [100.0]
-        self.patch(following, "time", mock.Mock(monotonic=lambda: clock[0], sleep=time.sleep))
+        self.set_clock(clock)
 
         def holds() -> bool:
             clock[0] += 0.01 if self.progress.state == "following" else 0.0
@@ -268,7 +273,7 @@ class Sessions(Case):
     def test_a_copy_that_takes_longer_than_the_silence(self) -> None:
         """The server isn't heard meanwhile, so that is none of its silence."""
         clock, taken = [100.0], list[float]()
-        self.patch(following, "time", mock.Mock(monotonic=lambda: clock[0], sleep=time.sleep))
+        self.set_clock(clock)
 
         def take(snapshots: Snapshots, position: int, tick: Callable[[], None]) -> None:
             snapshots.asked = False
@@ -293,8 +298,7 @@ class Sessions(Case):
         self.patch(postgres, "CONNECT_LIMIT", 0.05)
         self.patch(server, "QUICK", 0.05)
         follower = self.follower(silence=30.0)
-        follower.connection = mock.Mock(unsent=False)
-        follower.last_sent, now, self.progress.server_started = time.monotonic(), time.monotonic(), 1000
+        follower.confirming.last_sent, now, self.progress.server_started = time.monotonic(), time.monotonic(), 1000
         for heard, lets_in, refusal, fails in (
             (now, False, b"", False), (now - 40.0, True, b"", False), (now - 40.0, False, b"", True), (now - 40.0, True, error("no", "53300"), False),
         ):
@@ -422,16 +426,13 @@ class Fits(Case):
         follower.filter.status = b"r" + bytes(33)
         follower.connect()
 
-    def check(self, *, timeline: int, started: int, position: int, now: Server) -> Follower:
+    def check(self, *, timeline: int, started: int, position: int, now: Server) -> None:
         """Checks the timeline of a server, where the last session had this one and the store is there."""
         follower = self.follower()
         self.checkpoint.write(False, timeline=timeline, started=started, position=position)
-        follower.position = position
-        follower.filter.status = b"r" + position.to_bytes(8, "big") * 3
-        follower.connection = postgres.Connection(self.server.dsn())
-        self.addCleanup(follower.connection.close)
-        follower.check_timeline(follower.connection, now)
-        return follower
+        connection = postgres.Connection(self.server.dsn())
+        self.addCleanup(connection.close)
+        follower.fitting.check_timeline(connection, now, position)
 
     def server_now(self, timeline: int, started: int = 2000, standby: bool = False) -> Server:
         return Server("77", timeline, 0x1000000, "shop", standby, started)
@@ -469,7 +470,7 @@ class Fits(Case):
         self.identity[1] = "2"
         follower = self.follower(accept=["history"])
         self.checkpoint.write(False, phase="following", timeline=1, started=1, position=0x900)
-        follower.position = 0x900
+        follower.confirming.position = 0x900
         self.connect(follower)
         self.assertEqual(self.checkpoint.read().timeline, 2)
         text = "the server's commits from 0/500 to 0/900 are missing, and the store has others: verify --repair, then --accept history again"
@@ -490,7 +491,7 @@ class Fits(Case):
                 self.brain.answer("TIMELINE_HISTORY", [["x", f"1\t{left}\treason"]])
                 follower = self.follower_alone(accept=["history"], strict=strict)
                 self.checkpoint.write(False, phase="following", timeline=1, started=1, confirmed=0xA00, position=position, found={})
-                follower.position, follower.filter.status = position, b"r" + 4 * (0xA00).to_bytes(8, "big")
+                follower.confirming.position, follower.filter.status = position, b"r" + 4 * (0xA00).to_bytes(8, "big")
                 self.addCleanup(follower.disconnect)
                 found = position > parse_lsn(left)
                 with self.assertRaisesRegex(Unfit if found and strict else ServerError, "are missing" if found and strict else "started anew"):
@@ -577,13 +578,13 @@ class Fits(Case):
                 follower = self.follower_alone()
                 self.checkpoint.write(False, **{"system": "77", "database": "shop", "slot": "pgsub", **change})
                 with self.assertRaisesRegex(error, text):
-                    follower.check_server(self.server_now(1), 0)
+                    follower.fitting.check_server(self.server_now(1), 0, 0)
 
     def test_a_log_that_ends_before_the_store(self) -> None:
         with self.assertRaisesRegex(Unfit, "it lost changes"):
-            self.follower_alone().check_server(self.server_now(1), 0x2000000)
+            self.follower_alone().fitting.check_server(self.server_now(1), 0x2000000, 0)
         with self.assertRaisesRegex(ServerError, "a standby whose log ends") as raised:
-            self.follower_alone().check_server(self.server_now(1, standby=True), 0x2000000)
+            self.follower_alone().fitting.check_server(self.server_now(1, standby=True), 0x2000000, 0)
         self.assertFalse(raised.exception.is_lasting())
 
     def test_a_new_primary_behind_what_a_keepalive_confirmed(self) -> None:
@@ -592,7 +593,7 @@ class Fits(Case):
         self.identity[1] = "2"
         follower = self.follower()
         self.checkpoint.write(False, phase="following", timeline=1, started=1, confirmed=0x2000000, position=0x500)
-        follower.position, follower.filter.status = 0x500, b"r" + 4 * (0x2000000).to_bytes(8, "big")
+        follower.confirming.position, follower.filter.status = 0x500, b"r" + 4 * (0x2000000).to_bytes(8, "big")
         self.addCleanup(follower.disconnect)
         with self.assertRaisesRegex(ServerError, "the filter is started anew on the server's new timeline") as raised:
             follower.connect()

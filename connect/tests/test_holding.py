@@ -13,6 +13,7 @@ from collections.abc import Callable, Iterator
 from unittest import mock
 
 from pgsub_connect import snapshots
+from pgsub_connect.confirming import Confirming
 from pgsub_connect.errors import ServerError, Stopped
 from pgsub_connect.following import Follower
 from pgsub_connect.holding import Hold, count_below
@@ -29,10 +30,12 @@ class Holds(unittest.TestCase):
     def setUp(self) -> None:
         # (all that the call looks at)
         self.follower = Follower.__new__(Follower)
-        self.follower.stop_asked, self.follower.position = False, 0x100
+        self.follower.stop_asked = False
         self.follower.filter, self.follower.snapshots, self.follower.noting = mock.Mock(), mock.Mock(), mock.Mock()
         self.follower.progress = Progress()
         self.noting = self.follower.noting
+        self.follower.confirming = Confirming(mock.Mock(), self.follower.filter, self.follower.progress, self.noting, mock.Mock())
+        self.follower.confirming.position = 0x100
         self.noting.ends = collections.deque([0x108, 0x120])
         self.noting.confirm.side_effect = self.confirm
         self.follower.snapshots.hold = Hold()
@@ -97,7 +100,6 @@ class Holds(unittest.TestCase):
 
     def test_the_end_is_asked_for_while_it_is_copied(self) -> None:
         """Then the session ends as at any other time."""
-        self.follower.connection = None
 
         def take(_: int, tick: Callable[[], None]) -> None:
             tick()

@@ -84,8 +84,8 @@ class Order(FollowCase):
         send, write, sync = Connection.send, os.pwrite, os.fdatasync
 
         def note(what: str) -> None:
-            counted = follower.checkpoint.read_counted()
-            happened.append((what, counted.count if counted else 0, follower.checkpoint.read().position))
+            counted = follower.confirming.checkpoint.read_counted()
+            happened.append((what, counted.count if counted else 0, follower.confirming.checkpoint.read().position))
 
         def sends(connection: Connection, payload: bytes) -> None:
             happened.append(("sent", flushed(payload), 0))
@@ -157,17 +157,17 @@ class Order(FollowCase):
                 follower, happened = self.follower(), list[int | str]()
                 follower.noting.note_all(ONE)
                 self.checkpoint.begin_counting(0, False)
-                self.patch(follower, "connection", mock.Mock(send=lambda it: happened.append(flushed(it))))
+                self.patch(follower.confirming, "connection", mock.Mock(send=lambda it: happened.append(flushed(it))))
                 self.patch(os, "fdatasync", lambda _: happened.append("synced"))
-                follower.last_moved, follower.noting.asked = float("inf"), asked
+                follower.confirming.last_moved, follower.noting.asked = float("inf"), asked
                 happened.clear()
-                follower.forward([status(0x200)])
+                follower.confirming.forward([status(0x200)])
                 rest: list[int | str] = ["synced", 0x200]
                 self.assertEqual(happened, [0x108, *(rest if asked else [])])
-                self.assertEqual(follower.position, 0x108)
-                follower.last_moved = 0.0
-                follower.forward([])
-                follower.forward([])
+                self.assertEqual(follower.confirming.position, 0x108)
+                follower.confirming.last_moved = 0.0
+                follower.confirming.forward([])
+                follower.confirming.forward([])
                 self.assertEqual(happened, [0x108, *rest])
                 os.unlink(self.store + ".connector")
 
@@ -177,18 +177,18 @@ class Order(FollowCase):
         follower.noting.note_all(ONE)
         self.checkpoint.write(False, confirmed=0x180)
         self.checkpoint.begin_counting(0, False)
-        self.patch(follower, "connection", mock.Mock(send=lambda it: sent.append(flushed(it))))
-        follower.last_moved = float("inf")
-        follower.forward([status(0x108)])
+        self.patch(follower.confirming, "connection", mock.Mock(send=lambda it: sent.append(flushed(it))))
+        follower.confirming.last_moved = float("inf")
+        follower.confirming.forward([status(0x108)])
         follower.noting.note_all([begin(0x110, 7), commit(0x110, 0x118)])
-        follower.forward([status(0x200)])
-        self.assertEqual((sent, follower.held), ([0x108], status(0x200)))
+        follower.confirming.forward([status(0x200)])
+        self.assertEqual((sent, follower.confirming.held), ([0x108], status(0x200)))
 
     def test_a_status_isnt_repeated_that_couldnt_be_noted(self) -> None:
         """Not by a heartbeat either."""
         follower, sent = self.follower(), list[int]()
-        follower.told = follower.filter.status = status(0x100)
-        follower.position = 0x100
+        follower.confirming.told = follower.filter.status = status(0x100)
+        follower.confirming.position = 0x100
         follower.noting.note_all(ONE)
         self.checkpoint.begin_counting(0x100, False)
 
@@ -198,11 +198,11 @@ class Order(FollowCase):
 
         self.patch(follower.filter, "serve", serve)
         self.patch(follower.filter, "runs", True)
-        self.patch(follower, "connection", mock.Mock(send=lambda it: sent.append(flushed(it))))
+        self.patch(follower.confirming, "connection", mock.Mock(send=lambda it: sent.append(flushed(it))))
         with mock.patch("os.fdatasync", side_effect=OSError(28, "No space left on device")):
             with self.assertRaisesRegex(Passing, "No space"):
                 follower.attend()
-            follower.last_sent = 0.0
+            follower.confirming.last_sent = 0.0
             follower.keep_alive(0.0)
         self.assertEqual(sent, [0x100])
         follower.attend()
@@ -212,9 +212,9 @@ class Order(FollowCase):
         follower = self.follower()
         follower.noting.note_all(ONE)
         self.checkpoint.begin_counting(0, False)
-        self.patch(follower, "connection", mock.Mock(send=mock.Mock(side_effect=ServerError("lost"))))
+        self.patch(follower.confirming, "connection", mock.Mock(send=mock.Mock(side_effect=ServerError("lost"))))
         with self.assertRaises(ServerError):
-            follower.forward([status(0x108)])
+            follower.confirming.forward([status(0x108)])
         self.assertEqual((self.counted(), self.checkpoint.read().position), (Counted(0, 0x108), 0x108))
 
 
@@ -274,7 +274,7 @@ class Calls(FollowCase):
         for where, names in (
             (Connection, ("consume", "send")), (follower.filter, ("serve", "written_of")), (follower.noting, ("note_all", "show")),
             (follower.watch, ("tend",)), (follower.adder, ("wants_session", "step")), (follower.misses, ("tell",)),
-            (follower.checkpoint, ("note",)), (follower.snapshots, ("is_due",)),
+            (follower.confirming.checkpoint, ("note",)), (follower.snapshots, ("is_due",)),
         ):
             for name in names:
                 noted(where, name)
@@ -528,7 +528,7 @@ class Strict(FollowCase):
         follower.misses.note(Missing(1, 0x108, 1), 0x108)
         self.patch(follower, "serve", lambda *_: ([], [], []))
         self.patch(follower.filter, "runs", True)
-        follower.last_sent = float("inf")
+        follower.confirming.last_sent = float("inf")
         follower.attend()
         self.assertEqual(len(self.lines()), 1)
         with self.assertRaises(Unfit):

@@ -284,7 +284,7 @@ class Repaired(Repairs):
         run = self.running(proto=1)
         with contextlib.closing(Request(self.store, 5.0, never, repairs=True)) as request:
             request.hold()
-            request.tell(run.follower.reached())
+            request.tell(run.follower.confirming.reached())
             with self.assertRaisesRegex(Passing, "is it of a standby behind"):
                 request.copied()
         self.repair()
@@ -418,7 +418,7 @@ class Held(unittest.TestCase):
     def test_sessions(self) -> None:
         it, stream, asked = mock.Mock(), mock.Mock(), mock.Mock()
         asked.hold = Hold()
-        repairing = Repairing(it, it, it, it, it, it, asked, stream)
+        repairing = Repairing(it, it, it, it, it, it, it, asked, stream)
         found = []
         for wants, streaming, streams, keeps in (
             (False, True, True, False), (True, True, True, False), (True, False, True, False), (False, False, True, True),
