@@ -103,7 +103,7 @@ class Confirming:
             self.forget_confirmed(lsn)
             if self.checkpoint.known.confirmed < self.position < lsn:
                 self.pass_on(lowered(status, self.position))
-            if lsn <= max(self.position, self.checkpoint.known.confirmed) or self.noting.asked:
+            if lsn <= max(self.position, self.checkpoint.known.confirmed) or self.noting.asked is not None:
                 self.pass_on(status)
             else:
                 self.held = status
