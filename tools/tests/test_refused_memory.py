@@ -34,6 +34,25 @@ int main(int argc, char **argv)
 }
 """
 
+# A program that asks three times.
+TOLD = """
+#include <stdlib.h>
+#include <unistd.h>
+
+int main(void)
+{
+    for (int n = 1; n <= 3; n++) {
+        char *volatile got = malloc(n);
+        if (!got) {
+            (void)!write(2, "out of memory\\n", 14);
+            return 1;
+        }
+    }
+    (void)!write(1, "done\\n", 5);
+    return 0;
+}
+"""
+
 
 @unittest.skipUnless(shutil.which("gcc"), "there is no gcc")
 class Samples(unittest.TestCase):
@@ -79,6 +98,21 @@ class Samples(unittest.TestCase):
 
     def test_a_sample_that_is_all(self) -> None:
         self.assertEqual(self.refuse("--most", "10", "demo/steady")[1][1], "demo steady: 10 requests, 0 passed, 10 stopped, 0 crashed")
+
+    def test_a_program_without_tests(self) -> None:
+        """Its stored run, over what is built: nothing is proved for it."""
+        crate = self.top / "crates/told"
+        for folder in ("out", "data"):
+            (crate / folder).mkdir(parents=True)
+        for name, text in (("args", "x\n"), ("stdout", "done\n")):
+            (crate / name).write_text(text)
+        source = self.top / "told.c"
+        source.write_text(TOLD)
+        subprocess.run(["gcc", "-O0", "-o", crate / "out/told", source], check=True)
+        self.assertEqual(self.refuse("told"), (0, ["told x: 3 requests, 0 passed, 3 stopped, 0 crashed"]))
+        source.write_text(TOLD.replace("memory", "nothing"))
+        subprocess.run(["gcc", "-O0", "-o", crate / "out/told", source], check=True)
+        self.assertEqual(self.refuse("told")[0], 1)
 
     def test_wrong_words(self) -> None:
         for words in (["--most"], ["--most", "0", "demo"], ["--most", "x", "demo"], ["--none", "demo"]):
