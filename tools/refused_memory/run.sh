@@ -12,9 +12,10 @@
 #
 # Each runs once for each request that it makes, with this one refused in place of the C library's answer. A line for each tells its
 # requests, and how often it passed all the same, stopped, and crashed. A test stops with its own error or assertion. A program passes
-# with what is stored, and stops where it says that memory has run out, with status 1, and prints nothing else, or what is stored, or
-# that no commit was taken. All else is counted as a crash. A crash makes the status 1, and so does a test named
-# refused_memory_changes_nothing that doesn't pass each time. Needs gcc. RT names the toolchain, if not rt.
+# with what is stored, and stops where it says that memory has run out, or that its store refused, as a disk in memory does that can't
+# grow, with status 1, and prints nothing else, or what is stored, or that no commit was taken. All else is counted as a crash. A crash
+# makes the status 1, and so does a test named refused_memory_changes_nothing that doesn't pass each time. Needs gcc. RT names the
+# toolchain, if not rt.
 set -eu
 case "${1-}" in
     -h | --help) sed -n '2,/^[^#]/ s/^# \{0,1\}//p' "$0"; exit ;;
@@ -68,7 +69,7 @@ prints_what_stands() {
 end_of_program() {
     if [ "$1" -eq "$wanted" ] && cmp -s "$work/out" "$stored"; then
         echo passed
-    elif [ "$1" -eq 1 ] && grep -qi "memory" "$work/err" && prints_what_stands; then
+    elif [ "$1" -eq 1 ] && grep -qi 'memory\|^pgsub: store [0-9]\{1,20\} Refused$' "$work/err" && prints_what_stands; then
         echo stopped
     else
         echo crashed

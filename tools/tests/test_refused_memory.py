@@ -110,9 +110,10 @@ class Samples(unittest.TestCase):
         source.write_text(TOLD)
         subprocess.run(["gcc", "-O0", "-o", crate / "out/told", source], check=True)
         self.assertEqual(self.refuse("told"), (0, ["told x: 3 requests, 0 passed, 3 stopped, 0 crashed"]))
-        source.write_text(TOLD.replace("memory", "nothing"))
-        subprocess.run(["gcc", "-O0", "-o", crate / "out/told", source], check=True)
-        self.assertEqual(self.refuse("told")[0], 1)
+        for said, status in (("pgsub: store 8 Refused", 0), ("pgsub: store 8 Clash", 1), ("nothing", 1)):
+            source.write_text(TOLD.replace('"out of memory\\n", 14', f'"{said}\\n", {len(said) + 1}'))
+            subprocess.run(["gcc", "-O0", "-o", crate / "out/told", source], check=True)
+            self.assertEqual(self.refuse("told")[0], status, said)
 
     def test_wrong_words(self) -> None:
         for words in (["--most"], ["--most", "0", "demo"], ["--most", "x", "demo"], ["--none", "demo"]):
