@@ -1,6 +1,7 @@
 //! The program's line of a fault has the words in which the libraries print it.
 
 use pgapply::StoreFault;
+use pgcommand::CommandFault;
 use pglogical::{DecodeFault, Reason};
 use pgorder::OrderFault;
 use pgrel::RelFault;
@@ -90,4 +91,10 @@ fn a_fault_of_decoding_is_told_in_the_words_of_its_library(rt: HostRuntime) {
         let fault = Fault::Decode(DecodeFault { place, reason });
         assert!(rt; is_told(&rt, fault), "{fault}");
     }
+}
+
+#[test]
+fn memory_that_ran_out_is_told(rt: HostRuntime) {
+    let memory = format!(in rt.alloc(); "{}", CommandFault::Memory).expect(&rt, "a text");
+    assert!(rt; memory.as_str() == "memory");
 }

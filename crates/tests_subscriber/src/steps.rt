@@ -7,7 +7,7 @@ use pgapply::{DumpRow, ReplicaStore};
 use pglsn::Lsn;
 use pgorder::Version;
 use pgspool::{ByteSpools, ListSpools, Spools};
-use pgsub_core::{Fault, Session, Side, Subscriber, Verdict, converge, follow};
+use pgsub_core::{Fault, Session, Subscriber, follow};
 use pgtuple::{Bytes, Cell, Seq};
 use std::alloc::Global;
 use std::process::Abort;
@@ -168,24 +168,6 @@ pub(crate) fn rows_of<P: Spools + Drop, C: ReplicaStore + Drop>(
     subscriber: &mut Subscriber<P, C>,
 ) -> Result<Vec<DumpRow>, Fault> {
     subscriber.rows()
-}
-
-/// Compares two subscribers that follow these sessions first. A fault is that of one side.
-pub(crate) fn compare_all<
-    P: Spools + Drop,
-    C: ReplicaStore + Drop,
-    Q: Spools + Drop,
-    D: ReplicaStore + Drop,
->(
-    left: &mut Subscriber<P, C>,
-    left_sessions: &[Session],
-    right: &mut Subscriber<Q, D>,
-    right_sessions: &[Session],
-) -> Result<Verdict, (Side, Fault)> {
-    match converge(left, left_sessions, right, right_sessions, NOW) {
-        Ok(verdict) => Ok(verdict),
-        Err(found) => Err((found.side, found.fault)),
-    }
 }
 
 /// Feeds bytes in chunks.
