@@ -6,10 +6,10 @@
 //!   form of spools takes the rows over each form of store.
 //! - The short forms for embedders (`pgembed`).
 //! - The encoding of messages that a server sent (`pglogical`).
-//! - The program's commands (`pgsub_cli`). A row is a fault, or the bytes of a session or of a file;
-//!   it is run over readers, writers and stores in memory, some of which fail. Command lines are run
-//!   with the built program, by tools/commands, and so are bad changes at each place and runs over a
-//!   store that is opened again, by tools/sweeps.
+//! - The program's commands (`pgsub_cli`). A row is a fault, or the bytes of a session or of a
+//!   file; it is run over readers, writers and stores in memory, some of which fail. Command lines
+//!   are run with the built program, by tools/commands, and so are bad changes at each place and
+//!   runs over a store that is opened again, by tools/sweeps.
 //!
 //! They show what no contract says: that a call can succeed, what the text of a fault is, and that
 //! the definitions mean what was worked out by hand. Only the tests of `refusing` allow that an
