@@ -75,7 +75,7 @@ class Names(unittest.TestCase):
 class Groups(unittest.TestCase):
     def mutant(self, name: str, start: int) -> Any:
         made = mutants.Mutant.__new__(mutants.Mutant)
-        made.names, made.places = {name}, [("src/held.rt", start, 4, "new")]
+        made.names, made.places, made.clauses = {name}, [("src/held.rt", start, 4, "new")], set()
         return made
 
     def test_a_caller_and_its_callee_are_tried_apart(self) -> None:
@@ -97,6 +97,18 @@ class Groups(unittest.TestCase):
         self.assertFalse(self.mutant("a", 10).is_apart_from(self.mutant("b", 13), {}))
 
 
+    def test_a_function_that_loses_clauses_is_tried_apart_from_its_callers(self) -> None:
+        caller, callee, namesake = self.mutant("Held::all", 10), self.mutant("pgheld::one", 90), self.mutant("pgheld::all", 170)
+        calls = {"all": {"one"}, "one": set()}
+        self.assertTrue(caller.leaves_clauses(callee, calls))
+        caller.clauses = {"made", "own"}
+        self.assertTrue(caller.leaves_clauses(callee, calls))
+        self.assertFalse(caller.leaves_clauses(namesake, calls))
+        callee.clauses = {"made", "own"}
+        self.assertFalse(caller.leaves_clauses(callee, calls))
+        self.assertFalse(callee.leaves_clauses(caller, calls))
+
+
 class Refusals(unittest.TestCase):
     """A check of `push` of `Held` and of `free`, which it calls."""
 
@@ -114,8 +126,8 @@ class Refusals(unittest.TestCase):
     WAITS = "fn pgheld::parts::held::Held::push: not proved; it calls `pgheld::parts::held::free`, which is not proved"
     CALLEE = "fn pgheld::parts::held::free: no proof: expected answers"
 
-    def test_a_function_that_is_not_proved_refuses_its_mutant(self) -> None:
-        self.assertIn("no proof", self.refusal("pgheld::parts::held::free", self.CALLEE, self.WAITS))
+    def test_a_function_whose_proof_alone_is_gone_does_not_refuse_its_mutant(self) -> None:
+        self.assertEqual(self.refusal("pgheld::parts::held::free", self.CALLEE, self.WAITS), "")
 
     def test_a_callee_that_is_not_proved_says_nothing(self) -> None:
         self.assertEqual(self.refusal("Held::push", self.CALLEE, self.WAITS), "")
@@ -131,9 +143,102 @@ class Refusals(unittest.TestCase):
         self.assertIn("differ", self.refusal("Held::push", self.CALLEE, wrong, self.WAITS))
         self.assertEqual(self.refusal("HeldStore::push", self.CALLEE, wrong, self.WAITS), "")
 
+    def test_an_answer_that_cites_a_name_that_is_gone_says_nothing(self) -> None:
+        for why in (
+            "`returns`: record `Lts.View.In-After` has no field `settle` (nearest: `set`)",
+            "`goal.returns`: module `Goals`\n  has no `returns-clause-made` that can be named from here",
+        ):
+            wrong = f"./proofs/parts/held/Held/push/Answers.antt:3:5: error: {why}"
+            self.assertEqual(self.refusal("Held::push", self.CALLEE, wrong, self.WAITS), "")
+
     def test_an_answer_that_rests_on_the_callee_says_nothing(self) -> None:
         wrong = "./proofs/parts/held/Held/push/Answers.antt:3:5: error: `returns`: `free_spec` was not admitted"
         self.assertEqual(self.refusal("Held::push", self.CALLEE, wrong, self.WAITS), "")
+
+
+CLAUSED = """pub struct Held {
+    count: usize,
+}
+
+impl Held {
+    pub fn push(&mut self, count: usize) -> bool
+        requires room { count < 9 }
+        ensures made { self.new ≡ record self.old {
+            count = count } }
+        // a note on what comes next
+        ensures own { result ≡ true }
+        ensures kept { result ≡ true }
+    {
+        self.count = count;
+        free(count)
+    }
+}
+
+pub trait Takes {
+    fn take(&mut self) -> bool
+        ensures took { result ≡ true };
+
+    fn rest(&self) {}
+}
+
+impl<T> Takes for T {
+    fn take(&mut self) -> bool {
+        true
+    }
+}
+
+fn free(count: usize) -> bool {
+    count > 0
+}
+"""
+
+
+class Emptied(unittest.TestCase):
+    """A copy of a crate in which only the functions of its mutants have their bodies."""
+
+    def bodies(self, text: str) -> Any:
+        return mutants.Bodies(types.SimpleNamespace(name="pgheld"), {"src/parts/held.rt": text})
+
+    def emptied(self, text: str, *kept: str) -> tuple[str, list[str]]:
+        texts, names = self.bodies(text).emptied(lambda name: name in kept)
+        return texts["src/parts/held.rt"], names
+
+    def test_all_but_the_kept_functions_lose_their_bodies(self) -> None:
+        text, names = self.emptied(CLAUSED, "pgheld::parts::held::free")
+        self.assertEqual(sorted(names), ["pgheld::parts::held::AnyTakes::take", "pgheld::parts::held::Held::push"])
+        self.assertIn("        ensures kept { result ≡ true }\n    { unreachable!() }\n}", text)
+        self.assertIn("    fn take(&mut self) -> bool { unreachable!() }\n}", text)
+        self.assertIn("    count > 0", text)
+
+    def test_methods_of_a_trait_stay_as_they_are(self) -> None:
+        self.assertIn("ensures took { result ≡ true };\n\n    fn rest(&self) {}", self.emptied(CLAUSED)[0])
+
+    def test_a_proof_is_left_open_where_the_checker_looks_for_it(self) -> None:
+        folder = Path(self.enterContext(tempfile.TemporaryDirectory()))
+        answers = folder / "parts/held/Held/push/Answers.antt"
+        answers.parent.mkdir(parents=True)
+        answers.touch()
+        mutants.leave_open(folder, "pgheld::parts::held::Held::push")
+        self.assertFalse(answers.exists())
+        self.assertEqual(
+            (answers.parent / "Proof.antt").read_text(encoding="utf-8"),
+            "use Rattle.pgheld.proofs.parts.held.Held.push.Statement as stated\n"
+            "pub push_spec : {M : Type 1} → stated.statement M\npush_spec = ?\n",
+        )
+
+    def test_a_function_keeps_the_clauses_that_its_mutant_breaks(self) -> None:
+        bodies = self.bodies(CLAUSED)
+        text = bodies.only_with(lambda name: {"made", "own"} if name.endswith("::push") else set())["src/parts/held.rt"]
+        self.assertEqual(text, CLAUSED.replace("        ensures kept { result ≡ true }\n", ""))
+        text = bodies.only_with(lambda name: {"own", "kept"} if name.endswith("::push") else set())["src/parts/held.rt"]
+        self.assertNotIn("made", text)
+        self.assertIn("requires room { count < 9 }\n", text)
+
+    def test_a_mutant_tells_its_clauses(self) -> None:
+        file = Path(self.enterContext(tempfile.TemporaryDirectory()), "a.edit")
+        file.write_text("clauses: made own\nfile: src/a.rt\nold: x\nnew: y\n", encoding="utf-8")
+        self.assertEqual(mutants.clauses_in(file), {"made", "own"})
+        self.assertEqual(mutants.pairs_in(file), [("src/a.rt", "x", "y")])
 
 
 class Files(unittest.TestCase):
