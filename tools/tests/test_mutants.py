@@ -53,24 +53,6 @@ class Names(unittest.TestCase):
     def test_what_stands_in_no_function_has_no_name(self) -> None:
         self.assertEqual(end_of_name("A module"), set())
 
-    def test_the_head_of_a_block_tells_the_owner_that_a_check_prints(self) -> None:
-        for head, owner in (
-            ("impl Held {", ("Held", "")),
-            ("impl<'a, T: Makes<Other<T>>, const N: usize> Held<'a, T, N> {", ("Held", "")),
-            ("impl<T> Two<T, T> {", ("Two+T+T", "")),
-            ("impl Held<u8> {", ("Held+u8", "")),
-            ("impl<'a, T> Held<&'a mut T> {", ("Held+ref+T", "")),
-            ("impl<F: Start> Store<FileStore<FileFrom<F>>> {", ("Store+FileStore+FileFrom+F", "")),
-            ("impl<\n    D: Disk + Drop,\n    F: Fn(u8) -> Option<u8>,\n> Store<FileStore<D>, F>\nwhere\n    D: Copy,\n{", ("Store+FileStore+D+F", "")),
-            ("impl fmt::Display for Held {", ("Held", "Display")),
-            ("impl<T> Makes<Held<T>> for Two<T, u8> {", ("TwoU8", "MakesHeld")),
-            ("impl<'a, T> Makes<&'a str> for &'a Held<T> {", ("RefHeld", "MakesRefStr")),
-            ("pub trait Has<T>: Drop + Makes<T> {", ("Has", "")),
-        ):
-            with self.subTest(head):
-                text = f"{head}\n    fn name(&self) {{}}\n}}\n"
-                self.assertEqual([(it.owner, it.trait) for it in mutants.functions(text)], [owner])
-
 
 class Groups(unittest.TestCase):
     def mutant(self, name: str, start: int) -> Any:
@@ -156,92 +138,13 @@ class Refusals(unittest.TestCase):
         self.assertEqual(self.refusal("Held::push", self.CALLEE, wrong, self.WAITS), "")
 
 
-CLAUSED = """pub struct Held {
-    count: usize,
-}
-
-impl Held {
-    pub fn push(&mut self, count: usize) -> bool
-        requires room { count < 9 }
-        ensures made { self.new ≡ record self.old {
-            count = count } }
-        // a note on what comes next
-        ensures own { result ≡ true }
-        ensures kept { result ≡ true }
-    {
-        self.count = count;
-        free(count)
-    }
-}
-
-pub trait Takes {
-    fn take(&mut self) -> bool
-        ensures took { result ≡ true };
-
-    fn rest(&self) {}
-}
-
-impl<T> Takes for T {
-    fn take(&mut self) -> bool {
-        true
-    }
-}
-
-fn free(count: usize) -> bool {
-    count > 0
-}
-"""
-
-
-class Emptied(unittest.TestCase):
-    """A copy of a crate in which only the functions of its mutants have their bodies."""
-
-    def bodies(self, text: str) -> Any:
-        return mutants.Bodies(types.SimpleNamespace(name="pgheld"), {"src/parts/held.rt": text})
-
-    def emptied(self, text: str, *kept: str) -> tuple[str, list[str]]:
-        texts, names = self.bodies(text).emptied(lambda name: name in kept)
-        return texts["src/parts/held.rt"], names
-
-    def test_all_but_the_kept_functions_lose_their_bodies(self) -> None:
-        text, names = self.emptied(CLAUSED, "pgheld::parts::held::free")
-        self.assertEqual(sorted(names), ["pgheld::parts::held::AnyTakes::take", "pgheld::parts::held::Held::push"])
-        self.assertIn("        ensures kept { result ≡ true }\n    { unreachable!() }\n}", text)
-        self.assertIn("    fn take(&mut self) -> bool { unreachable!() }\n}", text)
-        self.assertIn("    count > 0", text)
-
-    def test_methods_of_a_trait_stay_as_they_are(self) -> None:
-        self.assertIn("ensures took { result ≡ true };\n\n    fn rest(&self) {}", self.emptied(CLAUSED)[0])
-
-    def test_a_proof_is_left_open_where_the_checker_looks_for_it(self) -> None:
-        folder = Path(self.enterContext(tempfile.TemporaryDirectory()))
-        answers = folder / "parts/held/Held/push/Answers.antt"
-        answers.parent.mkdir(parents=True)
-        answers.touch()
-        mutants.leave_open(folder, "pgheld::parts::held::Held::push")
-        self.assertFalse(answers.exists())
-        self.assertEqual(
-            (answers.parent / "Proof.antt").read_text(encoding="utf-8"),
-            "use Rattle.pgheld.proofs.parts.held.Held.push.Statement as stated\n"
-            "pub push_spec : {M : Type 1} → stated.statement M\npush_spec = ?\n",
-        )
-
-    def test_a_function_keeps_the_clauses_that_its_mutant_breaks(self) -> None:
-        bodies = self.bodies(CLAUSED)
-        text = bodies.only_with(lambda name: {"made", "own"} if name.endswith("::push") else set())["src/parts/held.rt"]
-        self.assertEqual(text, CLAUSED.replace("        ensures kept { result ≡ true }\n", ""))
-        text = bodies.only_with(lambda name: {"own", "kept"} if name.endswith("::push") else set())["src/parts/held.rt"]
-        self.assertNotIn("made", text)
-        self.assertIn("requires room { count < 9 }\n", text)
-
+class Files(unittest.TestCase):
     def test_a_mutant_tells_its_clauses(self) -> None:
         file = Path(self.enterContext(tempfile.TemporaryDirectory()), "a.edit")
         file.write_text("clauses: made own\nfile: src/a.rt\nold: x\nnew: y\n", encoding="utf-8")
         self.assertEqual(mutants.clauses_in(file), {"made", "own"})
         self.assertEqual(mutants.pairs_in(file), [("src/a.rt", "x", "y")])
 
-
-class Files(unittest.TestCase):
     def test_those_that_a_killed_gate_has_hidden_are_found(self) -> None:
         folder = Path(self.enterContext(tempfile.TemporaryDirectory()))
         for name in ("mutants/c.edit", "must-fail/a.edit", "mutants/must-fail/b.edit", "mutants/must-fail/b.md"):
