@@ -350,7 +350,7 @@ READ = ("dsn_file", "url_file", "init", "base")
 def parsers_of_commands() -> tuple[argparse.ArgumentParser, dict[str, argparse.ArgumentParser]]:
     """What reads the command line, and what reads the words of each command."""
     parser = argparse.ArgumentParser(
-        prog=log.PROGRAM, description=ABOUT, epilog=MORE + ENDS, formatter_class=argparse.RawDescriptionHelpFormatter
+        prog=log.PROGRAM, description=ABOUT, epilog=MORE + ENDS, formatter_class=argparse.RawDescriptionHelpFormatter, allow_abbrev=False
     )
     parser.add_argument("--version", action=TellVersion, nargs=0, help="show the version, and the commit of a checkout")
     commands = parser.add_subparsers(dest="command", metavar="COMMAND", required=True)
@@ -358,7 +358,7 @@ def parsers_of_commands() -> tuple[argparse.ArgumentParser, dict[str, argparse.A
     for name, (about, adds) in COMMANDS.items():
         parsers[name] = commands.add_parser(
             name, help=about.partition("\n")[0], description=about, formatter_class=AsWritten,
-            epilog=ENDINGS.get(name),
+            epilog=ENDINGS.get(name), allow_abbrev=False,
         )
         for add in adds:
             add(parsers[name])

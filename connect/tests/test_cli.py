@@ -2,10 +2,12 @@
 
 from __future__ import annotations
 
+import io
 import os
 import re
 import stat
 import unittest
+from collections.abc import Callable
 from pathlib import Path
 from unittest import mock
 
@@ -13,6 +15,7 @@ import pgsub_connect
 from pgsub_connect.checkpoint import Checkpoint
 from pgsub_connect.cli import follow
 from pgsub_connect.errors import FileError, UsageError
+from pgsub_connect.feed.printing import arguments as feed_arguments
 from pgsub_connect.options import Options
 from pgsub_connect.placing import check_meant
 from pgsub_connect.remembered import replace_file
@@ -32,6 +35,21 @@ class Modes(Quiet):
             replace_file(f"{store}.tables", b"", options.mode)
             for name in ("connector", "tables"):
                 self.assertEqual(stat.S_IMODE(os.stat(f"{store}.{name}").st_mode), mode, name)
+
+
+class Abbreviated(unittest.TestCase):
+    """An option has its whole name: `--stor copy.db` would be a recording's, and mean another option once there is one that begins alike."""
+
+    def rejected(self, read: Callable[[list[str]], object], *words: str) -> str:
+        with mock.patch("sys.stderr", io.StringIO()) as said, self.assertRaises(SystemExit) as ended:
+            read([*words])
+        self.assertEqual(ended.exception.code, 2)
+        return said.getvalue()
+
+    def test_a_part_of_a_name_is_none(self) -> None:
+        for words in (("--stor", "copy.db"), ("follow", "--store", "copy.db", "--tab", "rows.db"), ("verify", "--tables", "a", "--wit", "b")):
+            self.assertRegex(self.rejected(arguments, *words), f"unrecognized arguments: {words[-2]} {words[-1]}\n")
+        self.assertRegex(self.rejected(feed_arguments, "--feed", "feed", "--fro", "0/0"), "unrecognized arguments: --fro 0/0\n")
 
 
 class Apart(Quiet):

@@ -58,7 +58,7 @@ class Options:
 
 def arguments(words: Sequence[str]) -> Options:
     parser = argparse.ArgumentParser(
-        prog="pgsub-feed", description=ABOUT, epilog=FORMATS_ABOUT, formatter_class=argparse.RawDescriptionHelpFormatter
+        prog="pgsub-feed", description=ABOUT, epilog=FORMATS_ABOUT, formatter_class=argparse.RawDescriptionHelpFormatter, allow_abbrev=False
     )
     add = parser.add_argument
     add("--feed", metavar="FOLDER", required=True, help="the feed")
