@@ -5,6 +5,7 @@ from __future__ import annotations
 import io
 import os
 import re
+import signal
 import stat
 import unittest
 from collections.abc import Callable
@@ -35,6 +36,25 @@ class Modes(Quiet):
             replace_file(f"{store}.tables", b"", options.mode)
             for name in ("connector", "tables"):
                 self.assertEqual(stat.S_IMODE(os.stat(f"{store}.{name}").st_mode), mode, name)
+
+
+class Signalled(Quiet):
+    def test_a_signal_while_the_follower_is_made_is_heard(self) -> None:
+        for number in (signal.SIGINT, signal.SIGTERM, signal.SIGUSR1):
+            self.addCleanup(signal.signal, number, signal.getsignal(number))
+        store = f"{self.make_folder()}/copy.db"
+        Path(store).touch()
+        follower = mock.Mock(stop_asked=False)
+        follower.run.side_effect = lambda: self.assertTrue(follower.stop_asked)
+        follower.misses.count = 0
+
+        def made(*_: object) -> mock.Mock:
+            os.kill(os.getpid(), signal.SIGTERM)
+            return follower
+
+        with mock.patch("pgsub_connect.cli.Follower", made):
+            self.assertEqual(follow(arguments(["follow", "--store", store])), 0)
+        follower.run.assert_called_once_with()
 
 
 class Abbreviated(unittest.TestCase):
