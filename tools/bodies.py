@@ -8,10 +8,8 @@ from typing import NamedTuple
 FUNCTION = re.compile(r"^( *)(?:pub(?:\([^)]*\))? +)?(?:(?:const|unsafe|extern \"C\") +)*fn +(\w+)", re.M)
 BLOCK = re.compile(r"^( *)(?:pub +)?(?:unsafe +)?(impl|trait)\b([^{]*)", re.M)
 TYPE = re.compile(r"^ *(?:pub(?:\([^)]*\))? +)?(?:unsafe +)?(?:struct|enum|union|trait|type) +(\w+)", re.M)
-# Where the head of a function ends, and where its clauses do: before a body of some lines, one of none, or at the end of a trait's
-# method without one.
+# Where the head of a function ends: before its clauses, a body of some lines, one of none, or at the end of a trait's method without one.
 HEAD_END = re.compile(r"^ *(?:ghost|requires|ensures)\b|\{$|\{\}$|;$", re.M)
-CLAUSES_END = re.compile(r"^ *\{$|;$", re.M)
 CLAUSE = re.compile(r"^ *(?:ghost|requires|(ensures)\*?(?: (\w+))?)\b", re.M)
 
 
@@ -121,8 +119,18 @@ def body_at(text: str, start: int) -> int | None:
     """Returns the offset of the brace before the body of the function that starts here, or nothing where it has no body of some lines."""
     end = HEAD_END.search(text, start)
     if end and end[0][-1:] not in "{};":
-        end = CLAUSES_END.search(text, end.end())
+        # (a line of a clause may end in a brace or a semicolon, too)
+        indent = len(text) - start - len(text[start:].lstrip(" "))
+        following = FUNCTION.search(text, end.end())
+        end = re.compile(rf"^ {{{indent}}}\{{$", re.M).search(text, end.end(), following.start() if following else len(text))
     return end.end() - 1 if end and end[0].endswith("{") else None
+
+
+def clauses_at(text: str, offset: int) -> set[str]:
+    """Returns the names of the clauses that say what the function at this offset ensures."""
+    function = function_at(text, offset)
+    body = body_at(text, function.start) if function else None
+    return {it[2] or "" for it in CLAUSE.finditer(text, function.start, body) if it[1]} if function and body else set()
 
 
 def with_clauses(head: str, wanted: Collection[str]) -> str:

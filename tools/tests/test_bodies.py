@@ -43,7 +43,9 @@ impl Held {
     pub fn push(&mut self, count: usize) -> bool
         requires room { count < 9 }
         ensures made { self.new ≡ record self.old {
-            count = count } }
+            count = (record {
+                count = count;
+            }).count } }
         // a note on what comes next
         ensures own { result ≡ true }
         ensures kept { result ≡ true }

@@ -145,6 +145,16 @@ class Files(unittest.TestCase):
         self.assertEqual(mutants.clauses_in(file), {"made", "own"})
         self.assertEqual(mutants.pairs_in(file), [("src/a.rt", "x", "y")])
 
+    def test_clauses_that_a_function_has_not_are_no_ones(self) -> None:
+        folder = Path(self.enterContext(tempfile.TemporaryDirectory()))
+        (folder / "src").mkdir()
+        (folder / "src/a.rt").write_text("fn a(b: u8) -> u8\n    ensures made { b ≡ b }\n    ensures own { b ≡ b }\n{\n    b\n}\n", encoding="utf-8")
+        pairs = [("src/a.rt", "    b\n", "    c\n")]
+        for clauses, why in (
+            (set(), "^$"), ({"made", "own"}, "^$"), ({"made", "kept"}, "ensures no kept$"), ({"own"}, "one clause of several"),
+        ):
+            self.assertRegex(mutants.wrong_clauses(folder, pairs, clauses), why)
+
     def test_those_that_a_killed_gate_has_hidden_are_found(self) -> None:
         folder = Path(self.enterContext(tempfile.TemporaryDirectory()))
         for name in ("mutants/c.edit", "must-fail/a.edit", "mutants/must-fail/b.edit", "mutants/must-fail/b.md"):
