@@ -186,7 +186,8 @@ class Kept(unittest.TestCase):
     def setUp(self) -> None:
         self.folder = Path(self.enterContext(tempfile.TemporaryDirectory()))
         self.enterContext(mock.patch.dict(os.environ, XDG_CACHE_HOME=str(self.folder / "cache")))
-        self.enterContext(mock.patch.object(mutants, "TOP", self.folder))
+        self.enterContext(mock.patch.multiple(mutants, TOP=self.folder, SCRIPTS=(self.folder / "script",)))
+        (self.folder / "script").write_text("...\n")
         (self.folder / "crates.txt").write_text("# crates\nlow: std\nown staticlib: low\nowner: own\n")
         (self.folder / "KIT-ID").write_text("kit 1\n")
         (self.folder / "low").write_text("fn low() {}\n")
@@ -204,7 +205,9 @@ class Kept(unittest.TestCase):
         self.assertFalse(self.refused().has(self.edit))
         self.refused().keep(self.edit)
         self.assertTrue(self.refused().has(self.edit))
-        for name, text in (("low", "fn low() { }\n"), ("KIT-ID", "kit 2\n"), ("what.edit", "file: src/lib.rt\nold: a\nnew: c\n")):
+        for name, text in (
+            ("low", "fn low() { }\n"), ("KIT-ID", "kit 2\n"), ("script", "pass\n"), ("what.edit", "file: src/lib.rt\nold: a\nnew: c\n"),
+        ):
             with self.subTest(name):
                 before = (self.folder / name).read_text()
                 (self.folder / name).write_text(text)
