@@ -164,6 +164,35 @@ class Files(unittest.TestCase):
         self.assertEqual([it.name for it in mutants.files_of_mutants(folder)], ["a.edit", "b.edit", "c.edit"])
 
 
+class Control(unittest.TestCase):
+    """The copies without the changes, of a crate with mutants of two functions and of a definition."""
+
+    def failed(self, **ran: Any) -> tuple[int, list[str]]:
+        made: list[Any] = []
+        for name in ("Held::push", "pgheld::free", ""):
+            mutant = mutants.Mutant.__new__(mutants.Mutant)
+            mutant.names, mutant.places, mutant.clauses, mutant.why = {name} - {""}, [("src/held.rt", 10 * len(made), 4, "")], set(), ""
+            mutant.label = name or "definition"
+            made.append(mutant)
+        crate = types.SimpleNamespace(name="pgheld", folder="no folder")
+        trial = mutants.GateTrial(None, crate, types.SimpleNamespace(beside=None), "")
+        check = types.SimpleNamespace(**{"has_ended": True, "is_unreadable": False, "refusal_of": lambda mutant: "", **ran})
+        with mock.patch.object(trial, "run", lambda *_: check):
+            trial.control(made)
+        return trial.failed, trial.lines
+
+    def test_what_is_proved_passes_and_a_definition_is_not_tried(self) -> None:
+        failed, lines = self.failed()
+        self.assertEqual(failed, 0)
+        self.assertEqual([it for it in lines if "proved" in it], [f"{it}: proved without its change" for it in ("Held::push", "pgheld::free")])
+        self.assertIn("definition: not tried", lines[0])
+
+    def test_what_is_refused_or_not_checked_fails(self) -> None:
+        self.assertEqual(self.failed(refusal_of=lambda mutant: "a goal" if "free" in mutant.label else "")[0], 1)
+        self.assertEqual(self.failed(has_ended=False)[0], 2)
+        self.assertEqual(self.failed(is_unreadable=True)[0], 2)
+
+
 class BesideProofs(unittest.TestCase):
     def ended(self, *results: tuple[int, int], line: str = "5 passed, 0 failed") -> tuple[int, str]:
         """The status and the last line, where so many mutants of each crate were tried, and so many not refused."""
