@@ -5,7 +5,7 @@
 #
 #   CRATE/WORD  only the tests whose names have the word
 #   --all       each test runs once with all its requests refused, and has to pass all the same; for tests of calls that take no memory,
-#               as tests_parts/first_faults and tests_parts/without_memory
+#               as tests_parts/without_memory
 #   --built     tests and program are those that an earlier run of `rt` has built; else they are proved and built first, which can take
 #               minutes
 #   --most N    of a test that makes more requests, N are refused: one at random of each Nth part. The seed is printed; SEED sets it

@@ -1,7 +1,8 @@
-//! A server is followed over a store: what is written, what is stored, and how it ends.
+//! A server is followed over a store, by readers and writers that take a few bytes at a call or
+//! fail: what is written, what is stored, and how it ends.
 
 use crate::counting::rejecting;
-use crate::runs::File;
+use crate::files::File;
 use crate::steps::append;
 use crate::trials::{Trial, on_memory_disks};
 use pgapply::{ReplicaStore, StoreFault};
@@ -9,24 +10,16 @@ use pgcommand::Limits;
 use pgfollow::{Clock, Link};
 use pglsn::Lsn;
 use pgorder::Version;
-use pgsub_cli::following::{run_follow, tell_unfollowed};
+use pgsub_cli::following::run_follow;
 use std::alloc::Global;
 use std::io;
 use std::io::{ErrorKind, Write};
 use std::process::Abort;
 
 /// A transaction that ends at 0/130 and stores a row, and a keepalive of 0/180 that asks for a
-/// reply. Its items cost 76 bytes, and its longest frame has 65.
-pub(crate) const SESSION: &[u8] =
+/// reply.
+const SESSION: &[u8] =
     b"\x64\x00\x00\x00\x32\x77\x00\x00\x00\x00\x00\x00\x00\x00\x00\x00\x00\x00\x00\x00\x00\x00\x00\x00\x00\x00\x00\x00\x00\x00\x42\x00\x00\x00\x00\x00\x00\x01\x00\x00\x00\x00\x00\x00\x00\x00\x00\x00\x00\x00\x0a\x64\x00\x00\x00\x45\x77\x00\x00\x00\x00\x00\x00\x00\x00\x00\x00\x00\x00\x00\x00\x00\x00\x00\x00\x00\x00\x00\x00\x00\x00\x52\x00\x00\x40\x00\x70\x75\x62\x6c\x69\x63\x00\x74\x00\x64\x00\x02\x01\x69\x64\x00\x00\x00\x00\x17\xff\xff\xff\xff\x00\x76\x00\x00\x00\x00\x19\xff\xff\xff\xff\x64\x00\x00\x00\x31\x77\x00\x00\x00\x00\x00\x00\x00\x00\x00\x00\x00\x00\x00\x00\x00\x00\x00\x00\x00\x00\x00\x00\x00\x00\x49\x00\x00\x40\x00\x4e\x00\x02\x74\x00\x00\x00\x01\x31\x74\x00\x00\x00\x01\x61\x64\x00\x00\x00\x37\x77\x00\x00\x00\x00\x00\x00\x00\x00\x00\x00\x00\x00\x00\x00\x00\x00\x00\x00\x00\x00\x00\x00\x00\x00\x43\x00\x00\x00\x00\x00\x00\x00\x01\x00\x00\x00\x00\x00\x00\x00\x01\x30\x00\x00\x00\x00\x00\x00\x00\x00\x64\x00\x00\x00\x16\x6b\x00\x00\x00\x00\x00\x00\x01\x80\x00\x00\x00\x00\x00\x00\x00\x00\x01";
-
-/// The next one of the server: a transaction that ends at 0/230 and stores another row, and a
-/// keepalive of 0/280.
-const NEXT_SESSION: &[u8] =
-    b"\x64\x00\x00\x00\x32\x77\x00\x00\x00\x00\x00\x00\x00\x00\x00\x00\x00\x00\x00\x00\x00\x00\x00\x00\x00\x00\x00\x00\x00\x00\x42\x00\x00\x00\x00\x00\x00\x02\x00\x00\x00\x00\x00\x00\x00\x00\x00\x00\x00\x00\x0b\x64\x00\x00\x00\x45\x77\x00\x00\x00\x00\x00\x00\x00\x00\x00\x00\x00\x00\x00\x00\x00\x00\x00\x00\x00\x00\x00\x00\x00\x00\x52\x00\x00\x40\x00\x70\x75\x62\x6c\x69\x63\x00\x74\x00\x64\x00\x02\x01\x69\x64\x00\x00\x00\x00\x17\xff\xff\xff\xff\x00\x76\x00\x00\x00\x00\x19\xff\xff\xff\xff\x64\x00\x00\x00\x31\x77\x00\x00\x00\x00\x00\x00\x00\x00\x00\x00\x00\x00\x00\x00\x00\x00\x00\x00\x00\x00\x00\x00\x00\x00\x49\x00\x00\x40\x00\x4e\x00\x02\x74\x00\x00\x00\x01\x32\x74\x00\x00\x00\x01\x61\x64\x00\x00\x00\x37\x77\x00\x00\x00\x00\x00\x00\x00\x00\x00\x00\x00\x00\x00\x00\x00\x00\x00\x00\x00\x00\x00\x00\x00\x00\x43\x00\x00\x00\x00\x00\x00\x00\x02\x00\x00\x00\x00\x00\x00\x00\x02\x30\x00\x00\x00\x00\x00\x00\x00\x00\x64\x00\x00\x00\x16\x6b\x00\x00\x00\x00\x00\x00\x02\x80\x00\x00\x00\x00\x00\x00\x00\x00\x01";
-
-/// CopyDone, with which a session ends.
-const COPY_DONE: &[u8] = b"c\0\0\0\x04";
 
 /// Takes at most so many bytes at a call, and none after so many.
 #[derive(Drop)]
@@ -54,7 +47,7 @@ impl Write for Writer {
 
 /// A clock that stands still.
 #[derive(Drop)]
-pub(crate) struct Still;
+struct Still;
 
 impl Clock for Still {
     fn now(&mut self) -> i64 {
@@ -103,7 +96,6 @@ fn are_told(rt: &(impl Abort + AllocGlobal), bytes: &[u8], told: &[u64], most: u
 struct Follows<'t> {
     reader: File<'t>,
     most: usize,
-    limits: Limits,
     expected: Expected<'t>,
 }
 
@@ -122,7 +114,7 @@ impl<R: Abort + AllocGlobal> Trial<R> for Follows<'_> {
         let (status, store) = run_follow(
             alloc,
             store,
-            self.limits,
+            Limits::DEFAULT,
             Version::Two,
             &mut link,
             &mut Still,
@@ -139,27 +131,16 @@ impl<R: Abort + AllocGlobal> Trial<R> for Follows<'_> {
     }
 }
 
-fn check_within(
-    rt: &(impl Abort + AllocGlobal),
-    limits: Limits,
-    reader: File<'_>,
-    most: usize,
-    expected: &Expected<'_>,
-) {
+fn check(rt: &(impl Abort + AllocGlobal), reader: File<'_>, most: usize, expected: &Expected<'_>) {
     let expected = *expected;
     on_memory_disks(
         rt,
         &Follows {
             reader,
             most,
-            limits,
             expected,
         },
     );
-}
-
-fn check(rt: &(impl Abort + AllocGlobal), reader: File<'_>, most: usize, expected: &Expected<'_>) {
-    check_within(rt, Limits::DEFAULT, reader, most, expected);
 }
 
 const AMPLE: usize = 100000;
@@ -208,40 +189,6 @@ fn statuses_follow_what_is_stored(rt: HostRuntime) {
     }
 }
 
-/// The session, its end and the next one.
-fn both_sessions(rt: &(impl Abort + AllocGlobal)) -> Vec<u8> {
-    let mut sessions = Vec::new(rt.alloc());
-    append(rt, &mut sessions, SESSION);
-    append(rt, &mut sessions, COPY_DONE);
-    append(rt, &mut sessions, NEXT_SESSION);
-    sessions
-}
-
-/// How many bytes both sessions give at once, and what the statuses confirm.
-static CONFIRMED: [(usize, &[u64]); 2] = [
-    (AMPLE, &[0, 0x180, 0x180, 0x280, 0x280]),
-    (1, &[0, 0x130, 0x180, 0x180, 0x230, 0x280, 0x280]),
-];
-
-#[test]
-fn the_next_session_follows_copy_done(rt: HostRuntime) {
-    let sessions = both_sessions(&rt);
-    for &(at_once, told) in &CONFIRMED {
-        let reader = File {
-            rest: sessions.as_slice(),
-            at_once,
-            error: None,
-        };
-        let expected = Expected {
-            told,
-            position: 0x230,
-            err: "",
-            status: 0,
-        };
-        check(&rt, reader, AMPLE, &expected);
-    }
-}
-
 /// How many bytes of the session are read before an error, what the statuses confirm, and the
 /// position.
 static READS: [(usize, &[u64], u64); 5] = [
@@ -286,60 +233,6 @@ fn a_failed_write_ends_it(rt: HostRuntime) {
     }
 }
 
-#[test]
-fn a_rejected_stream_confirms_no_more(rt: HostRuntime) {
-    let reader = File {
-        rest: b"x",
-        at_once: AMPLE,
-        error: None,
-    };
-    let expected = Expected {
-        told: &[0],
-        position: 0,
-        err: "pgsub: wire 1 UnknownFrame 120\n",
-        status: 1,
-    };
-    check(&rt, reader, AMPLE, &expected);
-}
-
-/// The least limits within which the session is followed.
-const EXACT: Limits = Limits {
-    max_buffered: 76,
-    max_frame: 65,
-};
-
-const BUFFERS_LESS: Limits = Limits {
-    max_buffered: 75,
-    max_frame: 65,
-};
-
-const SHORTER_FRAMES: Limits = Limits {
-    max_buffered: 76,
-    max_frame: 64,
-};
-
-#[test]
-fn it_follows_within_its_limits(rt: HostRuntime) {
-    check_within(&rt, EXACT, File::of(SESSION), AMPLE, &WHOLE);
-}
-
-/// The status and the line where a limit is too low.
-fn check_too_low(rt: &(impl Abort + AllocGlobal), limits: Limits, err: &str, status: u8) {
-    let stopped = Expected {
-        told: &[0],
-        position: 0,
-        err,
-        status,
-    };
-    check_within(rt, limits, File::of(SESSION), AMPLE, &stopped);
-}
-
-#[test]
-fn a_limit_that_is_too_low_has_its_status(rt: HostRuntime) {
-    check_too_low(&rt, BUFFERS_LESS, "pgsub: spool 1 SpoolFull\n", 10);
-    check_too_low(&rt, SHORTER_FRAMES, "pgsub: wire 3 TooLarge\n", 11);
-}
-
 /// Whether following over a store that accepts nothing tells this, with this status.
 fn is_failed(rt: &impl AllocGlobal, fault: StoreFault, line: &str, expected: u8) -> bool {
     let alloc = rt.alloc();
@@ -373,30 +266,5 @@ static STORE_FAULTS: [(StoreFault, &str, u8); 4] = [
 fn a_store_that_fails_has_its_status(rt: HostRuntime) {
     for &(fault, line, status) in &STORE_FAULTS {
         assert!(rt; is_failed(&rt, fault, line, status), "{line}");
-    }
-}
-
-/// Why a store isn't opened, and the lines and statuses of that.
-static UNOPENED: [(StoreFault, &str, u8); 3] = [
-    (StoreFault::NotAStore, "pgsub: store 10 NotAStore\n", 3),
-    (
-        StoreFault::Refused,
-        "pgsub: it is in use\npgsub: store 8 Refused\n",
-        12,
-    ),
-    (StoreFault::Memory, "pgsub: memory\n", 14),
-];
-
-/// Whether a store that isn't opened is told so, with this status.
-fn is_unopened(rt: &impl AllocGlobal, fault: StoreFault, line: &str, status: u8) -> bool {
-    let mut err = Vec::new(rt.alloc());
-    let told = tell_unfollowed(rt.alloc(), fault, Some("it is in use"), &mut err);
-    told == status && err.as_slice() == line.as_bytes()
-}
-
-#[test]
-fn a_store_that_is_not_opened_has_its_status(rt: HostRuntime) {
-    for &(fault, line, status) in &UNOPENED {
-        assert!(rt; is_unopened(&rt, fault, line, status), "{line}");
     }
 }

@@ -1,8 +1,8 @@
 //! Subscribers of which one allocation fails: `tools/refused_memory/run.sh tests_subscriber` makes
 //! each fail in turn.
 
-use crate::blocks::{IN_BLOCKS, IN_PAIRS};
 use crate::row::{AMPLE, Stored, T_1_E, T_1_L, T_2_M};
+use crate::rows::{IN_BLOCKS, IN_PAIRS};
 use crate::steps::{are_rows, follow_all, over, position_of, rows_of, sessions_of};
 use crate::trials::{Trial, in_memory, on_memory_disks, try_in_memory, try_on_memory_disks};
 use pgapply::{DumpRow, ReplicaStore, StoreFault};

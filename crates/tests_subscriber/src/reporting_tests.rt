@@ -1,15 +1,10 @@
-//! What is told of a long run, and that nothing else is another one.
+//! What is told of a long run.
 
-use crate::runs::{Answer, is_answered};
-use crate::trials::{Trial, on_memory_disks};
-use pgapply::{Misses, ReplicaStore};
-use pgcommand::Limits;
+use pgapply::Misses;
 use pglsn::Lsn;
-use pgorder::Version;
 use pgsub_cli::reported::Settling;
-use pgsub_cli::reporting::{Progress, Reporter, run_opened};
-use pgsub_cli::storing::Incoming;
-use std::cell::{Cell, RefCell};
+use pgsub_cli::reporting::{Progress, Reporter};
+use std::cell::Cell;
 use std::io;
 use std::process::Abort;
 use std::time::{Clock, Duration};
@@ -96,41 +91,4 @@ fn a_line_comes_once_a_second_at_most(rt: HostRuntime) {
     reporter.note_commits(&settling(Lsn(0x230), 9));
     drop(reporter);
     assert!(rt; lines.as_slice() == TOLD);
-}
-
-/// What is printed of bytes that are no frames.
-pub(crate) static REJECTED: Answer = Answer {
-    out: "position 0/0\n",
-    err: "pgsub: wire 1 UnknownFrame 120\n",
-    status: 1,
-};
-
-/// A run of which is told how far it is.
-struct IsTold;
-
-impl<R: Abort + AllocGlobal> Trial<R> for IsTold {
-    type Outcome = ();
-
-    fn run<C: ReplicaStore + Drop>(&self, rt: &R, store: C) {
-        let alloc = rt.alloc();
-        let reporter = Reporter::new(alloc, new_clock(), Vec::new(alloc), None);
-        let reporter = RefCell::new(reporter.expect(rt, "a time"));
-        let (mut out, mut err) = (Vec::new(alloc), Vec::new(alloc));
-        let input = Some((Version::Two, Incoming::Raw(b"x".as_slice())));
-        let (status, _) = run_opened(
-            alloc,
-            store,
-            Limits::DEFAULT,
-            input,
-            Some(&reporter),
-            &mut out,
-            &mut err,
-        );
-        is_answered(rt, "a run that is told", &out, &err, status, &REJECTED);
-    }
-}
-
-#[test]
-fn a_run_that_is_told_ends_as_another(rt: HostRuntime) {
-    on_memory_disks(&rt, &IsTold);
 }

@@ -49,14 +49,4 @@ pub(crate) const T_1_L: Stored = (16384, "t", &["1", "l"], 1);
 
 pub(crate) const T_2_B: Stored = (16384, "t", &["2", "b"], 1);
 
-pub(crate) const T_2_G: Stored = (16384, "t", &["2", "g"], 1);
-
 pub(crate) const T_2_M: Stored = (16384, "t", &["2", "m"], 1);
-
-pub(crate) const T_3_G: Stored = (16384, "t", &["3", "g"], 1);
-
-pub(crate) const T_4_G: Stored = (16384, "t", &["4", "g"], 1);
-
-pub(crate) const T_5_G: Stored = (16384, "t", &["5", "g"], 1);
-
-pub(crate) const T_9_B: Stored = (16384, "t", &["9", "b"], 1);

@@ -1,6 +1,6 @@
 //! Takes the steps of a row.
 
-use crate::messages::{BLOCK_ITEMS, BOUNDS, FRAMES, ITEMS};
+use crate::messages::MESSAGES;
 use crate::row::{Row, Step, Stored};
 use hex::FromHexError;
 use pgapply::{DumpRow, ReplicaStore};
@@ -67,23 +67,14 @@ fn append_message(rt: &(impl Abort + AllocGlobal), bytes: &mut Vec<u8>, message:
     }
 }
 
-/// The digits of a word in a table.
-fn found(table: &[(&'static str, &'static str)], word: &str) -> Option<&'static str> {
-    for &(name, digits) in table {
-        if name == word {
-            return Some(digits);
-        }
-    }
-    None
-}
-
 /// The digits of a word.
 fn digits_of(rt: &impl Abort, word: &str) -> &'static str {
-    let outside = found(&BOUNDS, word).or(found(&ITEMS, word));
-    let digits = outside
-        .or(found(&BLOCK_ITEMS, word))
-        .or(found(&FRAMES, word));
-    digits.expect(rt, word)
+    for &(name, digits) in &MESSAGES {
+        if name == word {
+            return digits;
+        }
+    }
+    rt.panic(word)
 }
 
 /// The bytes of a session.

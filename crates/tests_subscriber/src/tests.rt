@@ -1,10 +1,8 @@
 //! The worked rows by each form of spools over each form of store.
 
-use crate::blocks::blocks;
 use crate::row::{AT_ONCE, Row};
-use crate::states::{states, version_1};
+use crate::rows::{blocks, transactions};
 use crate::steps::{Way, check};
-use crate::transactions::{bad_changes, transactions};
 use crate::trials::{Trial, in_memory, on_memory_disks};
 use pgapply::ReplicaStore;
 use pgorder::Version;
@@ -22,13 +20,6 @@ const ENCODED_IN_CHUNKS: Way = Way {
     version: Version::Two,
     is_encoded: true,
     chunk_len: 51,
-};
-
-/// Encoded items, all bytes at once.
-const ENCODED_AT_ONCE: Way = Way {
-    version: Version::Two,
-    is_encoded: true,
-    chunk_len: AT_ONCE,
 };
 
 /// Decoded items, a byte at a time.
@@ -82,35 +73,18 @@ fn check_on_disks(rt: &(impl Abort + AllocGlobal), rows: &[Row], way: Way) {
 }
 
 #[test]
-fn transactions_in_memory(rt: HostRuntime) {
-    for way in [ENCODED_IN_BYTES, DECODED_AT_ONCE, IN_VERSION_1] {
-        check_in_memory(&rt, transactions(), way);
-        check_in_memory(&rt, bad_changes(), way);
-    }
-}
-
-#[test]
-fn blocks_in_memory(rt: HostRuntime) {
-    for way in [ENCODED_IN_CHUNKS, ENCODED_AT_ONCE, DECODED_IN_BYTES] {
+fn rows_in_memory(rt: HostRuntime) {
+    for way in [ENCODED_IN_BYTES, DECODED_AT_ONCE] {
         check_in_memory(&rt, blocks(), way);
-        check_in_memory(&rt, states(), way);
+        check_in_memory(&rt, transactions(), way);
     }
+    check_in_memory(&rt, transactions(), IN_VERSION_1);
 }
 
 #[test]
-fn version_1_has_no_blocks(rt: HostRuntime) {
-    check_in_memory(&rt, version_1(), IN_VERSION_1);
-}
-
-#[test]
-fn transactions_on_disks(rt: HostRuntime) {
-    check_on_disks(&rt, transactions(), ENCODED_IN_CHUNKS);
-    check_on_disks(&rt, bad_changes(), DECODED_AT_ONCE);
-}
-
-#[test]
-fn blocks_on_disks(rt: HostRuntime) {
-    check_on_disks(&rt, blocks(), ENCODED_IN_BYTES);
-    check_on_disks(&rt, blocks(), DECODED_AT_ONCE);
-    check_on_disks(&rt, states(), DECODED_IN_BYTES);
+fn rows_on_disks(rt: HostRuntime) {
+    for way in [ENCODED_IN_CHUNKS, DECODED_IN_BYTES] {
+        check_on_disks(&rt, blocks(), way);
+        check_on_disks(&rt, transactions(), way);
+    }
 }

@@ -1,6 +1,6 @@
 //! Stores on disks that stop.
 
-use crate::stopped_runs::Trial;
+use crate::stopped_runs::Run;
 use pgstore::{Store, StoreFault};
 use sqlite::{Alter, Connection, Files, Options};
 use sqlite_disk::{Disk, Fuse, Memory};
@@ -82,40 +82,40 @@ fn options() -> Options {
     }
 }
 
-/// Runs a trial over a store of any kind: the proof that one over given disks is a store gets too
+/// Runs this over a store of any kind: the proof that one over given disks is a store gets too
 /// large.
 fn run_over<S: Alter + Drop>(
     rt: &(impl Abort + AllocGlobal),
     store: Store<S>,
-    trial: &mut impl Trial,
+    to_run: &mut impl Run,
 ) -> Store<S> {
-    trial.run(rt, store)
+    to_run.run(rt, store)
 }
 
-/// Adopts a connection and runs a trial over the store, where that meets no stop. Gives the store
+/// Adopts a connection and runs this over the store, where that meets no stop. Gives the store
 /// of the trees back.
 fn run_adopted<S: Alter + Drop>(
     rt: &(impl Abort + AllocGlobal),
     conn: Connection<S>,
-    trial: &mut impl Trial,
+    to_run: &mut impl Run,
 ) -> S {
     match Store::adopt(rt.alloc(), conn) {
-        Ok(store) => run_over(rt, store, trial).into_store(),
+        Ok(store) => run_over(rt, store, to_run).into_store(),
         Err((StoreFault::Refused | StoreFault::Memory, conn)) => conn.into_store(),
         Err(_) => rt.panic("another fault of adoption"),
     }
 }
 
-/// Opens a connection on two disks, where that meets no stop, and runs a trial over its store.
+/// Opens a connection on two disks, where that meets no stop, and runs this over its store.
 /// Gives the disks back as a crash finds them.
 fn run_on<D: Disk + Drop>(
     rt: &(impl Abort + AllocGlobal),
     files: Files<D>,
-    trial: &mut impl Trial,
+    to_run: &mut impl Run,
 ) -> Files<D> {
     assert!(rt; files.log.may_be_used() && files.db.may_be_used());
     match Connection::open_files(rt.alloc(), files, options()) {
-        Ok(conn) => run_adopted(rt, conn, trial).close(),
+        Ok(conn) => run_adopted(rt, conn, to_run).close(),
         Err((_, left)) => left.into_files(),
     }
 }
@@ -126,18 +126,7 @@ pub(crate) fn try_over(
     rt: &(impl Abort + AllocGlobal),
     left: &Left,
     calls: Calls,
-    trial: &mut impl Trial,
+    to_run: &mut impl Run,
 ) -> Left {
-    left_on(rt, run_on(rt, files_of(rt, left, calls), trial))
-}
-
-/// Opens a store on two disks, tries this over it, and gives the disks back as a crash finds them.
-pub(crate) fn try_in_files<D: Disk + Drop>(
-    rt: &(impl Abort + AllocGlobal),
-    files: Files<D>,
-    trial: &mut impl Trial,
-) -> Files<D> {
-    assert!(rt; files.log.may_be_used() && files.db.may_be_used());
-    let store = Store::open_files(rt.alloc(), files, options()).expect(rt, "a store");
-    run_over(rt, store, trial).stop()
+    left_on(rt, run_on(rt, files_of(rt, left, calls), to_run))
 }

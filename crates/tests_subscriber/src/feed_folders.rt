@@ -43,10 +43,6 @@ impl MemoryFolder {
         }
     }
 
-    pub(crate) fn segments(&self) -> &[Stored] {
-        self.segments.as_slice()
-    }
-
     pub(crate) fn into_segments(self) -> Vec<Stored> {
         self.segments
     }

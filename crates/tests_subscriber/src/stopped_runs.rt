@@ -1,26 +1,44 @@
 //! Runs over a store, and what it holds.
 
-use crate::lines::lines_of;
-use crate::recordings::{Recording, State};
-use pgapply::ReplicaStore;
+use crate::row::{AMPLE, Stored};
+use crate::steps::{are_rows, feed, over};
+use pgapply::{DumpRow, ReplicaStore};
 use pgorder::Version;
 use pgspool::ByteSpools;
 use pgstore::StoreFault;
-use pgsub_core::{Fault, Subscriber};
+use pgsub_core::Fault;
 use std::alloc::Global;
 use std::process::Abort;
 
-/// What is tried over an opened store, which is given back. It is proved once, for any
-/// `ReplicaStore`.
-pub(crate) trait Trial {
+/// The position of a store, and its rows.
+#[derive(Clone, Copy)]
+pub(crate) struct State {
+    pub(crate) position: u64,
+    pub(crate) rows: &'static [Stored],
+}
+
+/// A session of version 2 in words of `messages`, and the stores before it and after each of its
+/// commits.
+#[derive(Clone, Copy)]
+pub(crate) struct Recording {
+    pub(crate) session: &'static str,
+    pub(crate) states: &'static [State],
+}
+
+/// A run over an opened store, which is given back. It is proved once, for any `ReplicaStore`.
+pub(crate) trait Run {
     fn run<R: Abort + AllocGlobal, C: ReplicaStore + Drop>(&mut self, rt: &R, store: C) -> C;
 }
 
 /// Feeds a session's bytes to a new subscriber over a store, and gives the store back.
-fn feed<C: ReplicaStore + Drop>(alloc: Global, store: C, bytes: &[u8]) -> (Result<(), Fault>, C) {
-    let spools = ByteSpools::new(alloc, 1_000_000);
-    let mut subscriber = Subscriber::new(alloc, store, spools, Version::Two, 64_000);
-    let fed = subscriber.feed(bytes, 7);
+fn fed_over<C: ReplicaStore + Drop>(
+    alloc: Global,
+    store: C,
+    bytes: &[u8],
+) -> (Result<(), Fault>, C) {
+    let spools = ByteSpools::new(alloc, AMPLE);
+    let mut subscriber = over(alloc, store, spools, Version::Two);
+    let fed = feed(&mut subscriber, bytes);
     (fed, subscriber.into_store())
 }
 
@@ -41,9 +59,9 @@ fn tells_the_cause<C: ReplicaStore>(fed: &Result<(), Fault>, store: &C) -> bool 
 }
 
 /// Which of the states has this position and these rows, counted from 0.
-fn index_of(states: &[State], position: u64, rows: &str) -> Option<usize> {
+fn index_of(states: &[State], position: u64, rows: &[DumpRow]) -> Option<usize> {
     for (index, state) in states.iter().enumerate() {
-        if *state == (position, rows) {
+        if state.position == position && are_rows(rows, state.rows) {
             return Some(index);
         }
     }
@@ -51,15 +69,10 @@ fn index_of(states: &[State], position: u64, rows: &str) -> Option<usize> {
 }
 
 /// Which of the states a store is in, counted from 0.
-fn state_of<C: ReplicaStore>(
-    rt: &(impl Abort + AllocGlobal),
-    store: &mut C,
-    states: &[State],
-) -> usize {
+fn state_of<C: ReplicaStore>(rt: &impl Abort, store: &mut C, states: &[State]) -> usize {
     let position = store.position().0;
     let rows = store.rows().expect(rt, "the rows");
-    let lines = lines_of(rt, rows.as_slice());
-    index_of(states, position, lines.as_str()).expect(rt, "one of the states")
+    index_of(states, position, rows.as_slice()).expect(rt, "one of the states")
 }
 
 /// A run on disks that may stop.
@@ -68,9 +81,9 @@ pub(crate) struct Stops<'t> {
     pub(crate) bytes: &'t [u8],
 }
 
-impl Trial for Stops<'_> {
+impl Run for Stops<'_> {
     fn run<R: Abort + AllocGlobal, C: ReplicaStore + Drop>(&mut self, rt: &R, store: C) -> C {
-        let (fed, store) = feed(rt.alloc(), store, self.bytes);
+        let (fed, store) = fed_over(rt.alloc(), store, self.bytes);
         assert!(rt; may_come_of_a_stop(&fed));
         assert!(rt; tells_the_cause(&fed, &store));
         store
@@ -87,14 +100,14 @@ pub(crate) struct GoesOn<'t> {
     pub(crate) state: Option<usize>,
 }
 
-impl Trial for GoesOn<'_> {
+impl Run for GoesOn<'_> {
     fn run<R: Abort + AllocGlobal, C: ReplicaStore + Drop>(&mut self, rt: &R, mut store: C) -> C {
         let states = self.recording.states;
         self.state = Some(state_of(rt, &mut store, states));
-        let (fed, mut store) = feed(rt.alloc(), store, self.bytes);
+        let (fed, mut store) = fed_over(rt.alloc(), store, self.bytes);
         fed.expect(rt, "the end of the session");
         let state = state_of(rt, &mut store, states);
-        assert_eq!(rt; state.saturating_add(1), states.len());
+        assert!(rt; state.saturating_add(1) == states.len());
         store
     }
 }
