@@ -1,5 +1,5 @@
-//! Tests of the subscriber, its stores and feeds, and of the program's commands over it that can't
-//! be made with the built program, and no code.
+//! Tests of the subscriber, its stores and feeds that can't be made with the built program, and no
+//! code.
 //!
 //! - The subscriber over its spools and its SQL stores. A row is a worked session: what a server
 //!   sends, in words of `messages`, and the rows, positions and statuses that it must leave. Each
@@ -12,8 +12,7 @@
 //! They show what no contract says: that a call can succeed, what the text of a fault is, and that
 //! the definitions mean what was worked out by hand. Command lines, faults of a stream, bad changes
 //! at each place, and runs over a store that is opened again are tried with the built program, by
-//! tools/commands and tools/sweeps. Only the tests of `refusing` allow that an allocation fails; in
-//! all others `Memory` and `Refused` fail.
+//! tools/commands and tools/sweeps. Only the tests of `refusing` allow that an allocation fails.
 #![tactic(auto)]
 
 #[cfg(test)]

@@ -13,7 +13,7 @@ use std::alloc::Global;
 use std::process::Abort;
 
 /// The clock of the replies.
-pub(crate) const NOW: i64 = 7;
+const NOW: i64 = 7;
 
 /// The longest payload of a frame.
 const MAX_FRAME: u32 = 64000;
@@ -247,7 +247,7 @@ fn is_at<P: Spools + Drop, C: ReplicaStore + Drop>(
 }
 
 /// Whether so many changes found no row, the first of them in the commit that ends there.
-pub(crate) fn has_missed<P: Spools + Drop, C: ReplicaStore + Drop>(
+fn has_missed<P: Spools + Drop, C: ReplicaStore + Drop>(
     subscriber: &Subscriber<P, C>,
     count: u64,
     end: u64,

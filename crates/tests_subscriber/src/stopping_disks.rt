@@ -8,7 +8,7 @@ use std::alloc::Global;
 use std::process::Abort;
 
 /// A disk in memory that passes so many calls on, and fails each one after.
-pub(crate) type Stopping = Fuse<Memory>;
+type Stopping = Fuse<Memory>;
 
 /// How many calls each of the two disks passes on.
 #[derive(Clone, Copy)]
