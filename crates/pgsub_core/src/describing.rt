@@ -96,7 +96,8 @@ fn describe_change<'a>(
     Ok(())
 }
 
-// Adds the Truncate of these relations, as one change for each.
+// Adds the Truncate of these relations, as one change for each. Room is made for all at once: there
+// may be some hundred million in one message.
 fn describe_truncate(
     alloc: Global,
     book: &Book,
@@ -111,6 +112,7 @@ fn describe_truncate(
     ensures refused { IfErr result (λ fault. (fault ≡ Fault.Memory)
         ⊎ LacksDefinition (truncated (known_to book.now) oids.now) fault) }
 {
+    draft.work.make_room(oids.len())?;
     for oid in oids.reborrow() {
         describe_change(alloc, book, draft, oid, Op::Truncate)?;
     }

@@ -14,7 +14,8 @@ loop-oid-preserved c = (
 
 pub returns-in_err-describe_change-clause-refused : goal.returns-in_err-describe_change-clause-refused
 returns-in_err-describe_change-clause-refused c =
-    on_residual c.from_residual.result c.in_err-describe_change.field-0.0 _ c.from_residual.ensures.1
+    let residual = c.from_residual-in_err-describe_change in
+    on_residual residual.result c.in_err-describe_change.field-0.0 _ residual.ensures.1
     (elim c.in_err-describe_change.ensures.refused [
       | inl memory ↦ inl memory
       | inr unknown ↦ inr (lacks_behind c.loop-oid.draft.work.changes c.args.draft.now.work.changes
