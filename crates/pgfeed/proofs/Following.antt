@@ -1,25 +1,30 @@
 -- What the calls of a feed leave of its segments.
 use Rattle.std.proofs.Common.{◌≡◌, ◌≢◌, ◌⊎◌, inl, inr, ◌<◌, ◌≤◌, ◌+◌, ℕ, List, [], ◌∷◌, ◌++◌}
 use Rattle.std.proofs.Common.{length, append-nil, append_assoc, ap, refl, sym, ◌∙◌, subst, arith}
-use Rattle.std.proofs.Common.{Result, Ok, Err, true}
+use Rattle.std.proofs.Common.{Result, Ok, Err, true, false, Option, ℤ}
+use Rattle.pgapply.specs.declared.commit.About.{About}
 use Rattle.std.specs.Prelude.{Bool, IsTrue, OnErr}
+use Rattle.std.specs.List.{AllByRecursion}
 use Rattle.sqlite_disk.specs.Disk.{Holds, Only}
 use Rattle.pgledger.specs.Entries.{Entry, last_end}
+use Rattle.pgfeed.specs.declared.feed.Feed.{Feed}
 use Rattle.pgfeed.specs.declared.segment.Segment.{Segment}
 use Rattle.pgfeed.specs.Fits.{FitsEntry}
+use Rattle.pgfeed.specs.Folders.{AreBelow, HasNoMoreElse, MakesAtMost}
 use Rattle.pgfeed.specs.Reading.{AreEntries}
-use Rattle.pgfeed.specs.Segments.{IsCut, IsFinished, IsFound, KeepsEntries, Lasts, WritesBehind}
+use Rattle.pgfeed.specs.Segments.{IsEnded, IsFinished, KeepsEntries, Lasts, LastsAs}
+use Rattle.pgfeed.specs.Segments.{HasWhatLasts, WritesBehind}
 use Rattle.pgfeed.specs.Texts.{entry_text}
-use Rattle.pgfeed.specs.Feeds.{Ends, Goes, IsAgain, IsFresh, IsLeft, IsOpened, KeepsAll, KeepsOn}
-use Rattle.pgfeed.specs.Feeds.{KeepsThrough, LastsAmong, LastsUpTo, LiesIn, MayEnd, OpensAmong}
-use Rattle.pgfeed.specs.Feeds.{OpensAt, OpensSome, first_base}
-use Rattle.std.proofs.Math.Nat.{eq-or-lt_of_le}
+use Rattle.pgfeed.specs.Feeds.{AreEnded, BeginAt, BeginBelow, Ends, Follow, Goes, IsFresh}
+use Rattle.pgfeed.specs.Feeds.{IsHonestFeed, IsLeftIn, IsWhole, KeepsAll, LastsUpTo, LeavesAt}
+use Rattle.pgfeed.specs.Feeds.{IsTimed, MayEnd, MayHave, NoneAt, ReopensAt, SomeLeaves, StaysTimed}
+use Rattle.pgfeed.specs.Feeds.{TakesAllBack, first_time}
 use Rattle.pgfeed.specs.Cutting.Kept.{end_append, entries_append}
-use Rattle.pgfeed.specs.Cutting.Following.{all_last, ends_up, fresh_last, through_entries}
-use Rattle.pgfeed.specs.Cutting.Following.{through_last}
-use Rattle.pgfeed.specs.Cutting.Opened.{cut_at}
-use Rattle.pgfeed.proofs.Calls.{appended, lasts_more, lasts_there, left_reopens, reopens_less}
-use Rattle.pgfeed.proofs.Calls.{synced_lasts, untold, writes_same}
+use Rattle.pgfeed.specs.Cutting.Following.{all_last, ended_below, ended_less}
+use Rattle.pgfeed.specs.Cutting.Following.{one_split}
+use Rattle.pgfeed.specs.Cutting.Opened.{lasts_as}
+use Rattle.pgfeed.proofs.Calls.{appended, lasts_more, lasts_there, synced_lasts, untold}
+use Rattle.pgfeed.proofs.Calls.{writes_same}
 
 -- what holds anyhow
 pub on_err : {T E P : Type 0} (r : Result T E) → P → OnErr r P
@@ -53,308 +58,857 @@ module _ {D : Type 0} (seen : D → List ℕ) (may_leave : D → List ℕ → Ty
       (ap (λ (s : Segment D). seen s.disk) is)
       (λ c left. subst (λ (s : Segment D). may_leave s.disk c) is left)
 
-  lasts_again : (old new : Segment D) (p : ℕ) → Writes old new → Lasts old.base old.size (may_leave old.disk) p
-      → Lasts new.base new.size (may_leave new.disk) p
-  lasts_again old new p w lasting = lasts_more _ _ _ _ _ _ _ _ _ w.base_is w.size_up w.behind lasting
+-- ---- LSNs and lists
 
-  again_less : (old new : Segment D) (p : ℕ) (other : Segment D) → Writes old new → IsAgain seen may_leave new p other
-      → IsAgain seen may_leave old p other
-  again_less old new p other w again = reopens_less _ _ _ _ _ _ _ _ _ _ _ _ _ _ w.base_is w.size_up w.behind again
+follow_less : (b b' l l' : ℕ) (more : List ℕ) → b' ≤ b → l' ≤ l → Follow b l more → Follow b' l' more
+follow_less b b' l l' [] base last f = tt
+follow_less b b' l l' (m ∷ more) base last f = let first = f.0 in let second = f.1 in (omega arith, omega arith, f.2)
 
-  -- ---- behind those that have ended
+higher : (b m : ℕ) (more : List ℕ) → b < m → AllByRecursion (λ x. m < x) more → AllByRecursion (λ x. b < x) more
+higher b m [] up all = tt
+higher b m (x ∷ more) up all = let first = all.0 in (omega arith, higher b m more up all.1)
 
-  among_behind : (ended : List (Segment D)) (old new : Segment D) (p : ℕ) (other : Segment D) → Writes old new
-      → OpensAmong seen may_leave ended new p other → OpensAmong seen may_leave ended old p other
-  among_behind [] old new p other w (inl again) = inl ((let up = again.0 in omega (arith, w.base_is)), again_less old new p other w again.1)
-  among_behind [] old new p other w (inr later) = inr ((let up = later.0 in omega (arith, w.last_up)), later.1)
-  among_behind (e ∷ ended) old new p other w (inl again) = inl again
-  among_behind (e ∷ ended) old new p other w (inr later) = inr (among_behind ended old new p other w later)
+follow_above : (b l : ℕ) (more : List ℕ) → Follow b l more → AllByRecursion (λ x. b < x) more
+follow_above b l [] f = tt
+follow_above b l (m ∷ more) f = let first = f.0 in (first, higher b m more first f.2)
 
-  lasts_behind : (ended : List (Segment D)) (old new : Segment D) (p : ℕ) → Writes old new → LastsAmong may_leave ended old p
-      → LastsAmong may_leave ended new p
-  lasts_behind [] old new p w lasting = λ above. lasts_again old new p w (lasting (omega (arith, w.base_is)))
-  lasts_behind (e ∷ ended) old new p w lasting = (lasting.0, lasts_behind ended old new p w lasting.1)
+-- those that follow a segment at its end follow also one that ends no earlier
+at_end : (b l l' : ℕ) (more : List ℕ) → Follow b l more → l' ≤ l → BeginAt l' more → l ≡ l'
+at_end b l l' [] f up at = absurd at
+at_end b l l' (m ∷ more) f up at = let low = f.1 in omega arith
 
-  less_behind : (ended : List (Segment D)) (old new : Segment D) (p : ℕ) (other : Segment D) → Writes old new
-      → OpensAt seen may_leave ended new p other → OpensAt seen may_leave ended old p other
-  less_behind ended old new p other w (inl fresh) = inl fresh
-  less_behind ended old new p other w (inr again) = inr (among_behind ended old new p other w again)
+at_as : (l l' : ℕ) (more : List ℕ) → l ≡ l' → BeginAt l' more → BeginAt l more
+at_as l l' [] same at = absurd at
+at_as l l' (m ∷ more) same at = at ∙ sym same
 
-  pub goes_behind : (ended : List (Segment D)) (old new : Segment D) → Writes old new → Goes seen may_leave ended old ended new
-  goes_behind ended old new w = record {
-    lasts_more = λ p h. ((let up = h.0 in omega (arith, w.last_up)), lasts_behind ended old new p w h.1);
-    opens_less = λ p other opened. less_behind ended old new p other w opened;
+none_behind : (xs ys : List ℕ) → xs ++ ys ≡ [] → ys ≡ []
+none_behind [] ys e = e
+none_behind (x ∷ xs) ys e = cc
+
+-- the last of some LSNs isn't among those that have gone
+stay_last : (gone stay bases : List ℕ) (x : ℕ) → gone ++ stay ≡ bases ++ x ∷ [] → (stay ≡ [] → ⊥)
+    → (others : List ℕ) × (stay ≡ others ++ x ∷ []) × (bases ≡ gone ++ others)
+stay_last [] stay bases x same some = (bases, same, refl)
+stay_last (g ∷ gone) stay [] x same some =
+    let tail : gone ++ stay ≡ [] = cc in absurd (some (none_behind gone stay tail))
+stay_last (g ∷ gone) stay (b ∷ bases) x same some =
+    let head : g ≡ b = cc in
+    let tail : gone ++ stay ≡ bases ++ x ∷ [] = cc in
+    let more = stay_last gone stay bases x tail some in
+    (more.0, more.1, ap (λ y. y ∷ bases) (sym head) ∙ ap (λ bs. g ∷ bs) more.2)
+
+all_front : (P : ℕ → Type 0) (xs ys : List ℕ) → AllByRecursion P (xs ++ ys) → AllByRecursion P xs
+all_front P [] ys all = tt
+all_front P (x ∷ xs) ys all = (all.0, all_front P xs ys all.1)
+
+ended_at : (b b' l l' : ℕ) (own own' : List Entry) (outcomes : ℕ → List ℕ → Type 0) → b ≡ b' → l ≡ l' → own ≡ own'
+    → IsEnded b l own (outcomes b) → IsEnded b' l' own' (outcomes b')
+ended_at b b' l l' own own' outcomes begins ends same e =
+    subst (λ x. IsEnded x l' own' (outcomes x)) begins
+    (subst (λ x. IsEnded b x own' (outcomes b)) ends (subst (λ x. IsEnded b l x (outcomes b)) same e))
+
+-- fewer outcomes of segments that have ended
+all_less : (before after : ℕ → List ℕ → Type 0) (at : ℕ) (bases : List ℕ) (next top : ℕ) (es : List Entry)
+    → ((b : ℕ) (text : List ℕ) → b < top → after b text → before b text)
+    → AllByRecursion (λ b. b < top) bases
+    → AreEnded before at bases next es → AreEnded after at bases next es
+all_less before after at [] next top es less low e = e
+all_less before after at (b ∷ bases) next top es less low e = (
+  e.0,
+  e.1,
+  e.2,
+  e.3,
+  e.4,
+  ended_less b e.0 e.1 (before b) (after b) (λ text may. less b text low.0 may) e.5,
+  all_less before after e.0 bases next top e.2 less low.1 e.6,
+)
+
+-- one more has ended
+one_ended : (leaves : ℕ → List ℕ → Type 0) (at : ℕ) (bases : List ℕ) (base last : ℕ) (before now : List Entry)
+    → AreEnded leaves at bases base before
+    → IsEnded base last now (leaves base) → AreEnded leaves at (bases ++ base ∷ []) last (before ++ now)
+one_ended leaves at [] base last before now e ended =
+    (last, now, [], sym e.0, ap (λ es. es ++ now) e.1 ∙ sym (append-nil now), ended, (refl, refl))
+one_ended leaves at (b ∷ bases) base last before now e ended = (
+  e.0,
+  e.1,
+  e.2 ++ now,
+  e.3,
+  ap (λ es. es ++ now) e.4 ∙ append_assoc e.1 e.2 now,
+  e.5,
+  one_ended leaves e.0 bases base last e.2 now e.6 ended,
+)
+
+all_under : (base last : ℕ) (bases : List ℕ) → base ≤ last → AllByRecursion (λ b. b < base) bases → AllByRecursion (λ b. b < last) bases
+all_under base last [] up all = tt
+all_under base last (b ∷ bases) up all = let first = all.0 in (omega arith, all_under base last bases up all.1)
+
+all_one : (P : ℕ → Type 0) (xs : List ℕ) (x : ℕ) → AllByRecursion P xs → P x → AllByRecursion P (xs ++ x ∷ [])
+all_one P [] x all p = (p, tt)
+all_one P (y ∷ xs) x all p = (all.0, all_one P xs x all.1 p)
+
+-- ---- the files that a feed has
+
+module _ {F D : Type 0} (may_leave : D → List ℕ → Type 0) (has : F → ℕ → List ℕ → Type 0) where
+  -- one that is written last among them
+  some_last : (ended : List (Segment D)) (s : Segment D) (b : ℕ) (text : List ℕ) → SomeLeaves may_leave (ended ++ s ∷ []) b text
+      → SomeLeaves may_leave ended b text ⊎ ((s.base ≡ b) × may_leave s.disk text)
+  some_last [] s b text (inl here) = inr here
+  some_last [] s b text (inr none) = absurd none
+  some_last (e ∷ ended) s b text (inl here) = inl (inl here)
+  some_last (e ∷ ended) s b text (inr more) = elim (some_last ended s b text more) [ inl some ↦ inl (inr some) | inr last ↦ inr last ]
+
+  none_last : (ended : List (Segment D)) (s : Segment D) (b : ℕ) → NoneAt (ended ++ s ∷ []) b → NoneAt ended b × (s.base ≢ b)
+  none_last [] s b none = (tt, none.0)
+  none_last (e ∷ ended) s b none = let more = none_last ended s b none.1 in ((none.0, more.0), more.1)
+
+  -- none of those that begin below has that base
+  never_some : (ended : List (Segment D)) (base : ℕ) (text : List ℕ) → AllByRecursion (λ (e : Segment D). e.base < base) ended
+      → SomeLeaves may_leave ended base text → ⊥
+  never_some [] base text low some = some
+  never_some (e ∷ ended) base text low (inl here) = let first = low.0 in let same = here.0 in omega arith
+  never_some (e ∷ ended) base text low (inr more) = never_some ended base text low.1 more
+
+  of_none : (ended : List (Segment D)) (folder : F) (b : ℕ) (text : List ℕ) → ended ≡ [] → MayHave may_leave has ended folder b text
+      → has folder b text
+  of_none [] folder b text none (inl some) = absurd some
+  of_none [] folder b text none (inr had) = had.1
+  of_none (e ∷ ended) folder b text none had = cc
+
+  may_less : (ended : List (Segment D)) (old new : F) (b : ℕ) (text : List ℕ) → (has new b text → has old b text)
+      → MayHave may_leave has ended new b text → MayHave may_leave has ended old b text
+  may_less ended old new b text less (inl some) = inl some
+  may_less ended old new b text less (inr had) = inr (had.0, less had.1)
+
+pub true_false : true ≡ false → ⊥
+true_false e = cc
+
+never_none_left : (bases : List ℕ) (base : ℕ) → [] ≡ bases ++ base ∷ [] → ⊥
+never_none_left [] base e = cc
+never_none_left (b ∷ bases) base e = cc
+
+segments_under : {D : Type 0} (base last : ℕ) (ended : List (Segment D)) → base ≤ last
+    → AllByRecursion (λ (e : Segment D). e.base < base) ended → AllByRecursion (λ (e : Segment D). e.base < last) ended
+segments_under base last [] up all = tt
+segments_under base last (e ∷ ended) up all = let first = all.0 in (omega arith, segments_under base last ended up all.1)
+
+segments_one : {D : Type 0} (P : Segment D → Type 0) (xs : List (Segment D)) (x : Segment D) → AllByRecursion P xs → P x
+    → AllByRecursion P (xs ++ x ∷ [])
+segments_one P [] x all p = (p, tt)
+segments_one P (y ∷ xs) x all p = (all.0, segments_one P xs x all.1 p)
+
+segments_front : {D : Type 0} (P : Segment D → Type 0) (xs : List (Segment D)) (x : Segment D) → AllByRecursion P (xs ++ x ∷ [])
+    → AllByRecursion P xs × P x
+segments_front P [] x all = (tt, all.0)
+segments_front P (y ∷ xs) x all = let more = segments_front P xs x all.1 in ((all.0, more.0), more.1)
+
+module _ {F D : Type 0} (seen : D → List ℕ) (may_leave : D → List ℕ → Type 0) (is_clean : D → Bool) (is_true : F → Type 0)
+    (places : F → List ℕ) (has : F → ℕ → List ℕ → Type 0) where
+  abbrev pub Keeps : Feed F D → List Entry → Type 0
+  Keeps l es = KeepsAll seen may_leave is_clean is_true places has l es
+
+  abbrev pub Honest : Feed F D → Type 0
+  Honest l = IsHonestFeed seen may_leave is_clean is_true places has l
+
+  abbrev pub Left : Feed F D → ℕ → List Entry → F → Type 0
+  Left l p now folder = IsLeftIn seen may_leave is_clean is_true places has l p now [] folder
+
+  abbrev pub Reopened : Feed F D → ℕ → Feed F D → Type 0
+  Reopened l p other = ReopensAt seen may_leave is_clean is_true places has l p other
+
+  -- Whatever the old feed keeps the new one keeps, with those as its open segment's, which are the
+  -- same where that ends at the same LSN.
+  record KeepsAs (old new : Feed F D) (es : List Entry) (k : Keeps old es) : Type 0 where
+    pub told : List Entry
+    pub keeps : Keeps new told
+    pub same : new.segment.last ≡ old.segment.last → keeps.now ≡ k.now
+
+  -- ---- the open segment is written
+
+  pub record WritesOn (old new : Feed F D) : Type 0 where
+    pub folder_is : new.folder ≡ old.folder
+    pub ended_is : new.ended.items ≡ old.ended.items
+    pub begins_is : new.begins ≡ old.begins
+    pub writes : Writes seen may_leave old.segment new.segment
+    pub clean : IsTrue (is_clean new.segment.disk) → IsTrue (is_clean old.segment.disk)
+
+  honest_before : (old new : Feed F D) → WritesOn old new → Honest new → Honest old
+  honest_before old new w h = record {
+    folder = subst is_true w.folder_is h.folder;
+    ended = subst (AllByRecursion (λ (e : Segment D). IsTrue (is_clean e.disk))) w.ended_is h.ended;
+    file = w.clean h.file;
   }
 
-  base_behind : (ended : List (Segment D)) (old new : Segment D) → new.base ≡ old.base → first_base ended new ≡ first_base ended old
-  base_behind [] old new same = same
-  base_behind (e ∷ ended) old new same = refl
+  leaves_before : (old new : Feed F D) (b : ℕ) (text : List ℕ) → WritesOn old new → old.segment.base ≢ b → LeavesAt may_leave has new b text
+      → LeavesAt may_leave has old b text
+  leaves_before old new b text w other (inl here) = absurd (other (sym w.writes.base_is ∙ here.0))
+  leaves_before old new b text w other (inr away) =
+      inr (
+        other,
+        subst (λ es. MayHave may_leave has es old.folder b text) w.ended_is
+            (subst (λ f. MayHave may_leave has new.ended.items f b text) w.folder_is away.1),
+      )
 
-  through_more : (ended : List (Segment D)) (old new : Segment D) (more : List Entry) → new.base ≡ old.base
-      → ((es : List Entry) → KeepsEntries old.base old.last old.size (seen old.disk) es
-      → KeepsEntries new.base new.last new.size (seen new.disk) (es ++ more))
-      → (es : List Entry) → KeepsThrough seen ended old es → KeepsThrough seen ended new (es ++ more)
-  through_more [] old new more same each es k = each es k
-  through_more (e ∷ ended) old new more same each es k = (
-    k.0,
-    k.1 ++ more,
-    ap (λ xs. xs ++ more) k.2 ∙ append_assoc k.0 k.1 more,
-    k.3,
-    k.4 ∙ sym (base_behind ended old new same),
-    through_more ended old new more same each k.1 k.5,
-  )
+  apart : (b base : ℕ) → b < base → base ≢ b
+  apart b base less same = omega arith
 
-  all_more : (begins : ℕ) (ended : List (Segment D)) (old new : Segment D) (more : List Entry) → new.base ≡ old.base
-      → ((es : List Entry) → KeepsEntries old.base old.last old.size (seen old.disk) es
-      → KeepsEntries new.base new.last new.size (seen new.disk) (es ++ more))
-      → (es : List Entry) → KeepsAll seen begins ended old es → KeepsAll seen begins ended new (es ++ more)
-  all_more begins ended old new more same each es k = record {
+  ended_before : (old new : Feed F D) (at : ℕ) (bases : List ℕ) (before : List Entry) → WritesOn old new → new.begins ≡ at
+      → AreEnded (LeavesAt may_leave has old) at bases old.segment.base before
+      → AreEnded (LeavesAt may_leave has new) new.begins bases new.segment.base before
+  ended_before old new at bases before w begins e =
+      let low = ended_below (LeavesAt may_leave has old) at bases old.segment.base before e in
+      let less = all_less (LeavesAt may_leave has old) (LeavesAt may_leave has new) at bases old.segment.base old.segment.base before
+      (λ b text under may. leaves_before old new b text w (apart b old.segment.base under) may) low e in
+      subst (λ x. AreEnded (LeavesAt may_leave has new) new.begins bases x before) (sym w.writes.base_is)
+      (subst (λ x. AreEnded (LeavesAt may_leave has new) x bases old.segment.base before) (sym begins) less)
+
+  -- nothing follows it
+  pub all_written : (old new : Feed F D) (more : List Entry) → WritesOn old new → old.segment.is_stuck ≡ false
+      → ((es : List Entry) → KeepsEntries old.segment.base old.segment.last old.segment.size (seen old.segment.disk) es
+      → KeepsEntries new.segment.base new.segment.last new.segment.size (seen new.segment.disk) (es ++ more))
+      → (es : List Entry) → Keeps old es → Keeps new (es ++ more)
+  all_written old new more w was each es k = record {
     before = k.before;
     now = k.now ++ more;
     is = ap (λ xs. xs ++ more) k.is ∙ append_assoc k.before k.now more;
-    entries = k.entries;
-    ends = k.ends ∙ sym (base_behind ended old new same);
-    kept = through_more ended old new more same each k.now k.kept;
+    entries = subst (λ b. AreEntries b k.before) (sym w.begins_is) k.entries;
+    ends = ap (λ b. last_end b k.before) w.begins_is ∙ k.ends ∙ sym w.writes.base_is;
+    kept = each k.now k.kept;
+    whole = λ honest.
+        let was_whole = k.whole (honest_before old new w honest) in
+        record {
+          bases = was_whole.bases;
+          above = [];
+          there = ap places w.folder_is ∙ was_whole.there
+              ∙ ap (λ xs. was_whole.bases ++ (old.segment.base ∷ xs)) (was_whole.free was)
+              ∙ ap (λ b. was_whole.bases ++ (b ∷ [])) (sym w.writes.base_is);
+          below = subst (λ b. AllByRecursion (λ (e : Segment D). e.base < b) new.ended.items) (sym w.writes.base_is)
+              (subst (AllByRecursion (λ (e : Segment D). e.base < old.segment.base)) (sym w.ended_is) was_whole.below);
+          ended = ended_before old new old.begins was_whole.bases k.before w w.begins_is was_whole.ended;
+          over = inl refl;
+          free = λ _. refl;
+        };
   }
 
-  segment_behind : (old new : Segment D) → Writes old new → new.size ≡ old.size → new.last ≡ old.last
+  -- it is as it was, but that it may be synced or stuck
+  pub record StaysOn (old new : Feed F D) : Type 0 where
+    pub on : WritesOn old new
+    pub size_is : new.segment.size ≡ old.segment.size
+    pub last_is : new.segment.last ≡ old.segment.last
+    pub less : (c : List ℕ) → may_leave new.segment.disk c → may_leave old.segment.disk c
+    pub stuck : new.segment.is_stuck ≡ false → old.segment.is_stuck ≡ false
+
+  segment_stays : (old new : Segment D) → Writes seen may_leave old new → new.size ≡ old.size → new.last ≡ old.last
       → (es : List Entry) → KeepsEntries old.base old.last old.size (seen old.disk) es
       → KeepsEntries new.base new.last new.size (seen new.disk) es
-  segment_behind old new w stays ends es k =
+  segment_stays old new w stays ends es k =
       untold _ _ _ _ _ _ _ _ (may_leave old.disk) (may_leave new.disk) w.base_is stays ends w.behind es k
 
-  pub keeps_behind : (begins : ℕ) (ended : List (Segment D)) (old new : Segment D) → Writes old new → new.size ≡ old.size
-      → new.last ≡ old.last → KeepsOn seen begins ended old ended new
-  keeps_behind begins ended old new w stays ends es k =
-      let each : (es : List Entry) → KeepsEntries old.base old.last old.size (seen old.disk) es
-      → KeepsEntries new.base new.last new.size (seen new.disk) (es ++ []) =
-      λ es kept. subst (KeepsEntries new.base new.last new.size (seen new.disk)) (sym (append-nil es))
-      (segment_behind old new w stays ends es kept) in
-      subst (KeepsAll seen begins ended new) (append-nil es) (all_more begins ended old new [] w.base_is each es k)
+  pub segment_more : (old new : Segment D) → Writes seen may_leave old new → new.size ≡ old.size → new.last ≡ old.last
+      → (es : List Entry) → KeepsEntries old.base old.last old.size (seen old.disk) es
+      → KeepsEntries new.base new.last new.size (seen new.disk) (es ++ [])
+  segment_more old new w stays ends es k =
+      subst (KeepsEntries new.base new.last new.size (seen new.disk)) (sym (append-nil es)) (segment_stays old new w stays ends es k)
 
-  -- one entry more
-  pub keeps_more : (begins : ℕ) (ended : List (Segment D)) (old new : Segment D) (e : Entry) → Writes old new
-      → new.size ≡ old.size + length (entry_text old.last e) → new.last ≡ e.end → old.last < e.end
-      → FitsEntry old.last e → Holds (seen new.disk) old.size (entry_text old.last e) → (es : List Entry)
-      → KeepsAll seen begins ended old es → KeepsAll seen begins ended new (es ++ e ∷ [])
-  keeps_more begins ended old new e w long ends above fits holds es k =
-      all_more begins ended old new (e ∷ []) w.base_is
-      (λ es kept. appended _ _ _ _ _ _ _ _ (may_leave old.disk) (may_leave new.disk) e w.base_is ends long above fits holds w.behind es
-      kept) es k
+  over_stays : (old new : Feed F D) (above : List ℕ) (now : List Entry) → StaysOn old new
+      → (above ≡ []) ⊎ ((above ≡ old.segment.last ∷ []) × IsEnded old.segment.base old.segment.last now (may_leave old.segment.disk))
+      → (above ≡ []) ⊎ ((above ≡ new.segment.last ∷ []) × IsEnded new.segment.base new.segment.last now (may_leave new.segment.disk))
+  over_stays old new above now w (inl none) = inl none
+  over_stays old new above now w (inr one) =
+      let less = ended_less old.segment.base old.segment.last now (may_leave old.segment.disk) (may_leave new.segment.disk) w.less one.1 in
+      inr (
+        one.0 ∙ ap (λ l. l ∷ []) (sym w.last_is),
+        ended_at old.segment.base new.segment.base old.segment.last new.segment.last now now (λ _. may_leave new.segment.disk)
+            (sym w.on.writes.base_is) (sym w.last_is) refl less,
+      )
 
-  -- ---- the segment that follows one
-
-  -- What ends stays behind those that have ended, and a new one is open.
-  pub record Follows (old done new : Segment D) : Type 0 where
-    pub line : Writes old done
-    pub size_is : done.size ≡ old.size
-    pub last_is : done.last ≡ old.last
-    pub fresh : IsFresh seen may_leave new
-    pub next : new.base ≡ old.last
-
-  -- a new segment that is opened again is one that begins there, or goes on
-  fresh_again : ((d : D) → may_leave d (seen d)) → (new : Segment D) (p : ℕ) (other : Segment D) → IsFresh seen may_leave new
-      → (new.base ≡ p) ⊎ (new.base < p) → IsAgain seen may_leave new p other
-      → ((other.base ≡ p) × IsFresh seen may_leave other) ⊎ ((new.base ≤ other.base) × (other.base < p))
-  fresh_again stay new p other fresh (inl at) opened =
-      let lasting : Lasts new.base new.size (may_leave new.disk) p =
-      subst (λ q. Lasts new.base new.size (may_leave new.disk) q) at fresh.1 in
-      let cut = cut_at _ _ _ p _ _ _ (seen new.disk) (seen other.disk) (may_leave new.disk) (may_leave other.disk) [] [] (stay new.disk)
-      opened fresh.0 at lasting in
-      let there : other.base ≡ p = opened.base_is ∙ at in
-      inl (there, (cut.0, subst (λ q. Lasts other.base other.size (may_leave other.disk) q) (sym there) cut.2))
-  fresh_again stay new p other fresh (inr above) opened =
-      let begins : other.base ≡ new.base = opened.base_is in
-      inr (omega arith, omega arith)
-
-  -- one that went on
-  past_next : (old new : Segment D) (p : ℕ) (other : Segment D) → new.base ≡ old.last
-      → ((other.base ≡ p) × IsFresh seen may_leave other) ⊎ ((new.base ≤ other.base) × (other.base < p))
-      → OpensAt seen may_leave [] old p other
-  past_next old new p other next (inl again) = inl again
-  past_next old new p other next (inr past) = inr (inr ((let up = past.0 in omega (arith, next)), past.1))
-
-  less_done : ((d : D) → may_leave d (seen d)) → (old done new : Segment D) (p : ℕ) (other : Segment D) → Follows old done new
-      → OpensAmong seen may_leave (done ∷ []) new p other
-      → OpensAt seen may_leave [] old p other
-  less_done stay old done new p other f (inl again) =
-      let lies : LiesIn p done = again.0 in
-      let from = lies.0 in
-      inr (inl (omega (arith, f.line.base_is), again_less old done p other f.line again.1))
-  less_done stay old done new p other f (inr (inl again)) =
-      past_next old new p other f.next (fresh_again stay new p other f.fresh (eq-or-lt_of_le again.0) again.1)
-  less_done stay old done new p other f (inr (inr later)) =
-      let last : new.last ≡ new.base = fresh_last seen may_leave new f.fresh in
-      inr (inr ((let up = later.0 in omega (arith, f.next)), later.1))
-
-  less_deeper : (e : Segment D) (ended : List (Segment D)) (s : Segment D) (p : ℕ) (other : Segment D)
-      → OpensAt seen may_leave ended s p other → OpensAt seen may_leave (e ∷ ended) s p other
-  less_deeper e ended s p other (inl fresh) = inl fresh
-  less_deeper e ended s p other (inr again) = inr (inr again)
-
-  less_next : ((d : D) → may_leave d (seen d)) → (ended : List (Segment D)) (old done new : Segment D) (p : ℕ) (other : Segment D)
-      → Follows old done new
-      → OpensAmong seen may_leave (ended ++ done ∷ []) new p other → OpensAt seen may_leave ended old p other
-  less_next stay [] old done new p other f opened = less_done stay old done new p other f opened
-  less_next stay (e ∷ ended) old done new p other f (inl again) = inr (inl again)
-  less_next stay (e ∷ ended) old done new p other f (inr later) =
-      less_deeper e ended old p other (less_next stay ended old done new p other f later)
-
-  opens_next : ((d : D) → may_leave d (seen d)) → (ended : List (Segment D)) (old done new : Segment D) (p : ℕ) (other : Segment D)
-      → Follows old done new
-      → OpensAt seen may_leave (ended ++ done ∷ []) new p other → OpensAt seen may_leave ended old p other
-  opens_next stay ended old done new p other f (inl fresh) = inl fresh
-  opens_next stay ended old done new p other f (inr again) = less_next stay ended old done new p other f again
-
-  lasts_next : (ended : List (Segment D)) (old done new : Segment D) (p : ℕ) → Follows old done new → p ≤ old.last
-      → LastsAmong may_leave ended old p → LastsAmong may_leave (ended ++ done ∷ []) new p
-  lasts_next [] old done new p f up lasting = (
-    λ lies. let from = lies.0 in lasts_again old done p f.line (lasting (omega (arith, f.line.base_is))),
-    λ above. let at : new.base ≡ p = omega (arith, f.next) in subst (λ q. Lasts new.base new.size (may_leave new.disk) q) at f.fresh.1,
-  )
-  lasts_next (e ∷ ended) old done new p f up lasting = (lasting.0, lasts_next ended old done new p f up lasting.1)
-
-  goes_next : ((d : D) → may_leave d (seen d)) → (ended : List (Segment D)) (old done new : Segment D) → Follows old done new
-      → Goes seen may_leave ended old (ended ++ done ∷ []) new
-  goes_next stay ended old done new f = record {
-    lasts_more = λ p h.
-        let last : new.last ≡ new.base = fresh_last seen may_leave new f.fresh in
-        let up = h.0 in
-        (omega (arith, f.next), lasts_next ended old done new p f up h.1);
-    opens_less = λ p other opened. opens_next stay ended old done new p other f opened;
-  }
-
-  base_next : (ended : List (Segment D)) (old done new : Segment D) → done.base ≡ old.base
-      → first_base (ended ++ done ∷ []) new ≡ first_base ended old
-  base_next [] old done new same = same
-  base_next (e ∷ ended) old done new same = refl
-
-  through_next : (ended : List (Segment D)) (old done new : Segment D) → Follows old done new → (es : List Entry)
-      → KeepsThrough seen ended old es → KeepsThrough seen (ended ++ done ∷ []) new es
-  through_next [] old done new f es k =
-      (es, [], sym (append-nil es), segment_behind old done f.line f.size_is f.last_is es k, f.last_is ∙ sym f.next, f.fresh.0)
-  through_next (e ∷ ended) old done new f es k =
-      (k.0, k.1, k.2, k.3, k.4 ∙ sym (base_next ended old done new f.line.base_is), through_next ended old done new f k.1 k.5)
-
-  keeps_next : (begins : ℕ) (ended : List (Segment D)) (old done new : Segment D) → Follows old done new
-      → KeepsOn seen begins ended old (ended ++ done ∷ []) new
-  keeps_next begins ended old done new f es k = record {
+  pub all_stays : (old new : Feed F D) → StaysOn old new → (es : List Entry) → Keeps old es → Keeps new es
+  all_stays old new w es k = record {
     before = k.before;
     now = k.now;
     is = k.is;
-    entries = k.entries;
-    ends = k.ends ∙ sym (base_next ended old done new f.line.base_is);
-    kept = through_next ended old done new f k.now k.kept;
+    entries = subst (λ b. AreEntries b k.before) (sym w.on.begins_is) k.entries;
+    ends = ap (λ b. last_end b k.before) w.on.begins_is ∙ k.ends ∙ sym w.on.writes.base_is;
+    kept = segment_stays old.segment new.segment w.on.writes w.size_is w.last_is k.now k.kept;
+    whole = λ honest.
+        let was_whole = k.whole (honest_before old new w.on honest) in
+        record {
+          bases = was_whole.bases;
+          above = was_whole.above;
+          there = ap places w.on.folder_is ∙ was_whole.there
+              ∙ ap (λ b. was_whole.bases ++ (b ∷ was_whole.above)) (sym w.on.writes.base_is);
+          below = subst (λ b. AllByRecursion (λ (e : Segment D). e.base < b) new.ended.items) (sym w.on.writes.base_is)
+              (subst (AllByRecursion (λ (e : Segment D). e.base < old.segment.base)) (sym w.on.ended_is) was_whole.below);
+          ended = ended_before old new old.begins was_whole.bases k.before w.on w.on.begins_is was_whole.ended;
+          over = over_stays old new was_whole.above k.now w was_whole.over;
+          free = λ stands. was_whole.free (w.stuck stands);
+        };
   }
 
-  -- the line that ends it may be written, and it stays open
-  pub goes_stays : (ended after : List (Segment D)) (old new : Segment D) → after ≡ ended → Writes old new
-      → Goes seen may_leave ended old after new
-  goes_stays ended after old new same w = subst (λ es. Goes seen may_leave ended old es new) (sym same) (goes_behind ended old new w)
-
-  pub keeps_stays : (begins : ℕ) (ended after : List (Segment D)) (old new : Segment D) → after ≡ ended → Writes old new
-      → new.size ≡ old.size → new.last ≡ old.last → KeepsOn seen begins ended old after new
-  keeps_stays begins ended after old new same w stays ends =
-      subst (λ es. KeepsOn seen begins ended old es new) (sym same) (keeps_behind begins ended old new w stays ends)
-
-  -- it has ended, and is the last of those that have
-  pub record Ended (is_clean : D → Bool) (begins : ℕ) (before after : List (Segment D)) (old now : Segment D) : Type 0 where
-    pub goes : Goes seen may_leave before old after now
-    pub kept : KeepsOn seen begins before old after now
-    pub ends : Ends seen may_leave is_clean before after old now
-
-  pub record IsNext (is_clean : D → Bool) (old done new : Segment D) : Type 0 where
-    pub follows : Follows old done new
-    pub finished : IsTrue (is_clean done.disk) → (es : List Entry) → KeepsEntries old.base old.last old.size (seen old.disk) es
-        → IsFinished old.base old.last es (seen done.disk) (may_leave done.disk)
-
-  ended : ((d : D) → may_leave d (seen d)) → (is_clean : D → Bool) (begins : ℕ) (before : List (Segment D)) (old done new : Segment D)
-      → IsNext is_clean old done new
-      → Ended is_clean begins before (before ++ done ∷ []) old new
-  ended stay is_clean begins before old done new next = record {
-    goes = goes_next stay before old done new next.follows;
-    kept = keeps_next begins before old done new next.follows;
-    ends = record {
-      next = next.follows.next;
-      ended = done;
-      stays = refl;
-      base_is = next.follows.line.base_is;
-      last_is = next.follows.last_is;
-      finished = next.finished;
-    };
+  -- what was left of the new one was left of the old one
+  left_before : (old new : Feed F D) (p : ℕ) (now later : List Entry) (folder : F) → WritesOn old new
+      → (new.segment.last ≡ old.segment.last → later ≡ now) → Left new p later folder → Left old p now folder
+  left_before old new p now later folder w same left = record {
+    honest = honest_before old new w left.honest;
+    stay = left.stay;
+    above = left.above;
+    more = left.more;
+    had = ap places (sym w.folder_is) ∙ left.had ∙ ap (λ b. ([] ++ left.stay) ++ (b ∷ left.above)) w.writes.base_is;
+    there = left.there ∙ ap (λ b. left.stay ++ (b ∷ left.more)) w.writes.base_is;
+    ended = subst (λ b. AllByRecursion (λ x. x < b) ([] ++ left.stay)) w.writes.base_is left.ended;
+    front = left.front;
+    behind = let up = w.writes.last_up in
+        follow_less new.segment.base old.segment.base new.segment.last old.segment.last left.more (omega (arith, w.writes.base_is)) up
+        left.behind;
+    each = λ b text under had.
+        leaves_before old new b text w (apart b old.segment.base under) (left.each b text (omega (arith, w.writes.base_is)) had);
+    lasting = λ text had front lasting.
+        let there : has folder new.segment.base text = subst (λ b. has folder b text) (sym w.writes.base_is) had in
+        let more : LastsAs old.segment.base new.segment.size (may_leave new.segment.disk) p front =
+        lasts_as old.segment.base old.segment.size new.segment.size p (seen old.segment.disk) (seen new.segment.disk) front
+        (may_leave old.segment.disk) (may_leave new.segment.disk) w.writes.size_up w.writes.behind lasting in
+        left.lasting text there front
+        (subst (λ b. LastsAs b new.segment.size (may_leave new.segment.disk) p front) (sym w.writes.base_is) more);
+    done = λ at.
+        let ends : new.segment.last ≡ old.segment.last =
+        at_end new.segment.base new.segment.last old.segment.last left.more left.behind w.writes.last_up at in
+        ended_at new.segment.base old.segment.base new.segment.last old.segment.last later now (has folder) w.writes.base_is ends
+        (same ends)
+        (left.done (at_as new.segment.last old.segment.last left.more ends at));
   }
 
-  pub ended_by : ((d : D) → may_leave d (seen d))
-      → (is_clean : D → Bool) (begins : ℕ) (before reserved after : List (Segment D)) (old done last new now : Segment D)
-      → IsNext is_clean old done new
-      → reserved ≡ before → last ≡ done → after ≡ reserved ++ last ∷ [] → now ≡ new → Ended is_clean begins before after old now
-  ended_by stay is_clean begins before reserved after old done last new now next same is pushed begun =
-      let all : after ≡ before ++ done ∷ [] = pushed ∙ ap (λ es. es ++ last ∷ []) same ∙ ap (λ (e : Segment D). before ++ e ∷ []) is in
-      subst (λ es. Ended is_clean begins before es old now) (sym all)
-      (subst (Ended is_clean begins before (before ++ done ∷ []) old) (sym begun) (ended stay is_clean begins before old done new next))
-
-  -- ---- those that are let go
-
-  among_less : (ended : List (Segment D)) (s : Segment D) (p : ℕ) (other : Segment D) → OpensAmong seen may_leave [] s p other
-      → OpensAmong seen may_leave ended s p other
-  among_less [] s p other opened = opened
-  among_less (e ∷ ended) s p other opened = inr (among_less ended s p other opened)
-
-  gone_less : (ended : List (Segment D)) (s : Segment D) (p : ℕ) (other : Segment D) → OpensAt seen may_leave [] s p other
-      → OpensAt seen may_leave ended s p other
-  gone_less ended s p other (inl fresh) = inl fresh
-  gone_less ended s p other (inr again) = inr (among_less ended s p other again)
-
-  gone_lasts : (ended : List (Segment D)) (s : Segment D) (p : ℕ) → LastsAmong may_leave ended s p → LastsAmong may_leave [] s p
-  gone_lasts [] s p lasting = lasting
-  gone_lasts (e ∷ ended) s p lasting = gone_lasts ended s p lasting.1
-
-  goes_gone : (ended : List (Segment D)) (s : Segment D) → Goes seen may_leave ended s [] s
-  goes_gone ended s = record {
-    lasts_more = λ p h. (h.0, gone_lasts ended s p h.1);
-    opens_less = λ p other opened. gone_less ended s p other opened;
-  }
-
-  keeps_gone : (begins : ℕ) (before : List Entry) (ended : List (Segment D)) (s : Segment D) (now : List Entry) → AreEntries begins before
-      → last_end begins before ≡ first_base ended s
-      → KeepsThrough seen ended s now → KeepsAll seen begins [] s (before ++ now)
-  keeps_gone begins before [] s now entries starts k =
-      record { before = before; now = now; is = refl; entries = entries; ends = starts; kept = k }
-  keeps_gone begins before (e ∷ ended) s now entries starts k =
-      let own : List Entry = k.0 in
-      let are : AreEntries begins (before ++ own) =
-      entries_append begins before own entries (subst (λ at. AreEntries at own) (sym starts) k.3.entries) in
-      let there : last_end begins (before ++ own) ≡ first_base ended s =
-      end_append begins before own ∙ ap (λ at. last_end at own) starts ∙ sym k.3.last_is ∙ k.4 in
-      let whole : (before ++ own) ++ k.1 ≡ before ++ now = append_assoc before own k.1 ∙ ap (λ es. before ++ es) (sym k.2) in
-      subst (KeepsAll seen begins [] s) whole (keeps_gone begins (before ++ own) ended s k.1 are there k.5)
-
-  all_gone : (begins : ℕ) (ended : List (Segment D)) (s : Segment D) → Goes seen may_leave ended s [] s × KeepsOn seen begins ended s [] s
-  all_gone begins ended s = (
-    goes_gone ended s,
-    λ es k.
-        subst (KeepsAll seen begins [] s) (sym k.is) (keeps_gone begins k.before ended s k.now k.entries k.ends k.kept),
+  lasts_before : (old new : Feed F D) (p : ℕ) → WritesOn old new → LastsUpTo seen may_leave is_clean is_true places has old p
+      → LastsUpTo seen may_leave is_clean is_true places has new p
+  lasts_before old new p w h = (
+    let up = h.0 in omega (arith, w.writes.last_up),
+    λ from. lasts_more _ _ _ _ _ _ _ _ _ w.writes.base_is w.writes.size_up w.writes.behind (h.1 (omega (arith, w.writes.base_is))),
   )
 
-  pub gone_by : (begins : ℕ) (ended after : List (Segment D)) (s now : Segment D) → after ≡ [] → now ≡ s
-      → Goes seen may_leave ended s after now × KeepsOn seen begins ended s after now
-  gone_by begins ended after s now none same =
-      subst (λ es. Goes seen may_leave ended s es now × KeepsOn seen begins ended s es now) (sym none)
-      (subst (λ x. Goes seen may_leave ended s [] x × KeepsOn seen begins ended s [] x) (sym same) (all_gone begins ended s))
+  goes_writing : (old new : Feed F D) → WritesOn old new → ((es : List Entry) (k : Keeps old es) → KeepsAs old new es k)
+      → Goes seen may_leave is_clean is_true places has old new
+  goes_writing old new w keep = record {
+    lasts_more = λ p h. lasts_before old new p w h;
+    opens_less = λ p other opened es k up.
+        let more = keep es k in
+        let o = opened more.told more.keeps (omega (arith, w.writes.last_up)) in
+        (o.0, left_before old new p k.now more.keeps.now o.0 w more.same o.1, o.2, o.3);
+  }
+
+  pub goes_stays : (old new : Feed F D) → StaysOn old new → Goes seen may_leave is_clean is_true places has old new
+  unfolding all_stays
+  goes_stays old new w =
+      goes_writing old new w.on (λ es k. record { told = es; keeps = all_stays old new w es k; same = λ _. refl })
+
+  -- a commit is written, or a part of it, or the line that ends the segment
+  pub goes_more : (old new : Feed F D) (more : List Entry) → WritesOn old new → old.segment.is_stuck ≡ false
+      → ((es : List Entry) → KeepsEntries old.segment.base old.segment.last old.segment.size (seen old.segment.disk) es
+      → KeepsEntries new.segment.base new.segment.last new.segment.size (seen new.segment.disk) (es ++ more))
+      → (new.segment.last ≡ old.segment.last → more ≡ []) → Goes seen may_leave is_clean is_true places has old new
+  unfolding all_written
+  goes_more old new more w was each none =
+      goes_writing old new w (λ es k. record {
+        told = es ++ more;
+        keeps = all_written old new more w was each es k;
+        same = λ ends. ap (λ xs. k.now ++ xs) (none ends) ∙ append-nil k.now;
+      })
+
+  -- a part of a commit is written, or the line that ends the segment
+  pub goes_quiet : (old new : Feed F D) → WritesOn old new → old.segment.is_stuck ≡ false → new.segment.size ≡ old.segment.size
+      → new.segment.last ≡ old.segment.last → Goes seen may_leave is_clean is_true places has old new
+  goes_quiet old new w was stays ends =
+      goes_more old new [] w was (segment_more old.segment new.segment w.writes stays ends) (λ _. refl)
+
+  pub all_quiet : (old new : Feed F D) → WritesOn old new → old.segment.is_stuck ≡ false → new.segment.size ≡ old.segment.size
+      → new.segment.last ≡ old.segment.last → (es : List Entry) → Keeps old es → Keeps new es
+  all_quiet old new w was stays ends es k =
+      subst (Keeps new) (append-nil es)
+      (all_written old new [] w was (segment_more old.segment new.segment w.writes stays ends) es k)
+
+  -- a commit is written
+  entry_more : (old new : Feed F D) (e : Entry) → WritesOn old new
+      → new.segment.size ≡ old.segment.size + length (entry_text old.segment.last e)
+      → new.segment.last ≡ e.end → old.segment.last < e.end → FitsEntry old.segment.last e
+      → Holds (seen new.segment.disk) old.segment.size (entry_text old.segment.last e)
+      → (es : List Entry) → KeepsEntries old.segment.base old.segment.last old.segment.size (seen old.segment.disk) es
+      → KeepsEntries new.segment.base new.segment.last new.segment.size (seen new.segment.disk) (es ++ e ∷ [])
+  entry_more old new e w long ends above fits holds es kept =
+      appended _ _ _ _ _ _ _ _ (may_leave old.segment.disk) (may_leave new.segment.disk) e w.writes.base_is ends long above fits holds
+      w.writes.behind es kept
+
+  pub all_more : (old new : Feed F D) (e : Entry) → WritesOn old new → old.segment.is_stuck ≡ false
+      → new.segment.size ≡ old.segment.size + length (entry_text old.segment.last e)
+      → new.segment.last ≡ e.end → old.segment.last < e.end → FitsEntry old.segment.last e
+      → Holds (seen new.segment.disk) old.segment.size (entry_text old.segment.last e)
+      → (es : List Entry) → Keeps old es → Keeps new (es ++ e ∷ [])
+  all_more old new e w was long ends above fits holds =
+      all_written old new (e ∷ []) w was (entry_more old new e w long ends above fits holds)
+
+  pub goes_end : (old new : Feed F D) (e : Entry) → WritesOn old new → old.segment.is_stuck ≡ false
+      → new.segment.size ≡ old.segment.size + length (entry_text old.segment.last e)
+      → new.segment.last ≡ e.end → old.segment.last < e.end → FitsEntry old.segment.last e
+      → Holds (seen new.segment.disk) old.segment.size (entry_text old.segment.last e)
+      → Goes seen may_leave is_clean is_true places has old new
+  goes_end old new e w was long ends above fits holds =
+      goes_more old new (e ∷ []) w was (entry_more old new e w long ends above fits holds) (λ same. absurd (omega (arith, ends)))
+
+  -- ---- the folder gets the files of those that have ended back
+
+  pub record Returned (old new : Feed F D) : Type 0 where
+    pub alone : new.ended.items ≡ []
+    pub segment_is : new.segment ≡ old.segment
+    pub begins_is : new.begins ≡ old.begins
+    pub back : is_true new.folder → TakesAllBack may_leave is_clean is_true places has old.ended.items old.folder new.folder
+
+  returned_honest : (old new : Feed F D) → Returned old new → Honest new → Honest old
+  returned_honest old new r h =
+      let back = r.back h.folder in
+      record { folder = back.was_true; ended = back.clean; file = subst (λ (s : Segment D). IsTrue (is_clean s.disk)) r.segment_is h.file }
+
+  returned_leaves : (old new : Feed F D) (b : ℕ) (text : List ℕ) → Returned old new → is_true new.folder → old.segment.base ≢ b
+      → LeavesAt may_leave has new b text → LeavesAt may_leave has old b text
+  returned_leaves old new b text r honest other (inl here) =
+      absurd (other (ap (λ (s : Segment D). s.base) (sym r.segment_is) ∙ here.0))
+  returned_leaves old new b text r honest other (inr away) =
+      inr (other, (r.back honest).files b text (of_none may_leave has new.ended.items new.folder b text r.alone away.1))
+
+  pub all_returned : (old new : Feed F D) → Returned old new → (es : List Entry) → Keeps old es → Keeps new es
+  all_returned old new r es k =
+      let base : new.segment.base ≡ old.segment.base = ap (λ (s : Segment D). s.base) r.segment_is in
+      record {
+        before = k.before;
+        now = k.now;
+        is = k.is;
+        entries = subst (λ b. AreEntries b k.before) (sym r.begins_is) k.entries;
+        ends = ap (λ b. last_end b k.before) r.begins_is ∙ k.ends ∙ sym base;
+        kept = subst (λ (s : Segment D). KeepsEntries s.base s.last s.size (seen s.disk) k.now) (sym r.segment_is) k.kept;
+        whole = λ honest.
+            let was = k.whole (returned_honest old new r honest) in
+            let low = ended_below (LeavesAt may_leave has old) old.begins was.bases old.segment.base k.before was.ended in
+            let less = all_less (LeavesAt may_leave has old) (LeavesAt may_leave has new) old.begins was.bases old.segment.base
+            old.segment.base k.before
+            (λ b text under may. returned_leaves old new b text r honest.folder (apart b old.segment.base under) may) low was.ended in
+            record {
+              bases = was.bases;
+              above = was.above;
+              there = (r.back honest.folder).places_are ∙ was.there ∙ ap (λ b. was.bases ++ (b ∷ was.above)) (sym base);
+              below = subst (AllByRecursion (λ (e : Segment D). e.base < new.segment.base)) (sym r.alone) tt;
+              ended = subst (λ x. AreEnded (LeavesAt may_leave has new) new.begins was.bases x k.before) (sym base)
+                  (subst (λ x. AreEnded (LeavesAt may_leave has new) x was.bases old.segment.base k.before) (sym r.begins_is) less);
+              over = subst (λ (s : Segment D). (was.above ≡ [])
+                  ⊎ ((was.above ≡ s.last ∷ []) × IsEnded s.base s.last k.now (may_leave s.disk))) (sym r.segment_is) was.over;
+              free = λ stands. was.free (ap (λ (s : Segment D). s.is_stuck) (sym r.segment_is) ∙ stands);
+            };
+      }
+
+  returned_left : (old new : Feed F D) (p : ℕ) (now : List Entry) (folder : F) → Returned old new → Left new p now folder
+      → Left old p now folder
+  returned_left old new p now folder r left =
+      let base : new.segment.base ≡ old.segment.base = ap (λ (s : Segment D). s.base) r.segment_is in
+      let back = r.back left.honest.folder in
+      record {
+        honest = returned_honest old new r left.honest;
+        stay = left.stay;
+        above = left.above;
+        more = left.more;
+        had = sym back.places_are ∙ left.had ∙ ap (λ b. ([] ++ left.stay) ++ (b ∷ left.above)) base;
+        there = left.there ∙ ap (λ b. left.stay ++ (b ∷ left.more)) base;
+        ended = subst (λ b. AllByRecursion (λ x. x < b) ([] ++ left.stay)) base left.ended;
+        front = left.front;
+        behind = subst (λ (s : Segment D). Follow s.base s.last left.more) r.segment_is left.behind;
+        each = λ b text under had.
+            returned_leaves old new b text r left.honest.folder (apart b old.segment.base under)
+            (left.each b text (omega (arith, base)) had);
+        lasting = subst (λ (s : Segment D). (text : List ℕ) → has folder s.base text
+            → HasWhatLasts s.base s.size (may_leave s.disk) p text) r.segment_is left.lasting;
+        done = subst (λ (s : Segment D). BeginAt s.last left.more → IsEnded s.base s.last now (has folder s.base)) r.segment_is left.done;
+      }
+
+  pub goes_returned : (old new : Feed F D) → Returned old new → Goes seen may_leave is_clean is_true places has old new
+  unfolding all_returned
+  goes_returned old new r = record {
+    lasts_more = λ p h. subst (λ (s : Segment D). (p ≤ s.last) × (s.base ≤ p → Lasts s.base s.size (may_leave s.disk) p)) (sym r.segment_is)
+        h;
+    opens_less = λ p other opened es k up.
+        let last : new.segment.last ≡ old.segment.last = ap (λ (s : Segment D). s.last) r.segment_is in
+        let o = opened es (all_returned old new r es k) (omega (arith, last)) in
+        (o.0, returned_left old new p k.now o.0 r o.1, o.2, o.3);
+  }
+
+  -- ---- the open segment has ended, and none follows it yet
+
+  pub record EndsOn (old new : Feed F D) : Type 0 where
+    pub ended_is : new.ended.items ≡ old.ended.items
+    pub begins_is : new.begins ≡ old.begins
+    pub writes : Writes seen may_leave old.segment new.segment
+    pub size_is : new.segment.size ≡ old.segment.size
+    pub last_is : new.segment.last ≡ old.segment.last
+    pub clean : IsTrue (is_clean new.segment.disk) → IsTrue (is_clean old.segment.disk)
+    pub rises : old.segment.base < old.segment.last
+    pub finished : IsTrue (is_clean new.segment.disk) → (es : List Entry)
+        → KeepsEntries old.segment.base old.segment.last old.segment.size (seen old.segment.disk) es
+        → IsFinished old.segment.base old.segment.last es (seen new.segment.disk) (may_leave new.segment.disk)
+    pub made : is_true new.folder → MakesAtMost has is_true places old.segment.last old.folder new.folder
+    pub was : old.segment.is_stuck ≡ false
+    pub stuck : new.segment.is_stuck ≡ true
+
+  ends_honest : (old new : Feed F D) → EndsOn old new → Honest new → Honest old
+  ends_honest old new w h = record {
+    folder = (w.made h.folder).was_true;
+    ended = subst (AllByRecursion (λ (e : Segment D). IsTrue (is_clean e.disk))) w.ended_is h.ended;
+    file = w.clean h.file;
+  }
+
+  ends_leaves : (old new : Feed F D) (b : ℕ) (text : List ℕ) → EndsOn old new → is_true new.folder → b < old.segment.base
+      → LeavesAt may_leave has new b text → LeavesAt may_leave has old b text
+  ends_leaves old new b text w honest under (inl here) = let same = here.0 in absurd (omega (arith, w.writes.base_is))
+  ends_leaves old new b text w honest under (inr away) =
+      let other : old.segment.last ≢ b = apart b old.segment.last (omega (arith, w.rises)) in
+      inr (
+        apart b old.segment.base under,
+        may_less may_leave has old.ended.items old.folder new.folder b text ((w.made honest).others b text other)
+            (subst (λ es. MayHave may_leave has es new.folder b text) w.ended_is away.1),
+      )
+
+  -- it has the same segments, or the one that is to follow
+  ends_places : (bases found after : List ℕ) (base last : ℕ) → found ≡ bases ++ base ∷ []
+      → (after ≡ found) ⊎ (after ≡ found ++ last ∷ [])
+      → (above : List ℕ) × (after ≡ bases ++ (base ∷ above)) × ((above ≡ []) ⊎ (above ≡ last ∷ []))
+  ends_places bases found after base last had (inl same) = ([], same ∙ had, inl refl)
+  ends_places bases found after base last had (inr one) =
+      (last ∷ [], one ∙ ap (λ xs. xs ++ last ∷ []) had ∙ append_assoc bases (base ∷ []) (last ∷ []), inr refl)
+
+  under_last : (bases found : List ℕ) (base last : ℕ) → AllByRecursion (λ b. b < base) bases → base < last → found ≡ bases ++ base ∷ []
+      → AreBelow last found
+  under_last bases found base last low rises had =
+      subst (AllByRecursion (λ b. b < last)) (sym had)
+      (all_one (λ b. b < last) bases base (all_under base last bases (omega arith) low) rises)
+
+  ends_over : (above now : List ℕ) (base last : ℕ) (own : List Entry) (outcomes : List ℕ → Type 0) → IsEnded base last own outcomes
+      → (above ≡ []) ⊎ (above ≡ last ∷ [])
+      → (above ≡ []) ⊎ ((above ≡ last ∷ []) × IsEnded base last own outcomes)
+  ends_over above now base last own outcomes e (inl none) = inl none
+  ends_over above now base last own outcomes e (inr one) = inr (one, e)
+
+  ends_ended : (old new : Feed F D) (now : List Entry) → EndsOn old new → IsTrue (is_clean new.segment.disk)
+      → KeepsEntries old.segment.base old.segment.last old.segment.size (seen old.segment.disk) now
+      → IsEnded old.segment.base old.segment.last now (may_leave new.segment.disk)
+  ends_ended old new now w clean kept = record { rises = w.rises; text = seen new.segment.disk; finished = w.finished clean now kept }
+
+  -- the places of both
+  record Both (old new : Feed F D) (before now : List Entry) (was : IsWhole seen may_leave is_clean is_true places has old before now) :
+      Type 0 where
+    pub low : AllByRecursion (λ b. b < old.segment.base) was.bases
+    pub had : places old.folder ≡ was.bases ++ old.segment.base ∷ []
+    pub above : List ℕ
+    pub there : places new.folder ≡ was.bases ++ (old.segment.base ∷ above)
+    pub over : (above ≡ []) ⊎ (above ≡ old.segment.last ∷ [])
+
+  ends_both : (old new : Feed F D) (before now : List Entry) → EndsOn old new → is_true new.folder
+      → (was : IsWhole seen may_leave is_clean is_true places has old before now) → Both old new before now was
+  ends_both old new before now w honest was =
+      let low = ended_below (LeavesAt may_leave has old) old.begins was.bases old.segment.base before was.ended in
+      let had : places old.folder ≡ was.bases ++ old.segment.base ∷ [] =
+      was.there ∙ ap (λ xs. was.bases ++ (old.segment.base ∷ xs)) (was.free w.was) in
+      let found = ends_places was.bases (places old.folder) (places new.folder) old.segment.base old.segment.last had
+      ((w.made honest).at_most (under_last was.bases (places old.folder) old.segment.base old.segment.last low w.rises had)) in
+      record { low = low; had = had; above = found.0; there = found.1; over = found.2 }
+
+  pub all_ends : (old new : Feed F D) → EndsOn old new → (es : List Entry) → Keeps old es → Keeps new es
+  all_ends old new w es k = record {
+    before = k.before;
+    now = k.now;
+    is = k.is;
+    entries = subst (λ b. AreEntries b k.before) (sym w.begins_is) k.entries;
+    ends = ap (λ b. last_end b k.before) w.begins_is ∙ k.ends ∙ sym w.writes.base_is;
+    kept = segment_stays old.segment new.segment w.writes w.size_is w.last_is k.now k.kept;
+    whole = λ honest.
+        let was = k.whole (ends_honest old new w honest) in
+        let both = ends_both old new k.before k.now w honest.folder was in
+        let less = all_less (LeavesAt may_leave has old) (LeavesAt may_leave has new) old.begins was.bases old.segment.base
+        old.segment.base k.before (λ b text under may. ends_leaves old new b text w honest.folder under may) both.low was.ended in
+        record {
+          bases = was.bases;
+          above = both.above;
+          there = both.there ∙ ap (λ b. was.bases ++ (b ∷ both.above)) (sym w.writes.base_is);
+          below = subst (λ b. AllByRecursion (λ (e : Segment D). e.base < b) new.ended.items) (sym w.writes.base_is)
+              (subst (AllByRecursion (λ (e : Segment D). e.base < old.segment.base)) (sym w.ended_is) was.below);
+          ended = subst (λ x. AreEnded (LeavesAt may_leave has new) new.begins was.bases x k.before) (sym w.writes.base_is)
+              (subst (λ x. AreEnded (LeavesAt may_leave has new) x was.bases old.segment.base k.before) (sym w.begins_is) less);
+          over = ends_over both.above [] new.segment.base new.segment.last k.now (may_leave new.segment.disk)
+              (ended_at old.segment.base new.segment.base old.segment.last new.segment.last k.now k.now
+              (λ _. may_leave new.segment.disk) (sym w.writes.base_is) (sym w.last_is) refl (ends_ended old new k.now w honest.file k.kept))
+              (subst (λ l. (both.above ≡ []) ⊎ (both.above ≡ l ∷ [])) (sym w.last_is) both.over);
+          free = λ stands. let never : ⊥ = true_false (sym w.stuck ∙ stands) in absurd never;
+        };
+  }
+
+  ends_left : (old new : Feed F D) (p : ℕ) (es : List Entry) (k : Keeps old es) (folder : F) → EndsOn old new → Left new p k.now folder
+      → Left old p k.now folder
+  ends_left old new p es k folder w left =
+      let honest = ends_honest old new w left.honest in
+      let was = k.whole honest in
+      let both = ends_both old new k.before k.now w left.honest.folder was in
+      let base : new.segment.base ≡ old.segment.base = w.writes.base_is in
+      let low : AllByRecursion (λ x. x < old.segment.base) ([] ++ left.stay) =
+      subst (λ b. AllByRecursion (λ x. x < b) ([] ++ left.stay)) base left.ended in
+      let found : places new.folder ≡ ([] ++ left.stay) ++ (old.segment.base ∷ left.above) =
+      left.had ∙ ap (λ b. ([] ++ left.stay) ++ (b ∷ left.above)) base in
+      let one = one_split was.bases both.above ([] ++ left.stay) left.above old.segment.base both.low low (sym both.there ∙ found) in
+      record {
+        honest = honest;
+        stay = left.stay;
+        above = [];
+        more = left.more;
+        had = both.had ∙ ap (λ xs. xs ++ old.segment.base ∷ []) one.0;
+        there = left.there ∙ ap (λ b. left.stay ++ (b ∷ left.more)) base;
+        ended = low;
+        front = left.front;
+        behind = follow_less new.segment.base old.segment.base new.segment.last old.segment.last left.more (omega (arith, base))
+            w.writes.last_up left.behind;
+        each = λ b text under had.
+            ends_leaves old new b text w left.honest.folder under (left.each b text (omega (arith, base)) had);
+        lasting = λ text had front lasting.
+            let there : has folder new.segment.base text = subst (λ b. has folder b text) (sym base) had in
+            let more : LastsAs old.segment.base new.segment.size (may_leave new.segment.disk) p front =
+            lasts_as old.segment.base old.segment.size new.segment.size p (seen old.segment.disk) (seen new.segment.disk) front
+            (may_leave old.segment.disk) (may_leave new.segment.disk) w.writes.size_up w.writes.behind lasting in
+            left.lasting text there front
+            (subst (λ b. LastsAs b new.segment.size (may_leave new.segment.disk) p front) (sym base) more);
+        done = λ at.
+            ended_at new.segment.base old.segment.base new.segment.last old.segment.last k.now k.now (has folder) base w.last_is refl
+            (left.done (at_as new.segment.last old.segment.last left.more w.last_is at));
+      }
+
+  pub goes_ends : (old new : Feed F D) → EndsOn old new → Goes seen may_leave is_clean is_true places has old new
+  unfolding all_ends
+  goes_ends old new w = record {
+    lasts_more = λ p h. (
+      let up = h.0 in omega (arith, w.last_is),
+      λ from. lasts_more _ _ _ _ _ _ _ _ _ w.writes.base_is w.writes.size_up w.writes.behind (h.1 (omega (arith, w.writes.base_is))),
+    );
+    opens_less = λ p other opened es k up.
+        let o = opened es (all_ends old new w es k) (omega (arith, w.last_is)) in
+        (o.0, ends_left old new p es k o.0 w o.1, o.2, o.3);
+  }
+
+  -- ---- the segment that follows it is open
+
+  pub record BeginsOn (old new : Feed F D) : Type 0 where
+    pub done : Segment D
+    pub ended_is : new.ended.items ≡ old.ended.items ++ done ∷ []
+    pub begins_is : new.begins ≡ old.begins
+    pub line : Writes seen may_leave old.segment done
+    pub clean : IsTrue (is_clean done.disk) → IsTrue (is_clean old.segment.disk)
+    pub rises : old.segment.base < old.segment.last
+    pub finished : IsTrue (is_clean done.disk) → (es : List Entry)
+        → KeepsEntries old.segment.base old.segment.last old.segment.size (seen old.segment.disk) es
+        → IsFinished old.segment.base old.segment.last es (seen done.disk) (may_leave done.disk)
+    pub fresh : IsFresh seen may_leave new.segment
+    pub next : new.segment.base ≡ old.segment.last
+    pub was : old.segment.is_stuck ≡ false
+    pub was_true : is_true new.folder → is_true old.folder
+    pub made : is_true new.folder → AreBelow old.segment.last (places old.folder)
+        → places new.folder ≡ places old.folder ++ old.segment.last ∷ []
+    pub others : is_true new.folder → HasNoMoreElse has old.segment.last old.folder new.folder
+
+  begins_honest : (old new : Feed F D) → BeginsOn old new → Honest new → Honest old
+  begins_honest old new w h =
+      let front = segments_front (λ (e : Segment D). IsTrue (is_clean e.disk)) old.ended.items w.done
+      (subst (AllByRecursion (λ (e : Segment D). IsTrue (is_clean e.disk))) w.ended_is h.ended) in
+      record { folder = w.was_true h.folder; ended = front.0; file = w.clean front.1 }
+
+  begins_clean : (old new : Feed F D) → (w : BeginsOn old new) → Honest new → IsTrue (is_clean w.done.disk)
+  begins_clean old new w h =
+      (segments_front (λ (e : Segment D). IsTrue (is_clean e.disk)) old.ended.items w.done
+      (subst (AllByRecursion (λ (e : Segment D). IsTrue (is_clean e.disk))) w.ended_is h.ended)).1
+
+  begins_may : (old new : Feed F D) (b : ℕ) (text : List ℕ) → (w : BeginsOn old new) → is_true new.folder → b < old.segment.base
+      → MayHave may_leave has (old.ended.items ++ w.done ∷ []) new.folder b text → MayHave may_leave has old.ended.items old.folder b text
+  begins_may old new b text w honest under (inl some) = elim (some_last may_leave has old.ended.items w.done b text some) [
+    | inl before ↦ inl before
+    | inr here ↦ absurd (let same = here.0 in let never : ⊥ = omega (arith, w.line.base_is) in never)
+  ]
+  begins_may old new b text w honest under (inr had) =
+      let none = none_last may_leave has old.ended.items w.done b had.0 in
+      inr (none.0, w.others honest b text (apart b old.segment.last (omega (arith, w.rises))) had.1)
+
+  begins_leaves : (old new : Feed F D) (b : ℕ) (text : List ℕ) → BeginsOn old new → is_true new.folder → b < old.segment.base
+      → LeavesAt may_leave has new b text → LeavesAt may_leave has old b text
+  begins_leaves old new b text w honest under (inl here) = let same = here.0 in absurd (omega (arith, w.next, w.rises))
+  begins_leaves old new b text w honest under (inr away) =
+      inr (
+        apart b old.segment.base under,
+        begins_may old new b text w honest under (subst (λ es. MayHave may_leave has es new.folder b text) w.ended_is away.1),
+      )
+
+  done_may : (old new : Feed F D) (text : List ℕ) → (w : BeginsOn old new)
+      → AllByRecursion (λ (e : Segment D). e.base < old.segment.base) old.ended.items
+      → MayHave may_leave has (old.ended.items ++ w.done ∷ []) new.folder old.segment.base text → may_leave w.done.disk text
+  done_may old new text w low (inl some) = elim (some_last may_leave has old.ended.items w.done old.segment.base text some) [
+    | inl before ↦ absurd (never_some may_leave has old.ended.items old.segment.base text low before)
+    | inr here ↦ here.1
+  ]
+  done_may old new text w low (inr had) =
+      absurd ((none_last may_leave has old.ended.items w.done old.segment.base had.0).1 w.line.base_is)
+
+  done_leaves : (old new : Feed F D) (text : List ℕ) → (w : BeginsOn old new)
+      → AllByRecursion (λ (e : Segment D). e.base < old.segment.base) old.ended.items
+      → LeavesAt may_leave has new old.segment.base text → may_leave w.done.disk text
+  done_leaves old new text w low (inl here) = let same = here.0 in absurd (omega (arith, w.next, w.rises))
+  done_leaves old new text w low (inr away) =
+      done_may old new text w low (subst (λ es. MayHave may_leave has es new.folder old.segment.base text) w.ended_is away.1)
+
+  done_ended : (old new : Feed F D) (now : List Entry) → (w : BeginsOn old new) → IsTrue (is_clean w.done.disk)
+      → KeepsEntries old.segment.base old.segment.last old.segment.size (seen old.segment.disk) now
+      → IsEnded old.segment.base old.segment.last now (may_leave w.done.disk)
+  done_ended old new now w clean kept = record { rises = w.rises; text = seen w.done.disk; finished = w.finished clean now kept }
+
+  begins_places : (old new : Feed F D) (before now : List Entry) → BeginsOn old new → is_true new.folder
+      → (was : IsWhole seen may_leave is_clean is_true places has old before now)
+      → places new.folder ≡ (was.bases ++ old.segment.base ∷ []) ++ (new.segment.base ∷ [])
+  begins_places old new before now w honest was =
+      let low = ended_below (LeavesAt may_leave has old) old.begins was.bases old.segment.base before was.ended in
+      let had : places old.folder ≡ was.bases ++ old.segment.base ∷ [] =
+      was.there ∙ ap (λ xs. was.bases ++ (old.segment.base ∷ xs)) (was.free w.was) in
+      w.made honest (under_last was.bases (places old.folder) old.segment.base old.segment.last low w.rises had)
+      ∙ ap (λ xs. xs ++ old.segment.last ∷ []) had ∙ ap (λ l. (was.bases ++ old.segment.base ∷ []) ++ l ∷ []) (sym w.next)
+
+  pub all_begins : (old new : Feed F D) → BeginsOn old new → (es : List Entry) → Keeps old es → Keeps new es
+  all_begins old new w es k =
+      let now : AreEntries (last_end old.begins k.before) k.now = subst (λ a. AreEntries a k.now) (sym k.ends) k.kept.entries in
+      let end : last_end old.begins (k.before ++ k.now) ≡ old.segment.last =
+      end_append old.begins k.before k.now ∙ ap (λ a. last_end a k.now) k.ends ∙ sym k.kept.last_is in
+      record {
+        before = k.before ++ k.now;
+        now = [];
+        is = k.is ∙ sym (append-nil (k.before ++ k.now));
+        entries = subst (λ b. AreEntries b (k.before ++ k.now)) (sym w.begins_is) (entries_append old.begins k.before k.now k.entries now);
+        ends = ap (λ b. last_end b (k.before ++ k.now)) w.begins_is ∙ end ∙ sym w.next;
+        kept = w.fresh.0;
+        whole = λ honest.
+            let was = k.whole (begins_honest old new w honest) in
+            let low = ended_below (LeavesAt may_leave has old) old.begins was.bases old.segment.base k.before was.ended in
+            let less = all_less (LeavesAt may_leave has old) (LeavesAt may_leave has new) old.begins was.bases old.segment.base
+            old.segment.base k.before (λ b text under may. begins_leaves old new b text w honest.folder under may) low was.ended in
+            let mine = ended_less old.segment.base old.segment.last k.now (may_leave w.done.disk)
+            (LeavesAt may_leave has new old.segment.base) (λ text may. done_leaves old new text w was.below may)
+            (done_ended old new k.now w (begins_clean old new w honest) k.kept) in
+            let ended = one_ended (LeavesAt may_leave has new) old.begins was.bases old.segment.base old.segment.last k.before k.now less
+            mine in
+            let first : w.done.base < new.segment.base = omega (arith, w.line.base_is, w.next, w.rises) in
+            let up : old.segment.base ≤ new.segment.base = omega (arith, w.next, w.rises) in
+            record {
+              bases = was.bases ++ old.segment.base ∷ [];
+              above = [];
+              there = begins_places old new k.before k.now w honest.folder was;
+              below = subst (AllByRecursion (λ (e : Segment D). e.base < new.segment.base)) (sym w.ended_is)
+                  (segments_one (λ (e : Segment D). e.base < new.segment.base) old.ended.items w.done
+                  (segments_under old.segment.base new.segment.base old.ended.items up was.below) first);
+              ended = subst (λ x. AreEnded (LeavesAt may_leave has new) new.begins (was.bases ++ old.segment.base ∷ []) x
+                  (k.before ++ k.now)) (sym w.next)
+                  (subst (λ x. AreEnded (LeavesAt may_leave has new) x (was.bases ++ old.segment.base ∷ []) old.segment.last
+                  (k.before ++ k.now)) (sym w.begins_is) ended);
+              over = inl refl;
+              free = λ _. refl;
+            };
+      }
+
+  -- a front that has gone has not the one that ends at the LSN or above it
+  some_stay : (gone stay bases found : List ℕ) (base next p : ℕ) (more : List ℕ) → gone ++ stay ≡ bases ++ base ∷ []
+      → found ≡ stay ++ (next ∷ more) → p ≤ next
+      → (gone ≡ []) ⊎ BeginBelow p found → stay ≡ [] → ⊥
+  some_stay gone stay bases found base next p more same there up (inl none) empty =
+      never_none_left bases base (sym (ap (λ g. g ++ stay) none ∙ empty) ∙ same)
+  some_stay gone stay bases found base next p more same there up (inr below) empty =
+      let first : next < p = subst (BeginBelow p) (there ∙ ap (λ s. s ++ (next ∷ more)) empty) below in omega arith
+
+  begins_left : (old new : Feed F D) (p : ℕ) (es : List Entry) (k : Keeps old es) (folder : F) → BeginsOn old new → p ≤ old.segment.last
+      → Left new p [] folder → Left old p k.now folder
+  begins_left old new p es k folder w up left =
+      let honest = begins_honest old new w left.honest in
+      let clean = begins_clean old new w left.honest in
+      let was = k.whole honest in
+      let low = ended_below (LeavesAt may_leave has old) old.begins was.bases old.segment.base k.before was.ended in
+      let above : old.segment.base ≤ new.segment.base = omega (arith, w.next, w.rises) in
+      let less : old.segment.base < new.segment.base = omega (arith, w.next, w.rises) in
+      let under = all_one (λ b. b < new.segment.base) was.bases old.segment.base
+      (all_under old.segment.base new.segment.base was.bases above low) less in
+      let one = one_split (was.bases ++ old.segment.base ∷ []) [] ([] ++ left.stay) left.above new.segment.base under left.ended
+      (sym (begins_places old new k.before k.now w left.honest.folder was) ∙ left.had) in
+      let some = some_stay [] left.stay was.bases (places folder) old.segment.base new.segment.base p left.more (sym one.0) left.there
+      (omega (arith, w.next)) left.front in
+      let last = stay_last [] left.stay was.bases old.segment.base (sym one.0) some in
+      let had : places old.folder ≡ was.bases ++ old.segment.base ∷ [] =
+      was.there ∙ ap (λ xs. was.bases ++ (old.segment.base ∷ xs)) (was.free w.was) in
+      record {
+        honest = honest;
+        stay = last.0;
+        above = [];
+        more = new.segment.base ∷ left.more;
+        had = had ∙ ap (λ xs. xs ++ old.segment.base ∷ []) last.2;
+        there = left.there ∙ ap (λ xs. xs ++ (new.segment.base ∷ left.more)) last.1
+            ∙ append_assoc last.0 (old.segment.base ∷ []) (new.segment.base ∷ left.more);
+        ended = subst (AllByRecursion (λ x. x < old.segment.base)) last.2 low;
+        front = left.front;
+        behind = (less, omega (arith, w.next), follow_above new.segment.base new.segment.last left.more left.behind);
+        each = λ b text below had.
+            begins_leaves old new b text w left.honest.folder below (left.each b text (omega arith) had);
+        lasting = λ text had front lasting.
+            let may = done_leaves old new text w was.below (left.each old.segment.base text less had) in
+            (lasts_as old.segment.base old.segment.size w.done.size p (seen old.segment.disk) (seen w.done.disk) front
+            (may_leave old.segment.disk) (may_leave w.done.disk) w.line.size_up w.line.behind lasting).each text may;
+        done = λ at. ended_less old.segment.base old.segment.last k.now (may_leave w.done.disk) (has folder old.segment.base)
+            (λ text had. done_leaves old new text w was.below (left.each old.segment.base text less had))
+            (done_ended old new k.now w clean k.kept);
+      }
+
+  pub goes_begins : (old new : Feed F D) → BeginsOn old new → Goes seen may_leave is_clean is_true places has old new
+  unfolding all_begins
+  goes_begins old new w =
+      let last : new.segment.last ≡ new.segment.base = w.fresh.0.last_is in
+      record {
+        lasts_more = λ p h. (
+          let up = h.0 in omega (arith, last, w.next),
+          λ from.
+              let up = h.0 in
+              let at : new.segment.base ≡ p = omega (arith, w.next) in
+              subst (λ q. Lasts new.segment.base new.segment.size (may_leave new.segment.disk) q) at w.fresh.1,
+        );
+        opens_less = λ p other opened es k up.
+            let o = opened es (all_begins old new w es k) (omega (arith, last, w.next)) in
+            (o.0, begins_left old new p es k o.0 w up o.1, o.2, o.3);
+      }
 
   -- ---- one call after the other
 
-  pub goes_nowhere : (ended : List (Segment D)) (s : Segment D) → Goes seen may_leave ended s ended s
-  goes_nowhere ended s = record { lasts_more = λ p h. h; opens_less = λ p other opened. opened }
+  pub goes_nowhere : (l : Feed F D) → Goes seen may_leave is_clean is_true places has l l
+  goes_nowhere l = record { lasts_more = λ p h. h; opens_less = λ p other opened. opened }
 
-  pub goes_on_by : (before between after : List (Segment D)) (old mid new : Segment D) → Goes seen may_leave before old between mid
-      → Goes seen may_leave between mid after new
-      → Goes seen may_leave before old after new
-  goes_on_by before between after old mid new first second = record {
+  pub goes_on_by : (old mid new : Feed F D) → Goes seen may_leave is_clean is_true places has old mid
+      → Goes seen may_leave is_clean is_true places has mid new
+      → Goes seen may_leave is_clean is_true places has old new
+  goes_on_by old mid new first second = record {
     lasts_more = λ p h. second.lasts_more p (first.lasts_more p h);
     opens_less = λ p other opened. first.opens_less p other (second.opens_less p other opened);
   }
 
+  -- what is synced
+  pub all_lasts : (old new : Feed F D) (es : List Entry) → new.segment.base ≡ old.segment.base
+      → new.segment.last ≡ old.segment.last → new.segment.size ≡ old.segment.size
+      → Only (seen old.segment.disk) (may_leave new.segment.disk)
+      → Keeps old es → LastsUpTo seen may_leave is_clean is_true places has new (last_end old.begins es)
+  all_lasts old new es base last size only k =
+      let there : last_end old.begins es ≡ old.segment.last = all_last seen may_leave is_clean is_true places has old es k in (
+        omega arith,
+        λ above. subst (λ q. Lasts new.segment.base new.segment.size (may_leave new.segment.disk) q) (sym k.kept.last_is ∙ sym there)
+            (lasts_there old.segment.base new.segment.base old.segment.size new.segment.size (last_end old.segment.base k.now)
+            (may_leave new.segment.disk) base size
+            (synced_lasts _ _ _ _ (may_leave new.segment.disk) k.now k.kept only)),
+      )
+
+-- ---- a segment ends
+
+module _ {D : Type 0} (seen : D → List ℕ) (may_leave : D → List ℕ → Type 0) where
   end_same : (is_clean : D → Bool) (stay after : List (Segment D)) (old new now : Segment D) → now.base ≡ new.base
       → ((new.base ≡ old.base) × (after ≡ stay)) ⊎ Ends seen may_leave is_clean stay after old new
       → ((now.base ≡ old.base) × (after ≡ stay)) ⊎ Ends seen may_leave is_clean stay after old now
@@ -379,72 +933,9 @@ module _ {D : Type 0} (seen : D → List ℕ) (may_leave : D → List ℕ → Ty
     ends = end_same is_clean may.stay after old new now same may.ends;
   }
 
-  -- what is synced
-  through_up : (ended : List (Segment D)) (s : Segment D) (es : List Entry) → KeepsThrough seen ended s es → first_base ended s ≤ s.last
-  through_up ended s es k = let up = ends_up (first_base ended s) es (through_entries seen ended s es k) in
-      omega (arith, through_last seen ended s es k)
+-- ---- the time that later ones are compared with
 
-  all_among : (ended : List (Segment D)) (old new : Segment D) (es : List Entry) (p : ℕ) → p ≡ old.last → KeepsThrough seen ended old es
-      → ((own : List Entry) → KeepsEntries old.base old.last old.size (seen old.disk) own → Lasts new.base new.size (may_leave new.disk) p)
-      → LastsAmong may_leave ended new p
-  all_among [] old new es p at k lasting = λ above. lasting es k
-  all_among (e ∷ ended) old new es p at k lasting = (
-    λ lies. let below = lies.1 in let up = through_up ended old k.1 k.5 in absurd (omega (arith, k.4)),
-    all_among ended old new k.1 p at k.5 lasting,
-  )
-
-  pub all_lasts : (begins : ℕ) (ended : List (Segment D)) (old new : Segment D) (es : List Entry) → new.base ≡ old.base
-      → new.last ≡ old.last → new.size ≡ old.size → Only (seen old.disk) (may_leave new.disk)
-      → KeepsAll seen begins ended old es → LastsUpTo may_leave ended new (last_end begins es)
-  all_lasts begins ended old new es base last size only k =
-      let there : last_end begins es ≡ old.last = all_last seen begins ended old es k in (
-        omega arith,
-        all_among ended old new k.now (last_end begins es) there k.kept (λ own kept.
-            subst (λ q. Lasts new.base new.size (may_leave new.disk) q) (sym kept.last_is ∙ sym there)
-            (lasts_there old.base new.base old.size new.size (last_end old.base own) (may_leave new.disk) base size
-            (synced_lasts _ _ _ _ (may_leave new.disk) own kept only))),
-      )
-
-  -- ---- opened again
-
-  -- whichever feed left the text, what was opened in it opens that one
-  left_found : (is_clean : Type 0) → is_clean → (ended : List (Segment D)) (old s : Segment D) (p : ℕ) (text : List ℕ) → s.base < p
-      → s.last ≡ p
-      → IsFound s.base p text s.size → IsCut text s.size (seen s.disk) (may_leave s.disk) → IsLeft seen may_leave ended old p text s
-      → OpensAmong seen may_leave ended old p s
-  left_found is_clean clean [] old s p text above ends found cut (inl same) =
-      inl (
-        omega (arith, same.0),
-        left_reopens old.base old.size p s.base s.base s.last s.size text (seen s.disk) (may_leave old.disk) (may_leave s.disk) same.0
-            same.1 refl ends found cut,
-      )
-  left_found is_clean clean [] old s p text above ends found cut (inr later) = inr (later, above)
-  left_found is_clean clean (e ∷ ended) old s p text above ends found cut (inl same) =
-      inl (
-        (omega (arith, same.0), same.1),
-        left_reopens e.base e.size p s.base s.base s.last s.size text (seen s.disk) (may_leave e.disk) (may_leave s.disk) same.0 same.2
-            refl ends found cut,
-      )
-  left_found is_clean clean (e ∷ ended) old s p text above ends found cut (inr later) =
-      inr (left_found is_clean clean ended old s p text above ends found cut later)
-
-  left_opens : (is_clean : Type 0) → is_clean → (ended : List (Segment D)) (old s : Segment D) (p : ℕ) (text : List ℕ)
-      → IsOpened seen may_leave is_clean p text s → IsLeft seen may_leave ended old p text s
-      → OpensAt seen may_leave ended old p s
-  left_opens is_clean clean ended old s p text (inl fresh) left = inl fresh
-  left_opens is_clean clean ended old s p text (inr found) left =
-      let opened = found.2 clean in
-      inr (left_found is_clean clean ended old s p text found.0 found.1 opened.0 opened.1 left)
-
-  pub opens_some : (is_clean : Type 0) (p : ℕ) (text : List ℕ) (s : Segment D) → IsOpened seen may_leave is_clean p text s
-      → OpensSome seen may_leave is_clean p s
-  opens_some is_clean p text s opened =
-      record { text = text; opened = opened; reopens = λ clean ended old left. left_opens is_clean clean ended old s p text opened left }
-
-  -- what was found in the text of a file, where its base isn't the LSN
-  pub opens_found : (is_clean : Type 0) (base p : ℕ) (text : List ℕ) (s : Segment D) → s.base ≡ base → s.last ≡ p → base ≢ p
-      → (is_clean → IsFound base p text s.size)
-      → (is_clean → IsCut text s.size (seen s.disk) (may_leave s.disk)) → base ≤ p → OpensSome seen may_leave is_clean p s
-  opens_found is_clean base p text s begins ends other found cut up =
-      opens_some is_clean p text s
-      (inr (omega arith, ends, λ clean. (subst (λ b. IsFound b p text s.size) (sym begins) (found clean), cut clean)))
+pub timed : {D : Type 0} (before mid after : Option ℤ) (about : Option About) (old went new : Segment D) → StaysTimed before mid old went
+    → new.base ≡ went.base → after ≡ first_time mid about → IsTimed before after about old new
+timed before mid after about old went new (inl stays) same is = inl (same ∙ stays.0, is ∙ ap (λ t. first_time t about) stays.1)
+timed before mid after about old went new (inr next) same is = inr (same ∙ next.0, is ∙ ap (λ t. first_time t about) next.1)

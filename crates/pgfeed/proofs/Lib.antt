@@ -1,5 +1,7 @@
 pub mod Examples
 pub mod Calls
 pub mod Following
+pub mod Folders
 pub mod Bodies
 pub mod Plain
+pub mod Lasting

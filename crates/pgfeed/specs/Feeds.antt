@@ -1,35 +1,26 @@
--- A feed: segments that follow each other. The last one is open. Of those that have ended, some are
--- named by a list: the ones that have commits which the store beside the feed may lack, the first
--- one first.
+-- A feed: segments that follow each other. The last one is open. The others have ended. The feed
+-- has the files of the open one and of those that have commits which the store beside it may lack,
+-- the first one first. Its folder has the others.
 use Rattle.std.specs.Prelude.{◌≡◌, ◌≢◌, ◌<◌, ◌≤◌, ◌-◌, ◌++◌, ◌⊎◌, ℕ, ℤ, pos, ◌+ℤ◌, ◌≤ℤ◌, List, []}
-use Rattle.std.specs.Prelude.{◌∷◌, length, Bool, IsTrue, Option, Some, None}
+use Rattle.std.specs.Prelude.{◌∷◌, length, Bool, false, IsTrue, Option, Some, None, ⊤}
+use Rattle.std.specs.List.{AllByRecursion}
 use Rattle.pgapply.specs.declared.commit.About.{About}
 use Rattle.pgledger.specs.Entries.{Entry, last_end}
+use Rattle.pgfeed.specs.declared.feed.Feed.{Feed}
 use Rattle.pgfeed.specs.declared.segment.Segment.{Segment}
 use Rattle.pgfeed.specs.Reading.{AreEntries}
-use Rattle.pgfeed.specs.Segments.{IsCut, IsFinished, IsFound, KeepsEntries, Lasts, Reopens}
+use Rattle.pgfeed.specs.Segments.{HasWhatLasts, IsCut, IsEnded, IsFinished, IsFound, KeepsEntries}
+use Rattle.pgfeed.specs.Segments.{Lasts}
 
--- where the first of these segments begins
-abbrev pub first_base : {D : Type 0} → List (Segment D) → Segment D → ℕ
-first_base [] s = s.base
-first_base (e ∷ ended) s = e.base
+-- ---- when a segment ends
 
--- the LSN lies within the segment: it neither begins nor ends there
-abbrev pub LiesIn : {D : Type 0} → ℕ → Segment D → Type 0
-LiesIn p e = (e.base < p) × (p < e.last)
+-- it has a commit
+abbrev pub HasCommit : {D : Type 0} → Segment D → Type 0
+HasCommit s = s.base < s.last
 
--- what the segment in which the LSN lies has up to it outlasts a crash
-abbrev pub LastsAmong : {D : Type 0} → (D → List ℕ → Type 0) → List (Segment D) → Segment D → ℕ → Type 0
-LastsAmong may_leave [] s p = s.base ≤ p → Lasts s.base s.size (may_leave s.disk) p
-LastsAmong may_leave (e ∷ ended) s p = (LiesIn p e → Lasts e.base e.size (may_leave e.disk) p) × LastsAmong may_leave ended s p
-
--- up to this LSN all that these segments have of the feed outlasts a crash
-abbrev pub LastsUpTo : {D : Type 0} → (D → List ℕ → Type 0) → List (Segment D) → Segment D → ℕ → Type 0
-LastsUpTo may_leave ended s p = (p ≤ s.last) × LastsAmong may_leave ended s p
-
--- it has a commit, and no room for so many bytes more
+-- it has no room for so many bytes more
 abbrev pub IsFull : {D : Type 0} → ℕ → Segment D → ℕ → Type 0
-IsFull limit s bytes = (s.base < s.last) × (limit - s.size < bytes)
+IsFull limit s bytes = limit - s.size < bytes
 
 -- a commit of that time comes so many microseconds, or more, after the first one
 abbrev pub IsLate : ℕ → Option ℤ → Option About → Type 0
@@ -37,82 +28,104 @@ IsLate micros (Some first) (Some about) = (first +ℤ pos micros) ≤ℤ about.t
 IsLate micros (Some first) None = ⊥
 IsLate micros None about = ⊥
 
--- it takes no commit of that time with a text of so many bytes
+-- it has a commit, and takes none of that time with a text of so many bytes
 abbrev pub IsOver : {D : Type 0} → ℕ → ℕ → Option ℤ → Segment D → Option About → ℕ → Type 0
-IsOver limit micros first s about bytes = IsFull limit s bytes ⊎ IsLate micros first about
+IsOver limit micros first s about bytes = HasCommit s × (IsFull limit s bytes ⊎ IsLate micros first about)
 
-module _ {D : Type 0} (seen : D → List ℕ) where
-  -- these segments keep the entries, each its own, and each begins where the one before it ends
-  abbrev pub KeepsThrough : List (Segment D) → Segment D → List Entry → Type 0
-  KeepsThrough [] s es = KeepsEntries s.base s.last s.size (seen s.disk) es
-  KeepsThrough (e ∷ ended) s es =
-      (own : List Entry) × (more : List Entry) × (es ≡ own ++ more) × KeepsEntries e.base e.last e.size (seen e.disk) own
-      × (e.last ≡ first_base ended s) × KeepsThrough ended s more
+-- a segment that takes no commit more goes on all the same: the store lacks commits of as many that
+-- have ended as stay open at most
+abbrev pub MayGoOver : {D : Type 0} → ℕ → ℕ → List (Segment D) → Segment D → Type 0
+MayGoOver most synced ended s = (synced ≢ s.last) × (most ≤ length ended)
 
-  -- The feed keeps the entries of the segments before these, which rise from where it begins to
-  -- where the first of these begins, and then those of these.
-  pub record KeepsAll (begins : ℕ) (ended : List (Segment D)) (s : Segment D) (es : List Entry) : Type 0 where
-    pub before : List Entry
-    pub now : List Entry
-    pub is : es ≡ before ++ now
-    pub entries : AreEntries begins before
-    pub ends : last_end begins before ≡ first_base ended s
-    pub kept : KeepsThrough ended s now
+-- the first time that is known, else that of this commit
+abbrev pub first_time : Option ℤ → Option About → Option ℤ
+first_time (Some first) about = Some first
+first_time None (Some about) = Some about.time
+first_time None None = None
 
-  -- it keeps what it kept
-  abbrev pub KeepsOn : ℕ → List (Segment D) → Segment D → List (Segment D) → Segment D → Type 0
-  KeepsOn begins before old after new = (es : List Entry) → KeepsAll begins before old es → KeepsAll begins after new es
+-- The time that later ones are compared with: where the segment goes on, the same, and where
+-- another one follows it, none yet.
+abbrev pub StaysTimed : {D : Type 0} → Option ℤ → Option ℤ → Segment D → Segment D → Type 0
+StaysTimed before after old new =
+    ((new.base ≡ old.base) × (after ≡ before)) ⊎ ((new.base ≡ old.last) × (after ≡ None))
 
-  module _ (may_leave : D → List ℕ → Type 0) where
-    -- the segment has no entry, also after a crash
-    abbrev pub IsFresh : Segment D → Type 0
-    IsFresh s = KeepsEntries s.base s.last s.size (seen s.disk) [] × Lasts s.base s.size (may_leave s.disk) s.base
+-- where none is known yet, that of this commit
+abbrev pub IsTimed : {D : Type 0} → Option ℤ → Option ℤ → Option About → Segment D → Segment D → Type 0
+IsTimed before after about old new =
+    ((new.base ≡ old.base) × (after ≡ first_time before about)) ⊎ ((new.base ≡ old.last) × (after ≡ first_time None about))
 
-    -- the other one is the segment opened anew at the LSN
-    abbrev pub IsAgain : Segment D → ℕ → Segment D → Type 0
-    IsAgain s p other = Reopens s.base s.size (may_leave s.disk) p other.base other.last other.size (seen other.disk) (may_leave other.disk)
+-- ---- segments that have ended
 
-    -- the other one is the segment in which the LSN lies, opened anew there, or one that followed
-    -- all of these and that isn't new
-    abbrev pub OpensAmong : List (Segment D) → Segment D → ℕ → Segment D → Type 0
-    OpensAmong [] s p other = ((s.base ≤ p) × IsAgain s p other) ⊎ ((s.last ≤ other.base) × (other.base < p))
-    OpensAmong (e ∷ ended) s p other = (LiesIn p e × IsAgain e p other) ⊎ OpensAmong ended s p other
+-- Segments begin at these LSNs. Each has ended and has its own entries, and the one behind it
+-- begins there: the first one at that LSN, and what follows them at that one. What a crash leaves
+-- of each is told by where it begins.
+abbrev pub AreEnded : (ℕ → List ℕ → Type 0) → ℕ → List ℕ → ℕ → List Entry → Type 0
+AreEnded leaves at [] next es = (at ≡ next) × (es ≡ [])
+AreEnded leaves at (b ∷ bases) next es =
+    (last : ℕ) × (own : List Entry) × (more : List Entry) × (b ≡ at) × (es ≡ own ++ more) × IsEnded b last own (leaves b)
+    × AreEnded leaves last bases next more
 
-    -- Where a feed of these segments is opened anew at an LSN, on what a crash left, the other one
-    -- is open: a new one that begins there, or one of these again.
-    abbrev pub OpensAt : List (Segment D) → Segment D → ℕ → Segment D → Type 0
-    OpensAt ended s p other = ((other.base ≡ p) × IsFresh other) ⊎ OpensAmong ended s p other
+-- where the first of them begins, else there
+abbrev pub first_of : List ℕ → ℕ → ℕ
+first_of [] at = at
+first_of (b ∷ bases) at = b
 
-    -- what a call leaves of the segments
-    pub record Goes (before : List (Segment D)) (old : Segment D) (after : List (Segment D)) (new : Segment D) : Type 0 where
-      pub lasts_more : (p : ℕ) → LastsUpTo may_leave before old p → LastsUpTo may_leave after new p
-      pub opens_less : (p : ℕ) (other : Segment D) → OpensAt after new p other → OpensAt before old p other
+abbrev pub BeginBelow : ℕ → List ℕ → Type 0
+BeginBelow p [] = ⊥
+BeginBelow p (b ∷ bases) = b < p
 
-    -- What opening at an LSN makes of the text that a file had: a segment that begins there is made
-    -- anew, and of another one what lies behind the commit that ends there is cut off.
-    abbrev pub IsOpened : Type 0 → ℕ → List ℕ → Segment D → Type 0
-    IsOpened is_clean p text s =
-        ((s.base ≡ p) × IsFresh s)
-        ⊎ ((s.base < p) × (s.last ≡ p) × (is_clean → IsFound s.base p text s.size × IsCut text s.size (seen s.disk) (may_leave s.disk)))
+abbrev pub BeginAt : ℕ → List ℕ → Type 0
+BeginAt p [] = ⊥
+BeginAt p (b ∷ bases) = b ≡ p
 
-    -- The text was left by a crash of the one of these segments that begins where the opened one
-    -- does, or it is of one that followed them. The LSN isn't above one that has ended, since the
-    -- next one was there.
-    abbrev pub IsLeft : List (Segment D) → Segment D → ℕ → List ℕ → Segment D → Type 0
-    IsLeft [] old p text s = ((old.base ≡ s.base) × may_leave old.disk text) ⊎ (old.last ≤ s.base)
-    IsLeft (e ∷ ended) old p text s = ((e.base ≡ s.base) × (p < e.last) × may_leave e.disk text) ⊎ IsLeft ended old p text s
+-- the first of these follows a segment that begins and ends there, and the others begin behind it
+abbrev pub Follow : ℕ → ℕ → List ℕ → Type 0
+Follow base last [] = ⊤
+Follow base last (b ∷ bases) = (base < b) × (last ≤ b) × AllByRecursion (λ other. b < other) bases
 
-    -- some text was opened at an LSN as this segment, whichever feed it was left by
-    pub record OpensSome (is_clean : Type 0) (p : ℕ) (s : Segment D) : Type 0 where
-      pub text : List ℕ
-      pub opened : IsOpened is_clean p text s
-      pub reopens : is_clean → (ended : List (Segment D)) (old : Segment D) → IsLeft ended old p text s → OpensAt ended old p s
+module _ {D : Type 0} (may_leave : D → List ℕ → Type 0) where
+  -- one of these segments begins there, and a crash may leave the text of it
+  abbrev pub SomeLeaves : List (Segment D) → ℕ → List ℕ → Type 0
+  SomeLeaves [] b text = ⊥
+  SomeLeaves (e ∷ ended) b text = ((e.base ≡ b) × may_leave e.disk text) ⊎ SomeLeaves ended b text
+
+-- none of these segments begins there
+abbrev pub NoneAt : {D : Type 0} → List (Segment D) → ℕ → Type 0
+NoneAt {D} ended b = AllByRecursion (λ (e : Segment D). e.base ≢ b) ended
+
+module _ {F D : Type 0} (may_leave : D → List ℕ → Type 0) (has : F → ℕ → List ℕ → Type 0) where
+  -- where the folder has these files back, whatever the file of the segment may have that begins
+  -- there
+  abbrev pub MayHave : List (Segment D) → F → ℕ → List ℕ → Type 0
+  MayHave ended folder b text = SomeLeaves may_leave ended b text ⊎ (NoneAt ended b × has folder b text)
+
+  -- what a crash may leave of the segment of a feed that begins there
+  abbrev pub LeavesAt : Feed F D → ℕ → List ℕ → Type 0
+  LeavesAt l b text =
+      ((l.segment.base ≡ b) × may_leave l.segment.disk text) ⊎ ((l.segment.base ≢ b) × MayHave l.ended.items l.folder b text)
+
+module _ {D : Type 0} (seen : D → List ℕ) (may_leave : D → List ℕ → Type 0) where
+  -- the segment has no entry, also after a crash
+  abbrev pub IsFresh : Segment D → Type 0
+  IsFresh s = KeepsEntries s.base s.last s.size (seen s.disk) [] × Lasts s.base s.size (may_leave s.disk) s.base
+
+  -- What opening at an LSN makes of the text that a file had: what lies behind the commit that ends
+  -- there is cut off.
+  pub record IsCutAt (p : ℕ) (text : List ℕ) (s : Segment D) : Type 0 where
+    pub above : s.base < p
+    pub found : IsFound s.base p text s.size
+    pub cut : IsCut text s.size (seen s.disk) (may_leave s.disk)
+
+  -- The segment was opened at an LSN in a folder: a new one that begins there, or the one that was
+  -- found, cut off there.
+  abbrev pub OpenedFrom : {F : Type 0} → (F → ℕ → List ℕ → Type 0) → F → ℕ → Segment D → Type 0
+  OpenedFrom has folder p s =
+      ((s.base ≡ p) × IsFresh s) ⊎ ((text : List ℕ) × has folder s.base text × IsCutAt p text s)
 
   -- The open segment ends, and the other one begins there. The ended one is kept behind those that
   -- stay. Its file has a head, its entries and the line that ends it, and nothing else, also after
   -- a crash.
-  pub record Ends (may_leave : D → List ℕ → Type 0) (is_clean : D → Bool) (stay after : List (Segment D))
-      (old new : Segment D) : Type 0 where
+  pub record Ends (is_clean : D → Bool) (stay after : List (Segment D)) (old new : Segment D) : Type 0 where
     pub next : new.base ≡ old.last
     pub ended : Segment D
     pub stays : after ≡ stay ++ ended ∷ []
@@ -123,13 +136,117 @@ module _ {D : Type 0} (seen : D → List ℕ) where
 
   -- Those that have ended stay, or they are let go where all was synced before. Then the segment is
   -- open yet, or it ends.
-  pub record MayEnd (may_leave : D → List ℕ → Type 0) (is_clean : D → Bool) (synced : ℕ) (before after : List (Segment D))
-      (old new : Segment D) : Type 0 where
+  pub record MayEnd (is_clean : D → Bool) (synced : ℕ) (before after : List (Segment D)) (old new : Segment D) : Type 0 where
     pub stay : List (Segment D)
     pub stays : (stay ≡ before) ⊎ ((synced ≡ old.last) × (stay ≡ []))
-    pub ends : ((new.base ≡ old.base) × (after ≡ stay)) ⊎ Ends may_leave is_clean stay after old new
+    pub ends : ((new.base ≡ old.base) × (after ≡ stay)) ⊎ Ends is_clean stay after old new
 
--- a segment that takes no commit more goes on all the same: the store lacks commits of as many that
--- have ended as stay open at most
-abbrev pub MayGoOver : {D : Type 0} → ℕ → ℕ → List (Segment D) → Segment D → Type 0
-MayGoOver most synced ended s = (synced ≢ s.last) × (most ≤ length ended)
+-- the folder has these files back, which have given back what was written
+module _ {F D : Type 0} (may_leave : D → List ℕ → Type 0) (is_clean : D → Bool) (is_true : F → Type 0) (places : F → List ℕ)
+    (has : F → ℕ → List ℕ → Type 0) where
+  pub record TakesAllBack (ended : List (Segment D)) (old new : F) : Type 0 where
+    pub was_true : is_true old
+    pub clean : AllByRecursion (λ (e : Segment D). IsTrue (is_clean e.disk)) ended
+    pub places_are : places new ≡ places old
+    pub files : (b : ℕ) (text : List ℕ) → has new b text → MayHave may_leave has ended old b text
+
+-- ---- all segments of a feed
+
+module _ {F D : Type 0} (seen : D → List ℕ) (may_leave : D → List ℕ → Type 0) (is_clean : D → Bool) (is_true : F → Type 0)
+    (places : F → List ℕ) (has : F → ℕ → List ℕ → Type 0) where
+  -- The folder's answers were true, and the disks have given back what was written.
+  pub record IsHonestFeed (l : Feed F D) : Type 0 where
+    pub folder : is_true l.folder
+    pub ended : AllByRecursion (λ (e : Segment D). IsTrue (is_clean e.disk)) l.ended.items
+    pub file : IsTrue (is_clean l.segment.disk)
+
+  -- The folder has segments at these LSNs, the open one, and nothing else but perhaps the one that
+  -- was to follow it. Those before it have ended, and have these entries.
+  pub record IsWhole (l : Feed F D) (before now : List Entry) : Type 0 where
+    pub bases : List ℕ
+    pub above : List ℕ
+    pub there : places l.folder ≡ bases ++ (l.segment.base ∷ above)
+    pub below : AllByRecursion (λ (e : Segment D). e.base < l.segment.base) l.ended.items
+    pub ended : AreEnded (LeavesAt may_leave has l) l.begins bases l.segment.base before
+    pub over : (above ≡ [])
+        ⊎ ((above ≡ l.segment.last ∷ []) × IsEnded l.segment.base l.segment.last now (may_leave l.segment.disk))
+    pub free : l.segment.is_stuck ≡ false → above ≡ []
+
+  -- The feed keeps these entries: those of the segments that have ended, and then those of the open
+  -- one. They rise from where it begins.
+  pub record KeepsAll (l : Feed F D) (es : List Entry) : Type 0 where
+    pub before : List Entry
+    pub now : List Entry
+    pub is : es ≡ before ++ now
+    pub entries : AreEntries l.begins before
+    pub ends : last_end l.begins before ≡ l.segment.base
+    pub kept : KeepsEntries l.segment.base l.segment.last l.segment.size (seen l.segment.disk) now
+    pub whole : IsHonestFeed l → IsWhole l before now
+
+  -- Up to this LSN its entries outlast a crash. Those that have ended were synced as they did.
+  abbrev pub LastsUpTo : Feed F D → ℕ → Type 0
+  LastsUpTo l p =
+      (p ≤ l.segment.last) × (l.segment.base ≤ p → Lasts l.segment.base l.segment.size (may_leave l.segment.disk) p)
+
+  -- A folder has what a crash left of a feed whose open segment had these entries, but for a front
+  -- of segments that had ended, which others removed. The last one of these ended below the LSN.
+  -- What follows the open one is free; where it begins at its end, the open one has ended.
+  pub record IsLeftIn (l : Feed F D) (p : ℕ) (now : List Entry) (gone : List ℕ) (folder : F) : Type 0 where
+    pub honest : IsHonestFeed l
+    pub stay : List ℕ
+    pub above : List ℕ
+    pub more : List ℕ
+    pub had : places l.folder ≡ (gone ++ stay) ++ (l.segment.base ∷ above)
+    pub there : places folder ≡ stay ++ (l.segment.base ∷ more)
+    pub ended : AllByRecursion (λ b. b < l.segment.base) (gone ++ stay)
+    pub front : (gone ≡ []) ⊎ BeginBelow p (places folder)
+    pub behind : Follow l.segment.base l.segment.last more
+    pub each : (b : ℕ) (text : List ℕ) → b < l.segment.base → has folder b text → LeavesAt may_leave has l b text
+    pub lasting : (text : List ℕ) → has folder l.segment.base text
+        → HasWhatLasts l.segment.base l.segment.size (may_leave l.segment.disk) p text
+    pub done : BeginAt l.segment.last more → IsEnded l.segment.base l.segment.last now (has folder l.segment.base)
+
+  -- A folder was opened at an LSN: it is left with this open segment, and the feed begins there.
+  -- That is the one in which the LSN lies, cut off there, or a new one that begins at it, where one
+  -- did or there was none. Those above the LSN were removed, those before the open one stay as they
+  -- were, and there is nothing else.
+  pub record CutsIn (folder : F) (p : ℕ) (left : F) (begins : ℕ) (s : Segment D) : Type 0 where
+    pub bases : List ℕ
+    pub above : List ℕ
+    pub there : (places folder ≡ bases ++ (s.base ∷ above)) ⊎ ((places folder ≡ []) × (bases ≡ []) × (s.base ≡ p))
+    pub removed : AllByRecursion (λ b. p < b) above
+    pub stay : places left ≡ bases ++ s.base ∷ []
+    pub first : begins ≡ first_of bases s.base
+    pub same : (b : ℕ) (text : List ℕ) → s.base ≢ b → has left b text → has folder b text
+    pub opened : OpenedFrom seen may_leave has folder p s
+
+  pub record OpensIn (folder : F) (p : ℕ) (l : Feed F D) : Type 0 where
+    pub alone : l.ended.items ≡ []
+    pub last : l.segment.last ≡ p
+    pub free : l.segment.is_stuck ≡ false
+    pub synced : l.synced ≡ p
+    pub untimed : l.first ≡ None
+    pub cuts : IsHonestFeed l → CutsIn folder p l.folder l.begins l.segment
+
+  -- Of these entries of the old feed the new one keeps the last ones, from where it begins. Those
+  -- before were in the segments that have gone.
+  pub record KeepsLast (old new : Feed F D) (gone : List ℕ) (told : List Entry) : Type 0 where
+    pub before : List Entry
+    pub stay : List Entry
+    pub is : told ≡ before ++ stay
+    pub kept : KeepsAll new stay
+    pub begins_is : new.begins ≡ last_end old.begins before
+    -- where no segment has gone, all of them
+    pub all : gone ≡ [] → before ≡ []
+
+  -- The other one was opened at an LSN that the feed reaches, in a folder with what a crash left of
+  -- it.
+  abbrev pub ReopensAt : Feed F D → ℕ → Feed F D → Type 0
+  ReopensAt l p other =
+      (es : List Entry) (k : KeepsAll l es) → p ≤ l.segment.last
+      → (folder : F) × IsLeftIn l p k.now [] folder × OpensIn folder p other × IsHonestFeed other
+
+  -- what a call leaves of a feed
+  pub record Goes (old new : Feed F D) : Type 0 where
+    pub lasts_more : (p : ℕ) → LastsUpTo old p → LastsUpTo new p
+    pub opens_less : (p : ℕ) (other : Feed F D) → ReopensAt new p other → ReopensAt old p other

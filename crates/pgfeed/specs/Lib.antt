@@ -4,6 +4,8 @@ pub mod Reading
 pub mod Segments
 pub mod Whole
 pub mod Naming
+pub mod Folders
 pub mod Feeds
 pub mod Cutting
 pub mod Told
+pub mod Lasting

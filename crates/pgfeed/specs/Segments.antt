@@ -91,3 +91,9 @@ pub record IsFinished (base last : ℕ) (es : List Entry) (file : List ℕ) (out
   pub entries : AreEntries base es
   pub last_is : last ≡ last_end base es
   pub synced : Only file outcomes
+
+-- It has ended behind where it began, and a crash leaves its text as it is.
+pub record IsEnded (base last : ℕ) (own : List Entry) (outcomes : List ℕ → Type 0) : Type 0 where
+  pub rises : base < last
+  pub text : List ℕ
+  pub finished : IsFinished base last own text outcomes

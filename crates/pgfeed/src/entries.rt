@@ -11,7 +11,7 @@ ghost use Rattle.pgfeed.specs.Texts.{body_text, entry_text};
 use crate::changes::push_image;
 use crate::heads::commit_line;
 use crate::tables::{is_told, push_table};
-use pgapply::{Commit, Op};
+use pgapply::{ChangeRefs, Commit, Op};
 use pgledger::Image;
 use pglogical::RelationDef;
 use pglsn::Lsn;
@@ -29,7 +29,7 @@ fn defined<'d>(definitions: &'d [RelationDef], entry: &(usize, Op<'_>)) -> &'d R
 fn body(
     alloc: Global,
     definitions: &[RelationDef],
-    entries: &[(usize, Op<'_>)],
+    entries: &ChangeRefs<'_, '_>,
     images: &[Image<'_>],
 ) -> Result<String, AllocError>
     requires { AllByRecursion (IsNumbered definitions.now) entries.now }
@@ -38,8 +38,8 @@ fn body(
 {
     let mut text = String::new(alloc);
     let mut told = Vec::new(alloc);
-    for (n, (entry, image)) in entries.iter().zip(images).enumerate() {
-        let def = defined(definitions, entry);
+    for (n, (entry, image)) in entries.reborrow().zip(images).enumerate() {
+        let def = defined(definitions, &entry);
         if !is_told(&told, def) {
             push_table(alloc, def, &mut text)?;
             told.push(def)?;
@@ -65,7 +65,7 @@ pub fn entry_text(
     let definitions = commit.work.definitions();
     let entries = commit.work.entries();
     let count = entries.len().min(images.len());
-    let body = body(alloc, definitions, entries, images)?;
+    let body = body(alloc, definitions, &entries, images)?;
     let mut text = commit_line(alloc, commit.end, prev, body.len(), count, commit.about)?;
     text.push_str(body.as_str())?;
     Ok(text)

@@ -1,12 +1,13 @@
 //! A feed: segments that follow each other.
 
-ghost use Rattle.std.specs.Prelude.{◌≡◌, ◌<◌, ◌≤◌, ◌⊎◌, ◌↔◌, ◌++◌, ◌∷◌, [], List, true, false};
+ghost use Rattle.std.specs.Prelude.{◌≡◌, ◌<◌, ◌≤◌, ◌⊎◌, ◌↔◌, [], true, false, None};
 ghost use Rattle.std.specs.Prelude.{IsTrue, OnOk, OnErr, IfErr, length};
 ghost use Rattle.pgapply.specs.Stored.{IsOwnFault};
-ghost use Rattle.pgledger.specs.Entries.{Entry, entry_of};
+ghost use Rattle.pgledger.specs.Entries.{entry_of};
 ghost use Rattle.pgledger.specs.Ledgers.{Appends, AppendsAtMost, Keeps, Rests, Syncs};
-ghost use Rattle.pgfeed.specs.Feeds.{Ends, Goes, KeepsAll, KeepsOn, LastsUpTo, MayEnd, OpensAt};
-ghost use Rattle.pgfeed.specs.Feeds.{IsFull, IsLate, IsOver, MayGoOver};
+ghost use Rattle.pgfeed.specs.Feeds.{Ends, Goes, IsFull, IsHonestFeed, IsLate, IsOver, KeepsAll};
+ghost use Rattle.pgfeed.specs.Feeds.{LastsUpTo, MayEnd, MayGoOver, ReopensAt, TakesAllBack};
+ghost use Rattle.pgfeed.specs.Feeds.{IsTimed, StaysTimed, first_time};
 ghost use Rattle.pgfeed.specs.Naming.{head_of};
 ghost use Rattle.pgfeed.specs.Texts.{entry_text};
 
@@ -47,6 +48,17 @@ pub struct Feed<F: Folder + Drop> {
     limits: SegmentLimits,
 }
 
+/// The first time that is known, else that of this commit.
+fn first_time(first: Option<i64>, about: Option<About>) -> Option<i64>
+    ensures { result ≡ first_time first about }
+{
+    match (first, about) {
+        (Some(first), _) => Some(first),
+        (None, Some(about)) => Some(about.time),
+        (None, None) => None,
+    }
+}
+
 impl<F: Folder + Drop> Feed<F> {
     /// A feed whose open segment is this one, of which all is synced.
     pub(crate) fn of(
@@ -63,6 +75,8 @@ impl<F: Folder + Drop> Feed<F> {
         ensures synced { result.synced ≡ segment.last }
         ensures names { result.names ≡ names }
         ensures limits { result.limits ≡ limits }
+        ensures folder { result.folder ≡ folder }
+        ensures untimed { result.first ≡ None }
     {
         let synced = segment.last();
         Feed {
@@ -108,12 +122,12 @@ impl<F: Folder + Drop> Feed<F> {
         (folder, self.segment.into_disk())
     }
 
-    /// Whether the open segment has a commit, and no room for so many bytes more.
+    /// Whether the open segment has no room for so many bytes more.
     fn is_full(&self, bytes: usize) -> bool
         ensures { IsTrue result ↔ IsFull self.now.limits.bytes self.now.segment bytes }
     {
         let room = self.limits.bytes.saturating_sub(self.segment.size() as u64);
-        self.segment.base() < self.segment.last() && room < bytes as u64
+        room < bytes as u64
     }
 
     /// Whether a commit comes too late for the open segment.
@@ -132,12 +146,16 @@ impl<F: Folder + Drop> Feed<F> {
             × IsOver self.now.limits.bytes self.now.limits.micros self.now.first
             self.now.segment about bytes) }
     {
-        self.ended.len() < MOST_ENDED && (self.is_full(bytes) || self.is_late(about))
+        self.ended.len() < MOST_ENDED
+            && self.segment.base() < self.segment.last()
+            && (self.is_full(bytes) || self.is_late(about))
     }
 
     /// Gives the folder back the files of segments that have ended.
     fn let_go(&mut self)
         ensures ended { self.new.ended.items ≡ [] }
+        ensures back { F.is_true self.new.folder → TakesAllBack F.File.may_leave F.File.is_clean
+            F.is_true F.places F.has self.old.ended.items self.old.folder self.new.folder }
         ensures segment { self.new.segment ≡ self.old.segment }
         ensures begins { self.new.begins ≡ self.old.begins }
         ensures synced { self.new.synced ≡ self.old.synced }
@@ -151,10 +169,10 @@ impl<F: Folder + Drop> Feed<F> {
 
     /// Lets go of segments that have ended where all was synced: the store has stored it since.
     fn let_settled_go(&mut self)
-        ensures goes { Goes F.File.seen F.File.may_leave self.old.ended.items self.old.segment
-            self.new.ended.items self.new.segment }
-        ensures kept { KeepsOn F.File.seen self.old.begins self.old.ended.items self.old.segment
-            self.new.ended.items self.new.segment }
+        ensures goes { Goes F.File.seen F.File.may_leave F.File.is_clean F.is_true
+            F.places F.has self.old self.new }
+        ensures kept { Keeps (KeepsAll F.File.seen F.File.may_leave F.File.is_clean F.is_true
+            F.places F.has) self.old self.new }
         ensures stays { (self.new.ended.items ≡ self.old.ended.items)
             ⊎ ((self.old.synced ≡ self.old.segment.last) × (self.new.ended.items ≡ [])) }
         ensures gone { self.old.synced ≡ self.old.segment.last → self.new.ended.items ≡ [] }
@@ -172,10 +190,12 @@ impl<F: Folder + Drop> Feed<F> {
 
     /// Ends the open segment, and begins the next one where it ends. The ended one stays open.
     fn begin_next(&mut self) -> Result<(), StoreFault>
-        ensures goes { Goes F.File.seen F.File.may_leave self.old.ended.items self.old.segment
-            self.new.ended.items self.new.segment }
-        ensures kept { KeepsOn F.File.seen self.old.begins self.old.ended.items self.old.segment
-            self.new.ended.items self.new.segment }
+        requires some { self.old.segment.base < self.old.segment.last }
+        requires free { self.old.segment.is_stuck ≡ false }
+        ensures goes { Goes F.File.seen F.File.may_leave F.File.is_clean F.is_true
+            F.places F.has self.old self.new }
+        ensures kept { Keeps (KeepsAll F.File.seen F.File.may_leave F.File.is_clean F.is_true
+            F.places F.has) self.old self.new }
         ensures ends { ((self.new.segment.base ≡ self.old.segment.base)
             × (self.new.ended.items ≡ self.old.ended.items))
             ⊎ Ends F.File.seen F.File.may_leave F.File.is_clean self.old.ended.items
@@ -185,8 +205,11 @@ impl<F: Folder + Drop> Feed<F> {
             ≡ head_of self.old.names self.old.segment.last) }
         ensures last { self.new.segment.last ≡ self.old.segment.last }
         ensures free { OnOk result (self.new.segment.is_stuck ≡ false) }
+        ensures untimed { OnOk result (self.new.first ≡ None) }
         ensures begins { self.new.begins ≡ self.old.begins }
         ensures synced { self.new.synced ≡ self.old.synced }
+        ensures limits { self.new.limits ≡ self.old.limits }
+        ensures names { self.new.names ≡ self.old.names }
         ensures fault { IfErr result IsOwnFault }
     {
         let base = self.segment.last();
@@ -202,10 +225,11 @@ impl<F: Folder + Drop> Feed<F> {
     /// Goes on to the next segment where the open one ends before a commit whose text has so many
     /// bytes.
     fn make_room(&mut self, about: Option<About>, bytes: usize) -> Result<(), StoreFault>
-        ensures goes { Goes F.File.seen F.File.may_leave self.old.ended.items self.old.segment
-            self.new.ended.items self.new.segment }
-        ensures kept { KeepsOn F.File.seen self.old.begins self.old.ended.items self.old.segment
-            self.new.ended.items self.new.segment }
+        requires { self.old.segment.is_stuck ≡ false }
+        ensures goes { Goes F.File.seen F.File.may_leave F.File.is_clean F.is_true
+            F.places F.has self.old self.new }
+        ensures kept { Keeps (KeepsAll F.File.seen F.File.may_leave F.File.is_clean F.is_true
+            F.places F.has) self.old self.new }
         ensures ends { MayEnd F.File.seen F.File.may_leave F.File.is_clean self.old.synced
             self.old.ended.items self.new.ended.items self.old.segment self.new.segment }
         ensures over { (self.new.segment.base ≡ self.old.segment.base) ⊎
@@ -218,10 +242,13 @@ impl<F: Folder + Drop> Feed<F> {
         ensures let_go { OnOk result (self.old.synced ≡ self.old.segment.last →
             length self.new.ended.items ≤ 1) }
         ensures last { self.new.segment.last ≡ self.old.segment.last }
-        ensures free { self.old.segment.is_stuck ≡ false →
-            OnOk result (self.new.segment.is_stuck ≡ false) }
+        ensures free { OnOk result (self.new.segment.is_stuck ≡ false) }
+        ensures first { OnOk result (StaysTimed self.old.first self.new.first self.old.segment
+            self.new.segment) }
         ensures begins { self.new.begins ≡ self.old.begins }
         ensures synced { self.new.synced ≡ self.old.synced }
+        ensures limits { self.new.limits ≡ self.old.limits }
+        ensures names { self.new.names ≡ self.old.names }
         ensures fault { IfErr result IsOwnFault }
     {
         self.let_settled_go();
@@ -233,15 +260,17 @@ impl<F: Folder + Drop> Feed<F> {
 
     /// Writes the text of a commit after the last one, or into the next segment.
     fn write(&mut self, commit: &Commit<'_, '_>, images: &[Image<'_>]) -> Result<(), StoreFault>
-        ensures goes { Goes F.File.seen F.File.may_leave self.old.ended.items self.old.segment
-            self.new.ended.items self.new.segment }
-        ensures appended { OnOk result ((es : List Entry) →
-            KeepsAll F.File.seen self.old.begins self.old.ended.items self.old.segment es →
-            KeepsAll F.File.seen self.old.begins self.new.ended.items self.new.segment (es ++
-            (entry_of commit.now.end commit.now.about commit.now.work.now.changes images.now)
-            ∷ [])) }
-        ensures kept { OnErr result (KeepsOn F.File.seen self.old.begins self.old.ended.items
-            self.old.segment self.new.ended.items self.new.segment) }
+        requires { self.old.segment.is_stuck ≡ false }
+        ensures goes { Goes F.File.seen F.File.may_leave F.File.is_clean F.is_true
+            F.places F.has self.old self.new }
+        ensures appended { OnOk result (Appends (KeepsAll F.File.seen F.File.may_leave
+            F.File.is_clean F.is_true F.places F.has) (entry_of commit.now.end commit.now.about
+            commit.now.work.now.changes images.now) self.old self.new) }
+        ensures kept { OnErr result (Keeps (KeepsAll F.File.seen F.File.may_leave F.File.is_clean
+            F.is_true F.places F.has) self.old self.new) }
+        ensures first { OnOk result (IsTimed self.old.first self.new.first commit.now.about
+            self.old.segment self.new.segment) }
+        ensures limits { self.new.limits ≡ self.old.limits }
         ensures ends { MayEnd F.File.seen F.File.may_leave F.File.is_clean self.old.synced
             self.old.ended.items self.new.ended.items self.old.segment self.new.segment }
         ensures over { (self.new.segment.base ≡ self.old.segment.base) ⊎
@@ -256,38 +285,39 @@ impl<F: Folder + Drop> Feed<F> {
             ⊎ MayGoOver MOST_ENDED self.old.synced self.old.ended.items self.old.segment) }
         ensures let_go { OnOk result (self.old.synced ≡ self.old.segment.last →
             length self.new.ended.items ≤ 1) }
-        ensures free { self.old.segment.is_stuck ≡ false →
-            OnOk result (self.new.segment.is_stuck ≡ false) }
+        ensures free { OnOk result (self.new.segment.is_stuck ≡ false) }
         ensures begins { self.new.begins ≡ self.old.begins }
         ensures synced { self.new.synced ≡ self.old.synced }
+        ensures names { self.new.names ≡ self.old.names }
         ensures fault { IfErr result IsOwnFault }
     {
         let text = self.segment.text(commit, images)?;
         self.make_room(commit.about, text.len())?;
         self.segment.put(commit.end, text.as_str())?;
-        self.first = self.first.or(commit.about.map(|about| about.time));
+        self.first = first_time(self.first, commit.about);
         Ok(())
     }
 }
 
 impl<F: Folder + Drop> Ledger for Feed<F> {
-    ghost use Rattle.std.specs.Prelude.{[]};
-    ghost use Rattle.pgfeed.specs.Feeds.{KeepsAll, LastsUpTo, OpensAt};
+    ghost use Rattle.pgfeed.specs.Feeds.{KeepsAll, LastsUpTo, ReopensAt};
     ghost use Rattle.pgfeed.specs.Cutting.Following.{cut_ledger};
     ghost use Rattle.pgfeed.specs.Cutting.Opened.{wants_all};
 
     ghost begins = { λ l. l.begins };
 
-    ghost keeps = { λ l es. KeepsAll F.File.seen l.begins l.ended.items l.segment es };
+    ghost keeps = { KeepsAll F.File.seen F.File.may_leave F.File.is_clean F.is_true F.places
+        F.has };
 
-    ghost outlasts = { λ l p. LastsUpTo F.File.may_leave l.ended.items l.segment p };
+    ghost outlasts = { LastsUpTo F.File.seen F.File.may_leave F.File.is_clean F.is_true F.places
+        F.has };
 
     ghost is_stuck = { λ l. l.segment.is_stuck };
 
     ghost is_wanting = { λ _. true };
 
-    ghost reopens = { λ l p other. (other.begins ≡ l.begins) × (other.ended.items ≡ [])
-        × OpensAt F.File.seen F.File.may_leave l.ended.items l.segment p other.segment };
+    ghost reopens = { ReopensAt F.File.seen F.File.may_leave F.File.is_clean F.is_true F.places
+        F.has };
 
     fn is_stuck(&self) -> bool {
         self.segment.is_stuck()
@@ -315,22 +345,23 @@ impl<F: Folder + Drop> Ledger for Feed<F> {
         ensures let_go { OnOk result (self.old.synced ≡ self.old.segment.last →
             length self.new.ended.items ≤ 1) }
         ensures synced { self.new.synced ≡ self.old.synced }
-        ensures appended { OnOk result (Appends (λ (l : Feed F F.File) es.
-            KeepsAll F.File.seen l.begins l.ended.items l.segment es)
-            (entry_of commit.now.end commit.now.about
+        ensures first { OnOk result (IsTimed self.old.first self.new.first commit.now.about
+            self.old.segment self.new.segment) }
+        ensures limits { self.new.limits ≡ self.old.limits }
+        ensures names { self.new.names ≡ self.old.names }
+        ensures appended { OnOk result (Appends (KeepsAll F.File.seen F.File.may_leave
+            F.File.is_clean F.is_true F.places F.has) (entry_of commit.now.end commit.now.about
             commit.now.work.now.changes images.now) self.old self.new) }
         ensures was_free { OnOk result (self.old.segment.is_stuck ≡ false) }
         ensures free { OnOk result (self.new.segment.is_stuck ≡ false) }
-        ensures refused { OnErr result (AppendsAtMost (λ (l : Feed F F.File) es.
-            KeepsAll F.File.seen l.begins l.ended.items l.segment es) commit.now.end self.old
-            self.new) }
+        ensures refused { OnErr result (AppendsAtMost (KeepsAll F.File.seen F.File.may_leave
+            F.File.is_clean F.is_true F.places F.has) commit.now.end self.old self.new) }
         ensures stuck { OnErr result (self.new.segment.is_stuck ≡ true) }
         ensures fault { IfErr result IsOwnFault }
         ensures rests { Rests (λ (l : Feed F F.File). l.begins) (λ (l : Feed F F.File). true)
-            (λ (l : Feed F F.File) p. LastsUpTo F.File.may_leave l.ended.items l.segment p)
-            (λ (l : Feed F F.File) p (other : Feed F F.File). (other.begins ≡ l.begins)
-            × (other.ended.items ≡ []) × OpensAt F.File.seen F.File.may_leave l.ended.items
-            l.segment p other.segment) self.old self.new }
+            (LastsUpTo F.File.seen F.File.may_leave F.File.is_clean F.is_true F.places F.has)
+            (ReopensAt F.File.seen F.File.may_leave F.File.is_clean F.is_true F.places F.has)
+            self.old self.new }
     {
         if self.segment.is_stuck() {
             return Err(StoreFault::Refused);
@@ -351,22 +382,23 @@ impl<F: Folder + Drop> Ledger for Feed<F> {
         ensures ended { self.new.ended.items ≡ self.old.ended.items }
         ensures base { self.new.segment.base ≡ self.old.segment.base }
         ensures last { self.new.segment.last ≡ self.old.segment.last }
-        ensures synced { OnOk result (Syncs (λ (l : Feed F F.File) es.
-            KeepsAll F.File.seen l.begins l.ended.items l.segment es)
-            (λ (l : Feed F F.File). l.begins)
-            (λ (l : Feed F F.File) p. LastsUpTo F.File.may_leave l.ended.items l.segment p)
+        ensures first { self.new.first ≡ self.old.first }
+        ensures limits { self.new.limits ≡ self.old.limits }
+        ensures names { self.new.names ≡ self.old.names }
+        ensures synced { OnOk result (Syncs (KeepsAll F.File.seen F.File.may_leave
+            F.File.is_clean F.is_true F.places F.has) (λ (l : Feed F F.File). l.begins)
+            (LastsUpTo F.File.seen F.File.may_leave F.File.is_clean F.is_true F.places F.has)
             self.old self.new) }
-        ensures kept { Keeps (λ (l : Feed F F.File) es.
-            KeepsAll F.File.seen l.begins l.ended.items l.segment es) self.old self.new }
+        ensures kept { Keeps (KeepsAll F.File.seen F.File.may_leave F.File.is_clean F.is_true
+            F.places F.has) self.old self.new }
         ensures was_free { OnOk result (self.old.segment.is_stuck ≡ false) }
         ensures free { OnOk result (self.new.segment.is_stuck ≡ false) }
         ensures stuck { OnErr result (self.new.segment.is_stuck ≡ true) }
         ensures fault { IfErr result IsOwnFault }
         ensures rests { Rests (λ (l : Feed F F.File). l.begins) (λ (l : Feed F F.File). true)
-            (λ (l : Feed F F.File) p. LastsUpTo F.File.may_leave l.ended.items l.segment p)
-            (λ (l : Feed F F.File) p (other : Feed F F.File). (other.begins ≡ l.begins)
-            × (other.ended.items ≡ []) × OpensAt F.File.seen F.File.may_leave l.ended.items
-            l.segment p other.segment) self.old self.new }
+            (LastsUpTo F.File.seen F.File.may_leave F.File.is_clean F.is_true F.places F.has)
+            (ReopensAt F.File.seen F.File.may_leave F.File.is_clean F.is_true F.places F.has)
+            self.old self.new }
     {
         self.segment.flush()?;
         self.synced = self.segment.last();
@@ -378,8 +410,8 @@ impl<F: Folder + Drop> Ledger for Feed<F> {
     }
 
     ghost cuts = { λ old new p told later opened kept ends lasting above. cut_ledger F.File.seen
-        F.File.may_leave F.File.seen_may_stay old.begins new.begins old.ended.items new.ended.items
-        old.segment p new.segment told later opened kept ends lasting };
+        F.File.may_leave F.File.is_clean F.is_true F.places F.has F.File.seen_may_stay old new p
+        told later opened kept ends lasting };
 
     ghost unasked = { λ l no es. wants_all no };
 }

@@ -31,16 +31,35 @@ pub struct SegmentLimits {
 }
 
 /// The folder of a feed: its segments, each a file that is named by the LSN at which it begins.
+///
+/// What is said of it holds while its answers are true: nobody else writes its files, and others
+/// remove no more than a front of those that have ended, between one opening of the feed and the
+/// next.
 pub trait Folder {
+    ghost use Rattle.std.specs.Prelude.{◌≡◌, ◌⊎◌, ◌++◌, ◌∷◌, [], ℕ, List, OnOk};
+    ghost use Rattle.pgfeed.specs.Folders.{AreBelow, HasNoMore, HasNoMoreElse, Stays, TakesBack};
+
     /// The file of a segment.
     type File: Disk + Drop;
+
+    /// Its answers were true. Once that fails it never holds again.
+    ghost is_true: { Self → Type 0 };
+
+    /// The LSNs at which its segments begin, rising.
+    ghost places: { Self → List ℕ };
+
+    /// The segment that begins there may have these bytes when it is opened.
+    ghost has: { Self → ℕ → List ℕ → Type 0 };
 
     /// The LSNs at which its segments begin, rising.
     ///
     /// # Errors
     ///
     /// `Refused` where the folder can't be read, and `Memory`.
-    fn bases(&mut self) -> Result<Vec<Lsn>, FeedFault>;
+    fn bases(&mut self) -> Result<Vec<Lsn>, FeedFault>
+        ensures found { is_true self.new →
+            IfOk result (λ bases. bases.items ≡ places self.old) }
+        ensures stays { is_true self.new → Stays has is_true places self.old self.new };
 
     /// The file of a segment that is there.
     ///
@@ -48,7 +67,10 @@ pub trait Folder {
     ///
     /// `Refused` where it can't be opened, and `Memory`.
     fn open(&mut self, base: Lsn) -> Result<Self::File, FeedFault>
-        ensures usable { IfOk result (λ file. IsTrue (Self.File.is_usable file)) };
+        ensures usable { IfOk result (λ file. IsTrue (Self.File.is_usable file)) }
+        ensures text { is_true self.new → IfOk result (λ file. (text : List ℕ) →
+            Self.File.may_leave file text → has self.old base text) }
+        ensures stays { is_true self.new → Stays has is_true places self.old self.new };
 
     /// The file of a segment that begins here. Its name outlasts a crash. Where a file has that
     /// name already, it is that one.
@@ -57,18 +79,33 @@ pub trait Folder {
     ///
     /// `Refused` where it can't be made, and `Memory`.
     fn create(&mut self, base: Lsn) -> Result<Self::File, FeedFault>
-        ensures usable { IfOk result (λ file. IsTrue (Self.File.is_usable file)) };
+        ensures usable { IfOk result (λ file. IsTrue (Self.File.is_usable file)) }
+        ensures made { is_true self.new → AreBelow base (places self.old) →
+            OnOk result (places self.new ≡ places self.old ++ base ∷ []) }
+        ensures at_most { is_true self.new → AreBelow base (places self.old) →
+            (places self.new ≡ places self.old)
+            ⊎ (places self.new ≡ places self.old ++ base ∷ []) }
+        ensures others { is_true self.new → HasNoMoreElse has base self.old self.new }
+        ensures was_true { is_true self.new → is_true self.old };
 
-    /// Removes the segment that begins here.
+    /// Removes the segment that begins here, the last one.
     ///
     /// # Errors
     ///
     /// `Refused` where it can't be removed, and `Memory`.
-    fn remove(&mut self, base: Lsn) -> Result<(), FeedFault>;
+    fn remove(&mut self, base: Lsn) -> Result<(), FeedFault>
+        ensures gone { is_true self.new → OnOk result ((low : List ℕ) →
+            places self.old ≡ low ++ base ∷ [] → places self.new ≡ low) }
+        ensures others { is_true self.new → HasNoMore has self.old self.new }
+        ensures was_true { is_true self.new → is_true self.old };
 
-    /// Takes back the file of a segment that the feed writes no more. Where nothing else is said,
-    /// it is dropped.
-    fn close(&mut self, _base: Lsn, _file: Self::File) {}
+    /// Takes back the file of a segment that the feed writes no more.
+    fn close(&mut self, base: Lsn, file: Self::File)
+        ensures places { is_true self.new → places self.new ≡ places self.old }
+        ensures files { is_true self.new →
+            TakesBack has base (Self.File.may_leave file) self.old self.new }
+        ensures clean { is_true self.new → IsTrue (Self.File.is_clean file) }
+        ensures was_true { is_true self.new → is_true self.old };
 }
 
 /// What a feed is of, kept for the segments that follow.

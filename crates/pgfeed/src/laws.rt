@@ -7,6 +7,9 @@ ghost use Rattle.pgfeed.specs.Reading.{BeginsWith, LinesLeadOver, TextIsReadInOn
 ghost use Rattle.pgfeed.specs.Texts.{closing_line, commit_line};
 ghost use Rattle.pgfeed.specs.declared.mark.Mark.{Mark};
 ghost use Rattle.pgfeed.specs.Whole.{LinesTellWholeRows};
+ghost use Rattle.pgfeed.specs.Lasting.{FeedsOutlastCrashes};
+
+use crate::folder::Folder;
 
 /// The line of a commit has 256 bytes, whatever numbers of 64 bits it tells.
 pub fn lines_of_commits_fit()
@@ -38,4 +41,13 @@ pub fn text_is_read_in_one_way()
 /// the rows before to those after.
 pub fn lines_tell_whole_rows()
     ensures { LinesTellWholeRows }
+{}
+
+/// Let a folder have what a crash at any moment leaves of a feed, or all of it but a front of
+/// segments that others removed once they had ended. A feed that is opened there at an LSN up to
+/// which the entries were synced keeps exactly those up to it, from the first segment that is
+/// there.
+pub fn feeds_outlast_crashes<F: Folder + Drop>()
+    ensures { FeedsOutlastCrashes F.File.seen F.File.may_leave F.File.is_clean F.is_true F.places
+        F.has }
 {}

@@ -128,6 +128,7 @@ impl<D: Disk + Drop> Segment<D> {
             (D.may_leave self.old.disk) (D.may_leave self.new.disk) }
         ensures base { self.new.base ≡ self.old.base }
         ensures stuck { self.new.is_stuck ≡ self.old.is_stuck }
+        ensures clean { IsTrue (D.is_clean self.new.disk) → IsTrue (D.is_clean self.old.disk) }
         ensures fault { IfErr result (λ fault. fault ≡ Refused) }
     {
         if !self.disk.may_be_used() {
@@ -179,6 +180,7 @@ impl<D: Disk + Drop> Segment<D> {
         ensures was_free { OnOk result (self.old.is_stuck ≡ false) }
         ensures free { OnOk result (self.new.is_stuck ≡ false) }
         ensures stuck { OnErr result (self.new.is_stuck ≡ true) }
+        ensures clean { IsTrue (D.is_clean self.new.disk) → IsTrue (D.is_clean self.old.disk) }
         ensures fault { IfErr result (λ fault. fault ≡ Refused) }
     {
         if self.is_stuck || !self.disk.may_be_used() {
@@ -217,6 +219,7 @@ impl<D: Disk + Drop> Segment<D> {
         ensures last { self.new.last ≡ self.old.last }
         ensures size { self.new.size ≡ self.old.size }
         ensures stuck { self.new.is_stuck ≡ true }
+        ensures clean { IsTrue (D.is_clean self.new.disk) → IsTrue (D.is_clean self.old.disk) }
         ensures fault { IfErr result IsOwnFault }
     {
         self.is_stuck = true;

@@ -1,7 +1,10 @@
 //! Opening a feed: its last segment is opened, and those above the position go.
 
-ghost use Rattle.std.specs.Prelude.{◌≡◌, ◌≤◌, [], false, IsTrue, IfOk};
-ghost use Rattle.pgfeed.specs.Feeds.{IsFresh, KeepsAll, LastsUpTo, OpensSome};
+ghost use Rattle.std.specs.Prelude.{◌≡◌, ◌<◌, ◌++◌, ◌∷◌, [], false, IsTrue, IfOk, OnOk};
+ghost use Rattle.std.specs.Bool.{OnTrue};
+ghost use Rattle.std.specs.List.{AllByRecursion};
+ghost use Rattle.pgfeed.specs.Folders.{AreBelow, MakesAtMost, RemovesAll, StaysElse};
+ghost use Rattle.pgfeed.specs.Feeds.{CutsIn, IsFresh, OpenedFrom, OpensIn, TakesAllBack};
 ghost use Rattle.pgfeed.specs.Naming.{IsOf, head_of};
 
 use crate::fault::FeedFault;
@@ -25,7 +28,11 @@ fn create_in<F: Folder>(
     ensures fresh { IfOk result (λ s. IsFresh F.File.seen F.File.may_leave s) }
     ensures told { IfOk result (λ s. F.File.seen s.disk ≡ head_of names.now base) }
     ensures base { IfOk result (λ s. s.base ≡ base) }
+    ensures last { IfOk result (λ s. s.last ≡ base) }
     ensures free { IfOk result (λ s. s.is_stuck ≡ false) }
+    ensures same { OnOk result (folder.new ≡ folder.old) }
+    ensures stays { F.is_true folder.new →
+        StaysElse F.has F.is_true F.places base folder.old folder.new }
 {
     let system = names.system.as_str();
     let database = names.database.as_str();
@@ -48,7 +55,12 @@ pub(crate) fn begin_segment<F: Folder>(
     ensures fresh { IfOk result (λ s. IsFresh F.File.seen F.File.may_leave s) }
     ensures told { IfOk result (λ s. F.File.seen s.disk ≡ head_of names.now base) }
     ensures base { IfOk result (λ s. s.base ≡ base) }
+    ensures last { IfOk result (λ s. s.last ≡ base) }
     ensures free { IfOk result (λ s. s.is_stuck ≡ false) }
+    ensures made { F.is_true folder.new → AreBelow base (F.places folder.old) →
+        OnOk result (F.places folder.new ≡ F.places folder.old ++ base ∷ []) }
+    ensures at_most { F.is_true folder.new →
+        MakesAtMost F.has F.is_true F.places base folder.old folder.new }
 {
     let file = folder.create(base)?;
     create_in(alloc, folder, file, names, base)
@@ -63,11 +75,13 @@ fn segment_at<F: Folder>(
     base: Lsn,
     position: Lsn,
 ) -> Result<Segment<F::File>, FeedFault>
-    ensures opened { IfOk result (λ s. OpensSome F.File.seen F.File.may_leave
-        (IsTrue (F.File.is_clean s.disk)) position s) }
+    ensures opened { F.is_true folder.new → IfOk result (λ s. IsTrue (F.File.is_clean s.disk) →
+        OpenedFrom F.File.seen F.File.may_leave F.has folder.old position s) }
     ensures base { IfOk result (λ s. s.base ≡ base) }
     ensures last { IfOk result (λ s. s.last ≡ position) }
     ensures free { IfOk result (λ s. s.is_stuck ≡ false) }
+    ensures stays { F.is_true folder.new →
+        StaysElse F.has F.is_true F.places base folder.old folder.new }
 {
     let file = folder.open(base)?;
     if base == position {
@@ -83,25 +97,37 @@ fn segment_at<F: Folder>(
 }
 
 /// Removes segments, the last of them first.
-fn remove_all<F: Folder>(folder: &mut F, bases: &[Lsn]) -> Result<(), FeedFault> {
-    for base in bases.iter().rev() {
-        folder.remove(*base)?;
+fn remove_all<F: Folder>(folder: &mut F, bases: &[Lsn]) -> Result<(), FeedFault>
+    ensures { F.is_true folder.new → OnOk result
+        (RemovesAll F.has F.is_true F.places bases.now folder.old folder.new) }
+{
+    let mut left = bases.len();
+    'removed: while left > 0 {
+        left -= 1;
+        folder.remove(bases[left])?;
     }
     Ok(())
 }
 
-/// The segment in which a position is, and where the first one begins.
+/// Whether all of these lie above the position.
+fn are_above(bases: &[Lsn], position: Lsn) -> bool
+    ensures { OnTrue result (AllByRecursion (λ b. position < b) bases.now) }
+{
+    bases.iter().all(|base| position < *base)
+}
+
+/// The segment in which a position is, and where the first one begins. Those above it go.
 fn last_segment<F: Folder>(
     alloc: Global,
     folder: &mut F,
     names: &Names,
     position: Lsn,
 ) -> Result<(Segment<F::File>, Lsn), FeedFault>
-    ensures opened { IfOk result (λ found. OpensSome F.File.seen F.File.may_leave
-        (IsTrue (F.File.is_clean found.0.disk)) position found.0) }
+    ensures cuts { F.is_true folder.new → IfOk result (λ found.
+        IsTrue (F.File.is_clean found.0.disk) → CutsIn F.File.seen F.File.may_leave
+        F.File.is_clean F.is_true F.places F.has folder.old position folder.new found.1 found.0) }
     ensures last { IfOk result (λ found. found.0.last ≡ position) }
     ensures free { IfOk result (λ found. found.0.is_stuck ≡ false) }
-    ensures begins { IfOk result (λ found. found.1 ≤ found.0.base) }
 {
     let bases = folder.bases()?;
     if bases.is_empty() {
@@ -113,7 +139,7 @@ fn last_segment<F: Folder>(
     let (Some(first), Some(last)) = (below.first(), below.last()) else {
         return Err(FeedFault::NotAFeed);
     };
-    if last < first {
+    if !are_above(above, position) {
         return Err(FeedFault::Refused);
     }
     let segment = segment_at(alloc, folder, names, *last, position)?;
@@ -121,9 +147,13 @@ fn last_segment<F: Folder>(
     Ok((segment, *first))
 }
 
-/// Gives the folder back the files of segments, the first one first.
-pub(crate) fn close_all<F: Folder>(folder: &mut F, ended: Vec<Segment<F::File>>) {
-    for segment in ended {
+/// Gives the folder back the files of segments, the last one first.
+pub(crate) fn close_all<F: Folder>(folder: &mut F, ended: Vec<Segment<F::File>>)
+    ensures { F.is_true folder.new → TakesAllBack F.File.may_leave F.File.is_clean F.is_true
+        F.places F.has ended.items folder.old folder.new }
+{
+    let mut ended = ended;
+    'closed: while let Some(segment) = ended.pop() {
         folder.close(segment.base(), segment.into_disk());
     }
 }
@@ -148,19 +178,11 @@ impl<F: Folder + Drop> Feed<F> {
         limits: SegmentLimits,
         position: Lsn,
     ) -> Result<Feed<F>, (FeedFault, F)>
-        ensures opened { IfOk result (λ f. OpensSome F.File.seen F.File.may_leave
-            (IsTrue (F.File.is_clean f.segment.disk)) position f.segment) }
-        ensures ended { IfOk result (λ f. f.ended.items ≡ []) }
-        ensures last { IfOk result (λ f. f.segment.last ≡ position) }
-        ensures synced { IfOk result (λ f. f.synced ≡ position) }
-        ensures free { IfOk result (λ f. f.segment.is_stuck ≡ false) }
-        ensures begins { IfOk result (λ f. f.begins ≤ f.segment.base) }
+        ensures opened { IfOk result (λ f. OpensIn F.File.seen F.File.may_leave F.File.is_clean
+            F.is_true F.places F.has folder position f) }
         ensures told { IfOk result (λ f. IsOf f.names origin.now.system.now
             origin.now.database.now origin.now.slot.now) }
         ensures limits { IfOk result (λ f. f.limits ≡ limits) }
-        ensures begun { IfOk result (λ f. f.begins ≡ position →
-            KeepsAll F.File.seen f.begins f.ended.items f.segment []
-            × LastsUpTo F.File.may_leave f.ended.items f.segment position) }
     {
         match open_in(alloc, &mut folder, origin, position) {
             Ok((segment, begins, names)) => {
@@ -178,11 +200,11 @@ fn open_in<F: Folder>(
     origin: &Origin<'_>,
     position: Lsn,
 ) -> Result<(Segment<F::File>, Lsn, Names), FeedFault>
-    ensures opened { IfOk result (λ found. OpensSome F.File.seen F.File.may_leave
-        (IsTrue (F.File.is_clean found.0.disk)) position found.0) }
+    ensures cuts { F.is_true folder.new → IfOk result (λ found.
+        IsTrue (F.File.is_clean found.0.disk) → CutsIn F.File.seen F.File.may_leave
+        F.File.is_clean F.is_true F.places F.has folder.old position folder.new found.1 found.0) }
     ensures last { IfOk result (λ found. found.0.last ≡ position) }
     ensures free { IfOk result (λ found. found.0.is_stuck ≡ false) }
-    ensures begins { IfOk result (λ found. found.1 ≤ found.0.base) }
     ensures told { IfOk result (λ found. IsOf found.2 origin.now.system.now
         origin.now.database.now origin.now.slot.now) }
 {

@@ -1,13 +1,23 @@
 -- A feed that is opened on what a crash left keeps the entries up to the LSN.
-use Rattle.std.proofs.Common.{◌≡◌, inl, inr, ◌<◌, ◌≤◌, ℕ, List, [], ◌∷◌, ◌++◌, append-nil}
-use Rattle.std.proofs.Common.{append_assoc, ap, refl, sym, ◌∙◌, subst, arith}
+use Rattle.std.proofs.Common.{◌≡◌, ◌≢◌, inl, inr, ◌⊎◌, ◌<◌, ◌≤◌, ℕ, List, [], ◌∷◌, ◌++◌, append-nil}
+use Rattle.std.proofs.Common.{length}
+use Rattle.std.proofs.Common.{append_assoc, ap, refl, sym, ◌∙◌, subst, arith, ◌+◌, length-append}
+use Rattle.std.proofs.Common.{Bool}
+use Rattle.std.specs.List.{AllByRecursion}
 use Rattle.pgledger.specs.Entries.{Entry, last_end}
+use Rattle.pgfeed.specs.declared.feed.Feed.{Feed}
 use Rattle.pgfeed.specs.declared.segment.Segment.{Segment}
 use Rattle.pgfeed.specs.Reading.{AreEntries}
-use Rattle.pgfeed.specs.Segments.{KeepsEntries, Lasts}
-use Rattle.pgfeed.specs.Feeds.{IsAgain, IsFresh, KeepsAll, KeepsThrough, LastsAmong, LastsUpTo}
-use Rattle.pgfeed.specs.Feeds.{LiesIn, OpensAmong, OpensAt, first_base}
-use Rattle.pgfeed.specs.Cutting.Kept.{end_append, entries_append, entries_front}
+use Rattle.pgfeed.specs.Segments.{HasWhatLasts, IsEnded, IsFinished, IsFound, KeepsEntries, Lasts}
+use Rattle.pgfeed.specs.Segments.{Reopens}
+use Rattle.pgfeed.specs.Texts.{closing_line, entries_text}
+use Rattle.pgfeed.specs.Feeds.{AreEnded, BeginAt, Follow, IsCutAt, IsFresh, OpenedFrom}
+use Rattle.pgfeed.specs.Feeds.{IsHonestFeed, IsLeftIn, KeepsAll, KeepsLast, LastsUpTo, LeavesAt}
+use Rattle.pgfeed.specs.Feeds.{MayHave}
+use Rattle.pgfeed.specs.Feeds.{OpensIn, ReopensAt}
+use Rattle.pgfeed.specs.Feeds.{first_of}
+use Rattle.pgfeed.specs.Cutting.Kept.{end_append, entries_append, entries_behind, entries_front}
+use Rattle.pgfeed.specs.Cutting.Kept.{text_append}
 use Rattle.pgfeed.specs.Cutting.Opened.{cut_at}
 
 pub ends_up : (at : ℕ) (es : List Entry) → AreEntries at es → at ≤ last_end at es
@@ -15,7 +25,7 @@ ends_up at [] are = omega arith
 ends_up at (e ∷ es) are = let more = ends_up e.end es are.2 in omega (arith, are.0)
 
 -- entries that end at or above the end of others go on behind them
-goes_on : (at : ℕ) (before now told later : List Entry) → AreEntries at before → before ++ now ≡ told ++ later
+pub goes_on : (at : ℕ) (before now told later : List Entry) → AreEntries at before → before ++ now ≡ told ++ later
     → last_end at before ≤ last_end at told
     → (mid : List Entry) × (told ≡ before ++ mid) × (now ≡ mid ++ later)
 goes_on at [] now told later are e up = (told, refl, e)
@@ -27,164 +37,517 @@ goes_on at (b ∷ before) now (t ∷ told) later are e up =
     let more = goes_on b.end before now told later are.2 rest above in
     (more.0, (let tail = more.1 in cc), more.2)
 
-module _ {D : Type 0} (seen : D → List ℕ) where
-  -- what the segments keep are entries, one after the other
-  pub through_entries : (ended : List (Segment D)) (s : Segment D) (es : List Entry) → KeepsThrough seen ended s es
-      → AreEntries (first_base ended s) es
-  through_entries [] s es k = k.entries
-  through_entries (e ∷ ended) s es k =
-      let own : List Entry = k.0 in
-      let there : last_end e.base own ≡ first_base ended s = sym k.3.last_is ∙ k.4 in
-      let more : AreEntries (last_end e.base own) k.1 = subst (λ at. AreEntries at k.1) (sym there) (through_entries ended s k.1 k.5) in
-      subst (AreEntries e.base) (sym k.2) (entries_append e.base own k.1 k.3.entries more)
+-- entries that end where they begin are none
+none_told : (at : ℕ) (es : List Entry) → AreEntries at es → last_end at es ≡ at → es ≡ []
+none_told at [] are ends = refl
+none_told at (e ∷ es) are ends = let more = ends_up e.end es are.2 in absurd (omega (arith, are.0))
 
-  -- they lead to where the last segment ends
-  pub through_last : (ended : List (Segment D)) (s : Segment D) (es : List Entry) → KeepsThrough seen ended s es
-      → last_end (first_base ended s) es ≡ s.last
-  through_last [] s es k = sym k.last_is
-  through_last (e ∷ ended) s es k =
-      let own : List Entry = k.0 in
-      let there : last_end e.base own ≡ first_base ended s = sym k.3.last_is ∙ k.4 in
-      ap (last_end e.base) k.2 ∙ end_append e.base own k.1 ∙ ap (λ at. last_end at k.1) there ∙ through_last ended s k.1 k.5
+-- those behind entries that end where they all do are none
+none_later : (at : ℕ) (told later : List Entry) → AreEntries at (told ++ later) → last_end at told ≡ last_end at (told ++ later)
+    → later ≡ []
+none_later at [] later are ends = none_told at later are (sym ends)
+none_later at (e ∷ told) later are ends = none_later e.end told later are.2 ends
 
-  -- the entries of the segments before these too
-  pub all_entries : (begins : ℕ) (ended : List (Segment D)) (s : Segment D) (es : List Entry) → KeepsAll seen begins ended s es
-      → AreEntries begins es
-  all_entries begins ended s es k =
-      let now : AreEntries (last_end begins k.before) k.now =
-      subst (λ at. AreEntries at k.now) (sym k.ends) (through_entries ended s k.now k.kept) in
-      subst (AreEntries begins) (sym k.is) (entries_append begins k.before k.now k.entries now)
+-- where the last of some entries end
+mid_end : (at last p : ℕ) (own mid told : List Entry) → last_end at own ≡ last → told ≡ own ++ mid → last_end at told ≡ p
+    → last_end last mid ≡ p
+mid_end at last p own mid told there split ends =
+    ap (λ q. last_end q mid) (sym there) ∙ sym (end_append at own mid) ∙ ap (last_end at) (sym split) ∙ ends
 
-  pub all_last : (begins : ℕ) (ended : List (Segment D)) (s : Segment D) (es : List Entry) → KeepsAll seen begins ended s es
-      → last_end begins es ≡ s.last
-  all_last begins ended s es k =
-      ap (last_end begins) k.is ∙ end_append begins k.before k.now ∙ ap (λ at. last_end at k.now) k.ends ∙ through_last ended s k.now k.kept
+-- ---- LSNs
 
-module _ {D : Type 0} (seen : D → List ℕ) (may_leave : D → List ℕ → Type 0) where
+pub all_behind : (P : ℕ → Type 0) (xs ys : List ℕ) (x : ℕ) → AllByRecursion P (xs ++ (x ∷ ys)) → P x
+all_behind P [] ys x all = all.0
+all_behind P (y ∷ xs) ys x all = all_behind P xs ys x all.1
+
+-- LSNs are split in one way before one that is above them
+pub one_split : (xs ys us vs : List ℕ) (x : ℕ) → AllByRecursion (λ b. b < x) xs → AllByRecursion (λ b. b < x) us
+    → xs ++ (x ∷ ys) ≡ us ++ (x ∷ vs) → (xs ≡ us) × (ys ≡ vs)
+one_split [] ys [] vs x less lower e = (refl, cc)
+one_split [] ys (u ∷ us) vs x less lower e = let same : x ≡ u = cc in absurd (omega (arith, lower.0))
+one_split (b ∷ xs) ys [] vs x less lower e = let same : b ≡ x = cc in absurd (omega (arith, less.0))
+one_split (b ∷ xs) ys (u ∷ us) vs x less lower e =
+    let rest : xs ++ (x ∷ ys) ≡ us ++ (x ∷ vs) = cc in
+    let more = one_split xs ys us vs x less.1 lower.1 rest in
+    let tail = more.0 in (cc, more.1)
+
+never_none : (bases above : List ℕ) (other : ℕ) → [] ≡ bases ++ (other ∷ above) → ⊥
+never_none [] above other e = cc
+never_none (x ∷ bases) above other e = cc
+
+no_lower : (m : ℕ) (xs : List ℕ) → AllByRecursion (λ b. m < b) xs → AllByRecursion (λ b. m ≤ b) xs
+no_lower m [] all = tt
+no_lower m (x ∷ xs) all = let first = all.0 in (omega arith, no_lower m xs all.1)
+
+-- ---- segments that have ended
+
+module _ (leaves : ℕ → List ℕ → Type 0) where
+  pub ended_up : (at : ℕ) (bases : List ℕ) (next : ℕ) (es : List Entry) → AreEnded leaves at bases next es → at ≤ next
+  ended_up at [] next es e = omega (arith, e.0)
+  ended_up at (b ∷ bases) next es e = let more = ended_up e.0 bases next e.2 e.6 in omega (arith, e.3, e.5.rises)
+
+  pub ended_below : (at : ℕ) (bases : List ℕ) (next : ℕ) (es : List Entry) → AreEnded leaves at bases next es
+      → AllByRecursion (λ b. b < next) bases
+  ended_below at [] next es e = tt
+  ended_below at (b ∷ bases) next es e =
+      let up = ended_up e.0 bases next e.2 e.6 in (omega (arith, e.5.rises), ended_below e.0 bases next e.2 e.6)
+
+  pub ended_entries : (at : ℕ) (bases : List ℕ) (next : ℕ) (es : List Entry) → AreEnded leaves at bases next es → AreEntries at es
+  ended_entries at [] next es e = subst (AreEntries at) (sym e.1) tt
+  ended_entries at (b ∷ bases) next es e =
+      let own : AreEntries at e.1 = subst (λ a. AreEntries a e.1) e.3 e.5.finished.entries in
+      let there : e.0 ≡ last_end at e.1 = e.5.finished.last_is ∙ ap (λ a. last_end a e.1) e.3 in
+      subst (AreEntries at) (sym e.4)
+      (entries_append at e.1 e.2 own (subst (λ a. AreEntries a e.2) there (ended_entries e.0 bases next e.2 e.6)))
+
+  pub ended_end : (at : ℕ) (bases : List ℕ) (next : ℕ) (es : List Entry) → AreEnded leaves at bases next es → last_end at es ≡ next
+  ended_end at [] next es e = ap (last_end at) e.1 ∙ e.0
+  ended_end at (b ∷ bases) next es e =
+      let there : last_end at e.1 ≡ e.0 = ap (λ a. last_end a e.1) (sym e.3) ∙ sym e.5.finished.last_is in
+      ap (last_end at) e.4 ∙ end_append at e.1 e.2 ∙ ap (λ a. last_end a e.2) there ∙ ended_end e.0 bases next e.2 e.6
+
+  pub ended_first : (at : ℕ) (bases : List ℕ) (next : ℕ) (es : List Entry) → AreEnded leaves at bases next es → first_of bases next ≡ at
+  ended_first at [] next es e = sym e.0
+  ended_first at (b ∷ bases) next es e = e.3
+
+  -- without a front of them
+  pub ended_last : (at : ℕ) (gone stay : List ℕ) (next : ℕ) (es : List Entry) → AreEnded leaves at (gone ++ stay) next es
+      → (before : List Entry) × (rest : List Entry) × (es ≡ before ++ rest) × AreEntries at before
+      × AreEnded leaves (last_end at before) stay next rest × (gone ≡ [] → before ≡ [])
+  ended_last at [] stay next es e = ([], es, refl, tt, e, λ _. refl)
+  ended_last at (b ∷ gone) stay next es e =
+      let own : AreEntries at e.1 = subst (λ a. AreEntries a e.1) e.3 e.5.finished.entries in
+      let there : e.0 ≡ last_end at e.1 = e.5.finished.last_is ∙ ap (λ a. last_end a e.1) e.3 in
+      let more = ended_last e.0 gone stay next e.2 e.6 in
+      let end : last_end at (e.1 ++ more.0) ≡ last_end e.0 more.0 = end_append at e.1 more.0 ∙ ap (λ a. last_end a more.0) (sym there) in (
+        e.1 ++ more.0,
+        more.1,
+        e.4 ∙ ap (λ xs. e.1 ++ xs) more.2 ∙ sym (append_assoc e.1 more.0 more.1),
+        entries_append at e.1 more.0 own (subst (λ a. AreEntries a more.0) there more.3),
+        subst (λ a. AreEnded leaves a stay next more.1) (sym end) more.4,
+        λ none. cc,
+      )
+
+  -- where they begin is at or below any LSN from which on a segment is found behind them
+  pub reaches : (at : ℕ) (stay : List ℕ) (base last : ℕ) (es : List Entry) (more bases above : List ℕ) (other p : ℕ)
+      → AreEnded leaves at stay base es → base ≤ last → Follow base last more
+      → stay ++ (base ∷ more) ≡ bases ++ (other ∷ above) → other ≤ p → at ≤ p
+  reaches at [] base last es more [] above other p e up behind same to = let head : base ≡ other = cc in omega (arith, e.0)
+  reaches at [] base last es [] (x ∷ bases) above other p e up behind same to =
+      absurd (never_none bases above other (let tail : [] ≡ bases ++ (other ∷ above) = cc in tail))
+  reaches at [] base last es (m ∷ more) (x ∷ bases) above other p e up behind same to =
+      let tail : m ∷ more ≡ bases ++ (other ∷ above) = cc in
+      let low : AllByRecursion (λ b. m ≤ b) (bases ++ (other ∷ above)) =
+      subst (AllByRecursion (λ b. m ≤ b)) tail (omega arith, no_lower m more behind.2) in
+      let least = all_behind (λ b. m ≤ b) bases above other low in
+      omega (arith, e.0, behind.0)
+  reaches at (b ∷ stay) base last es more [] above other p e up behind same to = let head : b ≡ other = cc in omega (arith, e.3)
+  reaches at (b ∷ stay) base last es more (x ∷ bases) above other p e up behind same to =
+      let tail : stay ++ (base ∷ more) ≡ bases ++ (other ∷ above) = cc in
+      let low = reaches e.0 stay base last e.2 more bases above other p e.6 up behind tail to in
+      omega (arith, e.3, e.5.rises)
+
+-- fewer outcomes
+pub ended_less : (base last : ℕ) (own : List Entry) (before after : List ℕ → Type 0) → ((text : List ℕ) → after text → before text)
+    → IsEnded base last own before → IsEnded base last own after
+ended_less base last own before after less e = record {
+  rises = e.rises;
+  text = e.text;
+  finished = record {
+    head = e.finished.head;
+    is_head = e.finished.is_head;
+    file_is = e.finished.file_is;
+    entries = e.finished.entries;
+    last_is = e.finished.last_is;
+    synced = λ c left. e.finished.synced c (less c left);
+  };
+}
+
+-- ---- one that has ended and is opened again
+
+finished_keeps : (base last : ℕ) (es : List Entry) (text : List ℕ) (outcomes : List ℕ → Type 0)
+    → (f : IsFinished base last es text outcomes)
+    → KeepsEntries base last (1024 + length (entries_text base es)) text es
+finished_keeps base last es text outcomes f = record {
+  head = f.head;
+  rest = closing_line last;
+  is_head = f.is_head;
+  file_is = f.file_is;
+  size_is = refl;
+  entries = f.entries;
+  last_is = f.last_is;
+}
+
+fits : (base : ℕ) (told rest : List Entry) (head : List ℕ) → length head ≡ 1024
+    → length (head ++ entries_text base told) ≤ 1024 + length (entries_text base (told ++ rest))
+fits base told rest head size =
+    omega (
+      arith,
+      length-append head (entries_text base told),
+      ap length (text_append base told rest),
+      length-append (entries_text base told) (entries_text (last_end base told) rest),
+    )
+
+-- what it has up to an LSN lasts
+finished_lasts : (base last p : ℕ) (told rest : List Entry) (text : List ℕ) (outcomes : List ℕ → Type 0)
+    → IsFinished base last (told ++ rest) text outcomes → last_end base told ≡ p
+    → Lasts base (1024 + length (entries_text base (told ++ rest))) (λ c. c ≡ text) p
+finished_lasts base last p told rest text outcomes f ends =
+    let more : List ℕ = entries_text (last_end base told) rest in
+    let split : text ≡ (f.head ++ entries_text base told) ++ (more ++ closing_line last) =
+    f.file_is ∙ ap (λ xs. f.head ++ (xs ++ closing_line last)) (text_append base told rest)
+    ∙ ap (λ xs. f.head ++ xs) (append_assoc (entries_text base told) more (closing_line last))
+    ∙ sym (append_assoc f.head (entries_text base told) (more ++ closing_line last)) in (
+      f.head ++ entries_text base told,
+      record {
+        is_front = record {
+          head = f.head;
+          told = told;
+          is_head = f.is_head;
+          entries = entries_front base told rest f.entries;
+          ends = ends;
+          front_is = refl;
+        };
+        within = fits base told rest f.head f.is_head.size;
+        each = λ c same. (more ++ closing_line last, same ∙ split);
+      },
+    )
+
+module _ {F D : Type 0} (seen : D → List ℕ) (may_leave : D → List ℕ → Type 0) (is_clean : D → Bool) (is_true : F → Type 0)
+    (places : F → List ℕ) (has : F → ℕ → List ℕ → Type 0) where
   pub fresh_last : (s : Segment D) → IsFresh seen may_leave s → s.last ≡ s.base
   fresh_last s fresh = fresh.0.last_is
 
-  -- of a feed that was opened and that has no other segment
-  Cut : ℕ → ℕ → Segment D → List Entry → Type 0
-  Cut begins p other told = KeepsAll seen begins [] other told × LastsUpTo may_leave [] other p
+  of_none : (ended : List (Segment D)) (folder : F) (b : ℕ) (text : List ℕ) → ended ≡ [] → MayHave may_leave has ended folder b text
+      → has folder b text
+  of_none [] folder b text none (inl some) = absurd some
+  of_none [] folder b text none (inr had) = had.1
+  of_none (e ∷ ended) folder b text none had = cc
 
-  -- the segment that is opened again has entries before the LSN, of its own
-  cut_again : ((d : D) → may_leave d (seen d)) → (begins : ℕ) (before mid later : List Entry) (old other : Segment D) (p : ℕ)
-      → AreEntries begins before → last_end begins before ≡ old.base
-      → KeepsEntries old.base old.last old.size (seen old.disk) (mid ++ later) → last_end begins (before ++ mid) ≡ p
-      → Lasts old.base old.size (may_leave old.disk) p → IsAgain seen may_leave old p other
-      → Cut begins p other (before ++ mid)
-  unfolding Cut
-  cut_again stay begins before mid later old other p entries starts kept ends lasting again =
-      let end : last_end old.base mid ≡ p = ap (λ at. last_end at mid) (sym starts) ∙ sym (end_append begins before mid) ∙ ends in
-      let cut = cut_at _ _ _ p _ _ _ (seen old.disk) (seen other.disk) (may_leave old.disk) (may_leave other.disk) mid later (stay old.disk)
-      again kept end lasting in
-      let last : other.last ≡ p = again.last_is in (
-        record { before = before; now = mid; is = refl; entries = entries; ends = starts ∙ sym cut.1; kept = cut.0 },
-        (omega arith, λ above. cut.2),
+  -- An old feed of which something was left in a folder, and the feed that was opened on it.
+  record Again (old new : Feed F D) (p : ℕ) (now : List Entry) (gone : List ℕ) (folder : F) : Type 0 where
+    pub left : IsLeftIn seen may_leave is_clean is_true places has old p now gone folder
+    pub kept : KeepsEntries old.segment.base old.segment.last old.segment.size (seen old.segment.disk) now
+    pub up : p ≤ old.segment.last
+    pub lasting : old.segment.base ≤ p → Lasts old.segment.base old.segment.size (may_leave old.segment.disk) p
+    pub alone : new.ended.items ≡ []
+    pub last : new.segment.last ≡ p
+    pub same : (b : ℕ) (text : List ℕ) → new.segment.base ≢ b → has new.folder b text → has folder b text
+    pub opened : OpenedFrom seen may_leave has folder p new.segment
+
+  -- The new one keeps these entries from that LSN on, where its segments begin that have ended.
+  record Cut (at : ℕ) (bases : List ℕ) (new : Feed F D) (p : ℕ) (told : List Entry) : Type 0 where
+    pub before : List Entry
+    pub now : List Entry
+    pub is : told ≡ before ++ now
+    pub ended : AreEnded (LeavesAt may_leave has new) at bases new.segment.base before
+    pub kept : KeepsEntries new.segment.base new.segment.last new.segment.size (seen new.segment.disk) now
+    pub lasting : Lasts new.segment.base new.segment.size (may_leave new.segment.disk) p
+
+  -- what the new one may have of another segment was found there
+  less_left : (old new : Feed F D) (p : ℕ) (now : List Entry) (gone : List ℕ) (folder : F) (b : ℕ) (text : List ℕ)
+      → Again old new p now gone folder
+      → new.segment.base ≢ b → LeavesAt may_leave has new b text → has folder b text
+  less_left old new p now gone folder b text a other (inl here) = absurd (other here.0)
+  less_left old new p now gone folder b text a other (inr away) = a.same b text other
+      (of_none new.ended.items new.folder b text a.alone away.1)
+
+  cut_fresh : (new : Feed F D) (at p : ℕ) (told : List Entry) → AreEntries at told → last_end at told ≡ p → at ≡ new.segment.base
+      → new.segment.base ≡ p → IsFresh seen may_leave new.segment → Cut at [] new p told
+  cut_fresh new at p told are ends begins there fresh = record {
+    before = [];
+    now = [];
+    is = none_told at told are (ends ∙ sym there ∙ sym begins);
+    ended = (begins, refl);
+    kept = fresh.0;
+    lasting = subst (λ q. Lasts new.segment.base new.segment.size (may_leave new.segment.disk) q) there fresh.1;
+  }
+
+  cut_text : (new : Feed F D) (at last size p : ℕ) (told rest : List Entry) (text file : List ℕ) (outcomes : List ℕ → Type 0)
+      → at ≡ new.segment.base → new.segment.last ≡ p → IsCutAt seen may_leave p text new.segment → outcomes file
+      → HasWhatLasts at size outcomes p text → KeepsEntries at last size file (told ++ rest) → last_end at told ≡ p
+      → Lasts at size outcomes p → Cut at [] new p told
+  cut_text new at last size p told rest text file outcomes begins there cuts stays lasts keeps ends lasting =
+      let again : Reopens at size outcomes p new.segment.base new.segment.last new.segment.size (seen new.segment.disk)
+      (may_leave new.segment.disk) = record {
+        text = text;
+        has = lasts;
+        base_is = sym begins;
+        last_is = there;
+        found = subst (λ b. IsFound b p text new.segment.size) (sym begins) cuts.found;
+        cut = cuts.cut;
+      } in
+      let cut = cut_at at last size p new.segment.base new.segment.last new.segment.size file (seen new.segment.disk) outcomes
+      (may_leave new.segment.disk) told rest stays again keeps ends lasting in
+      record { before = []; now = told; is = refl; ended = (begins, refl); kept = cut.0; lasting = cut.2 }
+
+  -- the open segment is opened again
+  cut_open : ((d : D) → may_leave d (seen d)) → (old new : Feed F D) (p : ℕ) (now : List Entry) (gone : List ℕ) (folder : F) (at : ℕ)
+      (told later : List Entry) → Again old new p now gone folder
+      → at ≡ old.segment.base → old.segment.base ≡ new.segment.base → AreEntries at told → last_end at told ≡ p → now ≡ told ++ later
+      → new.segment.base ≤ p
+      → OpenedFrom seen may_leave has folder p new.segment → Cut at [] new p told
+  cut_open stay old new p now gone folder at told later a begins same are ends split to (inl fresh) =
+      cut_fresh new at p told are ends (begins ∙ same) fresh.0 fresh.1
+  cut_open stay old new p now gone folder at told later a begins same are ends split to (inr cuts) =
+      let had : has folder old.segment.base cuts.0 = subst (λ b. has folder b cuts.0) (sym same) cuts.1 in
+      let kept : KeepsEntries at old.segment.last old.segment.size (seen old.segment.disk) (told ++ later) =
+      subst (λ b. KeepsEntries b old.segment.last old.segment.size (seen old.segment.disk) (told ++ later)) (sym begins)
+      (subst (KeepsEntries old.segment.base old.segment.last old.segment.size (seen old.segment.disk)) split a.kept) in
+      let lasts : HasWhatLasts at old.segment.size (may_leave old.segment.disk) p cuts.0 =
+      subst (λ b. HasWhatLasts b old.segment.size (may_leave old.segment.disk) p cuts.0) (sym begins) (a.left.lasting cuts.0 had) in
+      let lasting : Lasts at old.segment.size (may_leave old.segment.disk) p =
+      subst (λ b. Lasts b old.segment.size (may_leave old.segment.disk) p) (sym begins) (a.lasting (omega (arith, same, to))) in
+      cut_text new at old.segment.last old.segment.size p told later cuts.0 (seen old.segment.disk) (may_leave old.segment.disk)
+      (begins ∙ same) a.last cuts.2 (stay old.segment.disk) lasts kept ends lasting
+
+  next_above : (leaves : ℕ → List ℕ → Type 0) (last : ℕ) (stay : List ℕ) (base p : ℕ) (es : List Entry) (more : List ℕ)
+      → AreEnded leaves last stay base es → AllByRecursion (λ b. p < b) (stay ++ (base ∷ more)) → p < last
+  next_above leaves last [] base p es more e above = let first = above.0 in omega (arith, e.0)
+  next_above leaves last (b ∷ stay) base p es more e above = let first = above.0 in omega (arith, e.3)
+
+  -- one that had ended is opened again
+  cut_ended : (old new : Feed F D) (p : ℕ) (now : List Entry) (gone : List ℕ) (folder : F) (at b last : ℕ)
+      (own more told later : List Entry)
+      → Again old new p now gone folder
+      → b ≡ at → b ≡ new.segment.base → b < old.segment.base → IsEnded b last own (LeavesAt may_leave has old b) → AreEntries at told
+      → last_end at told ≡ p → own ++ (more ++ now) ≡ told ++ later → p < last
+      → OpenedFrom seen may_leave has folder p new.segment → Cut at [] new p told
+  cut_ended old new p now gone folder at b last own more told later a begins same low e are ends split below (inl fresh) =
+      cut_fresh new at p told are ends (sym begins ∙ same) fresh.0 fresh.1
+  cut_ended old new p now gone folder at b last own more told later a begins same low e are ends split below (inr cuts) =
+      let had : has folder b cuts.0 = subst (λ x. has folder x cuts.0) (sym same) cuts.1 in
+      let is : cuts.0 ≡ e.text = e.finished.synced cuts.0 (a.left.each b cuts.0 low had) in
+      let there : last_end at own ≡ last = ap (λ x. last_end x own) (sym begins) ∙ sym e.finished.last_is in
+      let rest = goes_on at told later own (more ++ now) are (sym split) (omega (arith, ends, there)) in
+      let f : IsFinished b last (told ++ rest.0) e.text (LeavesAt may_leave has old b) =
+      subst (λ es. IsFinished b last es e.text (LeavesAt may_leave has old b)) rest.1 e.finished in
+      let size : ℕ = 1024 + length (entries_text b (told ++ rest.0)) in
+      let up : last_end b told ≡ p = ap (λ x. last_end x told) begins ∙ ends in
+      let cut = cut_text new b last size p told rest.0 cuts.0 e.text (λ c. c ≡ e.text) same a.last cuts.2 refl
+      (λ front lasting. lasting.each cuts.0 is) (finished_keeps b last (told ++ rest.0) e.text (LeavesAt may_leave has old b) f) up
+      (finished_lasts b last p told rest.0 e.text (LeavesAt may_leave has old b) f up) in
+      subst (λ x. Cut x [] new p told) begins cut
+
+  -- the open segment has ended, and the one that was to follow it is opened
+  cut_next : (old new : Feed F D) (p : ℕ) (now : List Entry) (gone : List ℕ) (folder : F) (at x : ℕ) (told later : List Entry)
+      (more xs above : List ℕ)
+      → Again old new p now gone folder
+      → at ≡ old.segment.base → old.segment.base ≡ x → AreEntries at told → last_end at told ≡ p → now ≡ told ++ later
+      → Follow old.segment.base old.segment.last more
+      → (BeginAt old.segment.last more → IsEnded old.segment.base old.segment.last now (has folder old.segment.base))
+      → more ≡ xs ++ (new.segment.base ∷ above) → new.segment.base ≤ p
+      → OpenedFrom seen may_leave has folder p new.segment → Cut at (x ∷ xs) new p told
+  cut_next old new p now gone folder at x told later [] xs above a begins same are ends split behind done tail to opened =
+      absurd (never_none xs above new.segment.base tail)
+  cut_next old new p now gone folder at x told later (m ∷ more) (y ∷ xs) above a begins same are ends split behind done tail to opened =
+      let rest : more ≡ xs ++ (new.segment.base ∷ above) = cc in
+      let high = all_behind (λ b. m < b) xs above new.segment.base (subst (AllByRecursion (λ b. m < b)) rest behind.2) in
+      absurd (omega (arith, behind.1, a.up))
+  cut_next old new p now gone folder at x told later (m ∷ more) [] above a begins same are ends split behind done tail to (inr cuts) =
+      let head : m ≡ new.segment.base = cc in
+      absurd (omega (arith, behind.1, a.up, cuts.2.above))
+  cut_next old new p now gone folder at x told later (m ∷ more) [] above a begins same are ends split behind done tail to (inl fresh) =
+      let head : m ≡ new.segment.base = cc in
+      let place : p ≡ old.segment.last = omega (arith, behind.1, a.up, fresh.0) in
+      let there : m ≡ old.segment.last = head ∙ fresh.0 ∙ place in
+      let e = done there in
+      let all : AreEntries at (told ++ later) = subst (λ b. AreEntries b (told ++ later)) (sym begins)
+      (subst (AreEntries old.segment.base) split a.kept.entries) in
+      let whole : last_end at (told ++ later) ≡ old.segment.last =
+      ap (λ b. last_end b (told ++ later)) begins ∙ ap (last_end old.segment.base) (sym split) ∙ sym a.kept.last_is in
+      let none : later ≡ [] = none_later at told later all (ends ∙ place ∙ sym whole) in
+      let mine : told ≡ now = sym (append-nil told) ∙ ap (λ xs. told ++ xs) (sym none) ∙ sym split in
+      let apart : new.segment.base ≢ old.segment.base = λ one. let never : ⊥ = omega (arith, behind.0, head, one) in never in
+      let ended : IsEnded old.segment.base old.segment.last now (LeavesAt may_leave has new old.segment.base) =
+      ended_less old.segment.base old.segment.last now (has folder old.segment.base) (LeavesAt may_leave has new old.segment.base)
+      (λ text may. less_left old new p now gone folder old.segment.base text a apart may) e in
+      record {
+        before = now;
+        now = [];
+        is = mine ∙ sym (append-nil now);
+        ended = (
+          old.segment.last,
+          now,
+          [],
+          sym same ∙ sym begins,
+          sym (append-nil now),
+          subst (λ b. IsEnded b old.segment.last now (LeavesAt may_leave has new b)) same ended,
+          (sym there ∙ head, refl),
+        );
+        kept = fresh.1.0;
+        lasting = subst (λ q. Lasts new.segment.base new.segment.size (may_leave new.segment.disk) q) fresh.0 fresh.1.1;
+      }
+
+  cut_from : ((d : D) → may_leave d (seen d)) → (old new : Feed F D) (p : ℕ) (now : List Entry) (gone : List ℕ) (folder : F) (at : ℕ)
+      (stay : List ℕ)
+      (es told later : List Entry) (bases above : List ℕ) → (a : Again old new p now gone folder)
+      → AreEnded (LeavesAt may_leave has old) at stay old.segment.base es → AreEntries at told → last_end at told ≡ p
+      → es ++ now ≡ told ++ later
+      → stay ++ (old.segment.base ∷ a.left.more) ≡ bases ++ (new.segment.base ∷ above) → AllByRecursion (λ b. p < b) above
+      → new.segment.base ≤ p → Cut at bases new p told
+  cut_from may_stay old new p now gone folder at [] es told later [] above a e are ends split same high to =
+      let head : old.segment.base ≡ new.segment.base = cc in
+      let mine : now ≡ told ++ later = ap (λ xs. xs ++ now) (sym e.1) ∙ split in
+      cut_open may_stay old new p now gone folder at told later a e.0 head are ends mine to a.opened
+  cut_from may_stay old new p now gone folder at [] es told later (x ∷ bases) above a e are ends split same high to =
+      let head : old.segment.base ≡ x = cc in
+      let tail : a.left.more ≡ bases ++ (new.segment.base ∷ above) = cc in
+      let mine : now ≡ told ++ later = ap (λ xs. xs ++ now) (sym e.1) ∙ split in
+      cut_next old new p now gone folder at x told later a.left.more bases above a e.0 head are ends mine a.left.behind a.left.done tail to
+      a.opened
+  cut_from may_stay old new p now gone folder at (b ∷ stay) es told later [] above a e are ends split same high to =
+      let head : b ≡ new.segment.base = cc in
+      let tail : stay ++ (old.segment.base ∷ a.left.more) ≡ above = cc in
+      let low = ended_below (LeavesAt may_leave has old) at (b ∷ stay) old.segment.base es e in
+      let below = next_above (LeavesAt may_leave has old) e.0 stay old.segment.base p e.2 a.left.more e.6
+      (subst (AllByRecursion (λ x. p < x)) (sym tail) high) in
+      let whole : e.1 ++ (e.2 ++ now) ≡ told ++ later = sym (append_assoc e.1 e.2 now) ∙ ap (λ xs. xs ++ now) (sym e.4) ∙ split in
+      cut_ended old new p now gone folder at b e.0 e.1 e.2 told later a e.3 head low.0 e.5 are ends whole below a.opened
+  cut_from may_stay old new p now gone folder at (b ∷ stay) es told later (x ∷ bases) above a e are ends split same high to =
+      let head : b ≡ x = cc in
+      let tail : stay ++ (old.segment.base ∷ a.left.more) ≡ bases ++ (new.segment.base ∷ above) = cc in
+      let low = ended_below (LeavesAt may_leave has old) at (b ∷ stay) old.segment.base es e in
+      let up : old.segment.base ≤ old.segment.last =
+      let far = ends_up old.segment.base now a.kept.entries in omega (arith, a.kept.last_is) in
+      let here = reaches (LeavesAt may_leave has old) e.0 stay old.segment.base old.segment.last e.2 a.left.more bases above
+      new.segment.base p
+      e.6 up a.left.behind tail to in
+      let under = reaches (LeavesAt may_leave has old) e.0 stay old.segment.base old.segment.last e.2 a.left.more bases above
+      new.segment.base new.segment.base e.6 up a.left.behind tail (omega arith) in
+      let own : AreEntries at e.1 = subst (λ q. AreEntries q e.1) e.3 e.5.finished.entries in
+      let there : last_end at e.1 ≡ e.0 = ap (λ q. last_end q e.1) (sym e.3) ∙ sym e.5.finished.last_is in
+      let whole : e.1 ++ (e.2 ++ now) ≡ told ++ later = sym (append_assoc e.1 e.2 now) ∙ ap (λ xs. xs ++ now) (sym e.4) ∙ split in
+      let rest = goes_on at e.1 (e.2 ++ now) told later own whole (omega (arith, there, ends, here)) in
+      let mid : List Entry = rest.0 in
+      let behind : AreEntries e.0 mid = subst (λ q. AreEntries q mid) there
+      (entries_behind at e.1 mid (subst (AreEntries at) rest.1 are)) in
+      let end = mid_end at e.0 p e.1 rest.0 told there rest.1 ends in
+      let more = cut_from may_stay old new p now gone folder e.0 stay e.2 mid later bases above a e.6 behind end rest.2 tail high to in
+      let apart : new.segment.base ≢ b = λ one. let rises = e.5.rises in let never : ⊥ = omega (arith, under, one) in never in
+      let ended : IsEnded b e.0 e.1 (LeavesAt may_leave has new b) =
+      ended_less b e.0 e.1 (LeavesAt may_leave has old b) (LeavesAt may_leave has new b)
+      (λ text may. a.left.each b text low.0 (less_left old new p now gone folder b text a apart may)) e.5 in
+      record {
+        before = e.1 ++ more.before;
+        now = more.now;
+        is = rest.1 ∙ ap (λ xs. e.1 ++ xs) more.is ∙ sym (append_assoc e.1 more.before more.now);
+        ended = (
+          e.0,
+          e.1,
+          more.before,
+          sym head ∙ e.3,
+          refl,
+          subst (λ q. IsEnded q e.0 e.1 (LeavesAt may_leave has new q)) head ended,
+          more.ended,
+        );
+        kept = more.kept;
+        lasting = more.lasting;
+      }
+
+  split_at : (stay : List ℕ) (base : ℕ) (more found bases above : List ℕ) (b p : ℕ) → found ≡ stay ++ (base ∷ more)
+      → (found ≡ bases ++ (b ∷ above)) ⊎ ((found ≡ []) × (bases ≡ []) × (b ≡ p)) → stay ++ (base ∷ more) ≡ bases ++ (b ∷ above)
+  split_at stay base more found bases above b p there (inl split) = sym there ∙ split
+  split_at stay base more found bases above b p there (inr none) = absurd (never_none stay more base (sym none.0 ∙ there))
+
+  opened_to : (new : Feed F D) (p : ℕ) (folder : F) → OpenedFrom seen may_leave has folder p new.segment → new.segment.base ≤ p
+  opened_to new p folder (inl fresh) = let at = fresh.0 in omega arith
+  opened_to new p folder (inr cuts) = let above = cuts.2.above in omega arith
+
+  -- all that a feed keeps are entries
+  pub all_entries : (l : Feed F D) (es : List Entry) → KeepsAll seen may_leave is_clean is_true places has l es → AreEntries l.begins es
+  all_entries l es k =
+      subst (AreEntries l.begins) (sym k.is)
+      (entries_append l.begins k.before k.now k.entries (subst (λ a. AreEntries a k.now) (sym k.ends) k.kept.entries))
+
+  pub all_last : (l : Feed F D) (es : List Entry) → KeepsAll seen may_leave is_clean is_true places has l es
+      → last_end l.begins es ≡ l.segment.last
+  all_last l es k =
+      ap (last_end l.begins) k.is ∙ end_append l.begins k.before k.now ∙ ap (λ a. last_end a k.now) k.ends ∙ sym k.kept.last_is
+
+  -- the feed keeps the entries up to where it was opened, from the first segment that is there
+  pub cut_last : ((d : D) → may_leave d (seen d)) → (old new : Feed F D) (p : ℕ) (gone : List ℕ) (told later : List Entry) (folder : F)
+      → (k : KeepsAll seen may_leave is_clean is_true places has old (told ++ later)) → last_end old.begins told ≡ p
+      → LastsUpTo seen may_leave is_clean is_true places has old p
+      → IsLeftIn seen may_leave is_clean is_true places has old p k.now gone folder
+      → OpensIn seen may_leave is_clean is_true places has folder p new
+      → IsHonestFeed seen may_leave is_clean is_true places has new
+      → KeepsLast seen may_leave is_clean is_true places has old new gone told
+      × LastsUpTo seen may_leave is_clean is_true places has new p
+  cut_last may_stay old new p gone told later folder k ends lasting left opens honest =
+      let w = k.whole left.honest in
+      let c = opens.cuts honest in
+      let leaves : ℕ → List ℕ → Type 0 = LeavesAt may_leave has old in
+      let low = ended_below leaves old.begins w.bases old.segment.base k.before w.ended in
+      let one = one_split w.bases w.above (gone ++ left.stay) left.above old.segment.base low left.ended (sym w.there ∙ left.had) in
+      let all : AreEnded leaves old.begins (gone ++ left.stay) old.segment.base k.before =
+      subst (λ bs. AreEnded leaves old.begins bs old.segment.base k.before) one.0 w.ended in
+      let last = ended_last leaves old.begins gone left.stay old.segment.base k.before all in
+      let at : ℕ = last_end old.begins last.0 in
+      let up : old.segment.base ≤ old.segment.last =
+      let far = ends_up old.segment.base k.now k.kept.entries in omega (arith, k.kept.last_is) in
+      let split = split_at left.stay old.segment.base left.more (places folder) c.bases c.above new.segment.base p left.there c.there in
+      let to = opened_to new p folder c.opened in
+      let from = reaches leaves at left.stay old.segment.base old.segment.last last.1 left.more c.bases c.above new.segment.base p last.4 up
+      left.behind split to in
+      let whole : last.0 ++ (last.1 ++ k.now) ≡ told ++ later =
+      sym (append_assoc last.0 last.1 k.now) ∙ ap (λ xs. xs ++ k.now) (sym last.2) ∙ sym k.is in
+      let rest = goes_on old.begins last.0 (last.1 ++ k.now) told later last.3 whole (omega (arith, from, ends)) in
+      let mid : List Entry = rest.0 in
+      let are : AreEntries old.begins told = entries_front old.begins told later (all_entries old (told ++ later) k) in
+      let behind : AreEntries at mid = entries_behind old.begins last.0 mid (subst (AreEntries old.begins) rest.1 are) in
+      let end : last_end at mid ≡ p = sym (end_append old.begins last.0 mid) ∙ ap (last_end old.begins) (sym rest.1) ∙ ends in
+      let a : Again old new p k.now gone folder = record {
+        left = left;
+        kept = k.kept;
+        up = lasting.0;
+        lasting = lasting.1;
+        alone = opens.alone;
+        last = opens.last;
+        same = c.same;
+        opened = c.opened;
+      } in
+      let cut = cut_from may_stay old new p k.now gone folder at left.stay last.1 mid later c.bases c.above a last.4 behind end rest.2 split
+      c.removed to in
+      let begins : new.begins ≡ at =
+      c.first ∙ ended_first (LeavesAt may_leave has new) at c.bases new.segment.base cut.before cut.ended in
+      let entries : AreEntries new.begins cut.before = subst (λ q. AreEntries q cut.before) (sym begins)
+      (ended_entries (LeavesAt may_leave has new) at c.bases new.segment.base cut.before cut.ended) in
+      let place : last_end new.begins cut.before ≡ new.segment.base = ap (λ q. last_end q cut.before) begins
+      ∙ ended_end (LeavesAt may_leave has new) at c.bases new.segment.base cut.before cut.ended in
+      let keeps : KeepsAll seen may_leave is_clean is_true places has new mid = record {
+        before = cut.before;
+        now = cut.now;
+        is = cut.is;
+        entries = entries;
+        ends = place;
+        kept = cut.kept;
+        whole = λ _. record {
+          bases = c.bases;
+          above = [];
+          there = c.stay;
+          below = subst (AllByRecursion (λ (e : Segment D). e.base < new.segment.base)) (sym opens.alone) tt;
+          ended = subst (λ q. AreEnded (LeavesAt may_leave has new) q c.bases new.segment.base cut.before) (sym begins) cut.ended;
+          over = inl refl;
+          free = λ _. refl;
+        };
+      } in (
+        record { before = last.0; stay = mid; is = rest.1; kept = keeps; begins_is = begins; all = last.5 },
+        (let there = opens.last in omega arith, λ _. cut.lasting),
       )
 
-  -- where they split its own
-  cut_split : ((d : D) → may_leave d (seen d)) → (begins : ℕ) (before own mid rest told : List Entry) (old other : Segment D) (p : ℕ)
-      → AreEntries begins before → last_end begins before ≡ old.base
-      → KeepsEntries old.base old.last old.size (seen old.disk) own → own ≡ mid ++ rest → told ≡ before ++ mid → last_end begins told ≡ p
-      → Lasts old.base old.size (may_leave old.disk) p
-      → IsAgain seen may_leave old p other → Cut begins p other told
-  cut_split stay begins before own mid rest told old other p entries starts kept split is ends lasting again =
-      let mine : KeepsEntries old.base old.last old.size (seen old.disk) (mid ++ rest) =
-      subst (KeepsEntries old.base old.last old.size (seen old.disk)) split kept in
-      subst (Cut begins p other) (sym is)
-      (cut_again stay begins before mid rest old other p entries starts mine (ap (last_end begins) (sym is) ∙ ends) lasting again)
-
-  -- of one that has ended, all up to the LSN is within its own
-  cut_within : ((d : D) → may_leave d (seen d)) → (begins : ℕ) (before own more mid told later : List Entry) (e other : Segment D) (p : ℕ)
-      → AreEntries begins before → last_end begins before ≡ e.base
-      → AreEntries e.base (own ++ more) → KeepsEntries e.base e.last e.size (seen e.disk) own → told ≡ before ++ mid
-      → own ++ more ≡ mid ++ later → last_end begins told ≡ p → p < e.last
-      → Lasts e.base e.size (may_leave e.disk) p → IsAgain seen may_leave e p other → Cut begins p other told
-  cut_within stay begins before own more mid told later e other p entries starts are kept is same ends below lasting again =
-      let end : last_end e.base mid ≡ p =
-      ap (λ at. last_end at mid) (sym starts) ∙ sym (end_append begins before mid) ∙ ap (last_end begins) (sym is) ∙ ends in
-      let front : AreEntries e.base mid = entries_front e.base mid later (subst (AreEntries e.base) same are) in
-      let rest = goes_on e.base mid later own more front (sym same) (omega (arith, kept.last_is)) in
-      cut_split stay begins before own mid rest.0 told e other p entries starts kept rest.1 is ends lasting again
-
-  cut_ended : ((d : D) → may_leave d (seen d)) → (begins : ℕ) (before own more told later : List Entry) (e other : Segment D) (p : ℕ)
-      → AreEntries begins before → last_end begins before ≡ e.base
-      → AreEntries e.base (own ++ more) → KeepsEntries e.base e.last e.size (seen e.disk) own → before ++ (own ++ more) ≡ told ++ later
-      → last_end begins told ≡ p → LiesIn p e
-      → Lasts e.base e.size (may_leave e.disk) p → IsAgain seen may_leave e p other → Cut begins p other told
-  cut_ended stay begins before own more told later e other p entries starts are kept same ends lies lasting again =
-      let from = lies.0 in
-      let split = goes_on begins before (own ++ more) told later entries same (omega arith) in
-      cut_within stay begins before own more split.0 told later e other p entries starts are kept split.1 split.2 ends lies.1 lasting again
-
-  cut_open : ((d : D) → may_leave d (seen d)) → (begins : ℕ) (before now told later : List Entry) (s other : Segment D) (p : ℕ)
-      → AreEntries begins before → last_end begins before ≡ s.base
-      → KeepsEntries s.base s.last s.size (seen s.disk) now → before ++ now ≡ told ++ later → last_end begins told ≡ p → s.base ≤ p
-      → Lasts s.base s.size (may_leave s.disk) p → IsAgain seen may_leave s p other
-      → Cut begins p other told
-  cut_open stay begins before now told later s other p entries starts kept same ends from lasting again =
-      let split = goes_on begins before now told later entries same (omega arith) in
-      cut_split stay begins before now split.0 later told s other p entries starts kept split.2 split.1 ends lasting again
-
-  cut_among : ((d : D) → may_leave d (seen d))
-      → (begins : ℕ) (before : List Entry) (ended : List (Segment D)) (s : Segment D) (now : List Entry) (p : ℕ) (other : Segment D)
-      (told later : List Entry)
-      → AreEntries begins before → last_end begins before ≡ first_base ended s → KeepsThrough seen ended s now
-      → before ++ now ≡ told ++ later → last_end begins told ≡ p → p ≤ s.last
-      → LastsAmong may_leave ended s p → OpensAmong seen may_leave ended s p other → Cut begins p other told
-  cut_among stay begins before [] s now p other told later entries starts kept same ends up lasting (inl again) =
-      cut_open stay begins before now told later s other p entries starts kept same ends again.0 (lasting again.0) again.1
-  cut_among stay begins before [] s now p other told later entries starts kept same ends up lasting (inr past) = let a = past.0 in let b =
-      past.1 in absurd (omega arith)
-  cut_among stay begins before (e ∷ ended) s now p other told later entries starts kept same ends up lasting (inl again) =
-      let are : AreEntries e.base (kept.0 ++ kept.1) = subst (AreEntries e.base) kept.2 (through_entries seen (e ∷ ended) s now kept) in
-      cut_ended stay begins before kept.0 kept.1 told later e other p entries starts are kept.3
-      (ap (λ es. before ++ es) (sym kept.2) ∙ same) ends again.0 (lasting.0 again.0) again.1
-  cut_among stay begins before (e ∷ ended) s now p other told later entries starts kept same ends up lasting (inr deeper) =
-      let are : AreEntries begins (before ++ kept.0) =
-      entries_append begins before kept.0 entries (subst (λ at. AreEntries at kept.0) (sym starts) kept.3.entries) in
-      let there : last_end begins (before ++ kept.0) ≡ first_base ended s =
-      end_append begins before kept.0 ∙ ap (λ at. last_end at kept.0) starts ∙ sym kept.3.last_is ∙ kept.4 in
-      let whole : (before ++ kept.0) ++ kept.1 ≡ told ++ later =
-      append_assoc before kept.0 kept.1 ∙ ap (λ es. before ++ es) (sym kept.2) ∙ same in
-      cut_among stay begins (before ++ kept.0) ended s kept.1 p other told later are there kept.5 whole ends up lasting.1 deeper
-
-  -- the feed keeps the entries up to where it was opened
-  pub cut_feed : ((d : D) → may_leave d (seen d))
-      → (begins : ℕ) (ended : List (Segment D)) (old : Segment D) (p : ℕ) (other : Segment D) (told later : List Entry)
-      → OpensAt seen may_leave ended old p other → KeepsAll seen begins ended old (told ++ later) → last_end begins told ≡ p
-      → LastsUpTo may_leave ended old p
-      → KeepsAll seen begins [] other told × LastsUpTo may_leave [] other p
-  unfolding Cut
-  cut_feed stay begins ended old p other told later (inl fresh) k ends lasting =
-      let are : AreEntries begins (told ++ later) = all_entries seen begins ended old (told ++ later) k in
-      let last : other.last ≡ other.base = fresh_last other fresh.1 in
-      let there : other.base ≡ p = fresh.0 in (
-        record {
-          before = told;
-          now = [];
-          is = sym (append-nil told);
-          entries = entries_front begins told later are;
-          ends = ends ∙ sym there;
-          kept = fresh.1.0;
-        },
-        (omega arith, λ above. subst (λ q. Lasts other.base other.size (may_leave other.disk) q) there fresh.1.1),
-      )
-  cut_feed stay begins ended old p other told later (inr again) k ends lasting =
-      cut_among stay begins k.before ended old k.now p other told later k.entries k.ends k.kept (sym k.is) ends lasting.0 lasting.1 again
-
-  pub cut_ledger : ((d : D) → may_leave d (seen d))
-      → (begins new_begins : ℕ) (ended new_ended : List (Segment D)) (old : Segment D) (p : ℕ) (other : Segment D) (told later : List Entry)
-      → (new_begins ≡ begins) × (new_ended ≡ []) × OpensAt seen may_leave ended old p other → KeepsAll seen begins ended old (told ++ later)
-      → last_end begins told ≡ p
-      → LastsUpTo may_leave ended old p
-      → KeepsAll seen new_begins new_ended other told × (new_begins ≡ begins) × LastsUpTo may_leave new_ended other p
-  cut_ledger stay begins new_begins ended new_ended old p other told later opened k ends lasting =
-      let cut = cut_feed stay begins ended old p other told later opened.2 k ends lasting in (
-        subst (λ b. KeepsAll seen b new_ended other told) (sym opened.0)
-            (subst (λ es. KeepsAll seen begins es other told) (sym opened.1) cut.0),
-        opened.0,
-        subst (λ es. LastsUpTo may_leave es other p) (sym opened.1) cut.1,
+  -- where no segment has gone, all of them
+  pub cut_ledger : ((d : D) → may_leave d (seen d)) → (old new : Feed F D) (p : ℕ) (told later : List Entry)
+      → ReopensAt seen may_leave is_clean is_true places has old p new
+      → KeepsAll seen may_leave is_clean is_true places has old (told ++ later) → last_end old.begins told ≡ p
+      → LastsUpTo seen may_leave is_clean is_true places has old p
+      → KeepsAll seen may_leave is_clean is_true places has new told × (new.begins ≡ old.begins)
+      × LastsUpTo seen may_leave is_clean is_true places has new p
+  cut_ledger may_stay old new p told later opened k ends lasting =
+      let o = opened (told ++ later) k lasting.0 in
+      let cut = cut_last may_stay old new p [] told later o.0 k ends lasting o.1 o.2 o.3 in
+      let none = cut.0.all refl in (
+        subst (KeepsAll seen may_leave is_clean is_true places has new) (sym (cut.0.is ∙ ap (λ es. es ++ cut.0.stay) none)) cut.0.kept,
+        cut.0.begins_is ∙ ap (last_end old.begins) none,
+        cut.1,
       )

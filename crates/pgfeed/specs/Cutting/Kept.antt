@@ -31,6 +31,10 @@ pub entries_front : (at : ℕ) (es fs : List Entry) → AreEntries at (es ++ fs)
 entries_front at [] fs are = tt
 entries_front at (e ∷ es) fs are = (are.0, are.1, entries_front e.end es fs are.2)
 
+pub entries_behind : (at : ℕ) (es fs : List Entry) → AreEntries at (es ++ fs) → AreEntries (last_end at es) fs
+entries_behind at [] fs are = are
+entries_behind at (e ∷ es) fs are = entries_behind e.end es fs are.2
+
 one_text : (at : ℕ) (e : Entry) → entries_text at (e ∷ []) ≡ entry_text at e
 one_text at e = next_entry at e [] ∙ ap (λ text. entry_text at e ++ text) (no_entry e.end) ∙ append-nil (entry_text at e)
 

@@ -97,7 +97,7 @@ cut_at base last size place new_base new_last new_size file new_file outcomes af
     )
 
 -- a call that writes behind leaves what lasts, and a crash behind it no less
-lasts_as : (base size more place : ℕ) (old new front : List ℕ) (before after : List ℕ → Type 0) → size ≤ more
+pub lasts_as : (base size more place : ℕ) (old new front : List ℕ) (before after : List ℕ → Type 0) → size ≤ more
     → WritesBehind size old new before after → LastsAs base size before place front
     → LastsAs base more after place front
 lasts_as base size more place old new front before after up writes lasting = record {

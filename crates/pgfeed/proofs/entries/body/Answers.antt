@@ -38,7 +38,8 @@ loop-n-preserved c =
 
 pub returns : goal.returns
 returns c =
-    let first = iter_rest (zip_first (enumerate_source c.loop-n.n-iterator)) in
+    let first = zip_first (enumerate_source c.loop-n.n-iterator) in
     let second = iter_rest (zip_second (enumerate_source c.loop-n.n-iterator)) in
-    let none : (length first ≡ 0) ⊎ (length second ≡ 0) = elim c.in-None.ensures.steps.0 [ inl p ↦ inl p.1.0 | inr p ↦ inr p.1.0 ] in
+    let none : (length first ≡ 0) ⊎ (length second ≡ 0) = elim c.in-None.ensures.steps.0
+    [ inl p ↦ inl (ap length p.1.0) | inr p ↦ inr p.1.0 ] in
     all_told _ _ _ _ _ first second c.loop-n.invariant.text none

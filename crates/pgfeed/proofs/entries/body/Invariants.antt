@@ -10,8 +10,8 @@ use Rattle.pgfeed.proofs.entries.body.Given as goal
 abbrev pub invariant-loop-n : goal.invariant-loop-n
 invariant-loop-n l = record {
   text : string_bytes l.text ++ body_text (reverse (map (λ def. def.now) l.told.items)) (enumerate_count l.n-iterator)
-      (lines (change_values l.definitions (iter_rest (zip_first (enumerate_source l.n-iterator))))
+      (lines (change_values l.definitions (zip_first (enumerate_source l.n-iterator)))
       (iter_rest (zip_second (enumerate_source l.n-iterator))))
       ≡ body_text [] 0 (lines (change_values l.definitions l.entries) l.images);
-  numbered : AllByRecursion (IsNumbered l.definitions) (iter_rest (zip_first (enumerate_source l.n-iterator)));
+  numbered : AllByRecursion (IsNumbered l.definitions) (zip_first (enumerate_source l.n-iterator));
 }

@@ -1,41 +1,55 @@
 use Rattle.std.proofs.Common.{◌≡◌, ◌∙◌, ap, inl, refl, sym, subst}
-use Rattle.pgfeed.specs.Feeds.{KeepsAll}
+use Rattle.std.specs.Prelude.{IsTrue}
 use Rattle.pgfeed.specs.declared.segment.Segment.{Segment}
-use Rattle.pgfeed.proofs.Following.{ends_same, goes_behind, goes_on_by, keeps_behind}
+use Rattle.pgfeed.proofs.Following.{all_stays, ends_same, goes_on_by, goes_stays, true_false}
 use Rattle.pgfeed.proofs.Following.{writes_stopped}
 use Rattle.pgfeed.proofs.feed.FeedLedger.append.Goals as goal
 
 pub returns-in-Ok-clause-rests : goal.returns-in-Ok-clause-rests
 returns-in-Ok-clause-rests g c =
     let done = c.in-Ok.ensures in
-    record {
-      begins_is = done.begins;
-      wanting_is = refl;
-      outlasts_more = done.goes.lasts_more;
-      reopens_less = λ p other opened. (opened.0 ∙ done.begins, opened.1, done.goes.opens_less p other.segment opened.2);
-    }
+    record { begins_is = done.begins; wanting_is = refl; outlasts_more = done.goes.lasts_more; reopens_less = done.goes.opens_less }
 
 pub returns-in-Err-clause-refused : goal.returns-in-Err-clause-refused
 returns-in-Err-clause-refused g c = λ es kept.
     let failed = c.in-Err.ensures in
-    let stopped = writes_stopped g.F.File.Disk.seen g.F.File.Disk.may_leave c.write.new.self.segment c.stop.new.self c.stop.ensures in
-    let size : c.stop.new.self.size ≡ c.write.new.self.segment.size = ap (λ (s : Segment g.row.F-File.Denot). s.size) c.stop.ensures in
-    let last : c.stop.new.self.last ≡ c.write.new.self.segment.last = ap (λ (s : Segment g.row.F-File.Denot). s.last) c.stop.ensures in
-    inl (subst (λ b. KeepsAll g.F.File.Disk.seen b c.write.new.self.ended.items c.stop.new.self es) (sym failed.begins)
-    (keeps_behind g.F.File.Disk.seen g.F.File.Disk.may_leave c.args.self.now.begins c.write.new.self.ended.items c.write.new.self.segment
-    c.stop.new.self stopped size last es (failed.kept es kept)))
+    inl (all_stays g.F.File.Disk.seen g.F.File.Disk.may_leave g.F.File.Disk.is_clean g.F.Folder.is_true g.F.Folder.places g.F.Folder.has
+    c.write.new.self _ (record {
+      on = record {
+        folder_is = refl;
+        ended_is = refl;
+        begins_is = refl;
+        writes = writes_stopped g.F.File.Disk.seen g.F.File.Disk.may_leave c.write.new.self.segment c.stop.new.self c.stop.ensures;
+        clean = subst (λ (s : Segment g.row.F-File.Denot). IsTrue (g.F.File.Disk.is_clean s.disk)
+            → IsTrue (g.F.File.Disk.is_clean c.write.new.self.segment.disk)) (sym c.stop.ensures) (λ clean. clean);
+      };
+      size_is = ap (λ (s : Segment g.row.F-File.Denot). s.size) c.stop.ensures;
+      last_is = ap (λ (s : Segment g.row.F-File.Denot). s.last) c.stop.ensures;
+      less = λ text may. subst (λ (s : Segment g.row.F-File.Denot). g.F.File.Disk.may_leave s.disk text) c.stop.ensures may;
+      stuck = λ free. absurd (true_false (sym (ap (λ (s : Segment g.row.F-File.Denot). s.is_stuck) c.stop.ensures) ∙ free));
+    }) es (failed.kept es kept))
 
 pub returns-in-Err-clause-rests : goal.returns-in-Err-clause-rests
 returns-in-Err-clause-rests g c =
     let failed = c.in-Err.ensures in
-    let stopped = writes_stopped g.F.File.Disk.seen g.F.File.Disk.may_leave c.write.new.self.segment c.stop.new.self c.stop.ensures in
-    let goes = goes_on_by _ _ _ _ _ _ _ _ failed.goes (goes_behind _ _ _ _ _ stopped) in
-    record {
-      begins_is = failed.begins;
-      wanting_is = refl;
-      outlasts_more = goes.lasts_more;
-      reopens_less = λ p other opened. (opened.0 ∙ failed.begins, opened.1, goes.opens_less p other.segment opened.2);
-    }
+    let goes = goes_on_by g.F.File.Disk.seen g.F.File.Disk.may_leave g.F.File.Disk.is_clean g.F.Folder.is_true g.F.Folder.places
+    g.F.Folder.has c.args.self.now c.write.new.self (record c.write.new.self { segment = c.stop.new.self }) failed.goes
+    (goes_stays g.F.File.Disk.seen g.F.File.Disk.may_leave g.F.File.Disk.is_clean g.F.Folder.is_true g.F.Folder.places g.F.Folder.has
+    c.write.new.self (record c.write.new.self { segment = c.stop.new.self }) (record {
+      on = record {
+        folder_is = refl;
+        ended_is = refl;
+        begins_is = refl;
+        writes = writes_stopped g.F.File.Disk.seen g.F.File.Disk.may_leave c.write.new.self.segment c.stop.new.self c.stop.ensures;
+        clean = subst (λ (s : Segment g.row.F-File.Denot). IsTrue (g.F.File.Disk.is_clean s.disk)
+            → IsTrue (g.F.File.Disk.is_clean c.write.new.self.segment.disk)) (sym c.stop.ensures) (λ clean. clean);
+      };
+      size_is = ap (λ (s : Segment g.row.F-File.Denot). s.size) c.stop.ensures;
+      last_is = ap (λ (s : Segment g.row.F-File.Denot). s.last) c.stop.ensures;
+      less = λ text may. subst (λ (s : Segment g.row.F-File.Denot). g.F.File.Disk.may_leave s.disk text) c.stop.ensures may;
+      stuck = λ free. absurd (true_false (sym (ap (λ (s : Segment g.row.F-File.Denot). s.is_stuck) c.stop.ensures) ∙ free));
+    })) in
+    record { begins_is = failed.begins; wanting_is = refl; outlasts_more = goes.lasts_more; reopens_less = goes.opens_less }
 
 pub returns-in-Err-clause-ends : goal.returns-in-Err-clause-ends
 returns-in-Err-clause-ends g c =
