@@ -281,13 +281,14 @@ module _ {S : Type 0} (g : Ghosts S) (old new : Held S) (position : ℕ) where
   founds : IsTrue (state g new).is_open → Stands g new position
       → ((v : Stored) → AreOf v (state g old).now.trees → (state g old).now.schema ≡ store_schema)
       → ((v : Stored) → IsValueOf v (state g old).now → IsStored v.tables (tables_of g new) × (v.position ≡ position))
-      → Founds g old new position
-  founds still stands sees value = record {
+      → (v : Stored) × IsValueOf v (state g old).now → Founds g old new position
+  founds still stands sees value known = record {
     is_open = still;
     stands = stands;
     stood = λ v are. value v (whole_value (state g old).now v (sees v are) are);
     bare = λ none. value nothing_stored (bare_value (state g old).now none);
     value = value;
+    known = known;
   }
 
 module _ {S : Type 0} (g : Ghosts S) (old mid new : Held S) (left : Remains) (definitions : List (ℕ × stored.Definition)) (found : Option ℕ)
@@ -335,6 +336,7 @@ module _ {S : Type 0} (g : Ghosts S) (old mid new : Held S) (left : Remains) (de
         range = read_range left (state g old).now definitions found read;
         stored = (the_value.tables, moved the_value.tables (read_stored left (state g old).now definitions found read));
       }) sees (λ v is. let it = is_read left (state g old).now definitions found read schema v is in (moved v.tables it.0, it.1))
+      (the_value, read_is left (state g old).now definitions found read schema)
 
   module _ (none : (found ≡ None) ⊎ (is_whole left ≡ false)) where
     -- the tables were made anew
@@ -348,6 +350,7 @@ module _ {S : Type 0} (g : Ghosts S) (old mid new : Held S) (left : Remains) (de
           range = read_range left (state g old).now definitions found read;
           stored = (the_value.tables, moved the_value.tables (read_stored left (state g old).now definitions found read));
         }) sees (λ v is. let it = is_read left (state g old).now definitions found read schema v is in (moved v.tables it.0, it.1))
+        (the_value, read_is left (state g old).now definitions found read schema)
 
     pub remade_adopted : (db : Trees) → AreRemade definitions the_value.position db → LeavesAdopted g old db
     remade_adopted db made = (

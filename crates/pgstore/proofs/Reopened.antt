@@ -52,6 +52,10 @@ adopted_holds g content conn s finds opens live adopts =
             ∙ (nothing_is_empty content (state g conn).committed.trees nothing finds.reads).1)
         | inr bare ↦ none (ap (λ (t : Trees). t catalog_tree) (seen bare.0 bare.1) ∙ bare.2.1)
       ];
+      known = λ db holds is_database. (
+        adopts.known.0,
+        subst (IsValueOf adopts.known.0) (same_database now db sound is_database (seen db.trees holds)) adopts.known.1,
+      );
     }
 
 -- a connection of which no store was made

@@ -39,7 +39,7 @@ use Rattle.pgstore.specs.Reopened.{HoldsContent, StaysAsFound}
 use Rattle.pgstore.specs.Spelled.{IsStored}
 use Rattle.pgstore.specs.StoreValue.{Group, IsStore, IsValueOf, StoreValue}
 use Rattle.pgstore.specs.Trees.{AreStore, IsJustOpened, all_there}
-use Rattle.pgstore.proofs.Founding.{is_read, read_stored, read_value}
+use Rattle.pgstore.proofs.Founding.{is_read, read_is, read_stored, read_value}
 use Rattle.pgstore.proofs.Reopened.{same_database}
 use Rattle.pgstore.proofs.Stores.{IsSettled, crash_leaves, open_keeps}
 
@@ -114,6 +114,12 @@ module _ {S : Type 0} (g : Ghosts S) (s : S) (position : ℕ) (range : position 
           | inl nothing ↦ absurd (opened.something nothing)
           | inr bare ↦ listed_not_empty db it.kept.sound (ap (λ (t : Trees). t catalog_tree) (seen bare.0 bare.1) ∙ bare.2.1)
         ];
+        known = λ other holds is_database.
+            let v = read_value all_there now it.definitions (Some position) it.read in (
+              v,
+              subst (IsValueOf v) (same_database now other it.kept.sound is_database (seen other.trees holds))
+                  (read_is all_there now it.definitions (Some position) it.read refl),
+            );
       }
 
 -- the definitions, the rows and the position were read, one after another
@@ -173,6 +179,7 @@ still_holds g old new s still holds = record {
   stood = λ db held. holds.stood db (still.database db.trees held);
   empty = λ is. holds.empty
       (elim is [ inl nothing ↦ inl (still.nothing nothing) | inr bare ↦ inr (bare.0, still.database bare.0 bare.1, bare.2) ]);
+  known = λ db held. holds.known db (still.database db.trees held);
 }
 
 pub still_stays : {S : Type 0} (g : Ghosts S) (old new : Image) (conn : Held S) → StillHolds old new → StaysAsFound g new conn

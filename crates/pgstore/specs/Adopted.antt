@@ -124,3 +124,5 @@ module _ {S : Type 0} (g : Ghosts S) where
     pub bare : (state g old).now.schema ≡ no_schema
         → IsStored nothing_stored.tables (tables_of g new) × (nothing_stored.position ≡ position)
     pub value : (v : Stored) → IsValueOf v (state g old).now → IsStored v.tables (tables_of g new) × (v.position ≡ position)
+    -- and something stood there, or nothing is stored
+    pub known : (v : Stored) × IsValueOf v (state g old).now

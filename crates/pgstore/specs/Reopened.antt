@@ -37,6 +37,8 @@ module _ {S : Type 0} (g : Ghosts S) where
     pub stood : (db : Database) → HoldsDatabase content db.trees → IsDatabase db → (v : Stored) → IsValueOf v db → Holds g s v
     -- nothing at 0/0, where nothing is stored in them
     pub empty : IsEmptyContent content → Holds g s nothing_stored
+    -- and a database in them has a value, that of nothing where it has no table
+    pub known : (db : Database) → HoldsDatabase content db.trees → IsDatabase db → (v : Stored) × IsValueOf v db
 
   -- So does one that adopted a connection which an open of such files gave.
   abbrev pub AdoptedHoldsContent : Type 0

@@ -233,6 +233,8 @@ module _ {S : Type 0} (g : Ghosts S) where
     pub stood : (v : Stored) → AreOf v (connection.state g conn).now.trees → Holds store v
     pub bare : (connection.state g conn).now.schema ≡ no_schema → Holds store nothing_stored
     pub value : (v : Stored) → IsValueOf v (connection.state g conn).now → Holds store v
+    -- and they have a value
+    pub known : (v : Stored) × IsValueOf v (connection.state g conn).now
 
   -- what the store shows, with the limit of steps that the connection had
   abbrev pub shown_by : Held S → StoreValue S → State

@@ -23,7 +23,7 @@ use crate::fault::Refusal;
 use crate::looking::Telling;
 use crate::source::Source;
 use crate::taking::take_changes;
-use pgapply::{Commit, Misses, Op, StoreFault};
+use pgapply::{ChangeRefs, Commit, Misses, StoreFault};
 use pgledger::Ledger;
 use pglogical::RelationDef;
 use pglsn::Lsn;
@@ -110,7 +110,7 @@ pub(crate) fn stage_changes<'a, S: Alter>(
     alloc: Global,
     definitions: &[RelationDef],
     known: &mut Book,
-    changes: &[(usize, Op<'a>)],
+    changes: &ChangeRefs<'_, 'a>,
     end: Lsn,
     misses: &mut Misses,
     telling: &mut Telling<'a>,
@@ -215,7 +215,7 @@ pub(crate) fn stage_all<'a, S: Alter + Drop>(
     alloc: Global,
     is_first: bool,
     definitions: &[RelationDef],
-    changes: &[(usize, Op<'a>)],
+    changes: &ChangeRefs<'_, 'a>,
     end: Lsn,
     misses: &mut Misses,
     telling: &mut Telling<'a>,
@@ -278,7 +278,7 @@ pub(crate) fn stage_told<S: Alter + Drop, L: Ledger>(
     is_first: bool,
     commit: &Commit<'_, '_>,
     definitions: &[RelationDef],
-    changes: &[(usize, Op<'_>)],
+    changes: &ChangeRefs<'_, '_>,
     misses: &mut Misses,
     ledger: &mut L,
 ) -> Result<(), Unstaged>

@@ -26,6 +26,7 @@ returns-in-Ok-clause-adopted g c honest =
       stood = λ v are. let at = it.stood v are in record { stored = subst (IsStored v.tables) same at.0; position = at.1 };
       bare = λ none. let at = it.bare none in record { stored = subst (IsStored _) same at.0; position = at.1 };
       value = λ v is. let at = it.value v is in record { stored = subst (IsStored v.tables) same at.0; position = at.1 };
+      known = it.known;
     }
 
 pub returns-in-Ok-clause-crash : goal.returns-in-Ok-clause-crash

@@ -18,8 +18,8 @@ invariant_of-self g c =
     let misses = c.stage_told-staged.new.misses in
     let end = c.args.commit.now.end in
     let later : group.reach < end = subst (λ (s : StoreValue g.row.S.Denot). s.group.reach < end) (sym c.self.view_is) c.requires in
-    let are : change_values c.definitions.result.now c.entries.result.now ≡ c.args.commit.now.work.now.changes =
-    ap (λ ds. change_values ds c.entries.result.now) c.definitions.ensures.definitions ∙ c.entries.ensures.changes in
+    let are : change_values c.definitions.result.now c.entries.result ≡ c.args.commit.now.work.now.changes =
+    ap (λ ds. change_values ds c.entries.result) c.definitions.ensures.definitions ∙ c.entries.ensures.changes in
     let stands = sym c.in_default.ensures.lost in
     let range : end < 2 ^ 64 = c.stage_told-staged.ensures.range in (
       c.stage_told-staged.ensures.source,
@@ -27,7 +27,7 @@ invariant_of-self g c =
           (read_left g.S.Store old new position survives) g.met.S.Store.settled,
       subst (IsGroup g.S.Store new position) (sym c.stage.ensures)
           (staged_group g.S.Store old new position group c.is_empty-is_first.result c.is_empty-is_first.ensures survives.clean
-          c.definitions.result.now c.entries.result.now c.args.commit.now.work.now.changes are end misses later range stands
+          c.definitions.result.now c.entries.result c.args.commit.now.work.now.changes are end misses later range stands
           c.self.invariant.1 c.self.invariant.2 c.in-Ok.ensures.staged),
     )
 
@@ -56,8 +56,8 @@ returns-in-Ok-clause-staged g c clean =
     let misses = c.stage_told-staged.new.misses in
     let end = c.args.commit.now.end in
     let later : group.reach < end = subst (λ (s : StoreValue g.row.S.Denot). s.group.reach < end) (sym c.self.view_is) c.requires in
-    let are : change_values c.definitions.result.now c.entries.result.now ≡ c.args.commit.now.work.now.changes =
-    ap (λ ds. change_values ds c.entries.result.now) c.definitions.ensures.definitions ∙ c.entries.ensures.changes in
+    let are : change_values c.definitions.result.now c.entries.result ≡ c.args.commit.now.work.now.changes =
+    ap (λ ds. change_values ds c.entries.result) c.definitions.ensures.definitions ∙ c.entries.ensures.changes in
     let stands = sym c.in_default.ensures.lost in
     let was : StoreValue g.row.S.Denot = record { rows = old; position = position; group = group } in
     subst (λ (s : StoreValue g.row.S.Denot).
@@ -66,7 +66,7 @@ returns-in-Ok-clause-staged g c clean =
     (subst (λ (a : Group). taken.Folds (Plans g.S.Store) was (record { rows = new; position = position; group = a })
     c.args.commit.now.work.now.changes) (sym c.stage.ensures)
     (stages_folds g.S.Store old new position group c.is_empty-is_first.result c.is_empty-is_first.ensures survives.clean
-    c.definitions.result.now c.entries.result.now c.args.commit.now.work.now.changes are end misses
+    c.definitions.result.now c.entries.result c.args.commit.now.work.now.changes are end misses
     c.self.invariant.2.order later stands (c.in-Ok.ensures.staged clean)))
 
 pub returns-in-Err-clause-undone : goal.returns-in-Err-clause-undone
