@@ -1,6 +1,7 @@
 //! Follows a server over a store that outlasts the run, wherever that keeps what it holds.
 
 ghost use Rattle.std.specs.Prelude.{◌≡◌, ◌≤◌, ◌↔◌, [], true, false, Option, Some, Err, IfSome};
+ghost use Rattle.std.specs.Prelude.{option_map};
 ghost use Rattle.pgfollow.specs.declared.fault.FollowFault.{FollowFault};
 ghost use Rattle.pgfollow.specs.declared.fault.FollowFault.TheVariants as follow;
 ghost use Rattle.pgfollow.specs.Live.{IsOfFollowing, ended_by};
@@ -9,7 +10,7 @@ ghost use Rattle.pgsub_cli.specs.declared.fault.RunFault.TheVariants.{Stream};
 ghost use Rattle.pgsub_cli.specs.FollowStatus.{status_of_fault, status_of_follow, status_of_store};
 ghost use Rattle.pgsub_cli.specs.FollowStatus.{status_of_unfollowed};
 ghost use Rattle.pgsub_cli.specs.FollowedLive.{FollowsOver, ending_of};
-ghost use Rattle.pgsub_cli.specs.Caused.{TellsCause, TellsCaused};
+ghost use Rattle.pgsub_cli.specs.Caused.{TellsBecause, TellsCause, TellsCaused};
 
 use crate::fault::{Ending, RunFault};
 use crate::files::Output;
@@ -84,7 +85,8 @@ pub fn tell_unfollowed<E: Output>(
     err: &mut E,
 ) -> u8
     ensures status { result ≡ status_of_unfollowed fault }
-    ensures tells { TellsCaused E.takes E.failed (Err (Stream (Store fault))) err.old err.new }
+    ensures tells { TellsBecause E.takes E.failed (option_map (λ text. text.now) cause.entry)
+        (Err (Stream (Store fault))) err.old err.new }
 {
     let stopped = Err(RunFault::Stream(Fault::Store(fault)));
     tell_cause(alloc, stopped, cause, err);
@@ -104,7 +106,8 @@ fn tell_cause<E: Output>(
     cause: Option<&str>,
     err: &mut E,
 )
-    ensures { TellsCause E.takes E.failed ended err.old err.new }
+    ensures { TellsCause E.takes E.failed ended (option_map (λ text. text.now) cause.entry)
+        err.old err.new }
 {
     let Err(RunFault::Stream(Fault::Store(StoreFault::Refused))) = ended else {
         return;

@@ -1,7 +1,7 @@
 //! Tells of changes that found no row, as soon as their commits are stored.
 
 ghost use Rattle.std.specs.Prelude.{◌≡◌, Some};
-ghost use Rattle.pgsub_cli.specs.MissedLines.{TellsMissed, missed_line};
+ghost use Rattle.pgsub_cli.specs.MissedLines.{HearsMissed, TellsMissed, missed_line};
 
 use crate::files::Output;
 use crate::reported::{Listener, Settling};
@@ -66,6 +66,9 @@ impl<E: Output + Drop> MissedLines<E> {
 }
 
 impl<E: Output + Drop> Listener for MissedLines<E> {
+    ghost hears = { λ old settling new. HearsMissed E.takes E.failed settling.misses old.told
+        new.told old.err new.err };
+
     fn hear(&mut self, settling: &Settling) {
         let count = settling.misses.count;
         match settling.misses.first {

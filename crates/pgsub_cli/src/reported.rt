@@ -1,7 +1,10 @@
 //! A store that tells what it stored, each time that it settles commits. What it holds is as
 //! without it.
 
-ghost use Rattle.std.specs.Prelude.{◌≡◌};
+ghost use Rattle.std.specs.Prelude.{◌≡◌, ◌<◌, ◌⊎◌, ⊤, OnOk, OnErr, IfErr};
+ghost use Rattle.pgapply.specs.Stored.{IsOwnFault};
+ghost use Rattle.pgapply.specs.Taken.{LeavesStaged, Settles, Stays};
+ghost use Rattle.pgsub_cli.specs.declared.reported.Settling.{Settling as Settled};
 
 use crate::files::Unheard;
 use pgapply::{Commit, DumpRow, DumpSink, Misses, ReplicaStore, StoreFault};
@@ -22,11 +25,17 @@ pub struct Settling {
 
 /// What is told of each settling.
 pub trait Listener {
+    /// That hearing of these commits took it from one state to another.
+    ghost hears: { Self → Settled → Self → Type 0 };
+
     /// These commits were stored together.
-    fn hear(&mut self, settling: &Settling);
+    fn hear(&mut self, settling: &Settling)
+        ensures { hears self.old settling.now self.new };
 }
 
 impl Listener for Unheard {
+    ghost hears = { λ _ _ _. ⊤ };
+
     fn hear(&mut self, _settling: &Settling) {}
 }
 
@@ -61,7 +70,8 @@ impl<C: ReplicaStore + Drop, L: Listener + Drop> Reported<C, L> {
 
     /// Counts no commits as staged.
     fn forget(&mut self)
-        ensures { self.new.store ≡ self.old.store }
+        ensures store { self.new.store ≡ self.old.store }
+        ensures listener { self.new.listener ≡ self.old.listener }
     {
         self.commits = 0;
         self.changes = 0;
@@ -69,7 +79,13 @@ impl<C: ReplicaStore + Drop, L: Listener + Drop> Reported<C, L> {
 
     /// Tells of the commits that were staged, which are stored up to this LSN.
     fn tell(&mut self, position: Lsn)
-        ensures { self.new.store ≡ self.old.store }
+        ensures store { self.new.store ≡ self.old.store }
+        ensures told { L.hears self.old.listener (record {
+          commits = self.old.commits;
+          changes = self.old.changes;
+          position = position;
+          misses = C.missed self.old.store;
+        }) self.new.listener }
     {
         let settling = Settling {
             commits: self.commits,
@@ -121,7 +137,39 @@ impl<C: ReplicaStore + Drop, L: Listener + Drop> ReplicaStore for Reported<C, L>
         Ok(())
     }
 
-    fn settle(&mut self) -> Result<(), StoreFault> {
+    /// Stores all that is staged, and tells of it where that went well.
+    fn settle(&mut self) -> Result<(), StoreFault>
+        ensures told { OnOk result (C.place self.old.store < C.reach self.old.store →
+            L.hears self.old.listener (record {
+              commits = self.old.commits;
+              changes = self.old.changes;
+              position = C.reach self.old.store;
+              misses = C.missed self.new.store;
+            }) self.new.listener) }
+        ensures untold { OnErr result (self.new.listener ≡ self.old.listener) }
+        ensures settled { C.serves self.new.store → OnOk result
+            (Settles C.holds C.stages self.old.store self.new.store) }
+        ensures end { OnOk result (C.place self.new.store ≡ C.reach self.old.store) }
+        ensures unchanged { C.serves self.new.store → OnErr result
+            (Stays C.holds self.old.store self.new.store) }
+        ensures position { OnErr result (C.place self.new.store ≡ C.place self.old.store) }
+        ensures some { OnErr result (C.place self.old.store < C.reach self.old.store) }
+        ensures nothing { C.reach self.old.store ≡ C.place self.old.store →
+            self.new ≡ self.old }
+        ensures fault { IfErr result IsOwnFault }
+        ensures none { C.reach self.new.store ≡ C.place self.new.store }
+        ensures counts { OnOk result (C.missed self.new.store ≡ C.stages_missed self.old.store) }
+        ensures uncounted { OnErr result (C.missed self.new.store ≡ C.missed self.old.store) }
+        ensures served { C.serves self.new.store → C.serves self.old.store }
+        ensures open { C.is_honest self.new.store →
+            C.place self.old.store < C.reach self.old.store →
+            OnOk result (C.serves self.new.store) }
+        ensures honest { C.is_honest self.new.store → C.is_honest self.old.store }
+        ensures crash { C.is_honest self.new.store → (other : C) →
+            C.reopens self.new.store other → C.reopens self.old.store other
+            ⊎ (C.serves self.old.store
+            × LeavesStaged C.holds C.place C.stages C.reach self.old.store other) }
+    {
         let (position, reached) = (self.store.position(), self.store.reached());
         let settled = self.store.settle();
         if position < reached {

@@ -1,7 +1,7 @@
 //! Tells, while commits are stored, how far that is. What a reader gives and what a store holds are
 //! as without it.
 
-ghost use Rattle.std.specs.Prelude.{◌≡◌, ◌≤◌, ◌+◌, ◌⊎◌, [], Result, Some, IfOk};
+ghost use Rattle.std.specs.Prelude.{◌≡◌, ◌≤◌, ◌+◌, ◌⊎◌, ⊤, [], Result, Some, IfOk};
 ghost use Rattle.pgsub_cli.specs.declared.fault.Ending.{Ending};
 ghost use Rattle.pgsub_cli.specs.declared.fault.RunFault.{RunFault};
 ghost use Rattle.pgsub_cli.specs.Reports.{IsCounted, TellsProgress, bytes_text, input_within};
@@ -179,6 +179,8 @@ pub struct Commits<'a, K: Clock + Drop, E: Output + Drop> {
 }
 
 impl<K: Clock + Drop, E: Output + Drop> Listener for Commits<'_, K, E> {
+    ghost hears = { λ _ _ _. ⊤ };
+
     fn hear(&mut self, settling: &Settling) {
         let Some(reporter) = self.reporter else {
             return;

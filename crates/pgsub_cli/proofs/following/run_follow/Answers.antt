@@ -1,4 +1,5 @@
 use Rattle.std.proofs.Common.{◌≡◌, sym, subst, Result}
+use Rattle.std.specs.Prelude.{option_map}
 use Rattle.pgapply.specs.declared.misses.Misses.{Misses}
 use Rattle.pgfollow.specs.declared.fault.FollowFault.TheVariants as follow
 use Rattle.pgfollow.specs.Live.{IsOfFollowing, ended_by}
@@ -15,7 +16,8 @@ returns-clause-ends g c = (
   subst (λ (m : Misses). c.follow_status.result ≡ status_of_follow m.count (ended_by c.follow_live-followed.result)) c.misses.ensures
       c.follow_status.ensures,
   subst (λ (x : Result Ending RunFault). TellsCaused g.E.Output.takes g.E.Output.failed x c.args.err.now c.tell.new.err)
-      c.ending-ended.ensures (c.tell_cause.new.err, c.tell_cause.ensures, c.tell.ensures),
+      c.ending-ended.ensures
+      (option_map (λ text. text.now) c.cause.result, (c.tell_cause.new.err, c.tell_cause.ensures, c.tell.ensures)),
   (
     λ is. c.follow_live-followed.ensures.read.0 ((ended_is c.follow_live-followed.result follow.Read).0 is),
     λ failed. (ended_is c.follow_live-followed.result follow.Read).1 (c.follow_live-followed.ensures.read.1 failed),
