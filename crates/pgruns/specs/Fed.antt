@@ -1,11 +1,12 @@
 -- Part of the statement.
 -- A run over a store in two files that keeps a feed of its commits in a folder.
-use Rattle.std.specs.Prelude.{◌≡◌, ◌⊎◌, ◌++◌, ◌∷◌, ℕ, List, [], Bool, false, IsTrue, codes}
-use Rattle.pgledger.specs.Entries.{Entry}
+use Rattle.std.specs.Prelude.{◌≡◌, ◌⊎◌, ◌++◌, ◌∷◌, ℕ, List, [], Bool, codes}
 use Rattle.pgfeed.specs.declared.fault.FeedFault.{FeedFault}
 use Rattle.pgfeed.specs.declared.fault.FeedFault.TheVariants as feed
 use Rattle.pgfeed.specs.declared.feed.Feed.{Feed}
-use Rattle.pgfeed.specs.Feeds.{KeepsAll, LastsUpTo, OpensAt, OpensSome}
+use Rattle.pgfeed.specs.declared.folder.SegmentLimits.{SegmentLimits}
+use Rattle.pgfeed.specs.Feeds.{OpensIn}
+use Rattle.pgfeed.specs.Naming.{IsOf}
 
 -- ---- why no feed is opened
 
@@ -42,21 +43,11 @@ feed_begins l = l.begins
 abbrev pub is_stuck_feed : {F D : Type 0} → Feed F D → Bool
 is_stuck_feed l = l.segment.is_stuck
 
-abbrev pub FeedKeeps : {F D : Type 0} → (D → List ℕ) → Feed F D → List Entry → Type 0
-FeedKeeps seen l es = KeepsAll seen l.begins l.ended.items l.segment es
-
-abbrev pub FeedLasts : {F D : Type 0} → (D → List ℕ → Type 0) → Feed F D → ℕ → Type 0
-FeedLasts may_leave l p = LastsUpTo may_leave l.ended.items l.segment p
-
-abbrev pub FeedReopens : {F D : Type 0} → (D → List ℕ) → (D → List ℕ → Type 0) → Feed F D → ℕ → Feed F D → Type 0
-FeedReopens seen may_leave l p other =
-    (other.begins ≡ l.begins) × (other.ended.items ≡ []) × OpensAt seen may_leave l.ended.items l.segment p other.segment
-
--- It was opened at this LSN. A new one begins there, and keeps nothing yet.
-pub record IsOpenedAt {F D : Type 0} (seen : D → List ℕ) (may_leave : D → List ℕ → Type 0) (is_clean : D → Bool) (p : ℕ)
-    (l : Feed F D) : Type 0 where
-  pub opened : OpensSome seen may_leave (IsTrue (is_clean l.segment.disk)) p l.segment
-  pub alone : l.ended.items ≡ []
-  pub last : l.segment.last ≡ p
-  pub free : l.segment.is_stuck ≡ false
-  pub begun : l.begins ≡ p → FeedKeeps seen l [] × FeedLasts may_leave l p
+module _ {F D : Type 0} (seen : D → List ℕ) (may_leave : D → List ℕ → Type 0) (is_clean : D → Bool) (is_true : F → Type 0)
+    (places : F → List ℕ) (has : F → ℕ → List ℕ → Type 0) where
+  -- It was opened in this folder at this LSN, as a feed of this system, database and slot, whose
+  -- segments end by these limits.
+  pub record IsOpenedAt (folder : F) (system database slot : List ℕ) (limits : SegmentLimits) (p : ℕ) (l : Feed F D) : Type 0 where
+    pub opened : OpensIn seen may_leave is_clean is_true places has folder p l
+    pub told : IsOf l.names system database slot
+    pub limited : l.limits ≡ limits

@@ -10,6 +10,7 @@ ghost use Rattle.sqlite.specs.WalFiles.{image_at};
 ghost use Rattle.pgapply.specs.declared.fault.StoreFault.{StoreFault};
 ghost use Rattle.pgfeed.specs.declared.fault.FeedFault.{FeedFault};
 ghost use Rattle.pgfeed.specs.declared.feed.Feed.{Feed};
+ghost use Rattle.pgfeed.specs.Feeds.{KeepsAll, LastsUpTo, ReopensAt};
 ghost use Rattle.pgfollow.specs.declared.fault.FollowFault.{FollowFault};
 ghost use Rattle.pgfollow.specs.declared.fault.FollowFault.TheVariants as follow;
 ghost use Rattle.pgfollow.specs.Live.{IsOfFollowing};
@@ -27,12 +28,13 @@ ghost use Rattle.pgsub_cli.specs.Storing.{status_of_unopened};
 ghost use Rattle.pgruns.specs.Filed.{RunsInFiles, TellsBoth, fault_of_closing, status_closed};
 ghost use Rattle.pgruns.specs.Filed.{status_of_unclosed};
 ghost use Rattle.pgruns.specs.Recorded.{AppliesRecorded, FollowsRecorded};
-ghost use Rattle.pgruns.specs.Fed.{FeedKeeps, FeedLasts, FeedReopens, IsOpenedAt, TellsUnfed};
-ghost use Rattle.pgruns.specs.Fed.{feed_begins, is_stuck_feed, status_of_unapplied};
+ghost use Rattle.pgruns.specs.Fed.{IsOpenedAt, TellsUnfed, feed_begins, is_stuck_feed};
+ghost use Rattle.pgruns.specs.Fed.{status_of_unapplied};
 ghost use Rattle.pgruns.specs.Fed.{status_of_unfed};
 
 use crate::closing::{close_told, followed_status, run_status};
-use crate::filed::{Filed, open_file};
+use crate::filed::Filed;
+use crate::opening::Opening;
 use crate::telling::{tell_unapplied, tell_unfed};
 use pgfeed::{Feed, FeedFault, Folder, Origin, SegmentLimits};
 use pgfollow::{Clock, Link};
@@ -69,7 +71,9 @@ fn open_feed<D: Folder + Drop>(
     plan: FeedPlan<'_, D>,
     position: Lsn,
 ) -> Result<Feed<D>, FeedFault>
-    ensures { IfOk result (IsOpenedAt D.File.seen D.File.may_leave D.File.is_clean position) }
+    ensures { IfOk result (IsOpenedAt D.File.seen D.File.may_leave D.File.is_clean D.is_true
+        D.places D.has plan.entry.folder plan.entry.origin.system.now
+        plan.entry.origin.database.now plan.entry.origin.slot.now plan.entry.limits position) }
 {
     match Feed::open(alloc, plan.folder, &plan.origin, plan.limits, position) {
         Ok(feed) => Ok(feed),
@@ -111,10 +115,15 @@ fn follow_fed<
         × ((why ≡ Some follow.Write) ↔ (link.new.write_failed ≡ true))
         × IfSome why IsOfFollowing
         × ((begun : Feed D D.File)
-        × IsOpenedAt D.File.seen D.File.may_leave D.File.is_clean store.position begun
+        × IsOpenedAt D.File.seen D.File.may_leave D.File.is_clean D.is_true D.places D.has
+        plan.entry.folder plan.entry.origin.system.now plan.entry.origin.database.now
+        plan.entry.origin.slot.now plan.entry.limits store.position begun
         × (IsHonest S.Store result.1 → Serves S.Store store →
-        FollowsRecorded S.Store feed_begins (FeedKeeps D.File.seen)
-        (FeedLasts D.File.may_leave) is_stuck_feed (FeedReopens D.File.seen D.File.may_leave) L
+        FollowsRecorded S.Store feed_begins
+        (KeepsAll D.File.seen D.File.may_leave D.File.is_clean D.is_true D.places D.has)
+        (LastsUpTo D.File.seen D.File.may_leave D.File.is_clean D.is_true D.places D.has)
+        is_stuck_feed
+        (ReopensAt D.File.seen D.File.may_leave D.File.is_clean D.is_true D.places D.has) L
         (R.remaining link.old.reader) (R.remaining link.new.reader) link.new.reads
         (W.contents link.old.writer) (W.contents link.new.writer) limits version
         store begun result.1 feed why))) }
@@ -158,9 +167,14 @@ fn apply_fed<
         × (result.0 ≡ status_of why)
         × Tells E.takes E.failed [] [] why err.old err.new
         × ((begun : Feed D D.File)
-        × IsOpenedAt D.File.seen D.File.may_leave D.File.is_clean store.position begun
-        × AppliesRecorded S.Store feed_begins (FeedKeeps D.File.seen)
-        (FeedLasts D.File.may_leave) is_stuck_feed (FeedReopens D.File.seen D.File.may_leave)
+        × IsOpenedAt D.File.seen D.File.may_leave D.File.is_clean D.is_true D.places D.has
+        plan.entry.folder plan.entry.origin.system.now plan.entry.origin.database.now
+        plan.entry.origin.slot.now plan.entry.limits store.position begun
+        × AppliesRecorded S.Store feed_begins
+        (KeepsAll D.File.seen D.File.may_leave D.File.is_clean D.is_true D.places D.has)
+        (LastsUpTo D.File.seen D.File.may_leave D.File.is_clean D.is_true D.places D.has)
+        is_stuck_feed
+        (ReopensAt D.File.seen D.File.may_leave D.File.is_clean D.is_true D.places D.has)
         R.gives R.begins R.failed W.takes W.failed limits input
         (record { store = store; ledger = begun }) (record { store = result.1; ledger = feed }) why
         out.old out.new)) }
@@ -181,6 +195,7 @@ fn apply_fed<
 /// of its commits.
 pub fn follow_fed_file<
     F: Start,
+    O: Opening<F>,
     D: Folder + Drop,
     L: Listener + Drop,
     R: Read + Drop,
@@ -189,10 +204,7 @@ pub fn follow_fed_file<
     E: Output,
 >(
     alloc: Global,
-    rt: &HostRuntime,
-    path: &str,
-    cache: usize,
-    start: F,
+    opening: O,
     plan: FeedPlan<'_, D>,
     listener: L,
     limits: Limits,
@@ -203,7 +215,7 @@ pub fn follow_fed_file<
 ) -> (u8, Filed<FileFrom<F>>, Option<Feed<D>>)
     requires readable { link.old.read_failed ≡ false }
     requires writable { link.old.write_failed ≡ false }
-    ensures unopened { IfErr result.1 (λ left. (f : StoreFault)
+    ensures unopened { IfErr result.1 (λ left. (f : StoreFault) × O.fails opening f
         × (result.0 ≡ status_of_unfollowed f) × (link.new ≡ link.old) × (result.2 ≡ None)
         × TellsCaused E.takes E.failed (Err (Stream (OfStore f))) err.old err.new
         × IfSome left (λ conn. HasCleanDisk (connection.state over_files conn) →
@@ -222,15 +234,20 @@ pub fn follow_fed_file<
         × RunsInFiles (image_at F.Start) (λ opened ended.
         (result.0 ≡ status_closed status_of_unclosed (status_of_follow ended.group.missed.count why)
         (fault_of_closing closing)) × ((begun : Feed D D.File)
-        × IsOpenedAt D.File.seen D.File.may_leave D.File.is_clean opened.position begun
+        × IsOpenedAt D.File.seen D.File.may_leave D.File.is_clean D.is_true D.places D.has
+        plan.entry.folder plan.entry.origin.system.now plan.entry.origin.database.now
+        plan.entry.origin.slot.now plan.entry.limits opened.position begun
         × (IsHonest over_files ended →
-        FollowsRecorded over_files feed_begins (FeedKeeps D.File.seen)
-        (FeedLasts D.File.may_leave) is_stuck_feed (FeedReopens D.File.seen D.File.may_leave) L
+        FollowsRecorded over_files feed_begins
+        (KeepsAll D.File.seen D.File.may_leave D.File.is_clean D.is_true D.places D.has)
+        (LastsUpTo D.File.seen D.File.may_leave D.File.is_clean D.is_true D.places D.has)
+        is_stuck_feed
+        (ReopensAt D.File.seen D.File.may_leave D.File.is_clean D.is_true D.places D.has) L
         (R.remaining link.old.reader) (R.remaining link.new.reader) link.new.reads
         (W.contents link.old.writer) (W.contents link.new.writer) limits version
         opened begun ended feed why))) closing)) }
 {
-    match open_file(alloc, rt, path, cache, start) {
+    match opening.open(alloc) {
         Ok(store) => {
             let (status, store, feed) = follow_fed(
                 alloc, store, plan, listener, limits, version, link, clock, err,
@@ -249,6 +266,7 @@ pub fn follow_fed_file<
 /// of its commits.
 pub fn apply_fed_to_file<
     F: Start,
+    O: Opening<F>,
     D: Folder + Drop,
     R: Input + Drop,
     K: Ticks + Drop,
@@ -257,10 +275,7 @@ pub fn apply_fed_to_file<
     E: Output,
 >(
     alloc: Global,
-    rt: &HostRuntime,
-    path: &str,
-    cache: usize,
-    start: F,
+    opening: O,
     plan: FeedPlan<'_, D>,
     limits: Limits,
     input: Option<(Version, Incoming<R>)>,
@@ -268,7 +283,7 @@ pub fn apply_fed_to_file<
     out: &mut W,
     err: &mut E,
 ) -> (u8, Filed<FileFrom<F>>, Option<Feed<D>>)
-    ensures unopened { IfErr result.1 (λ left. (f : StoreFault)
+    ensures unopened { IfErr result.1 (λ left. (f : StoreFault) × O.fails opening f
         × (result.0 ≡ status_of_unopened f) × (out.new ≡ out.old) × (result.2 ≡ None)
         × Tells E.takes E.failed [] [] (Err (Stream (OfStore f))) err.old err.new
         × IfSome left (λ conn. HasCleanDisk (connection.state over_files conn) →
@@ -283,14 +298,19 @@ pub fn apply_fed_to_file<
         × TellsBoth E.takes E.failed (Tells E.takes E.failed [] [] why)
         (fault_of_closing closing) err.old err.new
         × RunsInFiles (image_at F.Start) (λ opened ended. (begun : Feed D D.File)
-        × IsOpenedAt D.File.seen D.File.may_leave D.File.is_clean opened.position begun
-        × AppliesRecorded over_files feed_begins (FeedKeeps D.File.seen)
-        (FeedLasts D.File.may_leave) is_stuck_feed (FeedReopens D.File.seen D.File.may_leave)
+        × IsOpenedAt D.File.seen D.File.may_leave D.File.is_clean D.is_true D.places D.has
+        plan.entry.folder plan.entry.origin.system.now plan.entry.origin.database.now
+        plan.entry.origin.slot.now plan.entry.limits opened.position begun
+        × AppliesRecorded over_files feed_begins
+        (KeepsAll D.File.seen D.File.may_leave D.File.is_clean D.is_true D.places D.has)
+        (LastsUpTo D.File.seen D.File.may_leave D.File.is_clean D.is_true D.places D.has)
+        is_stuck_feed
+        (ReopensAt D.File.seen D.File.may_leave D.File.is_clean D.is_true D.places D.has)
         R.gives R.begins R.failed W.takes W.failed limits input
         (record { store = opened; ledger = begun }) (record { store = ended; ledger = feed }) why
         out.old out.new) closing)) }
 {
-    match open_file(alloc, rt, path, cache, start) {
+    match opening.open(alloc) {
         Ok(store) => {
             let (status, store, feed) = apply_fed(
                 alloc, store, plan, limits, input, reporter, out, err,

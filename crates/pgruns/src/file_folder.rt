@@ -147,8 +147,18 @@ impl<'r> FileFolder<'r> {
     }
 }
 
+/// What files hold as they are opened is named by `Unknown`, which says nothing of one that isn't
+/// empty. So no clause is said of this folder's answers: that they are true is trusted.
 impl Folder for FileFolder<'_> {
+    ghost use Rattle.std.specs.Prelude.{[]};
+
     type File = FileFrom<Unknown>;
+
+    ghost is_true = { λ _. ⊥ };
+
+    ghost places = { λ _. [] };
+
+    ghost has = { λ _ _ _. ⊥ };
 
     fn bases(&mut self) -> Result<Vec<Lsn>, FeedFault> {
         self.reach()?;
@@ -181,4 +191,6 @@ impl Folder for FileFolder<'_> {
         fs::remove_file(self.rt, path.as_str()).map_err(io_fault)?;
         sync_names(&self.folder)
     }
+
+    fn close(&mut self, _base: Lsn, _file: FileFrom<Unknown>) {}
 }

@@ -1,4 +1,4 @@
-//! Runs over a store in the files at a path: opens it, runs, and closes it.
+//! Runs over a store in files: opens it, runs, and closes it.
 
 ghost use Rattle.std.specs.Prelude.{◌≡◌, ◌↔◌, [], false, true, Option, Result, Err, Some, IfOk};
 ghost use Rattle.std.specs.Prelude.{IfErr, IfSome};
@@ -31,11 +31,11 @@ ghost use Rattle.pgruns.specs.Filed.{position_of};
 ghost use Rattle.pgsub_cli.specs.Storing.{PrintsOver, status_of_unopened};
 
 use crate::closing::{Closing, close_told, followed_status, run_status};
-use crate::new_file::{make_file, ready_file};
+use crate::opening::Opening;
 use pgapply::StoreFault;
 use pgfollow::{Clock, Link};
 use pgorder::Version;
-use pgstore::{Refusal, Store};
+use pgstore::Store;
 use pgsub_cli::files::{Input, Output};
 use pgsub_cli::following::tell_unfollowed;
 use pgsub_cli::over::follow_reported;
@@ -52,51 +52,6 @@ use std::time::Clock as Ticks;
 /// What a run leaves of the files at a path: those of its store. Where no store was opened, the
 /// connection to files that hold none, or None where the files couldn't be opened.
 pub type Filed<D> = Result<Closing<D>, Option<Connection<FileStore<D>>>>;
-
-/// The store in the file at a path, which is made where it isn't there, as `Store::open_or_return`
-/// opens it.
-pub(crate) fn open_file<F: Start>(
-    alloc: Global,
-    rt: &HostRuntime,
-    path: &str,
-    cache: usize,
-    start: F,
-) -> Result<Store<FileStore<FileFrom<F>>>, (Refusal, Option<Connection<FileStore<FileFrom<F>>>>)>
-    ensures serves { IfOk result (λ store. IsHonest over_files store → Serves over_files store) }
-    ensures stood { IfOk result (λ store. IsHonest over_files store →
-        HoldsContent over_files (image_at F.Start) store) }
-    ensures begun { IfOk result (λ store. store.group ≡ begun_at store.position) }
-    ensures unchanged { IfErr result (λ e. IfSome e.1 (λ conn.
-        HasCleanDisk (connection.state over_files conn) →
-        StaysAsFound over_files (image_at F.Start) conn)) }
-{
-    if let Err(fault) = make_file(rt, path) {
-        return Err((Refusal::new(fault), None));
-    }
-    Store::open_or_return(alloc, rt, path, cache, start)
-}
-
-/// The store in a file that is there, as `Store::open_or_return` opens it.
-fn open_there<F: Start>(
-    alloc: Global,
-    rt: &HostRuntime,
-    path: &str,
-    cache: usize,
-    start: F,
-) -> Result<Store<FileStore<FileFrom<F>>>, (Refusal, Option<Connection<FileStore<FileFrom<F>>>>)>
-    ensures serves { IfOk result (λ store. IsHonest over_files store → Serves over_files store) }
-    ensures stood { IfOk result (λ store. IsHonest over_files store →
-        HoldsContent over_files (image_at F.Start) store) }
-    ensures begun { IfOk result (λ store. store.group ≡ begun_at store.position) }
-    ensures unchanged { IfErr result (λ e. IfSome e.1 (λ conn.
-        HasCleanDisk (connection.state over_files conn) →
-        StaysAsFound over_files (image_at F.Start) conn)) }
-{
-    if let Err(fault) = ready_file(rt, path) {
-        return Err((Refusal::new(fault), None));
-    }
-    Store::open_or_return(alloc, rt, path, cache, start)
-}
 
 /// Follows a server over an opened store that tells a listener of each settling.
 ///
@@ -191,22 +146,22 @@ fn dump_store<S: Alter + Drop, W: Output + Drop, E: Output>(
     run_dump(alloc, store, out, err)
 }
 
-/// Follows a server over the store in the file at a path, as `run_follow` does, with so many of its
-/// pages in memory. At the end the log goes into that file. Returns the exit status, and what is
-/// left of the files.
+/// Follows a server over the store in files, as `run_follow` does. At the end the log goes into the
+/// file of the database. Returns the exit status, and what is left of the files.
 ///
-/// `start` stands for what the files hold when they are opened, for any file it is `Unknown`. The
+/// `F` stands for what the files hold when they are opened. The
 /// store that is followed over holds that, what it holds at the end is as `run_follow` says, and
 /// whatever content the files have once it is closed, or after a crash, is one that it could leave.
 /// So from run to run nothing is lost that was confirmed (`pgrecovery`, law
 /// `crashes_lose_nothing_confirmed`). Files that hold no store are left as they were found.
 ///
 /// The status is that of `run_follow`, and where that is 0, of a log that can't be copied: 13, or
-/// 14 where memory ran out. Where no store is opened it is that of `tell_unfollowed`. Standard
-/// error gets a line for each, and before it the cause of the store's error, where that is known;
-/// of closing none is told.
+/// 14 where memory ran out. Where no store is opened it is that of `tell_unfollowed`, for the fault
+/// that opening gave. Standard error gets a line for each, and before it the cause of the store's
+/// error, where that is known; of closing none is told.
 pub fn follow_file<
     F: Start,
+    O: Opening<F>,
     L: Listener + Drop,
     R: Read + Drop,
     W: Write + Drop,
@@ -214,10 +169,7 @@ pub fn follow_file<
     E: Output,
 >(
     alloc: Global,
-    rt: &HostRuntime,
-    path: &str,
-    cache: usize,
-    start: F,
+    opening: O,
     listener: L,
     limits: Limits,
     version: Version,
@@ -227,7 +179,7 @@ pub fn follow_file<
 ) -> (u8, Filed<FileFrom<F>>)
     requires readable { link.old.read_failed ≡ false }
     requires writable { link.old.write_failed ≡ false }
-    ensures unopened { IfErr result.1 (λ left. (f : StoreFault)
+    ensures unopened { IfErr result.1 (λ left. (f : StoreFault) × O.fails opening f
         × (result.0 ≡ status_of_unfollowed f) × (link.new ≡ link.old)
         × TellsCaused E.takes E.failed (Err (Stream (OfStore f))) err.old err.new
         × IfSome left (λ conn. HasCleanDisk (connection.state over_files conn) →
@@ -245,7 +197,7 @@ pub fn follow_file<
         link.new.reads (W.contents link.old.writer) (W.contents link.new.writer) limits version
         opened ended why)) closing) }
 {
-    match open_file(alloc, rt, path, cache, start) {
+    match opening.open(alloc) {
         Ok(store) => {
             let (status, store) = follow_store(
                 alloc, store, listener, limits, version, link, clock, err,
@@ -260,16 +212,16 @@ pub fn follow_file<
     }
 }
 
-/// Applies to the store in the file at a path what comes, and prints what it holds then, as
-/// `run_opened` does, with so many of its pages in memory. At the end the log goes into that file.
-/// Returns the exit status, and what is left of the files. What `start` stands for, and what is
-/// said of the files, is as of `follow_file`.
+/// Applies to the store in files what comes, and prints what it holds then, as `run_opened` does.
+/// At the end the log goes into the file of the database. Returns the exit status, and what is left
+/// of the files. What `F` stands for, and what is said of the files, is as of `follow_file`.
 ///
 /// The status is that of `run_opened`, and where that is 0, of a log that can't be copied: 3, or 1
-/// where memory ran out. Where no store is opened it is that of `tell_unopened`. Standard error
-/// gets a line for each.
+/// where memory ran out. Where no store is opened it is that of `tell_unopened`, for the fault that
+/// opening gave. Standard error gets a line for each.
 pub fn apply_to_file<
     F: Start,
+    O: Opening<F>,
     R: Input + Drop,
     K: Ticks + Drop,
     P: Output + Drop,
@@ -277,17 +229,14 @@ pub fn apply_to_file<
     E: Output,
 >(
     alloc: Global,
-    rt: &HostRuntime,
-    path: &str,
-    cache: usize,
-    start: F,
+    opening: O,
     limits: Limits,
     input: Option<(Version, Incoming<R>)>,
     reporter: Option<&RefCell<Reporter<K, P>>>,
     out: &mut W,
     err: &mut E,
 ) -> (u8, Filed<FileFrom<F>>)
-    ensures unopened { IfErr result.1 (λ left. (f : StoreFault)
+    ensures unopened { IfErr result.1 (λ left. (f : StoreFault) × O.fails opening f
         × (result.0 ≡ status_of_unopened f) × (out.new ≡ out.old)
         × Tells E.takes E.failed [] [] (Err (Stream (OfStore f))) err.old err.new
         × IfSome left (λ conn. HasCleanDisk (connection.state over_files conn) →
@@ -310,7 +259,7 @@ pub fn apply_to_file<
         (HasTables over_files) position_of (Reopens over_files over_files) limits input opened
         ended)) closing) }
 {
-    match open_file(alloc, rt, path, cache, start) {
+    match opening.open(alloc) {
         Ok(store) => {
             let (status, store) = apply_to_store(alloc, store, limits, input, reporter, out, err);
             let (fault, closing) = close_told(alloc, store, err);
@@ -320,20 +269,16 @@ pub fn apply_to_file<
     }
 }
 
-/// Prints what the store in the file at a path holds, as `run_dump` does, with so many of its pages
-/// in memory. At the end the log goes into that file. Returns the exit status, what is left of the
-/// files, and the output. What `start` stands for, what is said of the files, and the status is as
-/// of `apply_to_file`.
-pub fn dump_file<F: Start, W: Output + Drop, E: Output>(
+/// Prints what the store in files holds, as `run_dump` does. At the end the log goes into the file
+/// of the database. Returns the exit status, what is left of the files, and the output. What `F`
+/// stands for, what is said of the files, and the status is as of `apply_to_file`.
+pub fn dump_file<F: Start, O: Opening<F>, W: Output + Drop, E: Output>(
     alloc: Global,
-    rt: &HostRuntime,
-    path: &str,
-    cache: usize,
-    start: F,
+    opening: O,
     out: W,
     err: &mut E,
 ) -> (u8, Filed<FileFrom<F>>, W)
-    ensures unopened { IfErr result.1 (λ left. (f : StoreFault)
+    ensures unopened { IfErr result.1 (λ left. (f : StoreFault) × O.fails opening f
         × (result.0 ≡ status_of_unopened f) × (result.2 ≡ out)
         × Tells E.takes E.failed [] [] (Err (Stream (OfStore f))) err.old err.new
         × IfSome left (λ conn. HasCleanDisk (connection.state over_files conn) →
@@ -349,7 +294,7 @@ pub fn dump_file<F: Start, W: Output + Drop, E: Output>(
         × (ended.position ≡ opened.position)
         × (IsHonest over_files ended → LeavesNothingNew over_files opened ended)) closing) }
 {
-    match open_there(alloc, rt, path, cache, start) {
+    match opening.open(alloc) {
         Ok(store) => {
             let (status, store, out) = dump_store(alloc, store, out, err);
             let (fault, closing) = close_told(alloc, store, err);

@@ -2,7 +2,8 @@
 //! call each.
 //!
 //! ```text
-//! let (status, left, out) = dump_file(alloc, rt, "copy.db", cache, Unknown, out, &mut err);
+//! let opening = StoreFile { rt, path: "copy.db", cache, start: Unknown, is_made: false };
+//! let (status, left, out) = dump_file(alloc, opening, out, &mut err);
 //! ```
 #![tactic(auto)]
 
@@ -12,6 +13,7 @@ mod file_folder;
 mod filed;
 mod laws;
 mod new_file;
+mod opening;
 mod telling;
 
 pub use closing::Closing;
@@ -19,3 +21,4 @@ pub use fed::{FeedPlan, apply_fed_to_file, follow_fed_file};
 pub use file_folder::FileFolder;
 pub use filed::{Filed, apply_to_file, dump_file, follow_file};
 pub use laws::new_files_are_empty;
+pub use opening::{LeftUnopened, Opening, StoreFile};

@@ -11,8 +11,8 @@ use pgfeed::{Folder, Origin, SegmentLimits};
 use pgfollow::{Clock, Link};
 use pgorder::Version;
 use pgruns::{
-    FeedPlan, FileFolder, Filed, apply_fed_to_file, apply_to_file, dump_file, follow_fed_file,
-    follow_file,
+    FeedPlan, FileFolder, Filed, StoreFile, apply_fed_to_file, apply_to_file, dump_file,
+    follow_fed_file, follow_file,
 };
 use pgsub_cli::fault::RunFault;
 use pgsub_cli::reporting::Reporter;
@@ -167,6 +167,22 @@ fn fed_status_of<F: Start, L: Drop>(run: (u8, Filed<FileFrom<F>>, L)) -> u8 {
     status_of((status, left))
 }
 
+/// The store in the file at a path, with so many of its pages in memory.
+fn store_file<'p>(
+    rt: &'p HostRuntime,
+    path: &'p str,
+    cache: usize,
+    is_made: bool,
+) -> StoreFile<'p, Unknown> {
+    StoreFile {
+        rt,
+        path,
+        cache,
+        start: Unknown,
+        is_made,
+    }
+}
+
 /// The feed that a task keeps beside its store, if it keeps one.
 fn feed_of(task: &Task) -> Option<&FeedOptions> {
     match task {
@@ -213,10 +229,7 @@ fn apply_fed<D: Folder + Drop>(
     let reporter = reporter_of(rt, task, &input);
     fed_status_of(apply_fed_to_file(
         rt.alloc(),
-        rt,
-        path,
-        cache_of(task),
-        Unknown,
+        store_file(rt, path, cache_of(task), true),
         plan,
         limits_of(task),
         input,
@@ -243,10 +256,7 @@ fn run_over(rt: &HostRuntime, task: &Task, path: &str) -> u8 {
     let reporter = reporter_of(rt, task, &input);
     status_of(apply_to_file(
         rt.alloc(),
-        rt,
-        path,
-        cache_of(task),
-        Unknown,
+        store_file(rt, path, cache_of(task), true),
         limits_of(task),
         input,
         reporter.as_ref(),
@@ -262,8 +272,8 @@ fn dump_over(rt: &HostRuntime, task: &Task, path: &str) -> u8 {
         let missing = RunFault::CannotRead(Side::Left);
         return tell_stopped(rt.alloc(), task, missing, &mut err);
     }
-    let (alloc, cache, out) = (rt.alloc(), cache_of(task), rt.stdout());
-    let (status, left, _out) = dump_file(alloc, rt, path, cache, Unknown, out, &mut err);
+    let opening = store_file(rt, path, cache_of(task), false);
+    let (status, left, _out) = dump_file(rt.alloc(), opening, rt.stdout(), &mut err);
     status_of((status, left))
 }
 
@@ -299,10 +309,7 @@ fn run_live(rt: &HostRuntime, limits: Limits, version: Version, path: &str, cach
     let mut clock = SystemClock { rt };
     status_of(follow_file(
         rt.alloc(),
-        rt,
-        path,
-        cache,
-        Unknown,
+        store_file(rt, path, cache, true),
         MissedLines::new(rt.alloc(), rt.stderr()),
         limits,
         version,
@@ -326,10 +333,7 @@ fn run_live_fed<D: Folder + Drop>(
     let mut clock = SystemClock { rt };
     fed_status_of(follow_fed_file(
         rt.alloc(),
-        rt,
-        path,
-        cache,
-        Unknown,
+        store_file(rt, path, cache, true),
         plan,
         MissedLines::new(rt.alloc(), rt.stderr()),
         limits,

@@ -10,7 +10,9 @@ returns-in-Ok-clause-ran g c =
       e.3,
       (
         c.in-Ok.feed,
-        subst (λ (p : ℕ). IsOpenedAt g.D.File.Disk.seen g.D.File.Disk.may_leave g.D.File.Disk.is_clean p c.in-Ok.feed)
+        subst (λ (p : ℕ). IsOpenedAt g.D.File.Disk.seen g.D.File.Disk.may_leave g.D.File.Disk.is_clean g.D.Folder.is_true
+            g.D.Folder.places g.D.Folder.has c.args.plan.folder c.args.plan.origin.system.now c.args.plan.origin.database.now
+            c.args.plan.origin.slot.now c.args.plan.limits p c.in-Ok.feed)
             c.position.ensures.position c.in-Ok.ensures,
         record { prints = e.2.prints; kept = e.2.kept; left = e.2.left; crash = e.2.crash },
       ),

@@ -1,4 +1,4 @@
-use Rattle.std.proofs.Common.{◌∙◌, [], ℕ, Option, ap, ap₂, subst}
+use Rattle.std.proofs.Common.{◌∙◌, [], ℕ, Option, refl, sym, ap, ap₂, subst}
 use Rattle.std.proofs.lemmas.Option.{IfSome_then}
 use Rattle.pgapply.specs.declared.fault.StoreFault.{StoreFault}
 use Rattle.pgstore.specs.StoreValue.{Group}
@@ -53,3 +53,14 @@ returns-in-Ok-clause-unfed g c none =
         closes = closed.ensures.closes;
       },
     )
+
+pub returns-in-Err-clause-unopened : goal.returns-in-Err-clause-unopened
+returns-in-Err-clause-unopened g c = (
+  c.fault.result,
+  subst (g.O.Opening.fails c.args.opening) (sym c.fault.ensures) c.in-Err.ensures.failed,
+  c.tell_unopened.ensures.status,
+  refl,
+  refl,
+  c.tell_unopened.ensures.tells,
+  c.in-Err.ensures.unchanged,
+)

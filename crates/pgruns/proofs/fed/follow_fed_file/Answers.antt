@@ -1,4 +1,5 @@
-use Rattle.std.proofs.Common.{◌∙◌, [], ℕ, Option, ap, ap₂, subst}
+use Rattle.std.proofs.Common.{◌∙◌, [], ℕ, Option, refl, sym, ap, ap₂, subst}
+use Rattle.std.specs.Prelude.{option_map}
 use Rattle.std.proofs.lemmas.Option.{IfSome_then}
 use Rattle.pgapply.specs.declared.fault.StoreFault.{StoreFault}
 use Rattle.pgstore.specs.StoreValue.{Group}
@@ -57,3 +58,14 @@ returns-in-Ok-clause-unfed g c none =
         closes = closed.ensures.closes;
       },
     )
+
+pub returns-in-Err-clause-unopened : goal.returns-in-Err-clause-unopened
+returns-in-Err-clause-unopened g c = (
+  c.fault-fault.result,
+  subst (g.O.Opening.fails c.args.opening) (sym c.fault-fault.ensures) c.in-Err.ensures.failed,
+  c.tell_unfollowed.ensures.status,
+  refl,
+  refl,
+  (option_map (λ text. text.now) c.cause-cause.result, c.tell_unfollowed.ensures.tells),
+  c.in-Err.ensures.unchanged,
+)

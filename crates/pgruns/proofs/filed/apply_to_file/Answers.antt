@@ -1,4 +1,4 @@
-use Rattle.std.proofs.Common.{[], Option, refl, subst, ap, ap₂, ◌∙◌}
+use Rattle.std.proofs.Common.{[], Option, refl, sym, subst, ap, ap₂, ◌∙◌}
 use Rattle.pgapply.specs.declared.fault.StoreFault.{StoreFault}
 use Rattle.pgstore.specs.StoreValue.{Group}
 use Rattle.pgruns.specs.Filed.{ending_of_closing, status_closed}
@@ -31,5 +31,11 @@ returns-in-Ok-clause-ran g c =
     )
 
 pub returns-in-Err-clause-unopened : goal.returns-in-Err-clause-unopened
-returns-in-Err-clause-unopened g c =
-    (c.fault.result, c.tell_unopened.ensures.status, refl, c.tell_unopened.ensures.tells, c.in-Err.ensures.unchanged)
+returns-in-Err-clause-unopened g c = (
+  c.fault.result,
+  subst (g.O.Opening.fails c.args.opening) (sym c.fault.ensures) c.in-Err.ensures.failed,
+  c.tell_unopened.ensures.status,
+  refl,
+  c.tell_unopened.ensures.tells,
+  c.in-Err.ensures.unchanged,
+)

@@ -1,4 +1,5 @@
-use Rattle.std.proofs.Common.{[], Option, refl, subst, ap, ap₂, ◌∙◌}
+use Rattle.std.proofs.Common.{[], Option, refl, sym, subst, ap, ap₂, ◌∙◌}
+use Rattle.std.specs.Prelude.{option_map}
 use Rattle.pgapply.specs.declared.fault.StoreFault.{StoreFault}
 use Rattle.pgstore.specs.StoreValue.{Group}
 use Rattle.pgruns.specs.Filed.{ending_of_closing, status_closed, status_of_unclosed}
@@ -35,5 +36,11 @@ returns-in-Ok-clause-ran g c =
     )
 
 pub returns-in-Err-clause-unopened : goal.returns-in-Err-clause-unopened
-returns-in-Err-clause-unopened g c =
-    (c.fault-fault.result, c.tell_unfollowed.ensures.status, refl, c.tell_unfollowed.ensures.tells, c.in-Err.ensures.unchanged)
+returns-in-Err-clause-unopened g c = (
+  c.fault-fault.result,
+  subst (g.O.Opening.fails c.args.opening) (sym c.fault-fault.ensures) c.in-Err.ensures.failed,
+  c.tell_unfollowed.ensures.status,
+  refl,
+  (option_map (λ text. text.now) c.cause-cause.result, c.tell_unfollowed.ensures.tells),
+  c.in-Err.ensures.unchanged,
+)

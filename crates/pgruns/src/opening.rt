@@ -1,0 +1,83 @@
+//! Opens the store of a run.
+
+ghost use Rattle.std.specs.Prelude.{◌≡◌, ⊤, IfOk, IfErr, IfSome};
+ghost use Rattle.sqlite.specs.Files.{over_files};
+ghost use Rattle.sqlite.specs.Held as connection;
+ghost use Rattle.sqlite.specs.State.{HasCleanDisk};
+ghost use Rattle.sqlite.specs.WalFiles.{image_at};
+ghost use Rattle.pgapply.specs.declared.fault.StoreFault.{StoreFault as Reason};
+ghost use Rattle.pgstore.specs.Reopened.{HoldsContent, StaysAsFound};
+ghost use Rattle.pgstore.specs.StoreValue.{begun_at, IsHonest, Serves};
+
+use crate::new_file::{make_file, ready_file};
+use pgstore::{Refusal, Store};
+use sqlite::{Connection, FileFrom, FileStore, Start};
+use std::alloc::Global;
+
+/// The connection to files that hold no store, or None where they couldn't be opened.
+pub type LeftUnopened<F> = Option<Connection<FileStore<FileFrom<F>>>>;
+
+/// The store of a run, which is still to be opened on files whose content `F` stands for.
+///
+/// That a store can't be opened for a reason is a fact that opening it alone gives. So a run over
+/// any opening is proved to tell the reason that it got.
+pub trait Opening<F: Start> {
+    /// That it can't be opened for this reason.
+    ghost fails: { Self → Reason → Type 0 };
+
+    /// Opens it. Where no store is opened, files that were stay as they were found.
+    fn open(
+        self,
+        alloc: Global,
+    ) -> Result<Store<FileStore<FileFrom<F>>>, (Refusal, LeftUnopened<F>)>
+        ensures serves { IfOk result (λ store. IsHonest over_files store →
+            Serves over_files store) }
+        ensures stood { IfOk result (λ store. IsHonest over_files store →
+            HoldsContent over_files (image_at F.Start) store) }
+        ensures begun { IfOk result (λ store. store.group ≡ begun_at store.position) }
+        ensures unchanged { IfErr result (λ e. IfSome e.1 (λ conn.
+            HasCleanDisk (connection.state over_files conn) →
+            StaysAsFound over_files (image_at F.Start) conn)) }
+        ensures failed { IfErr result (λ e. fails self e.0) };
+}
+
+/// The store in the file at a path, as `Store::open_or_return` opens it, with so many of its pages
+/// in memory. `start` stands for what the files hold, for any file it is `Unknown`.
+pub struct StoreFile<'p, F: Start> {
+    /// The system.
+    pub rt: &'p HostRuntime,
+    /// The path of the file.
+    pub path: &'p str,
+    /// So many pages of it are kept in memory.
+    pub cache: usize,
+    /// What the files hold.
+    pub start: F,
+    /// Whether the file is made where it isn't there.
+    pub is_made: bool,
+}
+
+impl<F: Start> Opening<F> for StoreFile<'_, F> {
+    ghost fails = { λ _ _. ⊤ };
+
+    fn open(
+        self,
+        alloc: Global,
+    ) -> Result<Store<FileStore<FileFrom<F>>>, (Refusal, LeftUnopened<F>)> {
+        let StoreFile {
+            rt,
+            path,
+            cache,
+            start,
+            is_made,
+        } = self;
+        let ready = if is_made {
+            make_file(rt, path)
+        } else {
+            ready_file(rt, path)
+        };
+        if let Err(fault) = ready {
+            return Err((Refusal::new(fault), None));
+        }
+        Store::open_or_return(alloc, rt, path, cache, start)
+    }
+}
