@@ -1,1 +1,2 @@
 mod Recovered
+mod Life

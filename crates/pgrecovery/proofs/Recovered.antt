@@ -13,7 +13,7 @@ use Rattle.pgsub_core.proofs.Restarting.{left_starts}
 use Rattle.pgrecovery.specs.Recovered.{FollowedIsRecovered, LeftSafelyIsRecovered, Recovers}
 use Rattle.pgrecovery.specs.Recovered.{ServedIsRecovered, holds_tables}
 
-recovers : {S : Type 0} (h : Ghosts S) (history : List Transaction) (position confirmed : ℕ) (store : StoreValue S) (tables : Tables)
+pub recovers : {S : Type 0} (h : Ghosts S) (history : List Transaction) (position confirmed : ℕ) (store : StoreValue S) (tables : Tables)
     → IsHistory history → holds_tables h store tables → tables_as_of history store.position ≡ Ok tables
     → position ≤ store.position → NothingBetween history store.position confirmed → Recovers h history position confirmed store
 recovers h history position confirmed store tables is held same low stored = record {

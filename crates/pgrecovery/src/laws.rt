@@ -2,6 +2,7 @@
 
 ghost use Rattle.pgrecovery.specs.Recovered.{FollowedIsRecovered, LeftSafelyIsRecovered};
 ghost use Rattle.pgrecovery.specs.Recovered.{ServedIsRecovered};
+ghost use Rattle.pgrecovery.specs.Life.{OneLife};
 
 use sqlite::Alter;
 use sqlite_disk::Disk;
@@ -23,4 +24,18 @@ pub fn crashes_lose_nothing_confirmed<D: Disk, S: Alter>()
     ensures followed { FollowedIsRecovered D.Disk }
     ensures live { LeftSafelyIsRecovered D.Disk }
     ensures served { ServedIsRecovered D.Disk S.Store }
+{}
+
+/// One life of a store in two files. Let there be runs, any number of them: the first over files
+/// without a store, each other one over what the one before it left, once it was closed or after a
+/// crash at the end of any call. Let each be fed sessions of one history that start at most at what
+/// was ever confirmed, and let the disks give back what was written.
+///
+/// Then in each run the store holds exactly the rows of all transactions of the history up to its
+/// position, as it begins and, while it serves, as it ends. Positions never fall. What was
+/// confirmed in any run is in every later one.
+///
+/// PostgreSQL documentation, Logical Replication, Subscription.
+pub fn one_life_holds_one_history<D: Disk>()
+    ensures life { OneLife D.Disk }
 {}

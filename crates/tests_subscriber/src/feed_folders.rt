@@ -110,8 +110,17 @@ impl MemoryFolder {
     }
 }
 
+/// It stops without a word, so no clause is said of its answers.
 impl Folder for MemoryFolder {
+    ghost use Rattle.std.specs.Prelude.{[]};
+
     type File = Fuse<Memory>;
+
+    ghost is_true = { λ _. ⊥ };
+
+    ghost places = { λ _. [] };
+
+    ghost has = { λ _ _ _. ⊥ };
 
     fn bases(&mut self) -> Result<Vec<Lsn>, FeedFault> {
         self.called()?;
